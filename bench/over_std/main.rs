@@ -151,6 +151,8 @@ impl Seek for Device {
         self.note(format!("seek {from} {n} = {}", number(&answer)));
         answer
     }
+    fn rewind(&mut self) -> io::Result<()> { self.name("rewind".into()); self.seek(SeekFrom::Start(0)).map(|_| ()) }
+    fn stream_position(&mut self) -> io::Result<u64> { self.name("stream_position".into()); self.seek(SeekFrom::Current(0)) }
 }
 
 fn write_call<W: Write + ?Sized>(w: &mut W, word: &str, rest: &str) -> Option<String> {
@@ -195,31 +197,43 @@ trait Level: Write {
     fn below(&mut self) -> Option<&mut Box<dyn Level>> { None }
     fn place(&mut self, place: u64) { if let Some(below) = self.below() { below.place(place) } }
     fn seek_to(&mut self, _: SeekFrom) -> io::Result<u64> { Err(ErrorKind::Unsupported.into()) }
+    fn back(&mut self) -> io::Result<()> { Err(ErrorKind::Unsupported.into()) }
+    fn at(&mut self) -> io::Result<u64> { Err(ErrorKind::Unsupported.into()) }
     fn reads(&mut self, _word: &str, _rest: &str) -> Option<String> { None }
     // A new level with so much room on the one below; or the error, what a refusal prints, and the old one.
     fn end(self: Box<Self>, _room: usize) -> (Option<(Error, String)>, Box<dyn Level>) { unreachable!() }
 }
-impl Seek for Box<dyn Level> { fn seek(&mut self, pos: SeekFrom) -> io::Result<u64> { self.seek_to(pos) } }
+impl Seek for Box<dyn Level> {
+    fn seek(&mut self, pos: SeekFrom) -> io::Result<u64> { self.seek_to(pos) }
+    fn rewind(&mut self) -> io::Result<()> { self.back() }
+    fn stream_position(&mut self) -> io::Result<u64> { self.at() }
+}
 impl Level for Device {
     fn seek_to(&mut self, pos: SeekFrom) -> io::Result<u64> { self.seek(pos) }
+    fn back(&mut self) -> io::Result<()> { self.rewind() }
+    fn at(&mut self) -> io::Result<u64> { self.stream_position() }
     fn reads(&mut self, word: &str, rest: &str) -> Option<String> { read_call(self, word, rest) }
 }
 impl<T: AsRef<[u8]>> Level for Cursor<T> where Cursor<T>: Write {
     fn taken(&self, _: &Journal) -> String { format!("{} | {}", bytes(self.get_ref().as_ref()), self.position()) }
     fn place(&mut self, place: u64) { self.set_position(place) }
     fn seek_to(&mut self, pos: SeekFrom) -> io::Result<u64> { self.seek(pos) }
+    fn back(&mut self) -> io::Result<()> { self.rewind() }
+    fn at(&mut self) -> io::Result<u64> { self.stream_position() }
     fn reads(&mut self, word: &str, rest: &str) -> Option<String> { read_call(self, word, rest) }
 }
 impl Level for VecDeque<u8> {
     fn taken(&self, _: &Journal) -> String { bytes(&self.iter().copied().collect::<Vec<_>>()) }
     fn reads(&mut self, word: &str, rest: &str) -> Option<String> { read_call(self, word, rest) }
 }
-macro_rules! buffers { ($writer:ident, $held:expr, $seek:expr) => {
+macro_rules! buffers { ($writer:ident, $held:expr, $seek:expr, $back:expr, $at:expr) => {
     impl Level for $writer<Box<dyn Level>> {
         fn taken(&self, journal: &Journal) -> String { self.get_ref().taken(journal) }
         fn held(&self) -> String { format!(" | {}{}", $held(self), self.get_ref().held()) }
         fn below(&mut self) -> Option<&mut Box<dyn Level>> { Some(self.get_mut()) }
         fn seek_to(&mut self, pos: SeekFrom) -> io::Result<u64> { $seek(self, pos) }
+        fn back(&mut self) -> io::Result<()> { $back(self) }
+        fn at(&mut self) -> io::Result<u64> { $at(self) }
         fn end(self: Box<Self>, room: usize) -> (Option<(Error, String)>, Box<dyn Level>) {
             match (*self).into_inner() {
                 Ok(inner) => (None, Box::new($writer::with_capacity(room, inner))),
@@ -228,8 +242,10 @@ macro_rules! buffers { ($writer:ident, $held:expr, $seek:expr) => {
         }
     }
 } }
-buffers!(BufWriter, |w: &BufWriter<_>| bytes(w.buffer()), |w: &mut BufWriter<_>, pos| w.seek(pos));
-buffers!(LineWriter, |_| "?", |_, _| Err(ErrorKind::Unsupported.into()));
+buffers!(BufWriter, |w: &BufWriter<_>| bytes(w.buffer()), |w: &mut BufWriter<_>, pos| w.seek(pos), |w: &mut BufWriter<_>| w.rewind(),
+    |w: &mut BufWriter<_>| w.stream_position());
+buffers!(LineWriter, |_| "?", |_, _| Err(ErrorKind::Unsupported.into()), |_| Err(ErrorKind::Unsupported.into()),
+    |_| Err(ErrorKind::Unsupported.into()));
 // A tower of these names: over the device, or over a cursor on these bytes.
 fn level(names: &[&str], device: Device, content: Option<Vec<u8>>) -> Option<Box<dyn Level>> {
     Some(match (names, content) {

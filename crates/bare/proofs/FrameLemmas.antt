@@ -1,55 +1,94 @@
 -- What a reader of frames takes of bytes.
-use Rattle.std.proofs.Common.{◌≡◌, ◌⊎◌, ℕ, ◌+◌, ◌<◌, ◌≤◌, List, [], ◌∷◌, ◌++◌, length, take, Option, None, Some, Result, Ok, Err, refl, sym, ap, subst}
-use Rattle.std.proofs.Common.{◌∙◌, inl, inr, true≢false, drop, arith, length-append}
+use Rattle.std.proofs.Common.{◌≡◌, ◌⊎◌, ℕ, ◌+◌, ◌<◌, ◌≤◌, List, [], ◌∷◌, ◌++◌, length, take, Option, None, Some, IfSome, Result, Ok, Err}
+use Rattle.std.proofs.Common.{refl, sym, ap, subst, ◌∙◌, inl, inr, true≢false, drop, arith, append_assoc, append-nil, length-append}
 use Rattle.std.specs.Int.{w32, from_le_bytes, to_le_bytes}
 use Rattle.std.proofs.Math.Seq.{drop-append_seam}
 use Rattle.std.proofs.lemmas.List.{take-append-le, length-take-le}
 use Rattle.no_std_io2.specs.declared.io.Error.{Error}
-use Rattle.no_std_io2.specs.Errors.{IsFault}
-use Rattle.no_std_io2.specs.Read.{Event, byte, fails, events_of, bytes, HasNoFault}
-use Rattle.no_std_io2.proofs.EventLemmas.{bytes-events_of, bytes-behind, HasNoFault-events_of, HasNoFault-behind}
+use Rattle.no_std_io2.specs.Events.{Event, fails, events_of, bytes, HasNoFault, EndsInFault}
+use Rattle.no_std_io2.specs.Takes.{AreTaken, to_come, IsAtEnd}
+use Rattle.no_std_io2.specs.Read.{Reader, tells}
+use Rattle.no_std_io2.specs.BufReader.{behind_held}
+use Rattle.no_std_io2.proofs.EventLemmas.{bytes-append, bytes-events_of, HasNoFault-events_of, HasNoFault-front, HasNoFault-behind}
 use Rattle.framing.specs.Frames.{frame, told_length, IsPart, SaysEnded}
-use Rattle.framing.specs.Taking.{Drops, same, keeps, TakesFrame, Stops, EndsInside, IsTooLong, SaysNoRoom}
+use Rattle.framing.specs.Taking.{seen_bytes, reads_from, frame_to_come, given_frame, TakesFrame, SaysNoRoom}
+use Rattle.framing.specs.declared.reader.FrameReader.{FrameReader}
 
--- bytes have no interruption to drop
-drops_none : (bs : List ℕ) {F : List Event} → Drops (events_of bs) F → F ≡ events_of bs
-drops_none [] same = refl
-drops_none (b ∷ bs) same = refl
-drops_none (b ∷ bs) (keeps d) = ap (λ E. byte b ∷ E) (drops_none bs d)
+-- What a call left of these bytes, from which nothing was read before: the bytes that are seen, and then these events.
+pub record Left {R : Type 0} {S : ℕ} (I : Reader R) (bs : List ℕ) (P : List Event) (reply : Result (Option ℕ) Error) (new : FrameReader R S)
+    (room' : List ℕ) : Type 0 where
+  pub left : List Event
+  pub told : to_come (tells I (reads_from new)) ≡ Some left
+  pub events : events_of bs ≡ P ++ left
+  pub order : bs ≡ given_frame reply room' ++ (seen_bytes new room' ++ bytes left)
 
--- a frame that was taken
-pub frame_taken : (limit : ℕ) (bs room : List ℕ) (n : ℕ) (E after : List Event) (r : Result (Option ℕ) Error) → E ≡ events_of bs
-    → r ≡ Ok (Some n) → TakesFrame limit E r room after → (bs ≡ frame (take n room) ++ bytes after) × (n ≤ limit)
-frame_taken limit bs room n E after r is ok taken =
-    let t = subst (λ E. TakesFrame limit E (Ok (Some n)) room after) is (subst (λ r. TakesFrame limit E r room after) ok taken) in
-    let whole : events_of bs ≡ events_of (frame (take n room)) ++ after = sym (drops_none bs t.1) ∙ t.2.0 in
-    (sym (bytes-events_of bs) ∙ ap bytes whole ∙ bytes-behind (frame (take n room)) after, t.2.1)
+-- with nothing seen, what is to come is to come below
+below : (seen : List ℕ) (E : Option (List Event)) {F : List Event} → seen ≡ [] → behind_held seen E ≡ Some F → E ≡ Some F
+below seen None none is = is
+below seen (Some E) none is = ap (λ l. Some (events_of l ++ E)) (sym none) ∙ is
 
--- why none was taken
-pub frame_kept : (limit : ℕ) (bs room : List ℕ) (e : Error) (E after : List Event) (r : Result (Option ℕ) Error) → E ≡ events_of bs
-    → r ≡ Err e → TakesFrame limit E r room after → (IsPart bs × SaysEnded e) ⊎ ((limit < told_length bs) × SaysNoRoom e)
-frame_kept limit bs room e E after r is err taken =
-    let t = subst (λ E. TakesFrame limit E (Err e) room after) is (subst (λ r. TakesFrame limit E r room after) err taken) in
-    let all = drops_none bs t.1 in
-    elim t.2 [
-      | inl (inl stops) ↦ absurd (fault_none stops.seen stops.rest (sym all ∙ stops.is) stops.fault)
-      | inl (inr ends) ↦ inl (subst IsPart (of_bytes ends.seen (sym all ∙ ends.is)) ends.part, ends.says)
-      | inr long ↦ inr (front long.seen long.rest (sym all ∙ long.is) long.header long.above, long.says)
-    ]
+frame_left : {R : Type 0} {S : ℕ} {I : Reader R} {old new : FrameReader R S} {room room' : List ℕ} (bs : List ℕ)
+    (reply : Result (Option ℕ) Error) → frame_to_come I old room ≡ Some (events_of bs) → seen_bytes old room ≡ []
+    → (law : TakesFrame I old room reply new room') → Left I bs law.taken reply new room'
+frame_left {I = I} {old} {new} {room} {room'} bs reply is none law =
+    by (to_come (tells I (reads_from new))) refl
+    (subst (λ o. AreTaken o law.taken (to_come (tells I (reads_from new))))
+    (below (seen_bytes old room) (to_come (tells I (reads_from old))) none is) law.takes.events)
   where
-    of_bytes : (seen : List ℕ) → events_of bs ≡ events_of seen → seen ≡ bs
-    of_bytes seen e = sym (bytes-events_of seen) ∙ ap bytes (sym e) ∙ bytes-events_of bs
+    by : (E : Option (List Event)) → to_come (tells I (reads_from new)) ≡ E → AreTaken (Some (events_of bs)) law.taken E
+        → Left I bs law.taken reply new room'
+    by None told taken = absurd taken
+    by (Some E) told taken = record {
+      left = E;
+      told = told;
+      events = taken;
+      order =
+          sym (bytes-events_of bs) ∙ ap bytes taken ∙ bytes-append law.taken E
+          ∙ ap (λ l. l ++ bytes E) (ap (λ l. l ++ bytes law.taken) (sym none) ∙ law.order)
+          ∙ append_assoc (given_frame reply room') (seen_bytes new room') (bytes E);
+    }
 
-    fault_none : (seen : List ℕ) (rest : List Event) → events_of bs ≡ events_of seen ++ fails e ∷ rest → IsFault e → ⊥
-    fault_none seen rest split fault =
-        let has = HasNoFault-behind (events_of seen) (fails e ∷ rest) (subst HasNoFault split (HasNoFault-events_of bs)) in
-        true≢false (sym has.0 ∙ fault)
+-- at the end nothing is left
+at_end : {R : Type 0} {S : ℕ} {I : Reader R} {bs : List ℕ} {P : List Event} (reply : Result (Option ℕ) Error) (new : FrameReader R S)
+    (room' : List ℕ) → Left I bs P reply new room' → IsAtEnd (tells I (reads_from new))
+    → bs ≡ given_frame reply room' ++ seen_bytes new room'
+at_end reply new room' left end =
+    let nothing : left.left ≡ [] = subst (λ o. IfSome o (λ l. l ≡ [])) left.told end in
+    left.order ∙ ap (λ l. given_frame reply room' ++ (seen_bytes new room' ++ bytes l)) nothing
+    ∙ ap (λ l. given_frame reply room' ++ l) (append-nil (seen_bytes new room'))
 
-    front : (seen : List ℕ) (rest : List Event) → events_of bs ≡ events_of seen ++ rest → 4 ≤ length seen → limit < told_length seen
-        → limit < told_length bs
-    front seen rest is header above =
-        let split : bs ≡ seen ++ bytes rest = sym (bytes-events_of bs) ∙ ap bytes is ∙ bytes-behind seen rest in
-        subst (λ n. limit < n) (ap (from_le_bytes w32) (sym (ap (take 4) split ∙ take-append-le 4 seen (bytes rest) header))) above
+module _ {R : Type 0} {S : ℕ} {I : Reader R} {old new : FrameReader R S} {room room' : List ℕ} (bs : List ℕ)
+    (is : frame_to_come I old room ≡ Some (events_of bs)) (none : seen_bytes old room ≡ []) where
+  -- a frame that was taken
+  pub frame_taken : (n : ℕ) → TakesFrame I old room (Ok (Some n)) new room'
+      → (rest : List ℕ) × (bs ≡ frame (take n room') ++ rest) × (n ≤ length room)
+  frame_taken n law = (_, (frame_left bs (Ok (Some n)) is none law).order, law.ends.1)
+
+  -- why none was taken
+  pub frame_kept : (e : Error) → TakesFrame I old room (Err e) new room'
+      → (IsPart bs × SaysEnded e) ⊎ ((length room < told_length bs) × SaysNoRoom e)
+  frame_kept e law = elim law.ends [
+    | inl fault ↦ absurd (no_fault fault.0)
+    | inr clean ↦
+        elim clean.1 [
+          | inl ends ↦ inl (subst IsPart (sym (at_end (Err e) new room' left ends.1)) ends.0.1, ends.0.2)
+          | inr long ↦ inr (omega (arith, long.1, front long.0), long.2)
+        ]
+  ]
+    where
+      left : Left I bs law.taken (Err e) new room'
+      left = frame_left bs (Err e) is none law
+
+      no_fault : EndsInFault law.taken e → ⊥
+      no_fault (Q, split, clean, fault) =
+          let all = HasNoFault-front law.taken left.left (subst HasNoFault left.events (HasNoFault-events_of bs)) in
+          let last = HasNoFault-behind Q (fails e ∷ []) (subst HasNoFault split all) in
+          true≢false (sym last.0 ∙ fault)
+
+      front : 4 ≤ length (seen_bytes new room') → told_length bs ≡ told_length (seen_bytes new room')
+      front header =
+          ap told_length left.order
+          ∙ ap (from_le_bytes w32) (take-append-le 4 (seen_bytes new room') (bytes left.left) header)
 
 -- the bytes behind it
 pub behind_frame : (bs room rest : List ℕ) (n : ℕ) → n ≤ length room → bs ≡ frame (take n room) ++ rest → drop (4 + n) bs ≡ rest

@@ -1,6 +1,7 @@
 -- What a sending leaves.
 use Rattle.std.proofs.lemmas.Grind.{common_steps}
-use Rattle.std.proofs.Common.{◌≡◌, ℕ, ◌+◌, ◌-◌, ◌<◌, ◌⊎◌, List, [], ◌++◌, length, drop, Result, Ok, Err, OnOk, sym, ap, ◌∙◌, subst, inl, inr}
+use Rattle.std.proofs.Common.{◌≡◌, ℕ, ◌+◌, ◌-◌, ◌<◌, ◌⊎◌, List, [], ◌++◌, length, drop, Result, Ok, Err, OnOk, sym, ap, ◌∙◌, subst, inl}
+use Rattle.std.proofs.Common.{inr}
 use Rattle.std.proofs.Common.{arith, refl, append_assoc, length-append, min, take, ◌∷◌}
 use Rattle.std.proofs.lemmas.List.{length-take}
 use Rattle.no_std_io2.specs.declared.io.Error.{Error}
@@ -52,7 +53,8 @@ module _ (told : Queue → Told) (takes_all : Queue → Type 0) where
       })
 
 -- more bytes are kept between two sendings
-pub resumed_more : {s r : ℕ} (old mid new before port after more : List ℕ) → Resumes before old s port mid → Resumes (port ++ more) mid r after new
+pub resumed_more : {s r : ℕ} (old mid new before port after more : List ℕ) → Resumes before old s port mid
+    → Resumes (port ++ more) mid r after new
     → Resumes (before ++ more) old r after new
 resumed_more old mid new before port after more first next = record {
   front = (
@@ -67,4 +69,5 @@ resumed_more old mid new before port after more first next = record {
 pub line_put : (before mid after text : List ℕ) (n m : ℕ) → length before + length text < capacity
     → n ≡ min (length text) (capacity - length before) → mid ≡ before ++ take n text
     → m ≡ min 1 (capacity - length mid) → after ≡ mid ++ take m (10 ∷ []) → after ≡ before ++ line text
-line_put before mid after text n m fits first text_put second newline_put = grind (arith, common_steps, length-append, length-take, append_assoc)
+line_put before mid after text n m fits first text_put second newline_put =
+    grind (arith, common_steps, length-append, length-take, append_assoc)

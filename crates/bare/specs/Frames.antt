@@ -1,5 +1,5 @@
 -- What is cut off received bytes, if they are frames, and the line of an event.
-use Rattle.std.specs.Prelude.{◌≡◌, ◌⊎◌, ℕ, ◌<◌, ◌≤◌, List, [], ◌++◌, length, take, codes, decimal}
+use Rattle.std.specs.Prelude.{◌≡◌, ◌⊎◌, ℕ, ◌<◌, ◌≤◌, List, ◌++◌, length, take, codes, decimal}
 use Rattle.framing.specs.Frames.{frame, told_length, IsPart}
 use Rattle.line_log.specs.Log.{line_of}
 use Rattle.bare.specs.Status.{done, full, partial}

@@ -20,8 +20,8 @@ fn copy_whole<W: Write>(from: &[u8], w: &mut W) -> Result<()>
 
 /// Copies these bytes behind those that wait for the port, in pieces.
 ///
-/// Returns [`DONE`] if the port has all of them, and else [`FULL`]; nothing has changed then. That it fails only if they do not fit is tested, and not
-/// promised.
+/// Returns [`DONE`] if the port has all of them, and else [`FULL`]; nothing has changed then. That it fails only if they do not fit is
+/// tested, and not promised.
 #[unsafe(no_mangle)]
 pub extern "C" fn bare_copy(from: &[u8], port: &mut Queue) -> u32
     ensures { Appends from.now (waiting port.old) result (waiting port.new) }

@@ -62,8 +62,8 @@ pub extern "C" fn bare_receive(port: &mut Queue, room: &mut [u8], len: &mut usiz
 
 /// Puts the line `event 17` behind the bytes that wait for the port.
 ///
-/// Returns [`DONE`] if the port has the whole line, and else [`FULL`]; nothing has changed then. That it fails only if the line does not fit
-/// is tested, and not promised.
+/// Returns [`DONE`] if the port has the whole line, and else [`FULL`]; nothing has changed then. That it fails only if the line does not
+/// fit is tested, and not promised.
 #[unsafe(no_mangle)]
 pub extern "C" fn bare_event(number: u32, port: &mut Queue) -> u32
     ensures { Appends (event_line number) (waiting port.old) result (waiting port.new) }

@@ -23,8 +23,8 @@ fn print<W: Write>(w: &mut W, readings: &[u32]) -> Result<()>
 
 /// Puts a line for each reading, such as `sensor 0 = 17`, behind the bytes that wait for the port.
 ///
-/// Returns [`DONE`] if the port has all lines, and else [`FULL`]; nothing has changed then. That it fails only if they do not fit is tested, and not
-/// promised.
+/// Returns [`DONE`] if the port has all lines, and else [`FULL`]; nothing has changed then. That it fails only if they do not fit is
+/// tested, and not promised.
 #[unsafe(no_mangle)]
 pub extern "C" fn bare_report(readings: &[u32], port: &mut Queue) -> u32
     ensures { Appends (report readings.now) (waiting port.old) result (waiting port.new) }

@@ -1,26 +1,115 @@
--- How a record is skipped.
-use Rattle.std.proofs.Common.{◌≡◌, ℕ, ◌+◌, ◌<◌, List, [], ◌∷◌, ◌++◌, length, get_or, sym, ap, ◌∙◌, subst, arith}
-use Rattle.no_std_io2.specs.Read.{Event, byte, fails, events_of, bytes}
-use Rattle.no_std_io2.specs.Passing.{TakesBytes, SkipsBytes}
-use Rattle.no_std_io2.proofs.EventLemmas.{TakesBytes-then}
-use Rattle.examples.specs.Lengths.{AreRecords, more}
+-- Records that are skipped one after another.
+use Rattle.std.proofs.Common.{◌≡◌, ℕ, ◌<◌, List, [], ◌∷◌, ◌++◌, length, take, get_or, Ok, Err, refl, sym, ap, subst, ◌∙◌, arith}
+use Rattle.std.proofs.Common.{inl, inr, append_assoc}
+use Rattle.no_std_io2.specs.declared.io.Error.{Error}
+use Rattle.no_std_io2.specs.Errors.{IsInterruption, IsFault}
+use Rattle.no_std_io2.specs.Events.{fails, events_of, bytes}
+use Rattle.no_std_io2.specs.Takes.{Takes, TakesBytes}
+use Rattle.no_std_io2.specs.BufRead.{Lender, lender_tells, FilledLaw, ConsumeLaw}
+use Rattle.no_std_io2.specs.Passing.{Skipped}
+use Rattle.no_std_io2.proofs.EventLemmas.{bytes-append, HasNoFault-append}
+use Rattle.no_std_io2.proofs.TakesLemmas.{takes_none, takes_then, takes_still, takes_all, bytes_more, bytes_still, TakesBytes-then}
+use Rattle.no_std_io2.proofs.TakesLemmas.{IsAll-behind, EndsInFault-behind}
+use Rattle.examples.specs.Lengths.{AreRecords, none, more, IsCutOff, SkipsRecords}
 
--- if some bytes are gone from the front, the first event was the first of these bytes
-first_gone : (P after rest : List Event) (b : ℕ) → P ++ after ≡ byte b ∷ rest → 0 < length (bytes P) → (bs : List ℕ) × (bytes P ≡ b ∷ bs)
-first_gone [] after rest b is some = absurd (omega arith)
-first_gone (byte a ∷ P) after rest b is some = (bytes P, let same : a ≡ b = cc in ap (λ x. x ∷ bytes P) same)
-first_gone (fails e ∷ P) after rest b is some = absurd (cc)
+-- whole records were skipped so far
+pub record RecordsTaken {X : Type 0} (R : Lender X) (old now : X) : Type 0 where
+  pub xs : List ℕ
+  pub records : AreRecords xs
+  pub took : TakesBytes (lender_tells R old) xs (lender_tells R now)
 
--- one more record was skipped; its length was lent before
-pub record_more : {E mid after : List Event} {xs : List ℕ} (lent : List ℕ) (rest : List Event) {len left : ℕ} → AreRecords xs
-    → TakesBytes E xs mid → 0 < length lent → mid ≡ events_of lent ++ rest → len ≡ get_or lent 0 0 → SkipsBytes (len + 1) mid left after
-    → left ≡ 0 → (ys : List ℕ) × AreRecords ys × TakesBytes E ys after
-record_more [] rest a p some is told over done = absurd (omega arith)
-record_more {E} {mid} {after} {xs} (b ∷ bs) rest {len} a p some is told over done =
-    let is_len : len ≡ b = told in
-    let gone = over.passes in
-    let long : 0 < length (bytes gone.front) = omega (arith, ap length gone.gave, over.count, done) in
-    let first = first_gone gone.front after (events_of bs ++ rest) b (sym gone.split ∙ is) long in
-    let whole : over.over ≡ b ∷ first.0 = sym gone.gave ∙ first.1 in
-    let body : length first.0 ≡ b = omega (arith, ap length whole, over.count, done, is_len) in
-    (xs ++ b ∷ first.0, more xs first.0 b a body, subst (λ l. TakesBytes E (xs ++ l) after) whole (TakesBytes-then p gone))
+-- at the start there are none
+pub records_none : {X : Type 0} (R : Lender X) (old : X) → RecordsTaken R old old
+records_none R old = record {
+  xs = [];
+  records = none;
+  took = record { taken = []; takes = takes_none (lender_tells R old); no_fault = tt; are = refl };
+}
+
+-- some lent bytes begin with their first one
+first_of : (lent : List ℕ) → 0 < length lent → take 1 lent ≡ get_or lent 0 0 ∷ []
+first_of [] some = absurd (omega arith)
+first_of (b ∷ bs) some = refl
+
+module _ {X : Type 0} {R : Lender X} {old now after : X} (before : RecordsTaken R old now) where
+  -- an interruption is ignored
+  pub records_waited : {e : Error} → FilledLaw R now (Err e) after → IsInterruption e → RecordsTaken R old after
+  records_waited filled again =
+      record { xs = before.xs; records = before.records; took = bytes_still before.took filled.takes again }
+
+  -- the end came
+  pub records_end : FilledLaw R now (Ok []) after → SkipsRecords R old (Ok tt) after
+  records_end filled = record {
+    taken = before.took.taken;
+    takes = takes_still before.took.takes filled.takes;
+    ends = (
+      before.took.no_fault,
+      subst AreRecords (sym before.took.are) before.records,
+      takes_all before.took.taken before.took.takes (filled.end refl),
+    );
+  }
+
+  -- a fault came
+  pub records_fault : {e : Error} → FilledLaw R now (Err e) after → IsFault e → SkipsRecords R old (Err e) after
+  records_fault {e} filled fault = record {
+    taken = before.took.taken ++ fails e ∷ [];
+    takes = takes_then before.took.takes filled.takes;
+    ends = (
+      before.xs,
+      [],
+      bytes-append before.took.taken (fails e ∷ []) ∙ ap (λ l. l ++ []) before.took.are,
+      before.records,
+      inl ((before.took.taken, refl, before.took.no_fault, fault), inl refl),
+    );
+  }
+
+  module _ {mid : X} {lent : List ℕ} {len : ℕ} (filled : FilledLaw R now (Ok lent) after) (some : 0 < length lent)
+      (is : len ≡ get_or lent 0 0) (dropped : ConsumeLaw R after 1 mid) where
+    -- the length of the next record was taken
+    length_taken : TakesBytes (lender_tells R old) (before.xs ++ len ∷ []) (lender_tells R mid)
+    length_taken =
+        let front : take 1 (R.held after) ≡ len ∷ [] =
+        ap (take 1) filled.lends ∙ first_of lent some ∙ ap (λ b. b ∷ []) (sym is) in
+        let took : TakesBytes (lender_tells R old) before.xs (lender_tells R after) = record {
+          taken = before.took.taken;
+          takes = takes_still before.took.takes filled.takes;
+          no_fault = before.took.no_fault;
+          are = before.took.are;
+        } in
+        bytes_more (len ∷ []) took
+        (subst (λ l. Takes (lender_tells R after) (events_of l) (lender_tells R mid)) front dropped.takes)
+
+    -- and so was the rest of it
+    pub records_more : {new : X} {left : ℕ} {u : Unit {0}} → Skipped R mid len (Ok u) left new → RecordsTaken R old new
+    records_more {new} s = record {
+      xs = before.xs ++ len ∷ bytes s.taken;
+      records = more before.xs (bytes s.taken) len before.records (omega (arith, s.count, s.ends.1));
+      took = subst (λ l. TakesBytes (lender_tells R old) l (lender_tells R new)) (append_assoc before.xs (len ∷ []) (bytes s.taken))
+          (TakesBytes-then length_taken (record { taken = s.taken; takes = s.takes; no_fault = s.ends.0; are = refl }));
+    }
+
+    -- a fault or the end came first
+    pub records_cut : {new : X} {left : ℕ} {e : Error} → Skipped R mid len (Err e) left new → SkipsRecords R old (Err e) new
+    records_cut {e} s =
+        let cut : IsCutOff (len ∷ bytes s.taken) = (len, bytes s.taken, refl, omega (arith, s.count, s.ends.0)) in
+        record {
+          taken = length_taken.taken ++ s.taken;
+          takes = takes_then length_taken.takes s.takes;
+          ends = (
+            before.xs,
+            len ∷ bytes s.taken,
+            bytes-append length_taken.taken s.taken ∙ ap (λ l. l ++ bytes s.taken) length_taken.are
+                ∙ append_assoc before.xs (len ∷ []) (bytes s.taken),
+            before.records,
+            elim s.ends.1 [
+              | inl fault ↦ inl (EndsInFault-behind length_taken.taken s.taken length_taken.no_fault fault, inr cut)
+              | inr end ↦
+                  inr (
+                    HasNoFault-append length_taken.taken s.taken length_taken.no_fault end.1,
+                    end.0,
+                    cut,
+                    IsAll-behind length_taken.taken s.taken length_taken.takes end.2,
+                  )
+            ],
+          );
+        }

@@ -1,7 +1,8 @@
 -- A sum of no bytes is nothing, and a sum of bytes and then others is that of both.
-use Rattle.std.proofs.Common.{◌≡◌, ℕ, ◌+◌, ◌%◌, ◌^◌, ap, sym, arith, ◌∙◌}
+use Rattle.std.proofs.Common.{◌≡◌, ℕ, ◌+◌, ◌%◌, ◌^◌, Ok, ap, sym, arith, ◌∙◌}
 use Rattle.std.specs.List.{sum}
 use Rattle.std.proofs.lemmas.List.Sums.{sum_by-append}
+use Rattle.no_std_io2.specs.Read.{Reader, ReadCall, Gave, GaveExactly, GaveAll, Filled, ReadCallLaw}
 use Rattle.no_std_io2.proofs.CallsAdd.{Joins}
 use Rattle.examples.specs.declared.summed.Summed.{Summed}
 use Rattle.no_std_io2.proofs.ReadsAdd.{EachAdds}
@@ -19,12 +20,13 @@ sums_join = record {
 }
 
 -- each read adds what it gave
-pub reads_sum : {R : Type 0} → EachAdds {R = Summed R} ReadSums Sums
-reads_sum = record {
+pub reads_sum : {S : Type 0} (R : Reader (Summed S)) → ((a b : Summed S) (call : ReadCall) → R.may a call b → ReadSums a call b)
+    → EachAdds (ReadCallLaw R) Sums
+reads_sum R sums = record {
   joins = sums_join;
-  gave = λ a b room answer call. call;
-  exactly = λ a b room answer call. absurd call;
-  all = λ a b x answer call. absurd call;
-  lent = λ a b answer call. absurd call;
-  took = λ a b c x n call next within. absurd call;
+  gave = λ a b room answer law. sums a b (Gave room answer) law.call;
+  exactly = λ a b room answer law. absurd (sums a b (GaveExactly room answer) law.0);
+  all = λ a b x answer law. absurd (sums a b (GaveAll x answer) law.0);
+  lent = λ a b answer law. absurd (sums a b (Filled answer) law.0);
+  took = λ a b c x n law next within. absurd (sums a b (Filled (Ok x)) law.0);
 }

@@ -1,4 +1,5 @@
 pub mod Headers
+pub mod Hex
 pub mod Indexed
 pub mod Lengths
 pub mod Messages

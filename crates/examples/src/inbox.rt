@@ -1,6 +1,4 @@
 // [`Inbox`], a reader with a budget of turns.
-ghost use Rattle.std.specs.Prelude.{[]};
-
 use no_std_io2::io::{Error, ErrorKind, Read, Result, Stored};
 
 /// The receiving half of a port.
@@ -19,19 +17,9 @@ pub struct Inbox<S> {
     pub turns: u64,
 }
 
-impl<S> Stored for Inbox<S> {
-    ghost has_store = { λ _. ⊥ };
-
-    ghost content = { λ _. [] };
-
-    ghost position = { λ _. 0 };
-}
+impl<S> Stored for Inbox<S> {}
 
 impl<S: Source> Read for Inbox<S> {
-    ghost tells = { λ _. ⊥ };
-
-    ghost events = { λ _. [] };
-
     ghost turns = { λ r. r.turns };
 
     fn read(&mut self, buf: &mut [u8]) -> Result<usize> {
@@ -48,10 +36,4 @@ impl<S: Source> Read for Inbox<S> {
         buf[0] = byte;
         Ok(1)
     }
-
-    ghost filling_tells = { λ r h. absurd h };
-
-    ghost store_tells = { λ r h. absurd h };
-
-    ghost store_fits = { λ r h. absurd h };
 }

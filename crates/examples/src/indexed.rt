@@ -1,14 +1,14 @@
 //! Reads an entry of a file with an index. The last four bytes of the file are the place of the index. The index has the place of
 //! each entry, in four bytes each. All numbers are little-endian.
-ghost use Rattle.std.specs.Prelude.{◌≡◌, length, take, drop, IfOk};
+ghost use Rattle.std.specs.Prelude.{◌≡◌, length, take, drop, IfOk, OnOk, IfSome, IsSomeAnd};
 ghost use Rattle.examples.specs.Indexed.{IsNumberAt, entry_place};
 
 use no_std_io2::io::{BufReader, Cursor, Read, Result, Seek, SeekFrom, read_exact_at};
 
 // Returns the number at a place.
 fn read_u32_at<R: Read + Seek>(r: &mut R, at: SeekFrom) -> Result<u32>
-    ensures store { R.has_store r.old → R.has_store r.new × (R.content r.new ≡ R.content r.old)
-        × IfOk result (λ n. IsNumberAt (R.content r.old) (R.position r.old) at n) }
+    ensures store { IfSome (R.store r.old) (λ s. IsSomeAnd (R.store r.new) (λ t. (t.content ≡ s.content)
+        × IfOk result (IsNumberAt s at))) }
 {
     let mut bytes = [0u8; 4];
     read_exact_at(r, at, &mut bytes)?;
@@ -20,8 +20,8 @@ fn read_u32_at<R: Read + Seek>(r: &mut R, at: SeekFrom) -> Result<u32>
 /// # Errors
 /// Returns the error of a `seek` or `read_exact` that fails.
 pub fn read_entry<R: Read + Seek>(r: &mut R, i: u32, entry: &mut [u8]) -> Result<()>
-    ensures store { R.has_store r.old → R.has_store r.new × (R.content r.new ≡ R.content r.old)
-        × IfOk result (λ _. entry.new ≡ take (length entry.old) (drop (entry_place i (R.content r.old)) (R.content r.old))) }
+    ensures store { IfSome (R.store r.old) (λ s. IsSomeAnd (R.store r.new) (λ t. (t.content ≡ s.content)
+        × OnOk result (entry.new ≡ take (length entry.old) (drop (entry_place i s.content) s.content)))) }
 {
     let index = read_u32_at(r, SeekFrom::End(-4))?;
     let slot = u64::from(index) + 4 * u64::from(i);
@@ -34,7 +34,7 @@ pub fn read_entry<R: Read + Seek>(r: &mut R, i: u32, entry: &mut [u8]) -> Result
 /// # Errors
 /// Returns the errors that `read_entry` returns.
 pub fn entry_of(file: &[u8], i: u32, entry: &mut [u8]) -> Result<()>
-    ensures { IfOk result (λ _. entry.new ≡ take (length entry.old) (drop (entry_place i file.now) file.now)) }
+    ensures { OnOk result (entry.new ≡ take (length entry.old) (drop (entry_place i file.now) file.now)) }
 {
     let mut r = BufReader::<_, 64>::new(Cursor::new(file));
     read_entry(&mut r, i, entry)

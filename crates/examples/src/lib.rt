@@ -1,16 +1,21 @@
-//! The examples of README, of PROVING and of the CALLING page of `no_std_io2`, which the gate proves. They use no crate except
-//! `no_std_io2`.
+//! First proofs and devices to copy, which the gate proves. They use no crate except `no_std_io2`. PROVING shows functions of
+//! `one_retry`, `readings`, `retries`, `indexed`, `messages`, `narrow`, `lengths` and this file. The CALLING page of
+//! `no_std_io2` shows `narrow` and `one_retry`, and names the other devices: `serial`, `inbox`, `broken`, `flash`, `numbered`,
+//! `summed` and `hex`. No page shows `records`.
 #![tactic(auto)]
 
 ghost use Rattle.std.specs.Prelude.{◌≡◌, ◌++◌, IfOk};
 ghost use Rattle.no_std_io2.specs.BufWriter.{BufWriterFits};
 
 mod broken;
+mod flash;
+mod hex;
 mod inbox;
 mod indexed;
 mod lengths;
 mod messages;
 mod narrow;
+mod numbered;
 mod one_retry;
 mod readings;
 mod retries;
@@ -18,12 +23,15 @@ mod serial;
 mod summed;
 
 pub use broken::Broken;
+pub use flash::{Flash, FlashFile};
+pub use hex::{Hex, hex_of, write_hex};
 pub use inbox::{Inbox, Source};
 pub use indexed::{entry_of, read_entry};
 pub use lengths::pass_records;
 pub use messages::read_message;
 pub use narrow::Narrow;
 use no_std_io2::io::{BufWriter, Result, Write};
+pub use numbered::Numbered;
 pub use one_retry::send_with_one_retry;
 pub use readings::{send_reading, write_reading};
 pub use retries::save_with_retries;

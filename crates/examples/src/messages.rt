@@ -1,7 +1,8 @@
 //! Messages: the length of the payload, as a big-endian `u16`, followed by the payload.
 ghost use Rattle.std.specs.Prelude.{◌≡◌, IfOk};
 ghost use Rattle.std.specs.Int.{w16, to_be_bytes};
-ghost use Rattle.no_std_io2.specs.Passing.{TakesBytes};
+ghost use Rattle.no_std_io2.specs.Read.{tells};
+ghost use Rattle.no_std_io2.specs.Takes.{TakesBytes};
 ghost use Rattle.examples.specs.Messages.{message};
 
 use no_std_io2::io::{Read, Result};
@@ -20,8 +21,7 @@ fn length_of(prefix: [u8; 2]) -> u16
 /// Returns the error of a `read_exact` that fails, and `OutOfMemory` if an allocation failed. Some first bytes of the
 /// message may be taken then.
 pub fn read_message<R: Read>(alloc: Global, r: &mut R) -> Result<Vec<u8>>
-    ensures told { R.tells r.old → R.tells r.new
-        × IfOk result (λ v. TakesBytes (R.events r.old) (message v.items) (R.events r.new)) }
+    ensures takes { IfOk result (λ v. TakesBytes (tells R.Read r.old) (message v.items) (tells R.Read r.new)) }
 {
     let mut prefix = [0u8; 2];
     r.read_exact(&mut prefix)?;

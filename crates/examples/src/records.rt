@@ -1,11 +1,13 @@
 //! Records whose header is read first and stays to be read. A record is a tag, a length, and that
 //! many bytes.
 ghost use Rattle.std.specs.Prelude.{◌≡◌, ◌≢◌, ◌≤◌, ◌<◌, ◌⊎◌, ◌+◌, ℕ, List, [], ◌∷◌, ◌++◌, None, length, take, drop, slice_index};
-ghost use Rattle.std.specs.Prelude.{IsOkAnd, IsSomeAnd, IfOk, IfErr, OnOk};
+ghost use Rattle.std.specs.Prelude.{IsOkAnd, IsSomeAnd, IfOk, IfErr, IfSome, OnOk};
 ghost use Rattle.no_std_io2.specs.Errors.{IsOutOfMemory, IsUnexpectedEnd};
-ghost use Rattle.no_std_io2.specs.Read.{bytes, cut};
+ghost use Rattle.no_std_io2.specs.Events.{bytes, cut};
+ghost use Rattle.no_std_io2.specs.Takes.{to_come};
+ghost use Rattle.no_std_io2.specs.Read.{tells};
 ghost use Rattle.no_std_io2.specs.Write.{IsFront};
-ghost use Rattle.no_std_io2.specs.BufReader.{reader_held, reader_inner, reader_events, reader_is_sound, reader_position, KeepsBuffer};
+ghost use Rattle.no_std_io2.specs.BufReader.{reader_held, reader_inner, reader_store, KeepsBuffer};
 ghost use Rattle.examples.specs.Headers.{SoughtBack};
 
 use no_std_io2::io::{BufReader, Read, Result, Seek};
@@ -18,7 +20,7 @@ use std::alloc::Global;
 ///
 /// # Errors
 /// Returns the error of a `read_exact` that fails; all bytes up to the end or the fault are then taken. Returns the error
-/// of a `seek_relative` that fails; the header is then taken. Over a sound store with at least two bytes from the
+/// of a `seek_relative` that fails; the header is then taken. Over a told store with at least two bytes from the
 /// position on, it does not fail.
 pub fn peek_header<R: Read + Seek, const S: usize>(r: &mut BufReader<R, S>) -> Result<(u8, u8)>
     ensures held { 2 ≤ length (reader_held r.old)
@@ -26,23 +28,19 @@ pub fn peek_header<R: Read + Seek, const S: usize>(r: &mut BufReader<R, S>) -> R
         × KeepsBuffer r.old r.new × (reader_inner r.new ≡ reader_inner r.old) }
 
     // The result is the next two bytes, whatever was held.
-    ensures told { R.tells (reader_inner r.old) → IfOk result (λ header.
-        header.0 ∷ header.1 ∷ [] ≡ bytes (cut 2 (reader_events R.events r.old))) }
+    ensures told { IfSome (to_come (tells ⟦<BufReader<R, S> as Read>⟧ r.old)) (λ E. IfOk result (λ header.
+        header.0 ∷ header.1 ∷ [] ≡ bytes (cut 2 E))) }
 
     // Afterwards they are the first held bytes, or the inner reader was sought back to them.
     ensures steps_back { IfOk result (λ header. IsFront (header.0 ∷ header.1 ∷ []) (reader_held r.new)
-        ⊎ SoughtBack ⟦<BufReader<R, S> as Read>⟧ R.Seek.may r.old (header.0 ∷ header.1 ∷ []) r.new) }
+        ⊎ SoughtBack ⟦<BufReader<R, S> as Read>⟧ R.Seek r.old (header.0 ∷ header.1 ∷ []) r.new) }
 
-    // A sound store stays sound, and its position stays. The call fails if and only if fewer than two bytes are left;
+    // A told store keeps its content and its position. The call fails if and only if fewer than two bytes are left;
     // these are then taken.
-    ensures store { reader_is_sound R.has_store R.position R.content r.old
-        → reader_is_sound R.has_store R.position R.content r.new
-        × (R.content (reader_inner r.new) ≡ R.content (reader_inner r.old))
-        × (let left = drop (reader_position R.position r.old) (R.content (reader_inner r.old)) in
-        IfOk result (λ header. (header.0 ∷ header.1 ∷ [] ≡ take 2 left)
-        × (reader_position R.position r.new ≡ reader_position R.position r.old))
-        × IfErr result (λ e. (length left < 2) × IsUnexpectedEnd e
-        × (reader_position R.position r.new ≡ reader_position R.position r.old + length left))) }
+    ensures store { IfSome (reader_store R.store r.old) (λ s. IsSomeAnd (reader_store R.store r.new) (λ t. (t.content ≡ s.content)
+        × (let left = drop s.position s.content in
+        IfOk result (λ header. (header.0 ∷ header.1 ∷ [] ≡ take 2 left) × (t.position ≡ s.position))
+        × IfErr result (λ e. (length left < 2) × IsUnexpectedEnd e × (t.position ≡ s.position + length left))))) }
 {
     let mut header = [0; 2];
     r.read_exact(&mut header)?;

@@ -1,7 +1,9 @@
 //! [`Summed`], an adaptor with a state of its own. Its promise holds through the trait's loops and through a
 //! buffer.
-ghost use Rattle.std.specs.Prelude.{◌≡◌, ℕ, List, [], ◌++◌, ◌+◌, ◌%◌, ◌^◌, sum, OnOk};
+ghost use Rattle.std.specs.Prelude.{◌≡◌, ℕ, List, ◌++◌, ◌+◌, ◌%◌, ◌^◌, sum, OnOk};
 ghost use Rattle.no_std_io2.specs.BufWriter.{writer_inner, writer_buffer};
+ghost use Rattle.no_std_io2.specs.Read.{tells};
+ghost use Rattle.no_std_io2.specs.Takes.{to_come};
 ghost use Rattle.no_std_io2.specs.Write.{CallAdds, WroteRest};
 ghost use Rattle.examples.specs.Summed.{summed_inner, summed_sum, Sums, ReadSums};
 
@@ -68,20 +70,13 @@ pub fn flush_summed<W: Write + Drop, const S: usize>(w: &mut BufWriter<Summed<W>
     w.flush()
 }
 
-impl<R> Stored for Summed<R> {
-    ghost has_store = { λ _. ⊥ };
-
-    ghost content = { λ _. [] };
-
-    ghost position = { λ _. 0 };
-}
+impl<R> Stored for Summed<R> {}
 
 impl<R: Read> Read for Summed<R> {
-    ghost tells = { λ s. R.tells (summed_inner s) };
-
-    ghost events = { λ s. R.events (summed_inner s) };
-
     ghost turns = { λ s. R.turns (summed_inner s) };
+
+    // Those of the inner reader, also if that tells them by its store.
+    ghost events = { λ s. to_come (tells R.Read (summed_inner s)) };
 
     // Each read adds the bytes that it gave.
     ghost may = { ReadSums };
@@ -91,12 +86,6 @@ impl<R: Read> Read for Summed<R> {
         self.sum = add_all(self.sum, &buf[..n]);
         Ok(n)
     }
-
-    ghost filling_tells = { λ s h. absurd h };
-
-    ghost store_tells = { λ s h. absurd h };
-
-    ghost store_fits = { λ s h. absurd h };
 }
 
 /// Fills `buf` by the trait's loop. The bytes that it took are in the sum, also after an error. After

@@ -1,19 +1,25 @@
--- Over the bytes of frames, those frames are what is taken.
-use Rattle.std.proofs.Common.{◌≡◌, ◌⊎◌, ℕ, ◌+◌, ◌<◌, ◌≤◌, ◌^◌, List, [], ◌∷◌, ◌++◌, length, take, drop, min, All, Option, Some, None}
-use Rattle.std.proofs.Common.{Result, Ok, Err, refl, sym, ap, ◌∙◌, inl, inr, arith, append_assoc, append-nil, length-append, length-take}
+-- Over the bytes of frames, those frames are what is given.
+use Rattle.std.proofs.Common.{◌≡◌, ◌⊎◌, ℕ, ◌+◌, ◌<◌, ◌≤◌, ◌^◌, List, [], ◌∷◌, ◌++◌, length, take, drop, All, Option, Some, None}
+use Rattle.std.proofs.Common.{if◌then◌else◌}
+use Rattle.std.proofs.Common.{Result, Ok, Err, IfSome, IsSomeAnd, refl, sym, ap, subst, ◌∙◌, inl, inr, arith, append_assoc, append-nil}
+use Rattle.std.proofs.Common.{length-append, length-take}
 use Rattle.std.specs.Int.{w32, to_le_bytes, from_le_bytes}
 use Rattle.std.proofs.Math.Seq.{take-append_seam, drop-append_seam}
 use Rattle.std.proofs.lemmas.List.{take-append-le}
 use Rattle.std.proofs.lemmas.List.Elements.{All-head}
 use Rattle.no_std_io2.specs.declared.io.Error.{Error}
-use Rattle.no_std_io2.specs.Read.{Event, bytes, events_of}
+use Rattle.no_std_io2.specs.Errors.{IsFault}
+use Rattle.no_std_io2.specs.Events.{Event, byte, fails, bytes, events_of, HasNoFault, EndsInFault, first_fault}
+use Rattle.no_std_io2.specs.Takes.{AreTaken, to_come}
+use Rattle.no_std_io2.specs.Read.{Reader, tells}
 use Rattle.no_std_io2.specs.Write.{Told}
-use Rattle.no_std_io2.proofs.EventLemmas.{bytes-behind, bytes-events_of}
+use Rattle.no_std_io2.specs.BufReader.{behind_held}
+use Rattle.no_std_io2.proofs.EventLemmas.{bytes-append, bytes-events_of, HasNoFault-append, HasNoFault-events_of}
 use Rattle.framing.specs.Frames.{frame, frames, told_length, IsPart}
-use Rattle.framing.specs.Taking.{TakesNext, TakesFrame}
-use Rattle.framing.specs.Back.{GivesBack, IsFirstFault, RefusesFirst, WentOut}
-use Rattle.framing.proofs.DropsLemmas.{Drops-bytes}
-use Rattle.framing.proofs.TakingLemmas.{told_header, none_lost}
+use Rattle.framing.specs.Taking.{seen_bytes, reads_from, frame_to_come, given_frame, EndsFrame, EndsInside, IsTooLong, TakesFrame}
+use Rattle.framing.specs.Back.{AreToCome, GivesBack, RefusesFirst, WentOut}
+use Rattle.framing.specs.declared.reader.FrameReader.{FrameReader}
+use Rattle.framing.proofs.SeenLemmas.{told_header}
 
 -- the first bytes of a frame say the length of its payload
 told_frame : (p rest : List ℕ) → length p < 2 ^ 32 → told_length (frame p ++ rest) ≡ length p
@@ -45,7 +51,8 @@ no_frames [] e = refl
 no_frames (p ∷ ps) e = absurd (omega (arith, ap length e, long_frame p (frames ps)))
 
 -- frames have no part that the bytes end in
-no_part : (seen : List ℕ) (sent : List (List ℕ)) → seen ≡ frames sent → All (λ p. length p < 2 ^ 32) sent → 0 < length seen → IsPart seen → ⊥
+no_part : (seen : List ℕ) (sent : List (List ℕ)) → seen ≡ frames sent → All (λ p. length p < 2 ^ 32) sent → 0 < length seen → IsPart seen
+    → ⊥
 no_part seen [] e small some part = omega (arith, ap length e, some)
 no_part seen (p ∷ ps) e small some (inl short) = omega (arith, ap length e, long_frame p (frames ps), short)
 no_part seen (p ∷ ps) e small some (inr short) = omega (
@@ -68,36 +75,109 @@ first_long limit seen left (p ∷ ps) e small four above =
     ∙ told_frame p (frames ps) (All-head (λ q. length q < 2 ^ 32) p ps small) in
     (p, ps, refl, omega (arith, is, above))
 
--- Over the bytes of the frames of `sent`, a call gives the first payload, and the others are still to come.
-pub gives_back : (limit : ℕ) (sent : List (List ℕ)) {E : List Event} (reply : Result (Option ℕ) Error) (room : List ℕ) (after : List Event)
-    → TakesFrame limit E reply room after → bytes E ≡ frames sent → All (λ p. length p < 2 ^ 32) sent
-    → GivesBack limit sent E reply room (bytes after)
-gives_back limit [] (Ok (Some n)) room after (F, dropped, next) e small =
-    let all = sym (ap bytes next.0 ∙ bytes-behind (frame (take n room)) after) ∙ sym (Drops-bytes dropped) ∙ e in
-    absurd (omega (arith, ap length all, long_frame (take n room) (bytes after)))
-gives_back limit (s ∷ ss) (Ok (Some n)) room after (F, dropped, next) e small =
-    let all = sym e ∙ Drops-bytes dropped ∙ ap bytes next.0 ∙ bytes-behind (frame (take n room)) after in
-    let one = same_frame s (take n room) (frames ss) (bytes after) (All-head (λ q. length q < 2 ^ 32) s ss small)
-    (omega (arith, length-take n room, next.2)) all in
+-- bytes behind held ones
+bytes_behind : (seen : List ℕ) (E : List Event) → bytes (events_of seen ++ E) ≡ seen ++ bytes E
+bytes_behind seen E = bytes-append (events_of seen) E ∙ ap (λ l. l ++ bytes E) (bytes-events_of seen)
+
+-- the first fault of events that have none before it
+fault_first : (P E : List Event) (e : Error) → HasNoFault P → IsFault e → first_fault (P ++ fails e ∷ E) ≡ Some e
+fault_first [] E e none fault = ap (λ t. if t then first_fault E else Some e) fault
+fault_first (byte b ∷ P) E e none fault = fault_first P E e none fault
+fault_first (fails f ∷ P) E e none fault = ap (λ t. if t then first_fault (P ++ fails e ∷ E) else Some f) none.0
+    ∙ fault_first P E e none.1 fault
+
+-- a frame that begins the bytes of frames is the first of them
+first_frame : (sent : List (List ℕ)) (room : List ℕ) (n : ℕ) (after : List ℕ) → All (λ p. length p < 2 ^ 32) sent → n < 2 ^ 32
+    → frames sent ≡ frame (take n room) ++ after → (more : List (List ℕ)) × (sent ≡ take n room ∷ more) × (after ≡ frames more)
+first_frame [] room n after small fits is = absurd (omega (arith, ap length is, long_frame (take n room) after))
+first_frame (s ∷ ss) room n after small fits is =
+    let one = same_frame s (take n room) (frames ss) after (All-head (λ q. length q < 2 ^ 32) s ss small)
+    (omega (arith, length-take n room, fits)) is in
     (ss, ap (λ p. p ∷ ss) one.0, one.1)
-gives_back limit sent (Ok None) room after (F, dropped, none) e small =
-    (no_frames sent (sym e ∙ Drops-bytes dropped ∙ ap bytes none.0), ap bytes none.1)
-gives_back limit sent {E = E} (Err er) room after takes e small = (none_lost er room takes ∙ e, why takes)
-  where
-    why : TakesFrame limit E (Err er) room after → IsFirstFault E er ⊎ RefusesFirst limit sent er
-    why (F, dropped, inl (inl t)) = inl (t.seen, t.rest, rw (sym t.is) dropped, t.fault)
-    why (F, dropped, inl (inr t)) =
-        let all = sym (bytes-events_of t.seen) ∙ sym (ap bytes t.is) ∙ sym (Drops-bytes dropped) ∙ e in
-        absurd (no_part t.seen sent all small t.some t.part)
-    why (F, dropped, inr t) =
-        let all = sym (bytes-behind t.seen t.rest) ∙ sym (ap bytes t.is) ∙ sym (Drops-bytes dropped) ∙ e in
-        let first = first_long limit t.seen (bytes t.rest) sent all small t.header t.above in
-        inr (first.0, first.1, first.2, first.3, t.says)
+
+-- why an error came, if these bytes were seen before, P was taken, and these bytes and then E are still to come
+why_none : (sent : List (List ℕ)) (limit : ℕ) (before : List ℕ) (P : List Event) (seen : List ℕ) (E : List Event) (e : Error)
+    → All (λ p. length p < 2 ^ 32) sent → seen ++ bytes E ≡ frames sent
+    → (EndsInFault P e × IsPart seen) ⊎ (HasNoFault P × ((EndsInside seen e × (E ≡ [])) ⊎ IsTooLong limit seen e))
+    → (first_fault (events_of before ++ (P ++ E)) ≡ Some e) ⊎ RefusesFirst limit sent e
+why_none sent limit before P seen E e small is (inl ((Q, split, none, fault), part)) =
+    let all : events_of before ++ (P ++ E) ≡ (events_of before ++ Q) ++ fails e ∷ E =
+    ap (λ l. events_of before ++ (l ++ E)) split ∙ ap (λ l. events_of before ++ l) (append_assoc Q (fails e ∷ []) E)
+    ∙ sym (append_assoc (events_of before) Q (fails e ∷ E)) in
+    let clean = HasNoFault-append (events_of before) Q (HasNoFault-events_of before) none in
+    inl (ap first_fault all ∙ fault_first (events_of before ++ Q) E e clean fault)
+why_none sent limit before P seen E e small is (inr (none, inl (ends, end))) =
+    absurd (no_part seen sent (sym (append-nil seen) ∙ ap (λ l. seen ++ bytes l) (sym end) ∙ is) small ends.0 ends.1)
+why_none sent limit before P seen E e small is (inr (none, inr long)) =
+    let first = first_long limit seen (bytes E) sent is small long.0 long.1 in inr (first.0, first.1, first.2, first.3, long.2)
+
+module _ {R : Type 0} {S : ℕ} {I : Reader R} {old new : FrameReader R S} {room room' : List ℕ} where
+  -- If events are told, their bytes are those of the frame that was given, and then those to come.
+  pub told_bytes : (reply : Result (Option ℕ) Error) → TakesFrame I old room reply new room'
+      → IfSome (frame_to_come I old room) (λ E. IsSomeAnd (frame_to_come I new room') (λ F. bytes E ≡ given_frame reply room' ++ bytes F))
+  told_bytes reply law = by (to_come (tells I (reads_from old))) (to_come (tells I (reads_from new))) law.takes.events
+    where
+      by : (E E' : Option (List Event)) → AreTaken E law.taken E' → IfSome (behind_held (seen_bytes old room) E)
+          (λ E. IsSomeAnd (behind_held (seen_bytes new room') E') (λ F. bytes E ≡ given_frame reply room' ++ bytes F))
+      by None E' taken = tt
+      by (Some E) None taken = absurd taken
+      by (Some E) (Some E') taken =
+          bytes_behind (seen_bytes old room) E ∙ ap (λ l. seen_bytes old room ++ bytes l) taken
+          ∙ ap (λ l. seen_bytes old room ++ l) (bytes-append law.taken E')
+          ∙ sym (append_assoc (seen_bytes old room) (bytes law.taken) (bytes E')) ∙ ap (λ l. l ++ bytes E') law.order
+          ∙ append_assoc (given_frame reply room') (seen_bytes new room') (bytes E')
+          ∙ ap (λ l. given_frame reply room' ++ l) (sym (bytes_behind (seen_bytes new room') E'))
+
+  -- If the frames of `sent` are told to come, a call gives the first payload, and the others are still to come.
+  pub gives_back : (reply : Result (Option ℕ) Error) → TakesFrame I old room reply new room' → (sent : List (List ℕ))
+      → AreToCome sent (frame_to_come I old room) → All (λ p. length p < 2 ^ 32) sent
+      → GivesBack (length room) sent (frame_to_come I old room) reply room' (frame_to_come I new room')
+  gives_back reply law sent told small =
+      by (to_come (tells I (reads_from old))) (to_come (tells I (reads_from new))) refl law.takes.events (told_bytes reply law) told
+    where
+      by : (E E' : Option (List Event)) → to_come (tells I (reads_from new)) ≡ E' → AreTaken E law.taken E'
+          → IfSome (behind_held (seen_bytes old room) E)
+          (λ E. IsSomeAnd (behind_held (seen_bytes new room') E') (λ F. bytes E ≡ given_frame reply room' ++ bytes F))
+          → AreToCome sent (behind_held (seen_bytes old room) E)
+          → GivesBack (length room) sent (behind_held (seen_bytes old room) E) reply room' (behind_held (seen_bytes new room') E')
+      by None E' is taken bytes_are told = absurd told
+      by (Some E) None is taken bytes_are told = absurd taken
+      by (Some E) (Some E') is taken bytes_are told = of reply (sym told ∙ bytes_are) law.ends
+        where
+          of : (reply : Result (Option ℕ) Error) → frames sent ≡ given_frame reply room' ++ bytes (events_of (seen_bytes new room') ++ E')
+              → EndsFrame (length room) law.taken reply (seen_bytes new room') (tells I (reads_from new))
+              → GivesBack (length room) sent (Some (events_of (seen_bytes old room) ++ E)) reply room'
+              (Some (events_of (seen_bytes new room') ++ E'))
+          of (Ok (Some n)) whole ends = first_frame sent room' n _ small ends.2 whole
+          of (Ok None) whole ends =
+              let end : E' ≡ [] = subst (λ o. IfSome o (λ l. l ≡ [])) is ends.2 in
+              let none : bytes (events_of (seen_bytes new room') ++ E') ≡ [] =
+              bytes_behind (seen_bytes new room') E' ∙ ap (λ l. l ++ bytes E') ends.1 ∙ ap bytes end in
+              (no_frames sent (whole ∙ none), none)
+          of (Err e) whole ends = (
+            sym whole,
+            subst (λ l. (first_fault (events_of (seen_bytes old room) ++ l) ≡ Some e) ⊎ RefusesFirst (length room) sent e) (sym taken)
+                (why_none sent (length room) (seen_bytes old room) law.taken (seen_bytes new room') E' e small
+                (sym (bytes_behind (seen_bytes new room') E') ∙ sym whole) (at_end ends)),
+          )
+            where
+              at_end : EndsFrame (length room) law.taken (Err e) (seen_bytes new room') (tells I (reads_from new))
+                  → (EndsInFault law.taken e × IsPart (seen_bytes new room')) ⊎ (HasNoFault law.taken
+                  × ((EndsInside (seen_bytes new room') e × (E' ≡ [])) ⊎ IsTooLong (length room) (seen_bytes new room') e))
+              at_end (inl fault) = inl fault
+              at_end (inr (none, inl (ends, end))) = inr (none, inl (ends, subst (λ o. IfSome o (λ l. l ≡ [])) is end))
+              at_end (inr (none, inr long)) = inr (none, inr long)
 
 -- what went out are these frames
-pub went_out : {a b : Told} (sent : List (List ℕ)) (bs : List ℕ) → WentOut a sent b bs → bs ≡ frames sent
+went_out : {a b : Told} (sent : List (List ℕ)) (bs : List ℕ) → WentOut a sent b bs → bs ≡ frames sent
 went_out {a} {b} sent bs w =
     let whole : b.out ≡ a.out ++ frames sent =
     sym (append-nil b.out) ∙ ap (λ l. b.out ++ l) (sym w.flushed) ∙ w.moves.bytes ∙ ap (λ l. a.out ++ l ++ frames sent) w.empty
     ∙ ap (λ l. l ++ frames sent) (append-nil a.out) in
     sym (drop-append_seam a.out bs) ∙ ap (drop (length a.out)) (sym w.out ∙ whole) ∙ drop-append_seam a.out (frames sent)
+
+-- and if they are told to come, so are the frames
+pub round : (a b : Told) (sent : List (List ℕ)) (told : Option (List Event)) → IsSomeAnd told (λ E. WentOut a sent b (bytes E))
+    → AreToCome sent told
+round a b sent None went = absurd went
+round a b sent (Some E) went = went_out sent (bytes E) went

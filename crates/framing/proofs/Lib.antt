@@ -1,4 +1,7 @@
 pub mod SendingLemmas
-pub mod DropsLemmas
+pub mod PartLemmas
+pub mod RestLemmas
+pub mod BelowLemmas
+pub mod SeenLemmas
 pub mod TakingLemmas
 pub mod BackLemmas

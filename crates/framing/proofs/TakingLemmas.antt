@@ -1,203 +1,247 @@
--- What a reader of frames does to its events.
-use Rattle.std.proofs.Common.{◌≡◌, ◌⊎◌, ℕ, zero, suc, ◌+◌, ◌-◌, ◌<◌, ◌≤◌, ◌^◌, List, [], ◌∷◌, ◌++◌, length, take, drop}
-use Rattle.std.proofs.Common.{Option, Result, Ok, Err, IfErr, refl, sym, ap, subst, ◌∙◌, inl, inr, arith, append_assoc, append-nil}
-use Rattle.std.proofs.Common.{length-append, length-take, length-take-le, take-append-drop}
-use Rattle.std.specs.Int.{w32, to_le_bytes, from_le_bytes}
-use Rattle.std.proofs.lemmas.Nat.{from_le_bytes-to_le_bytes_4}
-use Rattle.std.proofs.Math.Seq.{take-append_seam, take-add}
-use Rattle.std.proofs.lemmas.List.{take-append-le, take-take}
+-- What a call of a reader of frames takes.
+use Rattle.std.proofs.Common.{◌≡◌, ℕ, ◌+◌, ◌<◌, ◌≤◌, ◌^◌, List, [], ◌++◌, Bool, true, false, Some, None, Result, Ok, Err, length}
+use Rattle.std.proofs.Common.{take}
+use Rattle.std.proofs.Common.{◌||◌, nat_lt, if◌then◌else◌, refl, sym, ap, ap₂, subst, ◌∙◌, inl, inr, arith, append_assoc, append-nil}
+use Rattle.std.proofs.Common.{length-append}
+use Rattle.std.proofs.lemmas.Bool.{lt-ltb, le-ltb}
 use Rattle.no_std_io2.specs.declared.io.Error.{Error}
-use Rattle.no_std_io2.specs.Errors.{IsFault}
-use Rattle.no_std_io2.specs.Read.{Event, fails, events_of, bytes}
-use Rattle.no_std_io2.specs.Passing.{Gathered}
-use Rattle.no_std_io2.specs.BufReader.{reader_held, reader_inner, reader_events}
-use Rattle.no_std_io2.specs.FillTo.{GathersTo, HasTo}
-use Rattle.no_std_io2.proofs.EventLemmas.{events_of-append, bytes-append}
+use Rattle.no_std_io2.specs.Errors.{IsFault, is_interruption}
+use Rattle.no_std_io2.specs.Events.{Event, bytes}
+use Rattle.no_std_io2.specs.Takes.{Takes}
+use Rattle.no_std_io2.specs.Read.{Reader, tells, ReadCall, ReadCallLaw, no_read, Gathers, GathersUntil}
+use Rattle.no_std_io2.specs.Write.{Made}
+use Rattle.no_std_io2.specs.FillTo.{GathersTo}
+use Rattle.no_std_io2.proofs.CallsLemmas.{made_then}
+use Rattle.no_std_io2.proofs.EventLemmas.{bytes-append, HasNoFault-append}
+use Rattle.no_std_io2.proofs.TakesLemmas.{takes_none, takes_then}
 use Rattle.framing.specs.Frames.{frame, told_length, IsPart, HasHeader, SaysEnded}
-use Rattle.framing.specs.Taking.{Drops, same, Stops, EndsInside, IsTooLong, TakesNone, TakesNext, TakesFrame, SeesLength}
-use Rattle.framing.specs.Taking.{begun, long_part, seen_bytes, frame_events, SaysNoRoom}
+use Rattle.framing.specs.Taking.{seen_bytes, reads_from, part_room, wanted, AsksPart, AsksFrame, PartReads, SeesTo, SaysNoRoom}
+use Rattle.framing.specs.Taking.{TakesFrame}
 use Rattle.framing.specs.declared.reader.FrameReader.{FrameReader}
-use Rattle.framing.proofs.DropsLemmas.{Drops-trans, Drops-bytes, Drops-gathered}
+use Rattle.framing.proofs.PartLemmas.{part_map, gathers_map, gathers_then, until_then}
+use Rattle.framing.proofs.SeenLemmas.{header_stays}
 
--- the part of a long frame, by its length
-pub begun_none : (n : ℕ) (more : List ℕ) → n ≡ 0 → begun n more ≡ []
-begun_none zero more none = refl
-begun_none (suc n) more none = absurd (omega (arith, none))
+-- While k bytes are seen, fewer than four, the header is wanted.
+wants_header : (limit : ℕ) (bs : List ℕ) (k : ℕ) → k < 4 → wanted limit bs k ≡ 4
+wants_header limit bs k short =
+    ap (λ b. if b || nat_lt limit (told_length bs) then 4 else 4 + told_length bs) (lt-ltb k 4 short)
 
-pub begun_some : (n : ℕ) (more : List ℕ) → 0 < n → begun n more ≡ to_le_bytes w32 n ++ more
-begun_some zero more some = absurd (omega (arith, some))
-begun_some (suc n) more some = refl
+-- then all of the frame is, if its payload fits
+wants_frame : (limit : ℕ) (bs : List ℕ) (k len : ℕ) → 4 ≤ k → told_length bs ≡ len → len ≤ limit → wanted limit bs k ≡ 4 + len
+wants_frame limit bs k len long is fits =
+    ap₂ (λ a b. if a || b then 4 else 4 + told_length bs) (le-ltb k 4 long) (ap (nat_lt limit) is ∙ le-ltb limit len fits)
+    ∙ ap (λ n. 4 + n) is
 
-module _ {R : Type 0} {S : ℕ} (r : FrameReader R S) (room : List ℕ) where
-  -- between two frames nothing was read past the buffer
-  pub events_between : (events : R → List Event) → r.len ≡ 0 → frame_events events r room ≡ reader_events events r.inner
-  events_between events none = ap (λ p. events_of p ++ reader_events events r.inner) (begun_none r.len (take r.given room) none)
+-- The reads of a call, of its frame or of the header alone. Nothing is given yet.
+pub record SeesFrame {R : Type 0} {S : ℕ} (I : Reader R) (limit : ℕ) (old : FrameReader R S) (room : List ℕ) (reply : Result Bool Error)
+    (new : FrameReader R S) (room' : List ℕ) : Type 0 where
+  pub taken : List Event
+  pub takes : Takes (tells I (reads_from old)) taken (tells I (reads_from new))
+  pub seen : seen_bytes new room' ≡ seen_bytes old room ++ bytes taken
+  pub ends : GathersTo taken reply (tells I (reads_from new))
+  pub calls : (C : List ReadCall) × Made (ReadCallLaw I) (reads_from old) C (reads_from new)
+      × PartReads (AsksFrame S limit (seen_bytes old room ++ bytes taken) (length (seen_bytes old room))) C (bytes taken) reply
 
-  pub seen_between : r.len ≡ 0 → seen_bytes r room ≡ reader_held r.inner
-  seen_between none = ap (λ p. p ++ reader_held r.inner) (begun_none r.len (take r.given room) none)
+module _ {R : Type 0} {S : ℕ} (I : Reader R) (limit : ℕ) {old : FrameReader R S} {room : List ℕ} where
+  -- for the header alone
+  pub sees_header : {new : FrameReader R S} {room' : List ℕ} {reply : Result Bool Error} → SeesTo I 4 old room reply new room'
+      → SeesFrame I limit old room reply new room'
+  sees_header {reply = reply} sees = record {
+    taken = sees.taken;
+    takes = sees.takes;
+    seen = sees.seen;
+    ends = sees.ends;
+    calls = (sees.calls.0, sees.calls.1, part_map sees.calls.0 (bytes sees.taken) reply each sees.calls.2);
+  }
+    where
+      each : (at size : ℕ) → AsksPart S 4 (length (seen_bytes old room)) at size
+          → AsksFrame S limit (seen_bytes old room ++ bytes sees.taken) (length (seen_bytes old room)) at size
+      each at size asks =
+          subst (λ n. AsksPart S n (length (seen_bytes old room)) at size)
+          (sym (wants_header limit (seen_bytes old room ++ bytes sees.taken) _ asks.0)) asks
 
-  -- inside a long frame its header was
-  pub events_inside : (events : R → List Event) → 0 < r.len
-      → frame_events events r room ≡ events_of (to_le_bytes w32 r.len ++ take r.given room) ++ reader_events events r.inner
-  events_inside events some = ap (λ p. events_of p ++ reader_events events r.inner) (begun_some r.len (take r.given room) some)
+  -- for the header and then for the frame
+  module _ {mid new : FrameReader R S} {room' : List ℕ} (len : ℕ) (reply : Result Bool Error)
+      (header : SeesTo I 4 old room (Ok true) mid room)
+      (has : HasHeader len (seen_bytes mid room)) (fits : len ≤ limit) (rest : SeesTo I (4 + len) mid room reply new room') where
+    abbrev x : List ℕ
+    x = bytes header.taken
 
-  pub seen_inside : 0 < r.len → seen_bytes r room ≡ (to_le_bytes w32 r.len ++ take r.given room) ++ reader_held r.inner
-  seen_inside some = ap (λ p. p ++ reader_held r.inner) (begun_some r.len (take r.given room) some)
+    abbrev y : List ℕ
+    y = bytes rest.taken
 
-  -- the events to come begin with the bytes that were seen
-  pub events_seen : (events : R → List Event) → frame_events events r room ≡ events_of (seen_bytes r room) ++ events (reader_inner r.inner)
-  events_seen events =
-      sym
-      (ap (λ l. l ++ events (reader_inner r.inner)) (events_of-append (long_part r room) (reader_held r.inner))
-      ∙ append_assoc (events_of (long_part r room)) (events_of (reader_held r.inner)) (events (reader_inner r.inner)))
+    abbrev all : List ℕ
+    all = seen_bytes old room ++ (x ++ y)
 
--- the header of a frame says the length of its payload
-pub told_header : (len : ℕ) (more : List ℕ) → len < 2 ^ 32 → told_length (to_le_bytes w32 len ++ more) ≡ len
-told_header len more small =
-    ap (from_le_bytes w32) (take-append_seam (to_le_bytes w32 len) more) ∙ from_le_bytes-to_le_bytes_4 len small
+    both : bytes (header.taken ++ rest.taken) ≡ x ++ y
+    both = bytes-append header.taken rest.taken
 
-pub has_header : (len : ℕ) (more held : List ℕ) → len < 2 ^ 32 → HasHeader len ((to_le_bytes w32 len ++ more) ++ held)
-has_header len more held small =
-    subst (HasHeader len) (sym (append_assoc (to_le_bytes w32 len) more held)) (
-      omega (arith, length-append (to_le_bytes w32 len) (more ++ held)),
-      told_header len (more ++ held) small,
-      take-append_seam (to_le_bytes w32 len) (more ++ held),
+    seen : seen_bytes new room' ≡ all
+    seen = rest.seen ∙ ap (λ l. l ++ y) header.seen ∙ append_assoc (seen_bytes old room) x y
+
+    told : told_length all ≡ len
+    told = ap told_length (sym (append_assoc (seen_bytes old room) x y) ∙ ap (λ l. l ++ y) (sym header.seen))
+        ∙ (header_stays len (seen_bytes mid room) y has).1
+
+    first : (at size : ℕ) → AsksPart S 4 (length (seen_bytes old room)) at size
+        → AsksFrame S limit all (length (seen_bytes old room)) at size
+    first at size asks = subst (λ n. AsksPart S n (length (seen_bytes old room)) at size) (sym (wants_header limit all _ asks.0)) asks
+
+    next : (at size : ℕ) → AsksPart S (4 + len) (length (seen_bytes mid room)) at size
+        → AsksFrame S limit all (length (seen_bytes old room)) (length x + at) size
+    next at size asks =
+        let from : length (seen_bytes mid room) + at ≡ length (seen_bytes old room) + (length x + at) =
+        omega (arith, ap length header.seen, length-append (seen_bytes old room) x) in
+        let want = wants_frame limit all (length (seen_bytes old room) + (length x + at)) len (omega (arith, has.0, from)) told fits in
+        subst (λ n. AsksPart S n (length (seen_bytes old room)) (length x + at) size) (sym want)
+        (omega (arith, asks.0, from), asks.1 ∙ ap (λ k. part_room S (4 + len) k) from)
+
+    reads : (r : Result Bool Error) → PartReads (AsksPart S (4 + len) (length (seen_bytes mid room))) rest.calls.0 y r
+        → PartReads (AsksFrame S limit all (length (seen_bytes old room))) (header.calls.0 ++ rest.calls.0) (x ++ y) r
+    reads r calls = by r (part_map rest.calls.0 y r next calls)
+      where
+        front : Gathers (AsksFrame S limit all (length (seen_bytes old room))) header.calls.0 x
+        front = part_map header.calls.0 x (Ok true) first header.calls.2
+
+        by : (r : Result Bool Error)
+            → PartReads (λ at size. AsksFrame S limit all (length (seen_bytes old room)) (length x + at) size) rest.calls.0 y r
+            → PartReads (AsksFrame S limit all (length (seen_bytes old room))) (header.calls.0 ++ rest.calls.0) (x ++ y) r
+        by (Ok true) c = gathers_then front c
+        by (Ok false) c = until_then front c
+        by (Err e) c = until_then front c
+
+    ends : (r : Result Bool Error) → GathersTo rest.taken r (tells I (reads_from new))
+        → GathersTo (header.taken ++ rest.taken) r (tells I (reads_from new))
+    ends (Ok true) none = HasNoFault-append header.taken rest.taken header.ends none
+    ends (Ok false) end = (HasNoFault-append header.taken rest.taken header.ends end.0, end.1)
+    ends (Err e) (Q, is, none, fault) = (
+      header.taken ++ Q,
+      ap (λ l. header.taken ++ l) is ∙ sym (append_assoc header.taken Q _),
+      HasNoFault-append header.taken Q header.ends none,
+      fault,
     )
 
--- inside a long frame its header was seen
-pub seen_header : {R : Type 0} {S : ℕ} (r : FrameReader R S) (room : List ℕ) → 0 < r.len → HasHeader r.len (seen_bytes r room)
-seen_header r room some =
-    subst (HasHeader r.len) (sym (seen_inside r room some)) (has_header r.len (take r.given room) (reader_held r.inner) r.is_u32)
+    pub sees_both : SeesFrame I limit old room reply new room'
+    sees_both = record {
+      taken = header.taken ++ rest.taken;
+      takes = takes_then header.takes rest.takes;
+      seen = seen ∙ ap (λ l. seen_bytes old room ++ l) (sym both);
+      ends = ends reply rest.ends;
+      calls = (
+        header.calls.0 ++ rest.calls.0,
+        made_then (ReadCallLaw I) header.calls.0 (reads_from old) rest.calls.0 (reads_from mid)
+            (reads_from new) header.calls.1 rest.calls.1,
+        subst
+            (λ l. PartReads (AsksFrame S limit (seen_bytes old room ++ l) (length (seen_bytes old room))) (header.calls.0 ++ rest.calls.0) l
+            reply) (sym both) (reads reply rest.calls.2),
+      );
+    }
 
--- a whole header stays where more bytes come behind it
-pub header_stays : (len : ℕ) (held more : List ℕ) → HasHeader len held → HasHeader len (held ++ more)
-header_stays len held more (long, told, is) =
-    let front : take 4 (held ++ more) ≡ take 4 held = take-append-le 4 held more long in
-    (omega (arith, long, length-append held more), ap (from_le_bytes w32) front ∙ told, front ∙ is)
+-- a header that was seen still is
+pub header_after : {R : Type 0} {S : ℕ} {I : Reader R} {n : ℕ} (old new : FrameReader R S) (room room' : List ℕ) {reply : Result Bool Error}
+    (len : ℕ) → HasHeader len (seen_bytes old room) → SeesTo I n old room reply new room' → HasHeader len (seen_bytes new room')
+header_after old new room room' len header sees =
+    subst (HasHeader len) (sym sees.seen) (header_stays len (seen_bytes old room) (bytes sees.taken) header)
 
--- one header says one length
-pub one_length : (n m : ℕ) (held : List ℕ) → HasHeader n held → HasHeader m held → n ≡ m
-one_length n m held a b = sym a.1 ∙ b.1
+-- a header with less behind it than it says is a part of a frame
+pub part_of : (len : ℕ) (seen : List ℕ) → HasHeader len seen → length seen < 4 + len → IsPart seen
+part_of len seen header short = inr (omega (arith, header.1, short))
 
--- the payload that was copied makes the frame that was held
-pub frame_held : (len : ℕ) (held room : List ℕ) → HasHeader len held → len ≤ length room
-    → take len room ≡ take len (drop 4 held) → frame (take len room) ≡ take (4 + len) held
-frame_held len held room header fits copied =
-    let size : length (take len room) ≡ len = length-take-le len room fits in
-    ap (λ n. to_le_bytes w32 n ++ take len room) size ∙ ap (λ l. l ++ take len room) (sym header.2)
-    ∙ ap (λ l. take 4 held ++ l) copied ∙ sym (take-add 4 len held)
+module _ {R : Type 0} {S : ℕ} {I : Reader R} {old new : FrameReader R S} {room room' : List ℕ} where
+  -- a frame that was held was given
+  pub takes_held : (n : ℕ) → reads_from new ≡ reads_from old → seen_bytes old room ≡ frame (take n room') ++ seen_bytes new room'
+      → n ≤ length room → n < 2 ^ 32 → TakesFrame I old room (Ok (Some n)) new room'
+  takes_held n same gives fits small = record {
+    taken = [];
+    takes = subst (λ w. Takes (tells I (reads_from old)) [] (tells I w)) (sym same) (takes_none (tells I (reads_from old)));
+    order = append-nil (seen_bytes old room) ∙ gives;
+    ends = (tt, fits, small);
+    calls = ([], same, no_read);
+  }
 
--- held bytes, some of which are taken
-pub events_cut : (n : ℕ) (held : List ℕ) (E : List Event)
-    → events_of held ++ E ≡ events_of (take n held) ++ (events_of (drop n held) ++ E)
-events_cut n held E =
-    ap (λ l. events_of l ++ E) (sym (take-append-drop n held)) ∙ ap (λ l. l ++ E) (events_of-append (take n held) (drop n held))
-    ∙ append_assoc (events_of (take n held)) (events_of (drop n held)) E
+  -- a frame was seen, and then given
+  pub takes_given : {mid : FrameReader R S} {room₁ : List ℕ} (n : ℕ) → SeesFrame I (length room) old room (Ok true) mid room₁
+      → reads_from new ≡ reads_from mid → seen_bytes mid room₁ ≡ frame (take n room') ++ seen_bytes new room' → n ≤ length room → n < 2 ^ 32
+      → TakesFrame I old room (Ok (Some n)) new room'
+  takes_given n sees same gives fits small = record {
+    taken = sees.taken;
+    takes = subst (λ w. Takes (tells I (reads_from old)) sees.taken (tells I w)) (sym same) sees.takes;
+    order = sym sees.seen ∙ gives;
+    ends = (sees.ends, fits, small);
+    calls = (sees.calls.0, subst (Made (ReadCallLaw I) (reads_from old) sees.calls.0) (sym same) sees.calls.1, sees.calls.2);
+  }
 
--- what was gathered behind a front was gathered behind all of it
-pub Gathered-front : (front : List ℕ) {E after : List Event} {old new : List ℕ} → Gathered E old new after
-    → Gathered E (front ++ old) (front ++ new) after
-Gathered-front front {old = old} g =
-    record { more = g.more; is = ap (λ l. front ++ l) g.is ∙ sym (append_assoc front old g.more); passes = g.passes }
+  -- the bytes ended before a frame
+  pub takes_none_left : SeesFrame I (length room) old room (Ok false) new room' → seen_bytes new room' ≡ []
+      → TakesFrame I old room (Ok None) new room'
+  takes_none_left sees none =
+      record { taken = sees.taken; takes = sees.takes; order = sym sees.seen; ends = (sees.ends.0, none, sees.ends.1); calls = sees.calls }
 
--- the bytes ended inside a frame
-pub inside : {E after : List Event} {old new : List ℕ} (e : Error) → Gathered E old new after → after ≡ [] → IsPart new → 0 < length new
-    → SaysEnded e → (F : List Event) × Drops (events_of old ++ E) F × EndsInside F e (events_of new ++ after)
-inside {after = after} {new = new} e g end part some says = (
-  events_of new ++ after,
-  Drops-gathered g,
-  record { seen = new; is = ap (λ l. events_of new ++ l) end ∙ append-nil (events_of new); kept = refl; some = some; part = part; says = says },
-)
+  -- or inside one
+  pub takes_end : (e : Error) → SeesFrame I (length room) old room (Ok false) new room' → 0 < length (seen_bytes new room')
+      → IsPart (seen_bytes new room') → SaysEnded e → TakesFrame I old room (Err e) new room'
+  takes_end e sees some part says = record {
+    taken = sees.taken;
+    takes = sees.takes;
+    order = sym sees.seen;
+    ends = inr (sees.ends.0, inl ((some, part, says), sees.ends.1));
+    calls = (sees.calls.0, sees.calls.1, inr (inl (says, sees.calls.2)));
+  }
 
--- a fault came inside a frame
-pub stops : {E : List Event} {old new : List ℕ} (e : Error) (after : List Event) → Gathered E old new (fails e ∷ after) → IsFault e → IsPart new
-    → (F : List Event) × Drops (events_of old ++ E) F × Stops F e (events_of new ++ after)
-stops {new = new} e after g fault part = (
-  events_of new ++ fails e ∷ after,
-  Drops-gathered g,
-  record { seen = new; rest = after; is = refl; kept = refl; part = part; fault = fault },
-)
+  -- a fault came
+  pub takes_fault : (e : Error) → SeesFrame I (length room) old room (Err e) new room' → IsPart (seen_bytes new room')
+      → TakesFrame I old room (Err e) new room'
+  takes_fault e sees part = record {
+    taken = sees.taken;
+    takes = sees.takes;
+    order = sym sees.seen;
+    ends = inl (sees.ends, part);
+    calls = (sees.calls.0, sees.calls.1, inr (inr (sees.ends.3, sees.calls.2)));
+  }
 
--- the bytes ended before a frame
-pub no_frame : {E after : List Event} {old new : List ℕ} → Gathered E old new after → after ≡ [] → new ≡ []
-    → Drops (events_of old ++ E) [] × (events_of new ++ after ≡ [])
-no_frame {E} {after} {old} {new} g end none =
-    let all : events_of new ++ after ≡ [] = ap (λ l. events_of l ++ after) none ∙ end in
-    (subst (Drops (events_of old ++ E)) all (Drops-gathered g), all)
+  -- the payload is longer than the room
+  pub takes_refused : (e : Error) (len : ℕ) → SeesFrame I (length room) old room (Ok true) new room' → HasHeader len (seen_bytes new room')
+      → length room < len → SaysNoRoom e → TakesFrame I old room (Err e) new room'
+  takes_refused e len sees header above says = record {
+    taken = sees.taken;
+    takes = sees.takes;
+    order = sym sees.seen;
+    ends = inr (sees.ends, inr (header.0, omega (arith, above, header.1), says));
+    calls = (sees.calls.0, sees.calls.1, inl (says, sees.calls.2));
+  }
 
--- of no length nothing is taken
-take_none : (l : List ℕ) → take 0 l ≡ []
-take_none [] = refl
-take_none (x ∷ l) = refl
+-- If a payload is longer than the room, no more than its header is wanted.
+wants_no_more : (a b : Bool) (n : ℕ) → b ≡ true → (if a || b then 4 else n) ≡ 4
+wants_no_more true b n is = refl
+wants_no_more false b n is = ap (λ b. if b then 4 else n) is
 
--- a header was taken from the held bytes
-pub begins_long : (len : ℕ) (held left room : List ℕ) (E : List Event) → 0 < len → HasHeader len held → left ≡ drop 4 held
-    → events_of (begun len (take 0 room)) ++ (events_of left ++ E) ≡ events_of held ++ E
-begins_long len held left room E some header is =
-    let front = begun_some len (take 0 room) some ∙ ap (λ l. to_le_bytes w32 len ++ l) (take_none room)
-    ∙ append-nil (to_le_bytes w32 len) ∙ sym header.2 in
-    ap (λ l. events_of l ++ (events_of left ++ E)) front ∙ ap (λ l. events_of (take 4 held) ++ (events_of l ++ E)) is
-    ∙ sym (events_cut 4 held E)
+module _ {R : Type 0} {S : ℕ} {I : Reader R} {old new : FrameReader R S} {room room' : List ℕ} (e : Error)
+    (law : TakesFrame I old room (Err e) new room') where
+  -- the error of a call is never an interruption
+  pub frame_fault : IsFault e
+  frame_fault = elim law.ends [
+    | inl fault ↦ fault.0.3
+    | inr none ↦ elim none.1 [ inl ends ↦ ap is_interruption ends.0.2.0 | inr long ↦ ap is_interruption long.2.0 ]
+  ]
 
--- a whole payload in the room makes a frame
-pub long_whole : (len at : ℕ) (room : List ℕ) → at ≡ len → len ≤ length room → to_le_bytes w32 len ++ take at room ≡ frame (take len room)
-long_whole len at room is fits =
-    ap (λ n. to_le_bytes w32 len ++ take n room) is
-    ∙ ap (λ n. to_le_bytes w32 n ++ take len room) (sym (length-take-le len room fits))
+  -- A payload that is longer than the room is refused before its bytes are read: each read was made with fewer than four bytes seen.
+  pub refused_unread : 4 ≤ length (seen_bytes new room') → length room < told_length (seen_bytes new room')
+      → Gathers (AsksPart S 4 (length (seen_bytes old room))) law.calls.0 (bytes law.taken)
+  refused_unread header above = elim law.calls.2 [
+    | inl refused ↦ gathers_map each refused.1
+    | inr ended ↦ elim ended [ inl end ↦ absurd (not_yet (Ok []) end.1) | inr fault ↦ absurd (not_yet (Err e) fault.1) ]
+  ]
+    where
+      each : (at size : ℕ) → AsksFrame S (length room) (seen_bytes old room ++ bytes law.taken) (length (seen_bytes old room)) at size
+          → AsksPart S 4 (length (seen_bytes old room)) at size
+      each at size asks =
+          let long : length room < told_length (seen_bytes old room ++ bytes law.taken) = omega (arith, above, ap told_length law.order) in
+          subst (λ n. AsksPart S n (length (seen_bytes old room)) at size)
+          (wants_no_more (nat_lt (length (seen_bytes old room) + at) 4) _ _ (lt-ltb _ _ long)) asks
 
--- a part of a payload in the room is a part of a frame
-pub long_part_of : (len at : ℕ) (room : List ℕ) → len < 2 ^ 32 → at < len → IsPart (to_le_bytes w32 len ++ take at room)
-long_part_of len at room small short =
-    inr
-    (omega (arith, told_header len (take at room) small, length-append (to_le_bytes w32 len) (take at room), length-take at room, short))
-
--- a frame was taken from the held bytes
-pub short_whole : (len : ℕ) (held left room : List ℕ) (E after : List Event) → HasHeader len held → len ≤ length room
-    → take len room ≡ take len (drop 4 held) → left ≡ drop (4 + len) held → after ≡ E
-    → events_of held ++ E ≡ events_of (frame (take len room)) ++ (events_of left ++ after)
-short_whole len held left room E after header fits copied is still =
-    events_cut (4 + len) held E ∙ ap (λ l. events_of (take (4 + len) held) ++ (events_of l ++ E)) (sym is)
-    ∙ ap (λ l. events_of (take (4 + len) held) ++ (events_of left ++ l)) (sym still)
-    ∙ ap (λ l. events_of l ++ (events_of left ++ after)) (sym (frame_held len held room header fits copied))
-
--- an error came before the length was known
-pub sees_none : (limit : ℕ) (room : List ℕ) {E : List Event} (e : Error) {after : List Event} → SeesLength E (Err e) after
-    → TakesFrame limit E (Err e) room after
-sees_none limit room e s = (s.0, s.1, inl s.2)
-
--- the payload is longer than the room
-pub sees_long : {R : Type 0} {S : ℕ} (events : R → List Event) (r : FrameReader R S) (room : List ℕ) {E : List Event} (len limit : ℕ) (e : Error)
-    → HasHeader len (seen_bytes r room) → limit < len → SaysNoRoom e → Drops E (frame_events events r room)
-    → TakesFrame limit E (Err e) room (frame_events events r room)
-sees_long events r room len limit e header above says dropped = (
-  frame_events events r room,
-  dropped,
-  inr (record {
-    seen = seen_bytes r room;
-    rest = events (reader_inner r.inner);
-    is = events_seen r room events;
-    kept = refl;
-    header = header.0;
-    above = omega (arith, above, header.1);
-    says = says;
-  }),
-)
-
--- interruptions that were ignored before
-pub takes_after : {E F : List Event} (limit : ℕ) (reply : Result (Option ℕ) Error) (room : List ℕ) (after : List Event) → Drops E F
-    → TakesFrame limit F reply room after → TakesFrame limit E reply room after
-takes_after limit reply room after before (G, more, takes) = (G, Drops-trans before more, takes)
-
--- no byte is lost by an error
-pub none_lost : {limit : ℕ} {E : List Event} (e : Error) (room : List ℕ) {after : List Event} → TakesFrame limit E (Err e) room after
-    → bytes after ≡ bytes E
-none_lost e room (F, dropped, inl (inl t)) =
-    ap bytes t.kept ∙ bytes-append (events_of t.seen) t.rest ∙ sym (bytes-append (events_of t.seen) (fails e ∷ t.rest))
-    ∙ sym (ap bytes t.is) ∙ sym (Drops-bytes dropped)
-none_lost e room (F, dropped, inl (inr t)) = ap bytes t.kept ∙ sym (Drops-bytes dropped)
-none_lost e room (F, dropped, inr t) = ap bytes t.kept ∙ sym (Drops-bytes dropped)
-
-pub kept_bytes : (limit : ℕ) {E : List Event} (reply : Result (Option ℕ) Error) (room : List ℕ) (after : List Event)
-    → TakesFrame limit E reply room after → IfErr reply (λ _. bytes after ≡ bytes E)
-kept_bytes limit (Ok o) room after takes = tt
-kept_bytes limit (Err e) room after takes = none_lost e room takes
+      not_yet : (answer : Result (List ℕ) Error)
+          → GathersUntil (AsksFrame S (length room) (seen_bytes old room ++ bytes law.taken) (length (seen_bytes old room))) law.calls.0
+          (bytes law.taken) answer → ⊥
+      not_yet answer (D, size, so_far, into, is) =
+          let short = (each _ size into).0 in
+          omega (arith, short, header, ap length law.order, length-append (seen_bytes old room) (bytes law.taken))

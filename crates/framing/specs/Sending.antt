@@ -59,7 +59,8 @@ Ends I mid [] (Err e) new = ⊥
 Ends I mid (p ∷ ps) (Err e) new = SendsFrame I p mid (Err e) new
 
 -- The payloads that are gone from the front were sent, and the last call ended like this.
-pub record SendsFrames {W : Type 0} {S : ℕ} (I : Writer W) (old : FrameWriter W S) (payloads : List (List ℕ)) (reply : Result (Unit {0}) Error)
+pub record SendsFrames {W : Type 0} {S : ℕ} (I : Writer W) (old : FrameWriter W S) (payloads : List (List ℕ))
+    (reply : Result (Unit {0}) Error)
     (new : FrameWriter W S) (left : List (List ℕ)) : Type 0 where
   pub sent : List (List ℕ)
   pub split : payloads ≡ sent ++ left

@@ -1,11 +1,15 @@
--- What a reader of frames has, and which events it takes.
-use Rattle.std.specs.Prelude.{◌≡◌, ◌⊎◌, ℕ, zero, suc, ◌+◌, ◌<◌, ◌≤◌, ◌^◌, List, [], ◌∷◌, ◌++◌, length, take, min, codes}
-use Rattle.std.specs.Prelude.{true, Option, Some, None, Result, Ok, Err}
+-- What a reader of frames has, what its calls take from the reader below, and which reads they make. I are the ghost members of that
+-- reader.
+use Rattle.std.specs.Prelude.{◌≡◌, ◌⊎◌, ℕ, zero, suc, ◌+◌, ◌-◌, ◌<◌, ◌≤◌, ◌^◌, List, [], ◌++◌, length, take, min, max, codes}
+use Rattle.std.specs.Prelude.{◌||◌, nat_lt, nat_le, if◌then◌else◌, Bool, true, false, Option, Some, None, Result, Ok, Err, IfErr}
 use Rattle.std.specs.Int.{w32, to_le_bytes}
-use Rattle.no_std_io2.specs.Errors.{IsFault, IsInterruption, SaysError}
-use Rattle.no_std_io2.specs.Read.{Event, byte, fails, events_of, ReadCall}
-use Rattle.no_std_io2.specs.BufReader.{reader_held, reader_inner, reader_events, reader_turns}
-use Rattle.no_std_io2.specs.FillTo.{FillToMade}
+use Rattle.no_std_io2.specs.Errors.{IsFault, SaysError}
+use Rattle.no_std_io2.specs.Events.{Event, bytes, HasNoFault, EndsInFault}
+use Rattle.no_std_io2.specs.Takes.{Tells, Takes, to_come, IsAtEnd}
+use Rattle.no_std_io2.specs.Read.{Reader, tells, ReadCall, ReadCallLaw, Gathers, GathersUntil, IsRest}
+use Rattle.no_std_io2.specs.Write.{Made}
+use Rattle.no_std_io2.specs.BufReader.{reader_held, reader_inner, reader_turns, behind_held}
+use Rattle.no_std_io2.specs.FillTo.{GathersTo, HasTo}
 use Rattle.no_std_io2.specs.declared.io.Error.{Error}
 use Rattle.no_std_io2.specs.declared.io.BufReader.{BufReader}
 use Rattle.no_std_io2.specs.declared.io.ErrorKind.TheVariants.{InvalidInput}
@@ -29,78 +33,114 @@ begun (suc n) more = to_le_bytes w32 (suc n) ++ more
 abbrev pub long_part : {R : Type 0} {S : ℕ} → FrameReader R S → List ℕ → List ℕ
 long_part r room = begun r.len (take r.given room)
 
--- the bytes to come that were read: that part, and then the held bytes
+-- the bytes that were read and are still to be given, with this room: that part, and then the held bytes
 abbrev pub seen_bytes : {R : Type 0} {S : ℕ} → FrameReader R S → List ℕ → List ℕ
 seen_bytes r room = long_part r room ++ reader_held r.inner
 
--- the events to come, with this room, if the reader below tells `events`
-abbrev pub frame_events : {R : Type 0} {S : ℕ} → (R → List Event) → FrameReader R S → List ℕ → List Event
-frame_events events r room = events_of (long_part r room) ++ reader_events events r.inner
+-- the events to come, with this room, if the reader below tells its own
+abbrev pub frame_to_come : {R : Type 0} {S : ℕ} → Reader R → FrameReader R S → List ℕ → Option (List Event)
+frame_to_come I r room = behind_held (seen_bytes r room) (to_come (tells I (reads_from r)))
 
 -- a number that each frame lowers, if the reader below tells `turns`
 abbrev pub frame_turns : {R : Type 0} {S : ℕ} → (R → ℕ) → FrameReader R S → ℕ
 frame_turns turns r = reader_turns turns r.inner + min 1 r.len
 
--- F is E without some interruptions that have no fault before them
-pub data Drops : List Event → List Event → Type 0 where
-  same : {E : List Event} → Drops E E
-  keeps : {b : ℕ} {E F : List Event} → Drops E F → Drops (byte b ∷ E) (byte b ∷ F)
-  drops : {e : Error} {E F : List Event} → IsInterruption e → Drops E F → Drops (fails e ∷ E) F
+-- into how much room a read is made while k bytes are seen, of `size` that are wanted: into the buffer behind them, if all fit it; or else
+-- into the room for the others, or into the whole buffer, if that is larger
+abbrev pub part_room : ℕ → ℕ → ℕ → ℕ
+part_room S size k = if nat_le size S then S - k else max S (size - k)
 
--- A fault came before the next frame was whole. The fault is taken, and the bytes before it are still to come.
-pub record Stops (E : List Event) (e : Error) (after : List Event) : Type 0 where
-  pub seen : List ℕ
-  pub rest : List Event
-  pub is : E ≡ events_of seen ++ fails e ∷ rest
-  pub kept : after ≡ events_of seen ++ rest
-  pub part : IsPart seen
-  pub fault : IsFault e
+-- after `seen` bytes and `at` more, a read is made for the others of `size` bytes, over a buffer of S bytes
+abbrev pub AsksPart : ℕ → ℕ → ℕ → ℕ → ℕ → Type 0
+AsksPart S size seen at room = (seen + at < size) × (room ≡ part_room S size (seen + at))
+
+-- C are such reads, which gave x: as many as were wanted; or the last met the end, or a fault
+abbrev pub PartReads : (ℕ → ℕ → Type 0) → List ReadCall → List ℕ → Result Bool Error → Type 0
+PartReads asks C x (Ok true) = Gathers asks C x
+PartReads asks C x (Ok false) = GathersUntil asks C x (Ok [])
+PartReads asks C x (Err e) = GathersUntil asks C x (Err e)
+
+-- Reads until `size` bytes of the next frame are seen. None of them is given yet.
+pub record SeesTo {R : Type 0} {S : ℕ} (I : Reader R) (size : ℕ) (old : FrameReader R S) (room : List ℕ) (reply : Result Bool Error)
+    (new : FrameReader R S) (room' : List ℕ) : Type 0 where
+  -- what is taken from the reader below
+  pub taken : List Event
+  pub takes : Takes (tells I (reads_from old)) taken (tells I (reads_from new))
+  -- its bytes are seen after the others
+  pub seen : seen_bytes new room' ≡ seen_bytes old room ++ bytes taken
+  -- whether that many are seen, and why there are no more
+  pub enough : HasTo size reply (length (seen_bytes new room'))
+  pub ends : GathersTo taken reply (tells I (reads_from new))
+  -- which reads it made
+  pub calls : (C : List ReadCall) × Made (ReadCallLaw I) (reads_from old) C (reads_from new)
+      × PartReads (AsksPart S size (length (seen_bytes old room))) C (bytes taken) reply
+
+-- Reads into a room, behind its first `at` bytes, until `want` are in it.
+pub record FillsRest {R : Type 0} (I : Reader R) (want : ℕ) (old : R) (room : List ℕ) (at : ℕ) (reply : Result Bool Error) (new : R)
+    (room' : List ℕ) (at' : ℕ) : Type 0 where
+  -- what the reads gave is there
+  pub given : List ℕ
+  pub filled : take at' room' ≡ take at room ++ given
+  -- whether all of it is full
+  pub within : at' ≤ want
+  pub enough : HasTo want reply at'
+  -- the error is never an interruption
+  pub fault : IfErr reply IsFault
+  -- which reads they are
+  pub calls : (C : List ReadCall) × Made (ReadCallLaw I) old C new × PartReads (IsRest (want - at)) C given reply
+
+-- how many bytes a call wants to see of a frame that begins with bs, while it has seen k: its header; and then all of it, if its payload
+-- has at most `limit` bytes
+abbrev pub wanted : ℕ → List ℕ → ℕ → ℕ
+wanted limit bs k = if nat_lt k 4 || nat_lt limit (told_length bs) then 4 else 4 + told_length bs
+
+-- after `seen` bytes of bs and `at` more, a read is made for the others that are wanted
+abbrev pub AsksFrame : ℕ → ℕ → List ℕ → ℕ → ℕ → ℕ → Type 0
+AsksFrame S limit bs seen at room = AsksPart S (wanted limit bs (seen + at)) seen at room
 
 -- e is the error of a payload that is longer than the room
 abbrev pub SaysNoRoom : Error → Type 0
 SaysNoRoom e = SaysError InvalidInput (codes "a payload is longer than the room") e
 
--- The bytes end inside a frame. They are still to come.
-pub record EndsInside (E : List Event) (e : Error) (after : List Event) : Type 0 where
-  pub seen : List ℕ
-  pub is : E ≡ events_of seen
-  pub kept : after ≡ E
-  pub some : 0 < length seen
-  pub part : IsPart seen
-  pub says : SaysEnded e
+-- C are the reads of a `next` with this result: they gave as many bytes as were wanted; or the last met the end, or a fault
+abbrev pub FrameReads : (ℕ → ℕ → Type 0) → List ReadCall → List ℕ → Result (Option ℕ) Error → Type 0
+FrameReads asks C x (Ok (Some n)) = Gathers asks C x
+FrameReads asks C x (Ok None) = GathersUntil asks C x (Ok [])
+FrameReads asks C x (Err e) = (SaysNoRoom e × Gathers asks C x)
+    ⊎ ((SaysEnded e × GathersUntil asks C x (Ok [])) ⊎ (IsFault e × GathersUntil asks C x (Err e)))
 
--- The payload of the next frame is longer than `limit`. The frame is still to come.
-pub record IsTooLong (limit : ℕ) (E : List Event) (e : Error) (after : List Event) : Type 0 where
-  pub seen : List ℕ
-  pub rest : List Event
-  pub is : E ≡ events_of seen ++ rest
-  pub kept : after ≡ E
-  pub header : 4 ≤ length seen
-  pub above : limit < told_length seen
-  pub says : SaysNoRoom e
+-- the frame that a call with this result gave, if it gave one: its payload is at the front of the room
+abbrev pub given_frame : Result (Option ℕ) Error → List ℕ → List ℕ
+given_frame (Ok (Some n)) room = frame (take n room)
+given_frame (Ok None) room = []
+given_frame (Err e) room = []
 
--- no frame was taken, and no byte is lost
-abbrev pub TakesNone : ℕ → List Event → Error → List Event → Type 0
-TakesNone limit E e after = (Stops E e after ⊎ EndsInside E e after) ⊎ IsTooLong limit E e after
+-- the bytes end inside a frame, of which these are seen, and e says so
+abbrev pub EndsInside : List ℕ → Error → Type 0
+EndsInside seen e = (0 < length seen) × IsPart seen × SaysEnded e
 
--- a frame was taken, and its payload is at the front of the room; or there is none; or an error came
-abbrev pub TakesNext : ℕ → List Event → Result (Option ℕ) Error → List ℕ → List Event → Type 0
-TakesNext limit E (Ok (Some n)) room after = (E ≡ events_of (frame (take n room)) ++ after) × (n ≤ limit) × (n < 2 ^ 32)
-TakesNext limit E (Ok None) room after = (E ≡ []) × (after ≡ [])
-TakesNext limit E (Err e) room after = TakesNone limit E e after
+-- the payload of the frame that begins with these bytes is longer than `limit`, and e says so
+abbrev pub IsTooLong : ℕ → List ℕ → Error → Type 0
+IsTooLong limit seen e = (4 ≤ length seen) × (limit < told_length seen) × SaysNoRoom e
 
--- some interruptions were ignored, and then this happened to the events
-abbrev pub TakesFrame : ℕ → List Event → Result (Option ℕ) Error → List ℕ → List Event → Type 0
-TakesFrame limit E reply room after = (F : List Event) × Drops E F × TakesNext limit F reply room after
+-- how a call that took P ended, with these bytes still to be given: with a frame, whose payload fits the room; at the end, before a frame;
+-- after a fault, before a frame was whole; at the end, inside a frame; or before a payload that is longer than the room
+abbrev pub EndsFrame : ℕ → List Event → Result (Option ℕ) Error → List ℕ → Tells → Type 0
+EndsFrame limit P (Ok (Some n)) seen new = HasNoFault P × (n ≤ limit) × (n < 2 ^ 32)
+EndsFrame limit P (Ok None) seen new = HasNoFault P × (seen ≡ []) × IsAtEnd new
+EndsFrame limit P (Err e) seen new = (EndsInFault P e × IsPart seen)
+    ⊎ (HasNoFault P × ((EndsInside seen e × IsAtEnd new) ⊎ IsTooLong limit seen e))
 
--- the length of the next payload was read; or there is no next frame; or an error came. No byte is taken
-abbrev pub SeesLength : List Event → Result (Option ℕ) Error → List Event → Type 0
-SeesLength E (Ok (Some len)) after = Drops E after
-SeesLength E (Ok None) after = Drops E [] × (after ≡ [])
-SeesLength E (Err e) after = (F : List Event) × Drops E F × (Stops F e after ⊎ EndsInside F e after)
-
--- If the next frame is known to have a payload that is longer than `limit`, only the reads were made that its header needs: each with fewer
--- than four bytes held.
-abbrev pub LeavesUnread : {R : Type 0} {S : ℕ} → (R → ReadCall → R → Type 0) → ℕ → FrameReader R S → FrameReader R S → List ℕ → Type 0
-LeavesUnread may limit old new room = 4 ≤ length (seen_bytes new room) → limit < told_length (seen_bytes new room)
-    → FillToMade may 4 (frame_reader old) (Ok true) (frame_reader new)
+-- `next(room)`
+pub record TakesFrame {R : Type 0} {S : ℕ} (I : Reader R) (old : FrameReader R S) (room : List ℕ) (reply : Result (Option ℕ) Error)
+    (new : FrameReader R S) (room' : List ℕ) : Type 0 where
+  -- what is taken from the reader below
+  pub taken : List Event
+  pub takes : Takes (tells I (reads_from old)) taken (tells I (reads_from new))
+  -- no byte is lost, repeated or moved: the seen bytes and then those of `taken` are the frame, if one was given, and then what is seen now
+  pub order : seen_bytes old room ++ bytes taken ≡ given_frame reply room' ++ seen_bytes new room'
+  -- how it ended
+  pub ends : EndsFrame (length room) taken reply (seen_bytes new room') (tells I (reads_from new))
+  -- which reads it made
+  pub calls : (C : List ReadCall) × Made (ReadCallLaw I) (reads_from old) C (reads_from new)
+      × FrameReads (AsksFrame S (length room) (seen_bytes old room ++ bytes taken) (length (seen_bytes old room))) C (bytes taken) reply

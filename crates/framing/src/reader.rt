@@ -1,16 +1,17 @@
 //! [`FrameReader`], which reads frames. A fault loses no frame, and no frame is given twice.
-ghost use Rattle.std.specs.Prelude.{◌≡◌, ◌+◌, ◌<◌, ◌≤◌, ◌^◌, ℕ, List, ◌++◌, All, true, take, length, Ok, IfOk, IfErr, OnErr, IfSome, IfNone};
-ghost use Rattle.no_std_io2.specs.Errors.{IsFault};
-ghost use Rattle.no_std_io2.specs.Read.{bytes, events_of};
+ghost use Rattle.std.specs.Prelude.{◌≡◌, ◌+◌, ◌<◌, ◌≤◌, ◌^◌, ℕ, List, [], ◌++◌, All, true, take, length, Ok, IfOk, IfSome, IfNone};
+ghost use Rattle.std.specs.Prelude.{IsSomeAnd};
+ghost use Rattle.no_std_io2.specs.Events.{bytes};
+ghost use Rattle.no_std_io2.specs.Takes.{to_come};
+ghost use Rattle.no_std_io2.specs.Read.{tells};
 ghost use Rattle.no_std_io2.specs.Write.{Told};
 ghost use Rattle.no_std_io2.specs.BufReader.{reader_held};
-ghost use Rattle.no_std_io2.specs.FillTo.{FillToMade};
-ghost use Rattle.framing.specs.Frames.{frame, frames, told_length, HasHeader};
+ghost use Rattle.framing.specs.Frames.{frame, HasHeader};
 
 mod parts;
 
-use no_std_io2::io::{BufRead, BufReader, Error, ErrorKind, Read, Result};
-use parts::{HEADER, ended_inside, fill_rest, told_len};
+use no_std_io2::io::{BufRead, BufReader, Read, Result};
+use parts::{HEADER, ended_inside, fill_rest, no_room, told_len};
 
 /// A reader of frames, with a buffer of `S` bytes in front of any reader.
 ///
@@ -37,20 +38,21 @@ pub struct FrameReader<R, const S: usize> {
     given: usize,
     ghost header_fits: { 4 ≤ S },
     ghost is_u32: { len < 2 ^ 32 },
+    ghost is_long: { 0 < len → S < 4 + len },
     ghost within: { given ≤ len },
 }
 
 impl<R: Read, const S: usize> FrameReader<R, S> {
-    ghost use Rattle.framing.specs.Taking.{frame_reader, reads_from, seen_bytes, frame_events, frame_turns};
-    ghost use Rattle.framing.specs.Taking.{SeesLength, TakesFrame, LeavesUnread};
-    ghost use Rattle.framing.specs.Back.{GivesBack, WentOut};
+    ghost use Rattle.framing.specs.Taking.{frame_reader, reads_from, seen_bytes, frame_to_come, frame_turns, SeesTo, TakesFrame};
+    ghost use Rattle.framing.specs.Back.{AreToCome, GivesBack, WentOut};
 
     /// Makes a reader of the frames of `inner`. `S` is from 4 to 2^63 - 1.
     pub fn new(inner: R) -> FrameReader<R, S>
         requires header_fits { 4 ≤ S }
         requires in_memory { S < 2 ^ 63 }
         ensures inner { reads_from result ≡ inner }
-        ensures events { (room : List ℕ) → frame_events R.events result room ≡ R.events inner }
+        ensures empty { (room : List ℕ) → seen_bytes result room ≡ [] }
+        ensures events { (room : List ℕ) → frame_to_come R.Read result room ≡ to_come (tells R.Read inner) }
     {
         FrameReader {
             inner: BufReader::new(inner),
@@ -69,28 +71,26 @@ impl<R: Read, const S: usize> FrameReader<R, S> {
     /// Gives the payload of the next frame into the front of `room`, and returns its length. Returns `None` if the
     /// bytes end after a whole frame. It ignores interruptions.
     ///
+    /// It reads only while fewer bytes than the header's four are seen, and then, if the payload fits `room`, fewer
+    /// than the frame's.
+    ///
     /// # Errors
     /// Returns the first fault of the reader below; the next call continues after it. Returns `UnexpectedEof` if the
     /// bytes end inside a frame. Returns `InvalidInput` if the payload is longer than `room`; no read is made for it
-    /// once its header is held. After each of these errors the frame is still to come, with all its bytes, if the next
+    /// once its header is seen. After each of these errors the frame is still to come, with all its bytes, if the next
     /// call gets the same room, or a longer one that begins with the same bytes. Never returns `Interrupted`.
     pub fn next(&mut self, room: &mut [u8]) -> Result<Option<usize>>
-        ensures told { R.tells (reads_from self.old) → R.tells (reads_from self.new)
-            × TakesFrame (length room.old) (frame_events R.events self.old room.old) result room.new
-            (frame_events R.events self.new room.new) }
-        ensures kept { R.tells (reads_from self.old) → IfErr result (λ _.
-            bytes (frame_events R.events self.new room.new) ≡ bytes (frame_events R.events self.old room.old)) }
-        ensures back { (sent : List (List ℕ)) → R.tells (reads_from self.old)
-            → bytes (frame_events R.events self.old room.old) ≡ frames sent → All (λ p. length p < 2 ^ 32) sent
-            → GivesBack (length room.old) sent (frame_events R.events self.old room.old) result room.new
-            (bytes (frame_events R.events self.new room.new)) }
+        ensures takes { TakesFrame R.Read self.old room.old result self.new room.new }
+        // If the frames of these payloads are told to come, they come back, one after another.
+        ensures back { (sent : List (List ℕ)) → AreToCome sent (frame_to_come R.Read self.old room.old)
+            → All (λ p. length p < 2 ^ 32) sent → GivesBack (length room.old) sent (frame_to_come R.Read self.old room.old) result room.new
+            (frame_to_come R.Read self.new room.new) }
+        // So do those that a writer of frames sent.
         ensures round { (old new : Told) (sent : List (List ℕ))
-            → WentOut old sent new (bytes (frame_events R.events self.old room.old)) → R.tells (reads_from self.old)
-            → All (λ p. length p < 2 ^ 32) sent → GivesBack (length room.old) sent (frame_events R.events self.old room.old) result
-            room.new (bytes (frame_events R.events self.new room.new)) }
-        ensures unread { OnErr result (LeavesUnread R.may (length room.old) self.old self.new room.new) }
+            → IsSomeAnd (frame_to_come R.Read self.old room.old) (λ E. WentOut old sent new (bytes E))
+            → All (λ p. length p < 2 ^ 32) sent → GivesBack (length room.old) sent (frame_to_come R.Read self.old room.old) result room.new
+            (frame_to_come R.Read self.new room.new) }
         ensures within { IfOk result (λ o. IfSome o (λ n. n ≤ length room.new)) }
-        ensures never_interrupted { IfErr result IsFault }
         ensures spends_turn { IfOk result (λ o. IfSome o (λ _. frame_turns R.turns self.new < frame_turns R.turns self.old)) }
     {
         if let Some(len) = self.give_held(room) {
@@ -102,8 +102,8 @@ impl<R: Read, const S: usize> FrameReader<R, S> {
     // Gives the next payload if its frame is held and it fits: the hot path of `next`.
     #[inline(always)]
     fn give_held(&mut self, room: &mut [u8]) -> Option<usize>
-        ensures events { IfSome result (λ n. (frame_events R.events self.old room.old
-            ≡ events_of (frame (take n room.new)) ++ frame_events R.events self.new room.new) × (n ≤ length room.old) × (n < 2 ^ 32)) }
+        ensures gives { IfSome result (λ n. (seen_bytes self.old room.old ≡ frame (take n room.new) ++ seen_bytes self.new room.new)
+            × (n ≤ length room.old) × (n < 2 ^ 32)) }
         ensures within { IfSome result (λ n. n ≤ length room.new) }
         ensures inner { IfSome result (λ n. reads_from self.new ≡ reads_from self.old) }
         ensures spends_turn { IfSome result (λ n. frame_turns R.turns self.new < frame_turns R.turns self.old) }
@@ -128,8 +128,7 @@ impl<R: Read, const S: usize> FrameReader<R, S> {
         requires header { HasHeader len (reader_held (frame_reader self.old)) }
         requires held { 4 + len ≤ length (reader_held (frame_reader self.old)) }
         requires fits { len ≤ length room.old }
-        ensures events { frame_events R.events self.old room.old
-            ≡ events_of (frame (take len room.new)) ++ frame_events R.events self.new room.new }
+        ensures gives { seen_bytes self.old room.old ≡ frame (take len room.new) ++ seen_bytes self.new room.new }
         ensures inner { reads_from self.new ≡ reads_from self.old }
         ensures long { length room.new ≡ length room.old }
         ensures spends_turn { frame_turns R.turns self.new < frame_turns R.turns self.old }
@@ -143,83 +142,75 @@ impl<R: Read, const S: usize> FrameReader<R, S> {
     #[cold]
     #[inline(never)]
     fn take_next(&mut self, room: &mut [u8]) -> Result<Option<usize>>
-        ensures told { R.tells (reads_from self.old) → R.tells (reads_from self.new)
-            × TakesFrame (length room.old) (frame_events R.events self.old room.old) result room.new
-            (frame_events R.events self.new room.new) }
-        ensures unread { OnErr result (LeavesUnread R.may (length room.old) self.old self.new room.new) }
+        ensures takes { TakesFrame R.Read self.old room.old result self.new room.new }
         ensures within { IfOk result (λ o. IfSome o (λ n. n ≤ length room.new)) }
-        ensures never_interrupted { IfErr result IsFault }
         ensures spends_turn { IfOk result (λ o. IfSome o (λ _. frame_turns R.turns self.new < frame_turns R.turns self.old)) }
     {
-        let Some(len) = self.next_len()? else {
-            return Ok(None);
-        };
-        if len > room.len() {
-            let text = "a payload is longer than the room";
-            return Err(Error::new(ErrorKind::InvalidInput, text));
-        }
-        if self.len == 0 && len <= S - HEADER {
-            return self.next_short(len, room);
-        }
-        self.begin_long(len);
-        self.next_long(room)
-    }
-
-    // Returns the length of the next payload, for which it reads until the header is held. `None` means that the bytes
-    // end after a whole frame.
-    fn next_len(&mut self) -> Result<Option<usize>>
-        ensures told { (room : List ℕ) → R.tells (reads_from self.old) → R.tells (reads_from self.new)
-            × SeesLength (frame_events R.events self.old room) result (frame_events R.events self.new room) }
-        ensures length { IfOk result (λ o. IfSome o (λ len. (len < 2 ^ 32) × ((room : List ℕ) → HasHeader len (seen_bytes self.new room)))) }
-        ensures none { OnErr result ((room : List ℕ) → length (seen_bytes self.new room) < 4) }
-        ensures reads { IfOk result (λ o. IfSome o (λ _. FillToMade R.may 4 (frame_reader self.old) (Ok true) (frame_reader self.new))) }
-        ensures same { (self.new.len ≡ self.old.len) × (self.new.given ≡ self.old.given) }
-        ensures never_interrupted { IfErr result IsFault }
-        ensures turns_never_rise { frame_turns R.turns self.new ≤ frame_turns R.turns self.old }
-    {
-        if self.len > 0 {
-            return Ok(Some(self.len));
-        }
-        if self.inner.fill_to(HEADER)? {
-            return Ok(Some(told_len(self.inner.buffer())));
-        }
-        if self.inner.buffer().is_empty() {
-            return Ok(None);
-        }
-        Err(ended_inside())
-    }
-
-    // Takes the next frame, of at most `S` bytes and with a payload of this length, once all of it is held.
-    fn next_short(&mut self, len: usize, room: &mut [u8]) -> Result<Option<usize>>
-        requires whole { self.old.len ≡ 0 }
-        requires header { HasHeader len (reader_held (frame_reader self.old)) }
-        requires short { 4 + len ≤ S }
-        requires small { len < 2 ^ 32 }
-        requires fits { len ≤ length room.old }
-        ensures told { R.tells (reads_from self.old) → R.tells (reads_from self.new)
-            × TakesFrame (length room.old) (frame_events R.events self.old room.old) result room.new
-            (frame_events R.events self.new room.new) }
-        ensures header { OnErr result (told_length (seen_bytes self.new room.new) ≤ length room.old) }
-        ensures within { IfOk result (λ o. IfSome o (λ n. n ≤ length room.new)) }
-        ensures never_interrupted { IfErr result IsFault }
-        ensures spends_turn { IfOk result (λ o. IfSome o (λ _. frame_turns R.turns self.new < frame_turns R.turns self.old)) }
-    {
-        if !self.inner.fill_to(HEADER + len)? {
+        if !self.see_header()? {
+            if self.inner.buffer().is_empty() {
+                return Ok(None);
+            }
             return Err(ended_inside());
         }
-        self.give(len, room);
+        let len = self.next_len();
+        if len > room.len() {
+            return Err(no_room());
+        }
+        if !self.see_frame(len, room)? {
+            return Err(ended_inside());
+        }
+        self.give_seen(len, room);
         Ok(Some(len))
     }
 
-    // Takes the header of a frame whose payload has this length, if it is not taken yet.
+    // Reads until the header of the next frame is seen. `false` means that the end came first.
+    fn see_header(&mut self) -> Result<bool>
+        ensures sees { (room : List ℕ) → SeesTo R.Read 4 self.old room result self.new room }
+        ensures turns_never_rise { frame_turns R.turns self.new ≤ frame_turns R.turns self.old }
+    {
+        if self.len > 0 {
+            return Ok(true);
+        }
+        self.inner.fill_to(HEADER)
+    }
+
+    // Returns the length of the next payload, whose header is seen.
+    fn next_len(&self) -> usize
+        requires { (room : List ℕ) → 4 ≤ length (seen_bytes self.now room) }
+        ensures header { (room : List ℕ) → HasHeader result (seen_bytes self.now room) }
+        ensures small { result < 2 ^ 32 }
+    {
+        if self.len > 0 {
+            return self.len;
+        }
+        told_len(self.inner.buffer())
+    }
+
+    // Reads until the next frame is seen, whose payload has this length and fits the room. `false` means that the end came first.
+    fn see_frame(&mut self, len: usize, room: &mut [u8]) -> Result<bool>
+        requires header { (room : List ℕ) → HasHeader len (seen_bytes self.old room) }
+        requires small { len < 2 ^ 32 }
+        requires fits { len ≤ length room.old }
+        ensures sees { SeesTo R.Read (4 + len) self.old room.old result self.new room.new }
+        ensures full { IfOk result (λ seen. seen ≡ true → self.new.given ≡ self.new.len) }
+        ensures turns_never_rise { frame_turns R.turns self.new ≤ frame_turns R.turns self.old }
+    {
+        if self.len == 0 && len <= S - HEADER {
+            return self.inner.fill_to(HEADER + len);
+        }
+        self.begin_long(len);
+        fill_rest(&mut self.inner, room, &mut self.given, self.len)
+    }
+
+    // Takes the header of a frame that is longer than the buffer, if it is not taken yet. The payload has this length.
     fn begin_long(&mut self, len: usize)
         requires small { len < 2 ^ 32 }
-        requires some { 0 < len }
+        requires long { self.old.len ≡ 0 → S < 4 + len }
         requires header { (room : List ℕ) → HasHeader len (seen_bytes self.old room) }
         ensures len { self.new.len ≡ len }
-        ensures some { 0 < self.new.len }
+        ensures long { S < 4 + len }
         ensures inner { reads_from self.new ≡ reads_from self.old }
-        ensures events { (room : List ℕ) → frame_events R.events self.new room ≡ frame_events R.events self.old room }
+        ensures seen { (room : List ℕ) → seen_bytes self.new room ≡ seen_bytes self.old room }
         ensures turns_never_rise { frame_turns R.turns self.new ≤ frame_turns R.turns self.old }
     {
         if self.len == 0 {
@@ -229,24 +220,21 @@ impl<R: Read, const S: usize> FrameReader<R, S> {
         }
     }
 
-    // Reads the rest of a payload into the room, past the buffer.
-    fn next_long(&mut self, room: &mut [u8]) -> Result<Option<usize>>
-        requires some { 0 < self.old.len }
-        requires fits { self.old.len ≤ length room.old }
-        ensures told { R.tells (reads_from self.old) → R.tells (reads_from self.new)
-            × TakesFrame (length room.old) (frame_events R.events self.old room.old) result room.new
-            (frame_events R.events self.new room.new) }
-        ensures header { OnErr result (told_length (seen_bytes self.new room.new) ≤ length room.old) }
-        ensures within { IfOk result (λ o. IfSome o (λ n. n ≤ length room.new)) }
-        ensures never_interrupted { IfErr result IsFault }
-        ensures spends_turn { IfOk result (λ o. IfSome o (λ _. frame_turns R.turns self.new < frame_turns R.turns self.old)) }
+    // Gives the payload of a frame that is seen. If it is longer than the buffer, it is in the room already.
+    fn give_seen(&mut self, len: usize, room: &mut [u8])
+        requires header { HasHeader len (seen_bytes self.old room.old) }
+        requires whole { 4 + len ≤ length (seen_bytes self.old room.old) }
+        requires full { self.old.given ≡ self.old.len }
+        requires fits { len ≤ length room.old }
+        ensures gives { seen_bytes self.old room.old ≡ frame (take len room.new) ++ seen_bytes self.new room.new }
+        ensures inner { reads_from self.new ≡ reads_from self.old }
+        ensures long { length room.new ≡ length room.old }
+        ensures spends_turn { frame_turns R.turns self.new < frame_turns R.turns self.old }
     {
-        if !fill_rest(&mut self.inner, room, &mut self.given, self.len)? {
-            return Err(ended_inside());
+        if self.len == 0 {
+            return self.give(len, room);
         }
-        let len = self.len;
         self.len = 0;
         self.given = 0;
-        Ok(Some(len))
     }
 }

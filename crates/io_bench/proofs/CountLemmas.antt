@@ -1,22 +1,24 @@
 -- How many reads a `Tally` counts in the trait's loops.
 use Rattle.std.proofs.lemmas.Grind.{common_steps}
-use Rattle.std.proofs.Common.{◌≡◌, ℕ, ◌+◌, ◌-◌, ◌<◌, ◌≤◌, List, [], ◌∷◌, ◌++◌, Result, Ok, Err, min, length, length-take-le, arith}
-use Rattle.std.proofs.Common.{refl, sym, subst, inl, inr}
+use Rattle.std.proofs.Common.{◌≡◌, ℕ, ◌+◌, ◌-◌, ◌<◌, ◌≤◌, List, [], ◌∷◌, ◌++◌, Result, Ok, Err, min, length, arith}
+use Rattle.std.proofs.Common.{refl, sym, subst, ◌∙◌, inl, inr}
 use Rattle.no_std_io2.specs.declared.io.Error.{Error}
 use Rattle.no_std_io2.specs.Write.{Made}
-use Rattle.no_std_io2.specs.Read.{Reader, ReadCall, Gave, GaveAll, gave, ended, ReadLaw, Gathers, no_read}
-use Rattle.no_std_io2.specs.Read.{and_gave, and_again, GathersUntil, FillCalls, ExactMade, ToEndCalls, ToEndMade}
+use Rattle.no_std_io2.specs.Read.{Reader, ReadCall, Gave, GaveAll, ended, answered, Gathers, no_read, and_gave, and_again}
+use Rattle.no_std_io2.specs.Read.{GathersUntil, FillCalls, ExactCalls, ToEndCalls}
 use Rattle.no_std_io2.proofs.CallsLemmas.{made_split}
+use Rattle.no_std_io2.proofs.EventLemmas.{length-events_of}
 use Rattle.io_bench.specs.Calls.{stopped, CountsToEnd}
 use Rattle.io_bench.specs.declared.tally.Tally.{Tally}
-use Rattle.io_bench.specs.Tally.{tally_inner, tally_reads, tally_writes, turns_spent, ReadCounted, ReadsCounted}
+use Rattle.io_bench.specs.Tally.{tally_inner, tally_reads, tally_writes, ReadCounted, ReadsCounted}
 
--- what one read does
-pub read_counts : {T : Type 0} {I : Reader T} {old new : Tally T} {buf buf' : List ℕ} (reply : Result ℕ Error)
-    → ReadLaw I (tally_inner old) buf reply buf' (tally_inner new) → length buf' ≡ length buf
-    → tally_reads new ≡ tally_reads old + min 1 (length buf) → tally_writes new ≡ tally_writes old
-    → ReadCounted I old (length buf') (gave reply buf') new
-read_counts reply law long reads writes = grind (arith, common_steps, length-take-le)
+-- how many turns a read spends at least: one if it gives bytes or fails
+abbrev turns_spent : Result (List ℕ) Error → ℕ
+turns_spent answer = min 1 (length (answered answer))
+
+-- some bytes are some events
+some_events : (x : List ℕ) → 0 < length x → 0 < length (answered (Ok x))
+some_events x some = omega (arith, length-events_of x)
 
 -- Reads in a row: at least so many, and at most one for each turn that is gone and so many more.
 pub record Counted {T : Type 0} (I : Reader T) (fewest more : ℕ) (old new : Tally T) : Type 0 where
@@ -28,7 +30,11 @@ module _ {T : Type 0} (I : Reader T) where
   -- reads, and one more
   counted_more : {l l' m m' room : ℕ} {a b c : Tally T} (answer : Result (List ℕ) Error) → Counted I l m a b → ReadCounted I b room answer c
       → 0 < room → l' ≤ l + 1 → m + (1 - turns_spent answer) ≤ m' → Counted I l' m' a c
-  counted_more answer so_far read some fewer slack = grind (arith, common_steps)
+  counted_more answer so_far read some fewer slack = record {
+    least = omega (arith, so_far.least, read.reads);
+    most = omega (arith, so_far.most, read.reads, read.handed.takes.turns);
+    writes = read.writes ∙ so_far.writes;
+  }
 
   -- calls, and one more read
   last_counts : (C : List ReadCall) {l l' m m' room : ℕ} (answer : Result (List ℕ) Error) (a b : Tally T)
@@ -48,7 +54,8 @@ module _ {T : Type 0} (I : Reader T) where
       subst (Counted I 0 0 a) (sym made)
       (record { least = omega arith; most = omega arith; writes = refl })
   gathers_count into (and_gave C x y room before asked some) a b made =
-      last_counts C (Ok y) a b (λ mid m. gathers_count into before a mid m) (into _ _ asked) (omega arith) (omega (arith, some)) made
+      let spent = some_events y some in
+      last_counts C (Ok y) a b (λ mid m. gathers_count into before a mid m) (into _ _ asked) (omega arith) (omega (arith, spent)) made
   gathers_count into (and_again C x room e before asked interrupted) a b made =
       last_counts C (Err e) a b (λ mid m. gathers_count into before a mid m) (into _ _ asked) (omega arith) (omega arith) made
 
@@ -67,15 +74,15 @@ module _ {T : Type 0} (I : Reader T) where
   fill_counts : (C : List ReadCall) (buf : List ℕ) (reply : Result (Unit {0}) Error) (a b : Tally T) → FillCalls C reply buf
       → Made (ReadsCounted I) a C b → Counted I (min 1 (length buf)) (stopped reply) a b
   fill_counts C buf (Ok u) a b reads made = gathers_count (λ at room rest. rest.1) reads a b made
-  fill_counts C buf (Err e) a b (x, inl end) made =
+  fill_counts C buf (Err e) a b (x, front, inl end) made =
       counted_less (until_counts (Ok []) (λ at room rest. rest.1) end.1 a b made) (omega arith) (omega arith)
-  fill_counts C buf (Err e) a b (x, inr fault) made =
+  fill_counts C buf (Err e) a b (x, front, inr fault) made =
       counted_less (until_counts (Err e) (λ at room rest. rest.1) fault.1 a b made) (omega arith) (omega arith)
 
   -- the reads of a `read_exact`
-  pub exact_counts : {buf : List ℕ} (reply : Result (Unit {0}) Error) (a b : Tally T) → ExactMade (ReadsCounted I) a reply buf b
-      → Counted I (min 1 (length buf)) (stopped reply) a b
-  exact_counts {buf} reply a b m = grind (arith, common_steps, no_other, fill_counts)
+  pub exact_counts : (C : List ReadCall) (buf : List ℕ) (reply : Result (Unit {0}) Error) (a b : Tally T) → ExactCalls C reply buf
+      → Made (ReadsCounted I) a C b → Counted I (min 1 (length buf)) (stopped reply) a b
+  exact_counts C buf reply a b calls made = grind (arith, common_steps, no_other, fill_counts)
 
   -- how often a `read_to_end` reads, and what else the reads do
   abbrev DrainCounts : Result ℕ Error → Tally T → Tally T → Type 0
@@ -83,7 +90,8 @@ module _ {T : Type 0} (I : Reader T) where
       CountsToEnd (tally_reads a) (I.turns (tally_inner a)) reply (I.turns (tally_inner b)) (tally_reads b)
       × ((l m : ℕ) × Counted I l m a b)
 
-  drain_counts : (C : List ReadCall) (x : List ℕ) (reply : Result ℕ Error) (a b : Tally T) → ToEndCalls C x reply
+  -- the reads of a `read_to_end`
+  pub drain_counts : (C : List ReadCall) (x : List ℕ) (reply : Result ℕ Error) (a b : Tally T) → ToEndCalls C x reply
       → Made (ReadsCounted I) a C b → DrainCounts reply a b
   drain_counts C x reply a b (inl own) made =
       absurd (no_other own.0 (GaveAll own.2 (ended reply)) a b (λ c d no. no) (subst (λ K. Made (ReadsCounted I) a K b) own.5 made))
@@ -96,8 +104,3 @@ module _ {T : Type 0} (I : Reader T) where
   drain_counts C x (Err e) a b (inr (inr refused)) made =
       let c = gathers_count (λ at room some. some) refused.1 a b made in
       (record { least = tt; asked = inl refused.0; most = c.most }, (min 1 (length x), 0, c))
-
-  -- the reads of a `read_to_end`
-  pub to_end_counts : {buf buf' : List ℕ} (reply : Result ℕ Error) (a b : Tally T) → ToEndMade (ReadsCounted I) a buf reply buf' b
-      → DrainCounts reply a b
-  to_end_counts reply a b m = drain_counts m.calls m.given reply a b m.are m.made

@@ -1,13 +1,18 @@
 -- What a feed's events give to a reader.
 use Rattle.std.proofs.lemmas.Grind.{common_steps}
-use Rattle.std.proofs.Common.{◌≡◌, ℕ, zero, suc, ◌+◌, ◌<◌, ◌≤◌, min, List, [], ◌∷◌, ◌++◌, length, take, drop, set}
-use Rattle.std.proofs.Common.{None, Ok, refl, sym, ap, ◌∙◌, arith, length-drop}
+use Rattle.std.proofs.Common.{◌≡◌, ℕ, zero, suc, ◌+◌, ◌<◌, ◌≤◌, List, [], ◌∷◌, ◌++◌, length, take, drop, set}
+use Rattle.std.proofs.Common.{true, false, ◌==◌, nat_lt, if◌then◌else◌, Some, None, Ok, refl, sym, ap, ap₂, ◌∙◌, arith}
+use Rattle.std.proofs.Common.{length-drop, length-take-le}
 use Rattle.std.proofs.Math.Seq.{take-add}
 use Rattle.std.proofs.lemmas.List.{take_more_set, drop-drop}
-use Rattle.no_std_io2.specs.Read.{byte, events_of, Reads}
+use Rattle.std.proofs.lemmas.Bool.Decides.{nat_tests}
+use Rattle.no_std_io2.specs.Events.{byte, events_of}
+use Rattle.no_std_io2.specs.Read.{Reader, ReadLaw}
+use Rattle.no_std_io2.proofs.EventLemmas.{length-events_of}
 use Rattle.io_bench.specs.declared.feed.Event.{Event}
 use Rattle.io_bench.specs.declared.feed.Event.TheVariants.{Byte, Fail}
-use Rattle.io_bench.specs.Feed.{all_to_come, leading_bytes, first_failure}
+use Rattle.io_bench.specs.declared.feed.Feed.{Feed}
+use Rattle.io_bench.specs.Feed.{all_to_come, leading_bytes, first_failure, feed_left, feed_piece, feed_gives, failed_or_gave, FeedMay}
 
 -- the first n bytes are given, and the events after them are left
 pub given_first : (n : ℕ) (left : List Event) → n ≤ length (leading_bytes left)
@@ -58,9 +63,45 @@ given_all n left rest enough e none =
       length-drop n (leading_bytes left),
     )
 
+-- what a `Feed` tells, and what its reads do
+abbrev pub feeds : Reader Feed
+feeds = record {
+  store = λ _. None;
+  turns = λ f. length (feed_left f);
+  events = λ f. Some (all_to_come (feed_left f));
+  may = FeedMay;
+}
+
 -- a read that gives bytes
-pub feed_reads : (n : ℕ) {room piece : ℕ} {old left new : List Event} (buf : List ℕ) → 0 < piece → length buf ≡ room
-    → left ≡ old → first_failure old ≡ None
-    → n ≡ min (min piece room) (length (leading_bytes left)) → take n buf ≡ take n (leading_bytes left)
-    → new ≡ drop n left → Reads (all_to_come old) (Ok n) buf (all_to_come new)
-feed_reads n {old} {left} buf some fits e none count same rest = grind (arith, common_steps, given_first, nothing_left)
+pub feed_reads : (old mid new : Feed) (n : ℕ) (buf buf' : List ℕ) → length buf' ≡ length buf → false ≡ (length buf == 0)
+    → None ≡ first_failure (feed_left old) → feed_left mid ≡ feed_left old → feed_piece mid ≡ feed_piece old
+    → n ≡ feed_gives mid (length buf) → take n buf' ≡ take n (leading_bytes (feed_left mid)) → feed_left new ≡ drop n (feed_left mid)
+    → feed_piece new ≡ feed_piece mid → ReadLaw feeds old buf (Ok n) buf' new
+feed_reads old mid new n buf buf' long some none same kept count given rest piece =
+    let left = feed_left old in
+    let is : n ≡ feed_gives old (length buf) = grind (arith, count, same, kept) in
+    let front : take n buf' ≡ take n (leading_bytes left) = given ∙ ap (λ l. take n (leading_bytes l)) same in
+    let behind : feed_left new ≡ drop n left = rest ∙ ap (drop n) same in
+    let fits : n ≤ length (leading_bytes left) = omega (arith, is) in
+    let gives : n ≡ feed_gives old (length buf') = is ∙ ap (feed_gives old) (sym long) in
+    let answer = take (feed_gives old (length buf')) (leading_bytes left) in
+    let room : true ≡ nat_lt 0 (length buf') = grind (arith, nat_tests, some, long) in
+    let took : length (take n buf') ≡ n = length-take-le n buf' (omega (arith, is, long)) in
+    record {
+      bound = omega (arith, is, long);
+      takes = record {
+        events = given_first n left fits ∙ ap₂ (λ x l. events_of x ++ all_to_come l) (sym front) (sym behind);
+        store = tt;
+        turns =
+            omega (arith, fits, leading-le left, ap length behind, length-drop n left, length-events_of (take n buf'), took);
+      };
+      end = λ zero room.
+          let empty : left ≡ [] = nothing_left left (omega (arith, is, zero, room, long, old.some)) (sym none) in
+          ap all_to_come (behind ∙ ap (λ k. drop k left) zero ∙ empty);
+      call = (
+        ap Ok (front ∙ ap (λ k. take k (leading_bytes left)) gives) ∙ ap (λ f. failed_or_gave f answer) none
+            ∙ ap (λ t. if t then failed_or_gave (first_failure left) answer else Ok []) room,
+        behind ∙ ap (λ k. drop k left) (sym (length-events_of (take n buf') ∙ took)),
+        piece ∙ kept,
+      );
+    }

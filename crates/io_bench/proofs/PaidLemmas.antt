@@ -1,6 +1,6 @@
 -- The count of inner writes: two in a row carry more than S bytes, unless a flush made the first.
 use Rattle.std.proofs.lemmas.Grind.{common_steps}
-use Rattle.std.proofs.Common.{◌≡◌, ℕ, ◌+◌, ◌*◌, ◌/◌, ◌<◌, ◌≤◌, min, List, [], length, sym, ⊎_elim, subst, refl, arith}
+use Rattle.std.proofs.Common.{◌≡◌, ℕ, ◌+◌, ◌*◌, ◌/◌, ◌<◌, ◌≤◌, min, List, length, ⊎_elim, refl, arith}
 use Rattle.std.proofs.lemmas.Nat.{le-div}
 use Rattle.std.proofs.lemmas.List.{length-append}
 use Rattle.no_std_io2.specs.BufWriter.{writing_calls, buffer_after}
@@ -52,9 +52,10 @@ Paid-idle S c f n (open_one p a b) = open_one p (omega arith) b
 pub Paid-bound : (S c f n h : ℕ) → Paid S c f n h → c + min h 1 ≤ 2 * (n / (S + 1)) + f + 1
 Paid-bound S c f n h is = grind (arith, common_steps, le-div)
 
--- the count holds for equal numbers of writes and of held bytes too
-Paid-same : {S c f n h d k : ℕ} → c ≡ d → h ≡ k → Paid S c f n h → Paid S d f n k
-Paid-same {S} {c} {f} {n} {h} {d} {k} e g paid = subst (λ m. Paid S m f n k) e (subst (λ m. Paid S c f n m) g paid)
+-- the count holds for equal numbers too
+pub Paid-same : {S c f n h d g m k : ℕ} → c ≡ d → f ≡ g → n ≡ m → h ≡ k → Paid S c f n h → Paid S d g m k
+Paid-same c f n h (pairs p a b) = pairs p (omega arith) (omega arith)
+Paid-same c f n h (open_one p a b) = open_one p (omega arith) (omega arith)
 
 -- the calls that a write takes, and what it leaves in the buffer
 pub Paid-write : (S c f n : ℕ) (buffer x : List ℕ) → 0 < S → length buffer ≤ S → Paid S c f n (length buffer)
@@ -63,30 +64,26 @@ Paid-write S c f n buffer x some fits paid = ⊎_elim short long (cases_lt (leng
   where
     short : length x < S → Paid S (c + writing_calls S buffer x) f (n + length x) (length (buffer_after S buffer x))
     short t = ⊎_elim
-        (λ over. Paid-same (grind (arith, nat_tests)) (grind (arith, nat_tests))
+        (λ over. Paid-same (grind (arith, nat_tests)) refl refl (grind (arith, nat_tests))
         (Paid-sent S c f n (length buffer) (length x) (omega arith) t over paid))
-        (λ under. Paid-same (grind (arith, nat_tests)) (grind (arith, nat_tests, length-append))
+        (λ under. Paid-same (grind (arith, nat_tests)) refl refl (grind (arith, nat_tests, length-append))
         (Paid-held S c f n (length buffer) (length x) paid))
         (cases_lt S (length buffer + length x))
 
     long : S ≤ length x → Paid S (c + writing_calls S buffer x) f (n + length x) (length (buffer_after S buffer x))
     long t = ⊎_elim
-        (λ none. Paid-same (grind (arith, nat_tests)) (grind (arith, nat_tests))
-        (Paid-direct S c f n (length x) some t (Paid-same refl (omega arith) paid)))
-        (λ held. Paid-same (grind (arith, nat_tests)) (grind (arith, nat_tests))
+        (λ none. Paid-same (grind (arith, nat_tests)) refl refl (grind (arith, nat_tests))
+        (Paid-direct S c f n (length x) some t (Paid-same refl refl refl (omega arith) paid)))
+        (λ held. Paid-same (grind (arith, nat_tests)) refl refl (grind (arith, nat_tests))
         (Paid-both S c f n (length buffer) (length x) some held t paid))
         (cases_lt (length buffer) 1)
 
 -- the calls that a flush takes, whatever is held
 pub Paid-flush : (S c f n : ℕ) (buffer : List ℕ) → Paid S c f n (length buffer) → Paid S (c + calls_for buffer) (f + 1) n 0
 Paid-flush S c f n buffer paid = ⊎_elim
-    (λ none. Paid-same (grind (arith, nat_tests)) refl (Paid-idle S c f n (Paid-same refl (omega arith) paid)))
-    (λ held. Paid-same (grind (arith, nat_tests)) refl (Paid-flushed S c f n (length buffer) held paid))
+    (λ none. Paid-same (grind (arith, nat_tests)) refl refl refl (Paid-idle S c f n (Paid-same refl refl refl (omega arith) paid)))
+    (λ held. Paid-same (grind (arith, nat_tests)) refl refl refl (Paid-flushed S c f n (length buffer) held paid))
     (cases_lt (length buffer) 1)
-
--- the count holds at the start over an empty buffer
-pub Paid-empty : (S : ℕ) (buffer : List ℕ) → buffer ≡ [] → Paid S 0 0 0 (length buffer)
-Paid-empty S buffer e = subst (λ l. Paid S 0 0 0 (length l)) (sym e) (Paid-start S)
 
 -- the held bytes are sent by one call, or by none if nothing is held
 pub calls_for-min : (buffer : List ℕ) → calls_for buffer ≡ min (length buffer) 1

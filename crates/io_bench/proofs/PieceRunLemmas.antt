@@ -1,16 +1,17 @@
--- How the items of a run of `split` or `lines` come to be all pieces: once, by what one `next` yields.
-use Rattle.std.proofs.lemmas.Grind.{common_steps}
-use Rattle.std.proofs.Common.{◌≡◌, ℕ, true, false, Bool, if◌then◌else◌, Option, Some, None, Result, Ok, Err, List, []}
-use Rattle.std.proofs.Common.{◌∷◌, ◌++◌, map, filter, refl, sym, ap, ◌∙◌, subst, append-nil, append_assoc, inl, inr}
-use Rattle.std.proofs.Common.{⊎_elim, ◌<◌, length, length-append, arith}
+-- How the items of a run of `split` or `lines` come to be all pieces, by what one `next` says of the events to come.
+use Rattle.std.proofs.Common.{◌≡◌, ℕ, true, false, Bool, if◌then◌else◌, Option, Some, None, Result, Ok, Err, List, [], ◌∷◌, ◌++◌}
+use Rattle.std.proofs.Common.{map, filter, refl, sym, ap, ◌∙◌, subst, append-nil, append_assoc, inl, inr, ◌<◌, ◌⊎◌, length, arith}
+use Rattle.std.proofs.Common.{length-append, IfSome}
 use Rattle.std.specs.List.{concat}
 use Rattle.std.proofs.lemmas.List.{map-append}
 use Rattle.std.proofs.lemmas.List.Folds.{concat-append}
 use Rattle.no_std_io2.specs.declared.io.Error.{Error}
-use Rattle.no_std_io2.specs.Errors.{error_kind, is_interruption, IsFault}
-use Rattle.no_std_io2.specs.Read.{Event, byte, fails, bytes, HasNoFault, bytes_to_fault, first_fault}
-use Rattle.no_std_io2.specs.Pieces.{ends_in, pieces, pieces_before, pieces_given, GivesPiece, IsByteNext, YieldsPiece}
-use Rattle.no_std_io2.proofs.GivenPieces.{given_next, given_none, given_fault, bytes_to_fault-append}
+use Rattle.no_std_io2.specs.Errors.{error_kind, is_interruption, IsFault, IsOutOfMemory}
+use Rattle.no_std_io2.specs.Events.{Event, byte, fails, bytes, HasNoFault, bytes_to_fault, first_fault}
+use Rattle.no_std_io2.specs.Takes.{Tells, to_come}
+use Rattle.no_std_io2.specs.Pieces.{ends_in, pieces, pieces_before, pieces_given, items_left, RefusesLine}
+use Rattle.no_std_io2.specs.BufRead.{Lender, NextPieceLaw}
+use Rattle.no_std_io2.proofs.GivenPieces.{GivesNext, GivesNone, next_turns}
 use Rattle.no_std_io2.specs.Appended.{appended}
 use Rattle.no_std_io2.proofs.AppendedLemmas.{appended-one}
 use Rattle.io_bench.specs.PieceRuns.{AllPieces, GathersPieces}
@@ -23,44 +24,70 @@ pub record GatheredSoFar (trim : List ℕ → List ℕ) (d : ℕ) (E : List Even
   pub bytes : bytes_to_fault E ≡ concat before ++ bytes_to_fault after
   pub are : items ≡ map trim before
 
+-- the same, if events were told: they still are
+abbrev pub GatheredToldSoFar : (List ℕ → List ℕ) → ℕ → Tells → List (List ℕ) → Tells → Type 0
+GatheredToldSoFar trim d old items now =
+    (E : List Event) → to_come old ≡ Some E → (after : List Event) × (to_come now ≡ Some after) × GatheredSoFar trim d E items after
+
 -- at the start no piece was gathered, and all are to come
-pub none_gathered : (trim : List ℕ → List ℕ) (d : ℕ) (E : List Event) → GatheredSoFar trim d E [] E
-none_gathered trim d E = record { before = []; given = refl; fault = refl; bytes = refl; are = refl }
+pub none_gathered : (trim : List ℕ → List ℕ) (d : ℕ) (t : Tells) → GatheredToldSoFar trim d t [] t
+none_gathered trim d t = λ E is. (E, is, record { before = []; given = refl; fault = refl; bytes = refl; are = refl })
+
+-- what holds of the events if they are told
+pub if_told : (told : Option (List Event)) {P : List Event → Type 0} → ((E : List Event) → told ≡ Some E → P E) → IfSome told P
+if_told None h = tt
+if_told (Some E) h = h E refl
+
+-- a `split` that yields an item had not ended before
+pub not_ended : {A X : Type 0} (was : Bool) {r : Option A} {item : A} → (was ≡ true → (r ≡ None) × X) → r ≡ Some item → was ≡ false
+not_ended true ended is = absurd (let none = (ended refl).0 in let no : ⊥ = cc in no)
+not_ended false ended is = refl
+
+-- the law of a `next`, by an equal delimiter and an equal result
+pub law_at : {X T : Type 0} {R : Lender X} {old new : X} {view : T → List ℕ} (trim : ℕ → List ℕ → List ℕ)
+    {refuses : List ℕ → Error → Type 0} {d' d : ℕ} {result r : Option (Result T Error)} → d' ≡ d → result ≡ r
+    → NextPieceLaw R old view (trim d') refuses d' result new → NextPieceLaw R old view (trim d) refuses d r new
+law_at {R = R} {old} {new} {view} trim {refuses} {d'} {r = r} same is law =
+    subst (λ k. NextPieceLaw R old view (trim k) refuses k r new) same
+    (subst (λ q. NextPieceLaw R old view (trim d') refuses d' q new) is law)
+
+-- each item spends one of those that are left
+pub fewer_left : {X T : Type 0} {R : Lender X} {old new : X} {view : T → List ℕ} {trim : List ℕ → List ℕ}
+    {refuses : List ℕ → Error → Type 0} {d : ℕ} {item : T} (was now : Bool) → was ≡ false → now ≡ false
+    → NextPieceLaw R old view trim refuses d (Some (Ok item)) new → items_left now (R.turns new) < items_left was (R.turns old)
+fewer_left {R = R} {old} {new} {item = item} was now before after law =
+    subst (λ b. items_left now (R.turns new) < items_left b (R.turns old)) (sym before)
+    (subst (λ b. items_left b (R.turns new) < items_left false (R.turns old)) (sym after) (next_turns (Some (Ok item)) law))
+
+-- the error of a line that is not UTF-8 is a fault
+pub refused_fault : (piece : List ℕ) (e : Error) → RefusesLine piece e → IsFault e
+refused_fault piece e refused = ap is_interruption refused.1.0
 
 -- what is shown of one item more
 pub shown-one : {T : Type 0} (view : T → List ℕ) (old : List T) {mid new : List T} (x : T) → mid ≡ old ++ appended old mid
     → new ≡ mid ++ x ∷ [] → map view (appended old new) ≡ map view (appended old mid) ++ view x ∷ []
 shown-one view old {mid} {new} x h is = ap (map view) (appended-one old mid new x h is) ∙ map-append view (appended old mid) (x ∷ [])
 
--- the same holds for an equal delimiter and an equal result
-pub yields_at : {T : Type 0} (view : T → List ℕ) (trim : ℕ → List ℕ → List ℕ) (refuses : List ℕ → Error → Type 0)
-    (d' d : ℕ) (E : List Event) (r' r : Option (Result T Error)) (after : List Event)
-    → d' ≡ d → r' ≡ r → YieldsPiece view (trim d') refuses d' E r' after → YieldsPiece view (trim d) refuses d E r after
-yields_at view trim refuses d' d E r' r after same is h = grind (arith, common_steps)
-
--- of the bytes before the first fault, a piece that was given is the first
-piece_bytes : {d n : ℕ} {E after : List Event} {piece : List ℕ} → GivesPiece d E n [] piece after
-    → bytes_to_fault E ≡ piece ++ bytes_to_fault after
-piece_bytes {after = after} g = grind (arith, common_steps, bytes_to_fault-append)
+-- the same is shown of the same items
+pub shown-same : {T : Type 0} (view : T → List ℕ) (old : List T) {mid new : List T} → new ≡ mid
+    → map view (appended old new) ≡ map view (appended old mid)
+shown-same view old is = ap (λ l. map view (appended old l)) is
 
 -- one item more
-pub one_gathered : {T : Type 0} (view : T → List ℕ) (trim : List ℕ → List ℕ) (refuses : List ℕ → Error → Type 0) (d : ℕ)
-    (E : List Event) (items shown : List (List ℕ)) (mid : List Event) (item : T) (after : List Event)
-    → shown ≡ items ++ view item ∷ [] → GatheredSoFar trim d E items mid
-    → YieldsPiece view trim refuses d mid (Some (Ok item)) after → GatheredSoFar trim d E shown after
-one_gathered view trim refuses d E items shown mid item after same t (piece, takes, trimmed) =
-    let next = given_next d mid takes.count piece after takes.gives takes.some in
-    record {
-      before = t.before ++ piece ∷ [];
-      given = t.given ∙ ap (λ l. t.before ++ l) next.0 ∙ sym (append_assoc t.before (piece ∷ []) (pieces_given d after));
-      fault = t.fault ∙ next.1;
-      bytes = t.bytes ∙ ap (λ l. concat t.before ++ l) (piece_bytes takes.gives)
-          ∙ sym (append_assoc (concat t.before) piece (bytes_to_fault after))
-          ∙ ap (λ l. l ++ bytes_to_fault after)
-          (sym (concat-append t.before (piece ∷ []) ∙ ap (λ l. concat t.before ++ l) (append-nil piece)));
-      are = same ∙ ap (λ l. l ++ view item ∷ []) t.are
-          ∙ ap (λ x. map trim t.before ++ x ∷ []) trimmed ∙ sym (map-append trim t.before (piece ∷ []));
-    }
+pub one_gathered : (trim : List ℕ → List ℕ) (d : ℕ) {E : List Event} {items shown : List (List ℕ)} {item : List ℕ} {mid : List Event}
+    (piece : List ℕ) {after : List Event} → shown ≡ items ++ item ∷ [] → GatheredSoFar trim d E items mid → item ≡ trim piece
+    → GivesNext d mid piece after → GatheredSoFar trim d E shown after
+one_gathered trim d {item = item} piece {after} same t trimmed next = record {
+  before = t.before ++ piece ∷ [];
+  given = t.given ∙ ap (λ l. t.before ++ l) next.pieces ∙ sym (append_assoc t.before (piece ∷ []) (pieces_given d after));
+  fault = t.fault ∙ next.fault;
+  bytes = t.bytes ∙ ap (λ l. concat t.before ++ l) next.bytes
+      ∙ sym (append_assoc (concat t.before) piece (bytes_to_fault after))
+      ∙ ap (λ l. l ++ bytes_to_fault after)
+      (sym (concat-append t.before (piece ∷ []) ∙ ap (λ l. concat t.before ++ l) (append-nil piece)));
+  are = same ∙ ap (λ l. l ++ item ∷ []) t.are
+      ∙ ap (λ x. map trim t.before ++ x ∷ []) trimmed ∙ sym (map-append trim t.before (piece ∷ []));
+}
 
 -- if there is no first fault, there is no fault
 fault_free : (E : List Event) → first_fault E ≡ None → HasNoFault E × (bytes_to_fault E ≡ bytes E)
@@ -123,11 +150,9 @@ fault_first (fails f ∷ E) e h = by_kind (is_interruption (error_kind f)) refl 
         }
 
 -- at the end all pieces were gathered
-pub all_gathered : {T : Type 0} (view : T → List ℕ) (trim : List ℕ → List ℕ) (refuses : List ℕ → Error → Type 0) (d : ℕ)
-    (E : List Event) (items shown : List (List ℕ)) (mid after : List Event)
-    → shown ≡ items → GatheredSoFar trim d E items mid → YieldsPiece view trim refuses d mid None after → AllPieces trim d E shown
-all_gathered view trim refuses d E items shown mid after same t (piece, gives) =
-    let end = given_none d mid piece after gives in
+pub all_gathered : (trim : List ℕ → List ℕ) (d : ℕ) {E : List Event} {items shown : List (List ℕ)} {mid : List Event}
+    → shown ≡ items → GatheredSoFar trim d E items mid → GivesNone d mid → AllPieces trim d E shown
+all_gathered trim d {E} same t end =
     let none : first_fault E ≡ None = t.fault ∙ end.1 in
     let free = fault_free E none in
     let given : pieces d (bytes E) ≡ t.before =
@@ -135,56 +160,42 @@ all_gathered view trim refuses d E items shown mid after same t (piece, gives) =
     ∙ ap (λ l. t.before ++ l) end.0 ∙ append-nil t.before in
     record { no_fault = free.0; are = same ∙ t.are ∙ ap (map trim) (sym given) }
 
--- if a byte follows events without a fault, there is a byte before the first fault
-some_byte : (E taken after : List Event) → E ≡ taken ++ after → HasNoFault taken → IsByteNext after → 0 < length (bytes_to_fault E)
-some_byte E taken after is free next = grind (arith, common_steps, bytes_to_fault-append, length-append)
-
 -- an error ends it
-pub gathered_to : {T : Type 0} (A : Type 0) (view : T → List ℕ) (trim : List ℕ → List ℕ)
-    (refuses : List ℕ → Error → Type 0) (full : Type 0) (d : ℕ) (E : List Event) (items shown : List (List ℕ)) (mid : List Event)
-    (e : Error) (after : List Event)
-    → shown ≡ items → GatheredSoFar trim d E items mid → YieldsPiece view trim refuses d mid (Some (Err e)) after
+pub gathered_to : (A : Type 0) (trim : List ℕ → List ℕ) (refuses : List ℕ → Error → Type 0) (full : Type 0) (d : ℕ) {E : List Event}
+    {items shown : List (List ℕ)} {mid : List Event} {e : Error} → shown ≡ items → GatheredSoFar trim d E items mid
+    → ((pieces_given d mid ≡ []) × (first_fault mid ≡ Some e))
+    ⊎ (((piece : List ℕ) × (after : List Event) × GivesNext d mid piece after × refuses piece e)
+    ⊎ (IsOutOfMemory e × (0 < length (bytes_to_fault mid))))
     → GathersPieces {A = A} trim refuses full d E (Err e) shown
-gathered_to A view trim refuses full d E items shown mid e after same t (piece, inr refused) =
-    let next = given_next d mid refused.0.count piece after refused.0.gives refused.0.some in
-    inr
-    (inl
-    (record {
-      before = t.before;
-      piece = piece;
-      behind = pieces_given d after;
-      given = t.given ∙ ap (λ l. t.before ++ l) next.0;
-      refused = refused.1;
-      are = same ∙ t.are;
-    }))
-gathered_to A view trim refuses full d E items shown mid e after same t (piece, inl stops) = ⊎_elim
-    (λ ends.
-    let end = given_fault d mid e stops.taken after stops.split stops.no_end ends in
+gathered_to A trim refuses full d {E} {e = e} same t (inl end) =
     let first = t.fault ∙ end.1 in
     let r = fault_first E e first in
     let given : filter (ends_in d) (pieces d (bytes r.before)) ≡ t.before =
     ap (λ l. filter (ends_in d) (pieces d l)) (sym r.shown) ∙ sym (ap (λ f. pieces_before d f (bytes_to_fault E)) first)
     ∙ t.given ∙ ap (λ l. t.before ++ l) end.0 ∙ append-nil t.before in
-    inl
-    (record {
+    inl (record {
       before = r.before;
       behind = r.behind;
       split = r.split;
       no_fault = r.no_fault;
       fault = r.fault;
       are = same ∙ t.are ∙ ap (map trim) (sym given);
+    })
+gathered_to A trim refuses full d same t (inr (inl (piece, after, next, refused))) =
+    inr (inl (record {
+      before = t.before;
+      piece = piece;
+      behind = pieces_given d after;
+      given = t.given ∙ ap (λ l. t.before ++ l) next.pieces;
+      refused = refused;
+      are = same ∙ t.are;
     }))
-    (λ memory. inr (inr (record {
+gathered_to A trim refuses full d {mid = mid} same t (inr (inr memory)) =
+    inr (inr (record {
       before = t.before;
       behind = pieces_given d mid;
       given = t.given;
-      refused = memory.1;
-      short = inr (omega (
-        arith,
-        ap length t.bytes,
-        length-append (concat t.before) (bytes_to_fault mid),
-        some_byte mid stops.taken after stops.split memory.0 memory.2,
-      ));
+      refused = memory.0;
+      short = inr (omega (arith, ap length t.bytes, length-append (concat t.before) (bytes_to_fault mid), memory.1));
       are = same ∙ t.are;
-    })))
-    stops.stops
+    }))

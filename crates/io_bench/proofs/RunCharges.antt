@@ -1,203 +1,186 @@
--- The count of a whole run through a buffer, from the calls that it made.
-use Rattle.no_std_io2.specs.Writers.{TakesAll, CallOf}
+-- The count of a whole run through a buffer, and its closing, from the calls that it made.
 use Rattle.std.proofs.lemmas.Grind.{common_steps}
-use Rattle.std.proofs.Common.{◌≡◌, ◌+◌, ◌*◌, ◌/◌, ℕ, ◌<◌, ◌≤◌, List, [], ◌∷◌, length, Result, Ok, Err, Some, OnOk, IsOk}
-use Rattle.std.proofs.Common.{sym, subst, ap, arith, inl, inr, length-append, drop_of_length-le, add-zero}
+use Rattle.std.proofs.Common.{◌≡◌, ◌+◌, ◌*◌, ◌/◌, ℕ, ◌<◌, ◌≤◌, List, [], ◌∷◌, ◌++◌, length, take, Result, Ok, Err, OnOk, IsOk}
+use Rattle.std.proofs.Common.{refl, sym, subst, ap, ap₂, ◌∙◌, arith, inl, inr, length-append, append_assoc, append-nil, take_all, le_refl}
+use Rattle.std.proofs.Common.{take-append-drop}
 use Rattle.no_std_io2.specs.declared.io.Error.{Error}
-use Rattle.no_std_io2.specs.Writers.{Writer}
-use Rattle.no_std_io2.specs.Write.{WriteCall, Wrote, WroteAll, Flushed, Made, Writes, AllCalls, calls_for}
-use Rattle.no_std_io2.specs.Write.{none, took, again, stuck, fault}
-use Rattle.no_std_io2.proofs.CallsLemmas.{made_split, made_map, law_may}
-use Rattle.no_std_io2.proofs.WritesFacts.{writes_idle}
+use Rattle.no_std_io2.specs.Writers.{Writer, TakesAll, CallOf}
+use Rattle.no_std_io2.specs.Write.{WriteCall, Wrote, WroteAll, WroteRest, Flushed, Made, Writes, none, took, again, calls_for, taken}
+use Rattle.no_std_io2.specs.Meter.{IsMeter}
 use Rattle.no_std_io2.specs.BufWriter.{BufferMay, WriteCalls, WriteAllCalls, FlushCalls, OneWrite, OneWriteAll, SendCalls}
-use Rattle.no_std_io2.specs.BufWriter.{writing_calls, PastEmpty, OneFlush}
+use Rattle.no_std_io2.specs.BufWriter.{writing_calls, buffer_after, PastEmpty, OneFlush}
+use Rattle.no_std_io2.proofs.CallsLemmas.{made_map, law_may}
 use Rattle.no_std_io2.proofs.BufWriterCalls.{buffered_leaves, writing_all_calls, write_takes, send_leaves}
 use Rattle.no_std_io2.proofs.BufWriterCalls.{send_counts, write_counts, write_all_counts, flush_counts}
 use Rattle.no_std_io2.proofs.StepLemmas.{then_leaves}
+use Rattle.no_std_io2.proofs.StepCosts.{step_cost, writing_all-is}
+use Rattle.no_std_io2.proofs.MeterLemmas.{meter_made}
 use Rattle.io_bench.specs.declared.runs.Op.{Op}
 use Rattle.io_bench.specs.declared.runs.Op.TheVariants.{Write, WriteAll, Flush}
 use Rattle.io_bench.specs.declared.runs.Reply.{Reply}
 use Rattle.io_bench.specs.declared.runs.Reply.TheVariants.{Took, Done, Failed}
-use Rattle.io_bench.specs.Runs.{OpCalls, JoinsEach, RunCalls}
+use Rattle.io_bench.specs.Runs.{OpCalls, JoinsEach, RunCalls, IsWhole, AreWhole}
 use Rattle.io_bench.specs.Closed.{op_bytes, given_bytes, op_flushes, flushes}
-use Rattle.io_bench.proofs.PaidLemmas.{Paid, Paid-write, Paid-flush, Paid-bound, Paid-empty, calls_for-min}
-use Rattle.no_std_io2.specs.Meter.{IsMeter}
-use Rattle.no_std_io2.proofs.MeterLemmas.{meter_made}
-use Rattle.no_std_io2.proofs.StepCosts.{step_cost, writing_all-is}
+use Rattle.io_bench.proofs.PaidLemmas.{Paid, Paid-same, Paid-write, Paid-flush, Paid-bound, Paid-start, calls_for-min}
+
+-- the bytes that a call took
+abbrev call_bytes : WriteCall → List ℕ
+call_bytes (Wrote x reply) = taken reply x
+call_bytes (WroteAll x reply) = x
+call_bytes (WroteRest x reply left) = x
+call_bytes (Flushed reply) = []
+
+-- 1 for a flush
+abbrev call_flushes : WriteCall → ℕ
+call_flushes (Flushed reply) = 1
+call_flushes _ = 0
+
+-- the bytes and the flushes of calls
+abbrev all_bytes : List WriteCall → List ℕ
+all_bytes [] = []
+all_bytes (call ∷ C) = call_bytes call ++ all_bytes C
+
+abbrev all_flushes : List WriteCall → ℕ
+all_flushes [] = 0
+all_flushes (call ∷ C) = call_flushes call + all_flushes C
+
+-- those of a loop that wrote x
+writes_took : {text : List ℕ} {C : List WriteCall} {x left : List ℕ} {reply : Result (Unit {0}) Error} → Writes text C x reply left
+    → OnOk reply ((all_bytes C ≡ x) × (all_flushes C ≡ 0))
+writes_took none = (refl, refl)
+writes_took {reply = Ok u} (took {x = x} {n = n} some more w) =
+    let rest = writes_took w in (ap (λ l. take n x ++ l) rest.0 ∙ take-append-drop n x, omega (arith, rest.1))
+writes_took {reply = Ok u} (again some interrupted w) = let rest = writes_took w in (rest.0, omega (arith, rest.1))
+writes_took {reply = Err e} w = tt
+
+-- those of one call of a run that was whole
+op_took : (op : Op) (reply : Reply) (C : List WriteCall) → OpCalls op reply C → IsWhole op reply
+    → (all_bytes C ≡ op_bytes op) × (all_flushes C ≡ op_flushes op)
+op_took (Write x) (Took n) C is whole = (
+  ap all_bytes is ∙ append-nil (take n x.now) ∙ take_all n x.now (omega (arith, whole)),
+  ap all_flushes is,
+)
+op_took (WriteAll x) Done C (inl own) whole = (ap all_bytes own ∙ append-nil x.now, ap all_flushes own)
+op_took (WriteAll x) Done C (inr (left, inl own)) whole = (ap all_bytes own ∙ append-nil x.now, ap all_flushes own)
+op_took (WriteAll x) Done C (inr (left, inr writes)) whole = writes_took writes
+op_took Flush Done C is whole = (ap all_bytes is, ap all_flushes is)
+op_took (Write x) Done C is whole = absurd is
+op_took (Write x) (Failed e) C is whole = absurd whole
+op_took (WriteAll x) (Took n) C is whole = absurd is
+op_took (WriteAll x) (Failed e) C is whole = absurd whole
+op_took Flush (Took n) C is whole = absurd is
+op_took Flush (Failed e) C is whole = absurd whole
+
+-- calls and then others
+bytes-append : (C D : List WriteCall) → all_bytes (C ++ D) ≡ all_bytes C ++ all_bytes D
+bytes-append [] D = refl
+bytes-append (call ∷ C) D =
+    ap (λ l. call_bytes call ++ l) (bytes-append C D) ∙ sym (append_assoc (call_bytes call) (all_bytes C) (all_bytes D))
+
+flushes-append : (C D : List WriteCall) → all_flushes (C ++ D) ≡ all_flushes C + all_flushes D
+flushes-append [] D = omega arith
+flushes-append (call ∷ C) D = omega (arith, flushes-append C D)
+
+-- those of a run
+run_took : (ops : List Op) (replies : List Reply) (C : List WriteCall) → JoinsEach OpCalls ops replies C → AreWhole ops replies
+    → (all_bytes C ≡ given_bytes ops) × (all_flushes C ≡ flushes ops)
+run_took [] [] C idle whole = (ap all_bytes idle, ap all_flushes idle)
+run_took (op ∷ ops) (reply ∷ replies) C (first, rest, one, more, is) whole =
+    let now = op_took op reply first one whole.0 in
+    let later = run_took ops replies rest more whole.1 in (
+      ap all_bytes is ∙ bytes-append first rest ∙ ap₂ (λ l m. l ++ m) now.0 later.0,
+      ap all_flushes is ∙ flushes-append first rest ∙ ap₂ (λ k m. k + m) now.1 later.1,
+    )
+run_took [] (reply ∷ replies) C joined whole = absurd joined
+run_took (op ∷ ops) [] C joined whole = absurd joined
 
 -- what holds after `Ok` holds for a result that is `Ok`
 at_ok : {A P : Type 0} (r : Result A Error) → IsOk r → OnOk r P → P
 at_ok = grind (arith, common_steps)
 
--- the one call that was made
-single : {W : Type 0} (may : W → WriteCall → W → Type 0) {call : WriteCall} {C : List WriteCall} (a b : W) → C ≡ call ∷ [] → Made may a C b
-    → may a call b
-single may {call = call} a b is made =
-    let one = subst (λ K. Made may a K b) is made in subst (λ w. may a call w) (sym one.2) one.1
+-- nothing is left after a flush
+flush_empties : {held left : List ℕ} {C : List WriteCall} (reply : Result (Unit {0}) Error) → FlushCalls held C reply left
+    → OnOk reply (left ≡ [])
+flush_empties reply calls =
+    then_leaves SendCalls (PastEmpty OneFlush) (λ _. []) (λ _. []) send_leaves (λ held C r left gone. after r gone.1) calls
+  where
+    after : {left : List ℕ} (r : Result (Unit {0}) Error) → left ≡ [] → OnOk r (left ≡ [])
+    after (Ok u) gone = gone
+    after (Err e) gone = tt
 
--- no number of bytes is an error, and not two numbers
-no_err : {T : Type 0} {e : Error} {n : ℕ} → ◌≡◌ {A = Result ℕ Error} (Err e) (Ok n) → T
-no_err is = absurd (let no : ⊥ = cc in no)
+module _ {W B : Type 0} (I : Writer W) (cost : W → ℕ) (meter : IsMeter I.may cost) (S : ℕ) (some : 0 < S) (inner : B → W)
+    (buffer : B → List ℕ) (fits : (b : B) → length (buffer b) ≤ S) (old : B) where
+  abbrev May : B → WriteCall → B → Type 0
+  May = BufferMay I S inner buffer
 
-same_ok : {n m : ℕ} → ◌≡◌ {A = Result ℕ Error} (Ok n) (Ok m) → n ≡ m
-same_ok is = cc
+  -- the inner writer still takes all, and the calls so far, of f flushes and n bytes, are paid for
+  abbrev PaidTo : ℕ → ℕ → B → Type 0
+  PaidTo f n b = TakesAll I (inner b) × ((c : ℕ) × (cost (inner b) ≡ cost (inner old) + c) × Paid S c f n (length (buffer b)))
 
-same_paid : {S c f n h d g m : ℕ} → c ≡ d → f ≡ g → n ≡ m → Paid S c f n h → Paid S d g m h
-same_paid {S} {c} {f} {n} {h} {d} {g} {m} e i j p =
-    subst (λ k. Paid S k g m h) e (subst (λ k. Paid S c k m h) i (subst (λ k. Paid S c f k h) j p))
+  -- a call that makes so many calls more, and leaves this in the buffer
+  paid_on : (f n : ℕ) (a b : B) {A : Type 0} (reply : Result A Error) (k : ℕ) (left : List ℕ) (paid : PaidTo f n a) (f' n' : ℕ)
+      → TakesAll I (inner b) × IsOk reply × (cost (inner b) ≡ cost (inner a) + k) → OnOk reply (buffer b ≡ left)
+      → Paid S (paid.1.0 + k) f' n' (length left) → PaidTo f' n' b
+  paid_on f n a b reply k left paid f' n' done leaves next = (
+    done.0,
+    (
+      paid.1.0 + k,
+      omega (arith, done.2, paid.1.1),
+      subst (λ l. Paid S (paid.1.0 + k) f' n' (length l)) (sym (at_ok reply done.1 leaves)) next,
+    ),
+  )
+
+  call_paid : (f n : ℕ) (a b : B) (call : WriteCall) → May a call b → PaidTo f n a
+      → PaidTo (f + call_flushes call) (n + length (call_bytes call)) b
+  call_paid f n a b (Wrote x reply) made paid =
+      let k = writing_calls S (buffer a) x in
+      let done = step_cost I cost meter inner buffer (WriteCalls S x) (λ held. writing_calls S held x) (write_counts I S x) a b
+      {reply = reply} made paid.0 in
+      let whole : taken reply x ≡ x =
+      ap (λ r. taken r x) (write_takes I S made.2 (inner a) (inner b) made.1 paid.0) ∙ take_all (length x) x (le_refl (length x)) in
+      subst (λ l. PaidTo (f + 0) (n + length l) b) (sym whole)
+      (paid_on f n a b reply k (buffer_after S (buffer a) x) paid (f + 0) (n + length x) done
+      (buffered_leaves S x (length x) (OneWrite x) _ _ _ _ made.2)
+      (Paid-same refl (omega arith) refl refl (Paid-write S paid.1.0 f n (buffer a) x some (fits a) paid.1.2)))
+  call_paid f n a b (WroteAll x reply) made paid =
+      let k = writing_calls S (buffer a) x in
+      let done = step_cost I cost meter inner buffer (WriteAllCalls S x) (writing_all_calls S x) (write_all_counts I S x) a b
+      {reply = reply} made paid.0 in
+      paid_on f n a b reply k (buffer_after S (buffer a) x) paid (f + 0) (n + length x)
+      (done.0, done.1, omega (arith, done.2, writing_all-is S x (buffer a) some)) (buffered_leaves S x tt (OneWriteAll x) _ _ _ _ made.2)
+      (Paid-same refl (omega arith) refl refl (Paid-write S paid.1.0 f n (buffer a) x some (fits a) paid.1.2))
+  call_paid f n a b (WroteRest x reply left) made paid = absurd made.2
+  call_paid f n a b (Flushed reply) made paid =
+      let done = step_cost I cost meter inner buffer FlushCalls calls_for (flush_counts I) a b {reply = reply} made paid.0 in
+      paid_on f n a b reply (calls_for (buffer a)) [] paid (f + 1) (n + 0) done (flush_empties reply made.2)
+      (Paid-same refl refl (omega arith) refl (Paid-flush S paid.1.0 f n (buffer a) paid.1.2))
+
+  -- many calls
+  calls_paid : (f n : ℕ) (a b : B) (C : List WriteCall) → Made May a C b → PaidTo f n a
+      → PaidTo (f + all_flushes C) (n + length (all_bytes C)) b
+  calls_paid f n a b [] made paid = subst (PaidTo (f + 0) (n + 0)) (sym made)
+      (paid.0, (paid.1.0, paid.1.1, Paid-same refl (omega arith) (omega arith) refl paid.1.2))
+  calls_paid f n a b (call ∷ C) made paid =
+      let first = call_paid f n a made.0 call made.1 paid in
+      let rest = calls_paid (f + call_flushes call) (n + length (call_bytes call)) made.0 b C made.2 first in
+      let long = length-append (call_bytes call) (all_bytes C) in
+      (rest.0, (rest.1.0, rest.1.1, Paid-same refl (omega arith) (omega (arith, long)) refl rest.1.2))
+
+  -- For N bytes and F flushes through an empty buffer, and its closing: at most `2 * (N / (S + 1)) + F + 1`.
+  pub closed_bound : (last : B) (w : W) (ops : List Op) (replies : List Reply) (C : List WriteCall) → JoinsEach OpCalls ops replies C
+      → AreWhole ops replies → Made May old C last → buffer old ≡ [] → TakesAll I (inner old)
+      → (D : List WriteCall) × Made (CallOf I) (inner last) D w × SendCalls (buffer last) D (Ok tt) []
+      → cost w ≤ cost (inner old) + (2 * (length (given_bytes ops) / (S + 1)) + flushes ops + 1)
+  closed_bound last w ops replies C joined whole made empty takes (D, sending, sent) =
+      let start = Paid-same refl refl refl (ap length (sym empty)) (Paid-start S) in
+      let run = calls_paid 0 0 old last C made (takes, (0, omega arith, start)) in
+      let took = run_took ops replies C joined whole in
+      let bound = Paid-bound S run.1.0 (flushes ops) (length (given_bytes ops)) (length (buffer last))
+      (Paid-same refl (omega (arith, took.1)) (omega (arith, ap length took.0)) refl run.1.2) in
+      let last_one = send_counts I _ _ _ _ sent (inner last) w sending run.0 in
+      omega (arith, meter_made I cost meter D (inner last) w sending, last_one.2, run.1.1, calls_for-min (buffer last), bound)
 
 -- the calls of a run are calls that its writer may make
 pub run_made : {B : Type 0} {J : Writer B} {old new : B} {ops : List Op} {replies : List Reply} (run : RunCalls J old ops replies new)
     → Made J.may old run.calls new
-run_made {J = J} {old} {new} run =
-    made_map (CallOf J) J.may (λ w. w) (λ a b call law. law_may J a b call law)
-    run.calls old new run.made
-
-module _ {W B : Type 0} (I : Writer W)
-    (cost : W → ℕ) (meter : IsMeter I.may cost) (S : ℕ) (some : 0 < S) (inner : B → W) (buffer : B → List ℕ)
-    (fits : (b : B) → length (buffer b) ≤ S) where
-  abbrev May : B → WriteCall → B → Type 0
-  May = BufferMay I S inner buffer
-
-  -- the inner writer still takes all, and the calls so far are paid for
-  abbrev pub PaidTo : ℕ → ℕ → ℕ → ℕ → B → Type 0
-  PaidTo start c f n b = TakesAll I (inner b) × (cost (inner b) ≡ start + c) × Paid S c f n (length (buffer b))
-
-  -- there are so many calls more, and these are paid for too
-  abbrev pub PaidOn : ℕ → ℕ → ℕ → ℕ → B → Type 0
-  PaidOn start c f n b = (k : ℕ) × PaidTo start (c + k) f n b
-
-  -- one `write`
-  wrote_paid : (start c f n : ℕ) (a b : B) (x : List ℕ) (reply : Result ℕ Error) → May a (Wrote x reply) b → PaidTo start c f n a
-      → PaidOn start c f (n + length x) b
-  wrote_paid start c f n a b x reply call paid =
-      let done = step_cost I cost meter inner buffer (WriteCalls S x) (λ held. writing_calls S held x) (write_counts I S x) a b
-      {reply = reply} call paid.0 in
-      let left = at_ok reply done.1 (buffered_leaves S x (length x) (OneWrite x) _ _ _ _ call.2) in (
-        writing_calls S (buffer a) x,
-        (
-          done.0,
-          omega (arith, done.2, paid.1),
-          subst (λ l. Paid S (c + writing_calls S (buffer a) x) f (n + length x) (length l)) (sym left)
-              (Paid-write S c f n (buffer a) x some (fits a) paid.2),
-        ),
-      )
-
-  -- one `write_all`
-  wrote_all_paid : (start c f n : ℕ) (a b : B) (x : List ℕ) (reply : Result (Unit {0}) Error) → May a (WroteAll x reply) b
-      → PaidTo start c f n a → PaidOn start c f (n + length x) b
-  wrote_all_paid start c f n a b x reply call paid =
-      let done = step_cost I cost meter inner buffer (WriteAllCalls S x) (writing_all_calls S x) (write_all_counts I S x) a b
-      {reply = reply} call paid.0 in
-      let left = at_ok reply done.1 (buffered_leaves S x tt (OneWriteAll x) _ _ _ _ call.2) in (
-        writing_calls S (buffer a) x,
-        (
-          done.0,
-          omega (arith, done.2, paid.1, writing_all-is S x (buffer a) some),
-          subst (λ l. Paid S (c + writing_calls S (buffer a) x) f (n + length x) (length l)) (sym left)
-              (Paid-write S c f n (buffer a) x some (fits a) paid.2),
-        ),
-      )
-
-  -- one flush
-  flushed_paid : (start c f n : ℕ) (a b : B) (reply : Result (Unit {0}) Error) → May a (Flushed reply) b → PaidTo start c f n a
-      → PaidOn start c (f + 1) n b
-  flushed_paid start c f n a b reply call paid =
-      let done = step_cost I cost meter inner buffer FlushCalls calls_for (flush_counts I) a b {reply = reply} call paid.0 in
-      let none : OnOk reply (buffer b ≡ []) = then_leaves SendCalls (PastEmpty OneFlush) (λ _. []) (λ _. []) send_leaves
-      (λ held C reply left gone. gone_none reply gone.1) call.2 in
-      let left = at_ok reply done.1 none in (
-        calls_for (buffer a),
-        (
-          done.0,
-          omega (arith, done.2, paid.1),
-          subst (λ l. Paid S (c + calls_for (buffer a)) (f + 1) n (length l)) (sym left) (Paid-flush S c f n (buffer a) paid.2),
-        ),
-      )
-    where
-      gone_none : {left : List ℕ} (reply : Result (Unit {0}) Error) → left ≡ [] → OnOk reply (left ≡ [])
-      gone_none (Ok u) e = e
-      gone_none (Err e) h = tt
-
-  -- a loop of writes makes one at most
-  writes_paid : {text : List ℕ} (start c f n : ℕ) (a b : B) {C : List WriteCall} {x left : List ℕ} {reply : Result (Unit {0}) Error}
-      → Writes text C x reply left → Made May a C b → PaidTo start c f n a → PaidOn start c f (n + length x) b
-  writes_paid start c f n a b none made paid = (
-    0,
-    (
-      subst (λ w. TakesAll I (inner w)) (sym made) paid.0,
-      omega (arith, ap (λ w. cost (inner w)) made, paid.1),
-      subst (λ w. Paid S (c + 0) f (n + 0) (length (buffer w))) (sym made) (rw (add-zero c, add-zero n) paid.2),
-    ),
-  )
-  writes_paid start c f n a b (took {x = x} {n = m} gives more w) made paid =
-      let whole = same_ok (write_takes I S made.1.2 (inner a) (inner made.0) made.1.1 paid.0) in
-      let none = writes_idle w (drop_of_length-le x (omega (arith, whole))) in
-      let end = subst (λ K. Made May made.0 K b) none.0 made.2 in
-      wrote_paid start c f n a b x (Ok m) (subst (λ w. May a (Wrote x (Ok m)) w) (sym end) made.1) paid
-  writes_paid start c f n a b (again {x = x} {e = e} gives is w) made paid =
-      no_err (write_takes I S made.1.2 (inner a) (inner made.0) made.1.1 paid.0)
-  writes_paid start c f n a b (stuck {x = x} gives says) made paid =
-      absurd (omega (arith, gives, same_ok (write_takes I S made.1.2 (inner a) (inner made.0) made.1.1 paid.0)))
-  writes_paid start c f n a b (fault {x = x} {e = e} gives is) made paid =
-      no_err (write_takes I S made.1.2 (inner a) (inner made.0) made.1.1 paid.0)
-
-  -- the calls of a `write_all`
-  all_paid : (start c f n : ℕ) (a b : B) {C : List WriteCall} {x : List ℕ} {reply : Result (Unit {0}) Error}
-      → AllCalls C x reply → Made May a C b → PaidTo start c f n a → PaidOn start c f (n + length x) b
-  all_paid start c f n a b {x = x} {reply = reply} calls made paid = elim calls [
-    | inl own ↦ wrote_all_paid start c f n a b x reply (single May a b own made) paid
-    | inr rest ↦ elim rest.1 [
-      | inl own ↦ absurd ((single May a b own made).2)
-      | inr writes ↦ writes_paid start c f n a b writes made paid
-    ]
-  ]
-
-  -- one call of the run
-  op_paid : (start c f n : ℕ) (a b : B) (op : Op) (reply : Reply) (C : List WriteCall) → OpCalls op reply C → Made May a C b
-      → PaidTo start c f n a → PaidOn start c (f + op_flushes op) (n + length (op_bytes op)) b
-  op_paid start c f n a b (Write x) (Took m) C is made paid =
-      rw add-zero (wrote_paid start c f n a b x.now (Ok m) (single May a b is made) paid)
-  op_paid start c f n a b (Write x) (Failed e) C is made paid =
-      rw add-zero (wrote_paid start c f n a b x.now (Err e) (single May a b is made) paid)
-  op_paid start c f n a b (WriteAll x) Done C is made paid = rw add-zero (all_paid start c f n a b is made paid)
-  op_paid start c f n a b (WriteAll x) (Failed e) C is made paid = rw add-zero (all_paid start c f n a b is made paid)
-  op_paid start c f n a b Flush Done C is made paid = rw add-zero (flushed_paid start c f n a b (Ok tt) (single May a b is made) paid)
-  op_paid start c f n a b Flush (Failed e) C is made paid = rw add-zero (flushed_paid start c f n a b (Err e) (single May a b is made) paid)
-  op_paid start c f n a b (Write x) Done C is made paid = absurd is
-  op_paid start c f n a b (WriteAll x) (Took m) C is made paid = absurd is
-  op_paid start c f n a b Flush (Took m) C is made paid = absurd is
-
-  -- a whole run
-  pub run_paid : (start c f n : ℕ) (a b : B) (ops : List Op) (replies : List Reply) (C : List WriteCall) → JoinsEach OpCalls ops replies C
-      → Made May a C b → PaidTo start c f n a → PaidOn start c (f + flushes ops) (n + length (given_bytes ops)) b
-  run_paid start c f n a b [] [] C idle made paid =
-      let end = subst (λ K. Made May a K b) idle made in (
-        0,
-        (
-          subst (λ w. TakesAll I (inner w)) (sym end) paid.0,
-          omega (arith, ap (λ w. cost (inner w)) end, paid.1),
-          rw (add-zero c, add-zero f, add-zero n) (subst (λ w. Paid S c f n (length (buffer w))) (sym end) paid.2),
-        ),
-      )
-  run_paid start c f n a b (op ∷ ops) (reply ∷ replies) C joined made paid =
-      let parts = made_split May joined.0 a joined.1 b (subst (λ K. Made May a K b) joined.4 made) in
-      let one = op_paid start c f n a parts.0 op reply joined.0 joined.2 parts.1 paid in
-      let rest = run_paid start (c + one.0) (f + op_flushes op) (n + length (op_bytes op)) parts.0 b ops replies joined.1 joined.3 parts.2 one.1 in
-      let long = length-append (op_bytes op) (given_bytes ops) in
-      (one.0 + rest.0, (rest.1.0, omega (arith, rest.1.1), same_paid (omega arith) (omega arith) (omega (arith, long)) rest.1.2))
-  run_paid start c f n a b [] (reply ∷ replies) C joined made paid = absurd joined
-  run_paid start c f n a b (op ∷ ops) [] C joined made paid = absurd joined
-
-  -- and the closing: for N bytes and F flushes through an empty buffer, at most `2 * (N / (S + 1)) + F + 1`
-  pub closed_bound : (old last : B) (w : W) (ops : List Op) (replies : List Reply) (C : List WriteCall) → JoinsEach OpCalls ops replies C
-      → Made May old C last → buffer old ≡ [] → TakesAll I (inner old)
-      → (D : List WriteCall) × Made (CallOf I) (inner last) D w × SendCalls (buffer last) D (Ok tt) []
-      → TakesAll I w × (cost w ≤ cost (inner old) + (2 * (length (given_bytes ops) / (S + 1)) + flushes ops + 1))
-  closed_bound old last w ops replies C joined made empty takes closing =
-      let run = run_paid (cost (inner old)) 0 0 0 old last ops replies C joined made (takes, omega arith, Paid-empty S (buffer old) empty) in
-      let sent = send_counts I _ _ _ _ closing.2 (inner last) w closing.1 run.1.0 in
-      let bound = Paid-bound S run.0 (flushes ops) (length (given_bytes ops)) (length (buffer last))
-      (same_paid (omega arith) (omega arith) (omega arith) run.1.2) in
-      let paid = meter_made I cost meter closing.0 (inner last) w closing.1 in
-      (sent.0, omega (arith, paid, sent.2, run.1.1, calls_for-min (buffer last), bound))
+run_made {J = J} {old} {new} run = made_map (CallOf J) J.may (λ w. w) (λ a b call law. law_may J a b call law) run.calls old new run.made

@@ -1,6 +1,5 @@
 -- What a `Faulty` tells, and what its acts do to a call.
 use Rattle.no_std_io2.specs.Writers.{CallOf}
-use Rattle.std.proofs.Common.{ap, ◌∙◌}
 use Rattle.std.specs.Prelude.{◌≡◌, Some, None, Option, List, [], ◌∷◌, ◌++◌, drop, if◌then◌else◌, ◌==◌, ℕ, ◌+◌, ◌<◌}
 use Rattle.std.specs.Prelude.{count_by, take, Result, Ok}
 use Rattle.std.specs.Option.{option_map}

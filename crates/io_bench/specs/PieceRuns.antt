@@ -3,7 +3,7 @@ use Rattle.std.specs.Prelude.{◌≡◌, ℕ, ◌⊎◌, ◌<◌, List, ◌∷�
 use Rattle.std.specs.List.{concat}
 use Rattle.no_std_io2.specs.declared.io.Error.{Error}
 use Rattle.no_std_io2.specs.Errors.{IsFault, IsOutOfMemory}
-use Rattle.no_std_io2.specs.Read.{Event, fails, bytes, bytes_to_fault, HasNoFault}
+use Rattle.no_std_io2.specs.Events.{Event, fails, bytes, bytes_to_fault, HasNoFault}
 use Rattle.no_std_io2.specs.Pieces.{ends_in, pieces, pieces_given}
 
 -- no fault was to come, and these are the pieces of all bytes, trimmed

@@ -1,10 +1,10 @@
 -- What a `Tally` tells.
 use Rattle.no_std_io2.specs.Writers.{CallOf}
-use Rattle.std.specs.Prelude.{◌≡◌, ℕ, ◌+◌, ◌≤◌, min, List, length, Result, Ok, Err}
+use Rattle.std.specs.Prelude.{◌≡◌, ℕ, ◌+◌, min, List, length, Result}
 use Rattle.no_std_io2.specs.Writers.{Writer}
 use Rattle.no_std_io2.specs.Write.{WriteCall, Wrote, WroteAll, WroteRest, Flushed}
 use Rattle.no_std_io2.specs.declared.io.Error.{Error}
-use Rattle.no_std_io2.specs.Read.{Reader, ReadCall, Gave}
+use Rattle.no_std_io2.specs.Read.{Reader, ReadCall, ReadCallLaw, Gave}
 use Rattle.io_bench.specs.declared.tally.Tally.{Tally}
 
 -- `t.get_ref()`
@@ -32,18 +32,12 @@ TallyMay I old (Flushed reply) new = HandsCounted I old (Flushed reply) 0 new
 TallyMay I old (WroteAll x reply) new = ⊥
 TallyMay I old (WroteRest x reply left) new = ⊥
 
--- how many turns a read spends at least: one if it gives bytes or fails
-abbrev pub turns_spent : Result (List ℕ) Error → ℕ
-turns_spent (Ok x) = min 1 (length x)
-turns_spent (Err e) = 1
-
--- A `read` makes the same `read` of the inner reader, once, and counts if it has room for a byte.
+-- A `read` makes the same `read` of the inner reader, once, with the same result, and counts if it has room for a byte.
 pub record ReadCounted {T : Type 0} (I : Reader T) (old : Tally T) (room : ℕ) (answer : Result (List ℕ) Error) (new : Tally T)
     : Type 0 where
-  pub handed : I.may (tally_inner old) (Gave room answer) (tally_inner new)
+  pub handed : ReadCallLaw I (tally_inner old) (Gave room answer) (tally_inner new)
   pub reads : tally_reads new ≡ tally_reads old + min 1 room
   pub writes : tally_writes new ≡ tally_writes old
-  pub turns : I.turns (tally_inner new) + turns_spent answer ≤ I.turns (tally_inner old)
 
 -- what one call of a `Tally` as a reader does: its calls are its own reads
 abbrev pub ReadsCounted : {T : Type 0} → Reader T → Tally T → ReadCall → Tally T → Type 0

@@ -1,10 +1,12 @@
 // [`run_reads`], a list of calls on a buffered reader, and how many inner reads they make.
-ghost use Rattle.std.specs.Prelude.{◌≡◌, ◌+◌, ◌-◌, ◌/◌, ◌≤◌, [], length};
-ghost use Rattle.no_std_io2.specs.BufReader.{reader_held, reader_inner};
-ghost use Rattle.io_bench.specs.Asks.{AllFit, Answered, CameTo, Fits, Steps, TakesFront, asked_events, asked_reader};
-ghost use Rattle.io_bench.specs.Tally.{tally_reads};
+ghost use Rattle.std.specs.Prelude.{◌≡◌, ◌+◌, ◌-◌, ◌/◌, ◌≤◌, ℕ, List, length};
+ghost use Rattle.no_std_io2.specs.Events.{Event};
+ghost use Rattle.no_std_io2.specs.Takes.{Takes};
+ghost use Rattle.no_std_io2.specs.Read.{tells};
+ghost use Rattle.no_std_io2.specs.ReadMeter.{FillsRoom, IsReadMeter};
+ghost use Rattle.no_std_io2.specs.BufReader.{reader_inner};
+ghost use Rattle.io_bench.specs.Asks.{AllFit, Answered, CameTo, Fits, Steps, left_behind};
 
-use crate::tally::Tally;
 use no_std_io2::io::{BufRead, BufReader, ErrorKind, Read, Result};
 
 /// A call to make on a buffered reader.
@@ -29,19 +31,16 @@ pub struct ReadTotals {
 }
 
 // Makes a `read`, and returns whether it met the end.
-fn ask_read<R: Read, const S: usize>(r: &mut BufReader<Tally<R>, S>, buf: &mut [u8]) -> Result<bool>
-    ensures { Answered R.Read (Ask.Read (length buf.old)) r.old result r.new }
+fn ask_read<R: Read, const S: usize>(r: &mut BufReader<R, S>, buf: &mut [u8]) -> Result<bool>
+    ensures { Answered ⟦<BufReader<R, S> as BufRead>⟧ (Ask.Read (length buf.old)) r.old result r.new }
 {
     let n = r.read(buf)?;
     Ok(n == 0 && r.buffer().is_empty())
 }
 
 // Makes a `read_exact`, and returns whether it met the end.
-fn ask_exact<R: Read, const S: usize>(
-    r: &mut BufReader<Tally<R>, S>,
-    buf: &mut [u8],
-) -> Result<bool>
-    ensures { Answered R.Read (Ask.Exact (length buf.old)) r.old result r.new }
+fn ask_exact<R: Read, const S: usize>(r: &mut BufReader<R, S>, buf: &mut [u8]) -> Result<bool>
+    ensures { Answered ⟦<BufReader<R, S> as BufRead>⟧ (Ask.Exact (length buf.old)) r.old result r.new }
 {
     match r.read_exact(buf) {
         Ok(()) => Ok(false),
@@ -53,8 +52,8 @@ fn ask_exact<R: Read, const S: usize>(
 }
 
 // Makes a `fill_buf` and a `consume`, and returns whether they met the end.
-fn ask_fill<R: Read, const S: usize>(r: &mut BufReader<Tally<R>, S>, most: usize) -> Result<bool>
-    ensures { Answered R.Read (Ask.Fill most) r.old result r.new }
+fn ask_fill<R: Read, const S: usize>(r: &mut BufReader<R, S>, most: usize) -> Result<bool>
+    ensures { Answered ⟦<BufReader<R, S> as BufRead>⟧ (Ask.Fill most) r.old result r.new }
 {
     let lent = r.fill_buf()?.len();
     r.consume(most.min(lent));
@@ -63,13 +62,13 @@ fn ask_fill<R: Read, const S: usize>(r: &mut BufReader<Tally<R>, S>, most: usize
 
 // Makes one ask, and returns whether it met the end.
 fn make_ask<R: Read, const S: usize>(
-    r: &mut BufReader<Tally<R>, S>,
+    r: &mut BufReader<R, S>,
     ask: Ask,
     buf: &mut [u8],
 ) -> Result<bool>
     requires { Fits (length buf.old) ask }
     ensures len { length buf.new ≡ length buf.old }
-    ensures answered { Answered R.Read ask r.old result r.new }
+    ensures answered { Answered ⟦<BufReader<R, S> as BufRead>⟧ ask r.old result r.new }
 {
     match ask {
         Ask::Read(len) => ask_read(r, &mut buf[..len]),
@@ -82,26 +81,25 @@ fn make_ask<R: Read, const S: usize>(
 /// into the front of `buf`, which has room for the longest of them. A failed ask does not stop it.
 ///
 /// It makes exactly the calls of the asks, in order, and no others. The totals count the results of
-/// all asks. If the reader tells its events, each ask takes some from the front, as its call does.
-/// If the reader is filling, as slices and cursors are, no ask fails and the number of inner reads
-/// is bounded: if nothing was held before and N bytes are taken, the tally counts at most
-/// `N / S + 1 + at_end` more.
+/// all asks. Each ask takes what its call takes.
+///
+/// If the inner reader is filling, as slices and cursors are, no ask fails and the number of inner
+/// reads is bounded: if N bytes are taken, each number that counts the reads of the inner reader, as
+/// a [`Tally`](crate::Tally) does, rises by at most `N / S + 1 + at_end`.
 pub fn run_reads<R: Read, const S: usize>(
-    r: &mut BufReader<Tally<R>, S>,
+    r: &mut BufReader<R, S>,
     asks: &[Ask],
     buf: &mut [u8],
 ) -> ReadTotals
     requires { AllFit (length buf.old) asks.now }
-    ensures came_to { CameTo R.Read asks.now r.old result.at_end result.failed r.new }
-    ensures told { R.tells (asked_reader r.old) → R.tells (asked_reader r.new)
-        × TakesFront (asked_events R.events r.old) (asked_events R.events r.new) }
-    ensures steps { R.is_filling (asked_reader r.old)
-        → R.is_filling (asked_reader r.new) × (result.failed ≡ 0)
-        × Steps asks.now (asked_events R.events r.old) (asked_events R.events r.new) result.at_end }
-    ensures bound { R.is_filling (asked_reader r.old) → reader_held r.old ≡ []
-        → tally_reads (reader_inner r.new) ≤ tally_reads (reader_inner r.old)
-        + ((length (asked_events R.events r.old) - length (asked_events R.events r.new)) / S
-        + 1 + result.at_end) }
+    ensures came_to { CameTo ⟦<BufReader<R, S> as BufRead>⟧ asks.now r.old result.at_end result.failed r.new }
+    ensures takes { (taken : List Event)
+        × Takes (tells ⟦<BufReader<R, S> as Read>⟧ r.old) taken (tells ⟦<BufReader<R, S> as Read>⟧ r.new) }
+    ensures steps { (fills : FillsRoom R.Read) → (result.failed ≡ 0)
+        × Steps asks.now (left_behind fills.left r.old) (left_behind fills.left r.new) result.at_end }
+    ensures bound { (fills : FillsRoom R.Read) → (cost : R → ℕ) → IsReadMeter R.may cost
+        → cost (reader_inner r.new) ≤ cost (reader_inner r.old)
+        + ((length (left_behind fills.left r.old) - length (left_behind fills.left r.new)) / S + 1 + result.at_end) }
 {
     let mut totals = ReadTotals {
         at_end: 0,

@@ -1,9 +1,5 @@
 // [`Feed`], a reader that gives the events of a list.
-ghost use Rattle.std.specs.Prelude.{◌≡◌, ◌<◌, ◌≤◌, ◌+◌, ◌∷◌, [], Some, None, Ok, MatchOption};
-ghost use Rattle.std.specs.Prelude.{length, take, drop, min, vec_len};
-ghost use Rattle.no_std_io2.specs.declared.io.ErrorKind.{ErrorKind};
-ghost use Rattle.io_bench.specs.Calls.{FailsWith};
-ghost use Rattle.no_std_io2.specs.Read.{ReadLaw};
+ghost use Rattle.std.specs.Prelude.{◌≡◌, ◌<◌, ◌≤◌, ◌∷◌, [], Some, MatchOption, length, take, drop, vec_len};
 
 use no_std_io2::io::{Error, ErrorKind, Read, Result, Stored};
 
@@ -115,41 +111,19 @@ impl Feed {
 }
 
 /// Tells no store.
-impl Stored for Feed {
-    ghost has_store = { λ _. ⊥ };
+impl Stored for Feed {}
 
-    ghost content = { λ _. [] };
-
-    ghost position = { λ _. 0 };
-}
-
-/// Tells the events that are left. Each byte and each failure is a turn. It is not metered and not
-/// filling.
+/// Tells the events that are left. Each byte and each failure is a turn.
 impl Read for Feed {
-    ghost use Rattle.io_bench.specs.Feed.{feed_left, feed_piece, feed_gives, leading_bytes, first_failure, all_to_come};
-
-    ghost tells = { λ _. Unit {0} };
-
-    ghost events = { λ f. all_to_come (feed_left f) };
+    ghost use Rattle.io_bench.specs.Feed.{feed_left, all_to_come, FeedMay};
 
     ghost turns = { λ f. length (feed_left f) };
 
-    ghost may_take_none = { λ _. ⊥ };
+    ghost events = { λ f. Some (all_to_come (feed_left f)) };
 
-    fn read(&mut self, buf: &mut [u8]) -> Result<usize>
-        ensures law { ReadLaw ⟦<Self as Read>⟧ self.old buf.old result buf.new self.new }
+    ghost may = { FeedMay };
 
-        // Which bytes it gives, and which events it takes.
-        ensures empty { length buf.old ≡ 0
-            → (result ≡ Ok 0) × (feed_left self.new ≡ feed_left self.old) }
-        ensures gives { 0 < length buf.old → first_failure (feed_left self.old) ≡ None
-            → (result ≡ Ok (feed_gives self.old (length buf.old)))
-            × (feed_left self.new ≡ drop (feed_gives self.old (length buf.old)) (feed_left self.old)) }
-        ensures fails { (kind : ErrorKind) → 0 < length buf.old
-            → first_failure (feed_left self.old) ≡ Some kind
-            → FailsWith kind result × (feed_left self.old ≡ Event.Fail kind ∷ feed_left self.new) }
-        ensures piece { feed_piece self.new ≡ feed_piece self.old }
-    {
+    fn read(&mut self, buf: &mut [u8]) -> Result<usize> {
         if buf.is_empty() {
             return Ok(0);
         }
@@ -158,10 +132,4 @@ impl Read for Feed {
             None => Ok(self.give(buf)),
         }
     }
-
-    ghost filling_tells = { λ f h. absurd h };
-
-    ghost store_tells = { λ f h. absurd h };
-
-    ghost store_fits = { λ f h. absurd h };
 }

@@ -1,12 +1,15 @@
 // [`run_split`] and [`run_lines`], which take all items of a `split` and of a `lines`.
-ghost use Rattle.std.specs.Prelude.{◌≡◌, ◌+◌, ◌<◌, ◌++◌, map, false, OnOk, OnErr, IfErr, vec_items, vec_len, vec_capacity, string_bytes};
+ghost use Rattle.std.specs.Prelude.{◌≡◌, ◌+◌, ◌<◌, ◌++◌, map, false, OnOk, OnErr, IfErr, IfSome};
+ghost use Rattle.std.specs.Prelude.{vec_items, vec_len, vec_capacity, string_bytes};
 ghost use Rattle.no_std_io2.specs.Errors.{IsFault, IsOutOfMemory};
+ghost use Rattle.no_std_io2.specs.Takes.{to_come};
+ghost use Rattle.no_std_io2.specs.Read.{tells};
 ghost use Rattle.no_std_io2.specs.Pieces.{newline, line_text, without};
 ghost use Rattle.no_std_io2.specs.Pieces.{split_reader, split_delim, split_is_ended, lines_reader, lines_is_ended, RefusesLine};
 ghost use Rattle.io_bench.specs.PieceRuns.{GathersPieces};
 ghost use Rattle.no_std_io2.specs.Appended.{appended};
 
-use no_std_io2::io::{BufRead, Lines, Result, Split};
+use no_std_io2::io::{BufRead, Lines, Read, Result, Split};
 
 // Makes room for one more item.
 fn make_room<T>(items: &mut Vec<T>) -> Result<()>
@@ -30,9 +33,9 @@ fn make_room<T>(items: &mut Vec<T>) -> Result<()>
 /// Returns `OutOfMemory` if an allocation failed; the items are then the first pieces. Either `items`
 /// was full, or the next piece had no room for a byte.
 pub fn run_split<R: BufRead + Drop>(mut split: Split<R>, items: &mut Vec<Vec<u8>>) -> Result<()>
-    ensures told { split_is_ended split ≡ false → R.tells (split_reader split)
-        → GathersPieces (without (split_delim split)) (λ _ _. ⊥) (vec_capacity items.new < vec_len items.new + 1) (split_delim split)
-        (R.events (split_reader split)) result (map vec_items (appended items.old.items items.new.items)) }
+    ensures told { split_is_ended split ≡ false → IfSome (to_come (tells ⟦<R as Read>⟧ (split_reader split)))
+        (λ E. GathersPieces (without (split_delim split)) (λ _ _. ⊥) (vec_capacity items.new < vec_len items.new + 1) (split_delim split)
+        E result (map vec_items (appended items.old.items items.new.items))) }
     ensures appends { items.new.items ≡ items.old.items ++ appended items.old.items items.new.items }
     ensures never_interrupted { IfErr result IsFault }
 {
@@ -57,9 +60,9 @@ pub fn run_split<R: BufRead + Drop>(mut split: Split<R>, items: &mut Vec<Vec<u8>
 /// `OutOfMemory` if an allocation failed; the items are the first lines. Either `items` was full, or
 /// the next line had no room for a byte.
 pub fn run_lines<R: BufRead + Drop>(mut lines: Lines<R>, items: &mut Vec<String>) -> Result<()>
-    ensures told { lines_is_ended lines ≡ false → R.tells (lines_reader lines)
-        → GathersPieces line_text RefusesLine (vec_capacity items.new < vec_len items.new + 1) newline
-        (R.events (lines_reader lines)) result (map string_bytes (appended items.old.items items.new.items)) }
+    ensures told { lines_is_ended lines ≡ false → IfSome (to_come (tells ⟦<R as Read>⟧ (lines_reader lines)))
+        (λ E. GathersPieces line_text RefusesLine (vec_capacity items.new < vec_len items.new + 1) newline
+        E result (map string_bytes (appended items.old.items items.new.items))) }
     ensures appends { items.new.items ≡ items.old.items ++ appended items.old.items items.new.items }
     ensures never_interrupted { IfErr result IsFault }
 {

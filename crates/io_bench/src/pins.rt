@@ -1,21 +1,24 @@
 //! Functions that nothing calls. Their contracts fix what each type tells. A type whose ghost members say nothing would
 //! still be proved, but every promise about it would be empty.
-ghost use Rattle.std.specs.Prelude.{◌≡◌, ◌+◌, [], ◌++◌, length};
+ghost use Rattle.std.specs.Prelude.{◌≡◌, ◌+◌, ◌-◌, ◌/◌, ◌≤◌, [], ◌++◌, length, Some, None};
 ghost use Rattle.std.specs.Option.{option_map};
-ghost use Rattle.io_bench.specs.Feed.{feed_left, all_to_come};
-ghost use Rattle.no_std_io2.specs.Read.{ReadCall};
+ghost use Rattle.io_bench.specs.Feed.{feed_left, all_to_come, FeedMay};
+ghost use Rattle.no_std_io2.specs.Read.{tells, ReadCall};
 ghost use Rattle.no_std_io2.specs.Write.{WriteCall};
 ghost use Rattle.no_std_io2.specs.Writers.{TakesAll};
 ghost use Rattle.no_std_io2.specs.Meter.{IsMeter};
-ghost use Rattle.no_std_io2.specs.ReadMeter.{IsReadMeter};
+ghost use Rattle.no_std_io2.specs.ReadMeter.{IsReadMeter, FillsRoom};
+ghost use Rattle.no_std_io2.specs.BufReader.{reader_inner};
+ghost use Rattle.io_bench.specs.Asks.{AllFit, left_behind};
 ghost use Rattle.io_bench.specs.Calls.{CountsLoop, CountsToEnd};
 ghost use Rattle.io_bench.specs.Tally.{tally_inner, tally_writes, tally_reads, TallyMay, ReadsCounted};
 ghost use Rattle.io_bench.specs.Faulty.{faulty_inner, acts_left, act_mishaps, FaultyMay};
 
+use crate::asks::{Ask, ReadTotals, run_reads};
 use crate::faulty::Faulty;
 use crate::feed::Feed;
 use crate::tally::Tally;
-use no_std_io2::io::{Read, Result, Stored, Write};
+use no_std_io2::io::{BufReader, Read, Result, Stored, Write};
 use std::alloc::Allocator;
 
 fn tally_tells<T: Write>(t: &Tally<T>)
@@ -47,10 +50,14 @@ fn faulty_calls<W: Write>(old: &Faulty<W>, new: &Faulty<W>)
 {}
 
 fn feed_tells(f: &Feed)
-    ensures tells { ⟦<Feed as Read>⟧.tells f.now }
-    ensures events { ⟦<Feed as Read>⟧.events f.now ≡ all_to_come (feed_left f.now) }
-    ensures takes { ¬ (⟦<Feed as Read>⟧.may_take_none f.now) }
-    ensures store { ¬ (⟦<Feed as Stored>⟧.has_store f.now) }
+    ensures events { ⟦<Feed as Read>⟧.events f.now ≡ Some (all_to_come (feed_left f.now)) }
+    ensures turns { ⟦<Feed as Read>⟧.turns f.now ≡ length (feed_left f.now) }
+    ensures store { ⟦<Feed as Stored>⟧.store f.now ≡ None }
+{}
+
+// A `Feed` gives the bytes before its next failure, or this failure.
+fn feed_calls(old: &Feed, new: &Feed)
+    ensures { (call : ReadCall) → ⟦<Feed as Read>⟧.may old.now call new.now → FeedMay old.now call new.now }
 {}
 
 // A `Tally` passes each `read` on, and counts it if it has room for a byte.
@@ -76,15 +83,27 @@ fn tally_drains<T: Read, A: Allocator>(t: &mut Tally<T>, buf: &mut Vec<u8, A>) -
 }
 
 fn tally_reader_tells<T: Read>(t: &Tally<T>)
-    ensures tells { T.tells (tally_inner t.now) → ⟦<Tally<T> as Read>⟧.tells t.now }
-    ensures events { ⟦<Tally<T> as Read>⟧.events t.now ≡ T.events (tally_inner t.now) }
+    ensures told { tells ⟦<Tally<T> as Read>⟧ t.now ≡ tells T.Read (tally_inner t.now) }
     ensures meter { IsReadMeter ⟦<Tally<T> as Read>⟧.may tally_reads }
-    ensures filling { T.is_filling (tally_inner t.now) → ⟦<Tally<T> as Read>⟧.is_filling t.now }
-    ensures takes { ¬ (⟦<Tally<T> as Read>⟧.may_take_none t.now) }
+    ensures filling { FillsRoom T.Read → FillsRoom ⟦<Tally<T> as Read>⟧ }
 {}
 
 fn tally_store_tells<T: Stored>(t: &Tally<T>)
-    ensures store { T.has_store (tally_inner t.now) → ⟦<Tally<T> as Stored>⟧.has_store t.now }
-    ensures content { ⟦<Tally<T> as Stored>⟧.content t.now ≡ T.content (tally_inner t.now) }
-    ensures position { ⟦<Tally<T> as Stored>⟧.position t.now ≡ T.position (tally_inner t.now) }
+    ensures { ⟦<Tally<T> as Stored>⟧.store t.now ≡ T.store (tally_inner t.now) }
 {}
+
+// If a run through a buffer of S bytes over a filling reader takes N bytes and meets the end Z times, a `Tally` below the buffer counts at
+// most `N / S + 1 + Z` reads.
+fn tally_runs<R: Read, const S: usize>(
+    r: &mut BufReader<Tally<R>, S>,
+    asks: &[Ask],
+    buf: &mut [u8],
+) -> ReadTotals
+    requires { AllFit (length buf.old) asks.now }
+    ensures { (fills : FillsRoom R.Read)
+        → tally_reads (reader_inner r.new) ≤ tally_reads (reader_inner r.old)
+        + ((length (left_behind (λ t. fills.left (tally_inner t)) r.old) - length (left_behind (λ t. fills.left (tally_inner t)) r.new)) / S
+        + 1 + result.at_end) }
+{
+    run_reads(r, asks, buf)
+}

@@ -1,7 +1,5 @@
 // [`Tally`], a stream that counts its calls.
 ghost use Rattle.std.specs.Prelude.{◌≡◌, ◌+◌, ◌^◌, ◌-◌, length, min};
-ghost use Rattle.no_std_io2.specs.Read.{ReadLaw};
-ghost use Rattle.no_std_io2.specs.Writers.{WriteOf};
 
 use no_std_io2::ghost_bytes::GhostBytes;
 use no_std_io2::io::{Read, Result, Stored, Write};
@@ -94,7 +92,7 @@ impl<T> Tally<T> {
 /// Tells what the inner writer tells. Its exact count is a meter of its calls. Each call makes the same call of the inner
 /// writer, once, and returns its result. `write_all` and `write_rest` have the trait's bodies, so each of their writes counts.
 impl<T: Write> Write for Tally<T> {
-    ghost use Rattle.io_bench.specs.Tally.{tally_inner, tally_writes, TallyMay};
+    ghost use Rattle.io_bench.specs.Tally.{tally_inner, TallyMay};
 
     ghost told = { λ t. T.told (tally_inner t) };
 
@@ -102,12 +100,7 @@ impl<T: Write> Write for Tally<T> {
 
     ghost may = { TallyMay T.Write };
 
-    fn write(&mut self, buf: &[u8]) -> Result<usize>
-        ensures law { WriteOf ⟦<Self as Write>⟧ self.old buf.now result self.new }
-
-        // Each call counts, whatever it returns.
-        ensures writes { tally_writes self.new ≡ tally_writes self.old + 1 }
-    {
+    fn write(&mut self, buf: &[u8]) -> Result<usize> {
         self.count_write();
         self.inner.write(buf)
     }
@@ -121,50 +114,26 @@ impl<T: Write> Write for Tally<T> {
 impl<T: Stored> Stored for Tally<T> {
     ghost use Rattle.io_bench.specs.Tally.{tally_inner};
 
-    ghost has_store = { λ t. T.has_store (tally_inner t) };
-
-    ghost content = { λ t. T.content (tally_inner t) };
-
-    ghost position = { λ t. T.position (tally_inner t) };
+    ghost store = { λ t. T.store (tally_inner t) };
 }
 
 /// Tells what the inner reader tells. Its exact count is a meter of its reads. `read_exact` and `read_to_end`
 /// have the trait's bodies, so each of their reads counts.
 impl<T: Read> Read for Tally<T> {
-    ghost use Rattle.io_bench.specs.Tally.{tally_inner, tally_writes, tally_reads, ReadsCounted};
-
-    ghost tells = { λ t. T.tells (tally_inner t) };
-
-    ghost events = { λ t. T.events (tally_inner t) };
+    ghost use Rattle.io_bench.specs.Tally.{tally_inner, ReadsCounted};
 
     ghost turns = { λ t. T.turns (tally_inner t) };
 
-    ghost is_filling = { λ t. T.is_filling (tally_inner t) };
-
-    ghost may_take_none = { λ _. ⊥ };
+    ghost events = { λ t. T.events (tally_inner t) };
 
     ghost may = { ReadsCounted T.Read };
 
-    #[tactic(auto, using(crate::proofs::CountLemmas::read_counts))]
-    fn read(&mut self, buf: &mut [u8]) -> Result<usize>
-        ensures law { ReadLaw ⟦<Self as Read>⟧ self.old buf.old result buf.new self.new }
-
-        // It makes one inner read, and counts it if the buffer is not empty, whatever it returns.
-        ensures handed { ReadLaw T.Read (tally_inner self.old) buf.old result buf.new (tally_inner self.new) }
-        ensures writes { tally_writes self.new ≡ tally_writes self.old }
-        ensures reads { tally_reads self.new ≡ tally_reads self.old + min 1 (length buf.old) }
-    {
+    fn read(&mut self, buf: &mut [u8]) -> Result<usize> {
         if !buf.is_empty() {
             self.count_read();
         }
         self.inner.read(buf)
     }
-
-    ghost filling_tells = { λ t h. T.filling_tells (tally_inner t) h };
-
-    ghost store_tells = { λ t h. T.store_tells (tally_inner t) h };
-
-    ghost store_fits = { λ t h. T.store_fits (tally_inner t) h };
 }
 
 impl<T: fmt::Debug> fmt::Debug for Tally<T> {

@@ -1,7 +1,9 @@
 // What the contracts say about some towers, proved. These functions are not for users.
-ghost use Rattle.std.specs.Prelude.{◌≡◌, ◌≤◌, ◌++◌, length, false, IfOk, OnOk};
-ghost use Rattle.no_std_io2.specs.Chain.{chain_first, chain_second, chain_is_done};
-ghost use Rattle.no_std_io2.specs.Read.{bytes as all_bytes};
+ghost use Rattle.std.specs.Prelude.{◌≡◌, ◌≤◌, ◌++◌, length, false, IfOk, IfSome, OnOk};
+ghost use Rattle.no_std_io2.specs.Chain.{chain_first, chain_second, chain_is_done, both_to_come};
+ghost use Rattle.no_std_io2.specs.Events.{bytes as all_bytes};
+ghost use Rattle.no_std_io2.specs.Takes.{to_come};
+ghost use Rattle.no_std_io2.specs.Read.{tells};
 ghost use Rattle.no_std_io2.specs.LineWriter.{line_inner};
 ghost use Rattle.no_std_io2.specs.BufWriter.{writer_inner};
 ghost use Rattle.io_bench.specs.Faulty.{acts_left, act_mishaps};
@@ -79,11 +81,9 @@ fn read_boxed<'a, R: Read>(
     bytes: &mut Vec<u8>,
 ) -> Result<usize>
     ensures { chain_is_done r.old ≡ false
-        → ⟦<Box<dyn Read + Drop> as Read>⟧.tells (chain_first r.old)
-        → R.tells (chain_second r.old).now
-        → IfOk result (λ _. bytes.new.items ≡ bytes.old.items
-        ++ all_bytes (⟦<Box<dyn Read + Drop> as Read>⟧.events (chain_first r.old)
-        ++ R.events (chain_second r.old).now)) }
+        → IfSome (both_to_come (to_come (tells ⟦<Box<dyn Read + Drop> as Read>⟧ (chain_first r.old)))
+        (to_come (tells R.Read (chain_second r.old).now)))
+        (λ E. IfOk result (λ _. bytes.new.items ≡ bytes.old.items ++ all_bytes E)) }
 {
     r.read_to_end(bytes)
 }

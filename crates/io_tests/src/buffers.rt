@@ -2,8 +2,8 @@
 use examples::Narrow;
 use no_std_io2::ghost_bytes::GhostBytes;
 use no_std_io2::io::{
-    BufRead, BufReader, BufWriter, CopyError, Cursor, ErrorKind, LineWriter, Read, SeekFrom, Write,
-    copy, copy_sided, empty, read_exact_at, sink, skip, write_with_retries,
+    BufRead, BufReader, BufWriter, CopyError, Cursor, ErrorKind, LineWriter, Read, Seek, SeekFrom,
+    Write, copy, copy_sided, empty, read_exact_at, sink, skip, write_with_retries,
 };
 use std::test::Fail;
 

@@ -1,6 +1,4 @@
 // A device with a body of its own for a call that the trait makes of others.
-ghost use Rattle.std.specs.Prelude.{[]};
-
 use no_std_io2::io::{Result as IoResult, Seek, SeekFrom, Stored};
 use std::test::Fail;
 
@@ -10,13 +8,7 @@ struct AtEnd {
     asked: u8,
 }
 
-impl Stored for AtEnd {
-    ghost has_store = { λ _. ⊥ };
-
-    ghost content = { λ _. [] };
-
-    ghost position = { λ _. 0 };
-}
+impl Stored for AtEnd {}
 
 impl Seek for AtEnd {
     fn seek(&mut self, _pos: SeekFrom) -> IoResult<u64> {
@@ -27,8 +19,6 @@ impl Seek for AtEnd {
         self.asked = self.asked.saturating_add(1);
         Ok(9)
     }
-
-    ghost seek_fits = { λ s h. absurd h };
 }
 
 // A `stream_len` that seeks, although the device has a body of its own for it.

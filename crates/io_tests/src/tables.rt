@@ -9,7 +9,7 @@ use csv::{ByteRecord, Error, ReaderBuilder};
 use no_std_io2::io::{BufReader, Cursor, Read};
 use std::alloc::Global;
 use std::test::Fail;
-use system_streams::ToStdKnown;
+use system_streams::ToStd;
 
 // Returns the first record of a table, which is the first `len` bytes of a text.
 #[tactic(auto, using(crate::proofs::Fronts::front_bytes))]
@@ -20,7 +20,7 @@ fn first_record(alloc: Global, text: &[u8], len: u64) -> Result<Option<ByteRecor
     let table = BufReader::<_, 8>::new(Cursor::new(text).take(len));
     let mut rows = ReaderBuilder::new()
         .has_headers(false)
-        .from_reader(alloc, ToStdKnown::new(table));
+        .from_reader(alloc, ToStd::new(table));
     let mut row = ByteRecord::new(alloc);
     if rows.read_byte_record(&mut row)? {
         Ok(Some(row))

@@ -23,7 +23,8 @@ way_all S {held} (inl kept) =
 way_all S (inr sent) = sent.1
 
 -- the line was not put
-pub log_stops : {W : Type 0} {S : ℕ} (I : Writer W) (x : List ℕ) {old new : BufWriter W S} (e : Error) → Puts I writer_inner writer_buffer S x old (Err e) new
+pub log_stops : {W : Type 0} {S : ℕ} (I : Writer W) (x : List ℕ) {old new : BufWriter W S} (e : Error)
+    → Puts I writer_inner writer_buffer S x old (Err e) new
     → Logs I x old (Err e) new
 log_stops I x e put = record { ok = tt; err = put.moves; fault = put.fault; calls = then_stops _ _ put.calls }
 

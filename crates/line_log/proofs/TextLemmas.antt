@@ -1,5 +1,6 @@
 -- How a text is printed into an array, and then logged.
-use Rattle.std.proofs.Common.{Bool, ◌≡◌, ◌⊎◌, ℕ, ◌<◌, List, length, true, false, true≢false, Option, None, Some, IfSome, Result, Ok, Err, sym, ◌∙◌, subst, refl, inl, inr}
+use Rattle.std.proofs.Common.{Bool, ◌≡◌, ◌⊎◌, ℕ, ◌<◌, List, length, true, false, true≢false, Option, None, Some, IfSome, Result, Ok, Err}
+use Rattle.std.proofs.Common.{sym, ◌∙◌, subst, refl, inl, inr}
 use Rattle.no_std_io2.specs.declared.io.Error.{Error}
 use Rattle.no_std_io2.specs.Writers.{Writer}
 use Rattle.line_log.specs.declared.printed.Printed.{Printed}

@@ -39,7 +39,8 @@ abbrev pub IsLogged : Told → List ℕ → Told → List ℕ → Type 0
 IsLogged old x new held = ((held ≡ []) × Moves old x [] new) ⊎ ((0 < length held) × ((k : ErrorKind) × Moves old x (k ∷ []) new))
 
 -- A line x was logged.
-pub record Logs {W : Type 0} {S : ℕ} (I : Writer W) (x : List ℕ) (old : BufWriter W S) (reply : Result (Unit {0}) Error) (new : BufWriter W S)
+pub record Logs {W : Type 0} {S : ℕ} (I : Writer W) (x : List ℕ) (old : BufWriter W S) (reply : Result (Unit {0}) Error)
+    (new : BufWriter W S)
     : Type 0 where
   pub ok : OnOk reply (IsLogged (writer_told I.told old) x (writer_told I.told new) (writer_buffer new))
   -- after an error nothing of x was accepted

@@ -1,83 +1,102 @@
--- What one inner read does to a reader with a buffer in front that held nothing.
+-- The calls of a `BufReader`, by what they did to its buffer.
 use Rattle.std.proofs.lemmas.Grind.{common_steps}
-use Rattle.std.proofs.lemmas.List.{nil_from_length}
-use Rattle.std.proofs.Common.{◌≡◌, ℕ, zero, suc, ◌+◌, ◌*◌, ◌<◌, ◌≤◌, if◌then◌else◌, List, ◌∷◌, ◌++◌, Ok, []}
-use Rattle.std.proofs.Common.{Err, Result, length, refl, sym, subst, ◌∙◌, arith}
-use Rattle.std.specs.Result.{OnOk, OnErr, IsOk}
-use Rattle.std.proofs.Math.Nat.{mul-le-mul_left}
+use Rattle.std.proofs.Common.{◌≡◌, ℕ, ◌<◌, ◌≤◌, min, List, [], ◌++◌, Result, Ok, Err, length, take, drop, refl, sym, ap, ◌∙◌, arith}
+use Rattle.std.proofs.Common.{take-append-drop}
 use Rattle.no_std_io2_base.specs.declared.error.Error.{Error}
-use Rattle.no_std_io2_base.specs.Read.{Event, events_of, ReadCall, Gave, Gathers, no_read, and_gave, IsRest}
-use Rattle.no_std_io2_base.specs.Read.{ToEndMade}
-use Rattle.no_std_io2_base.specs.Write.{Made}
-use Rattle.std.proofs.Common.{take, drop, min, length-take-le}
+use Rattle.no_std_io2_base.specs.Read.{Reader, tells, ReadCallLaw, ReadLaw, Gave, bytes_given}
+use Rattle.no_std_io2_base.specs.BufRead.{Lender}
 use Rattle.no_std_io2.specs.declared.buffered.buf_reader.BufReader.{BufReader}
-use Rattle.no_std_io2.specs.BufReader.{reader_held, reader_inner, PassesOn, FillsBelow, ReaderMay}
-use Rattle.no_std_io2.specs.Buffer.{ReadsAhead, IsSound}
-use Rattle.no_std_io2.specs.BufReader.{FillsFrom}
+use Rattle.no_std_io2.specs.BufReader.{reader_held, reader_behind, reader_inner, HasBuffer, HasNoBuffer, PassesOn, ReadsBelow, FillsBelow}
+use Rattle.no_std_io2.specs.BufReader.{reader_events, reader_store, reader_turns, ReaderMay}
+use Rattle.no_std_io2.proofs.BufferedReads.{takes_held}
+use Rattle.no_std_io2.proofs.BufReaderRoom.{held-le}
 
--- if nothing is held before, nor after an error, a fill takes no event except the error that it returns
-pub fill_told : {A : Type 0} (r : Result A Error) (held held' : List ℕ) (E E' : List Event) → length held ≡ 0
-    → OnErr r (held' ≡ []) → ReadsAhead E r held' E'
-    → FillsFrom (events_of held ++ E) r (events_of held' ++ E')
-fill_told = grind (arith, common_steps)
+-- a `BufReader` in front of a reader
+abbrev pub buf_reader : {R : Type 0} {S : ℕ} → Reader R → Reader (BufReader R S)
+buf_reader K = record { store = reader_store K.store; turns = reader_turns K.turns; events = reader_events (tells K); may = ReaderMay K }
 
--- if nothing was held, and nothing is held after a fill that returns `Ok`, nothing was to come
-pub fill_end : {A : Type 0} (r : Result A Error) (held held' : List ℕ) (E E' : List Event) → length held ≡ 0 → ReadsAhead E r held' E'
-    → OnOk r (held' ≡ [] → events_of held ++ E ≡ [])
-fill_end = grind (arith, common_steps)
+-- and as one that lends
+abbrev pub buf_lender : {R : Type 0} {S : ℕ} → Reader R → Lender (BufReader R S)
+buf_lender K = record {
+  store = reader_store K.store;
+  turns = reader_turns K.turns;
+  events = reader_events (tells K);
+  may = ReaderMay K;
+  held = reader_held;
+}
 
--- an inner turn is more than a full buffer
-more_turns : (room held held' t t' : ℕ) → held' ≤ room → t' < t → held' + (room + 1) * t' < held + (room + 1) * t
-more_turns room held held' t t' fits spent = grind (arith, mul-le-mul_left)
+-- Of the bytes that were held after those behind, as many were given as fit. They lie behind now.
+passes_on : {R : Type 0} {S : ℕ} (new : BufReader R S) (n room : ℕ) (behind held shown : List ℕ) → n ≡ min (length held) room
+    → take n shown ≡ take n held → reader_behind new ≡ behind ++ take n shown → reader_held new ≡ drop n held
+    → PassesOn behind (Ok held) room (Ok (take n shown)) new
+passes_on new n room behind held shown is gave front left = grind (arith, common_steps)
 
--- an error spends an inner turn
-pub fill_turn : {A : Type 0} (r : Result A Error) (room held held' t t' : ℕ) → held' ≤ room → OnErr r (t' < t)
-    → OnErr r (held' + (room + 1) * t' < held + (room + 1) * t)
-fill_turn (Ok _) room held held' t t' fits spent = tt
-fill_turn (Err e) room held held' t t' fits spent = more_turns room held held' t t' fits spent
+-- the held bytes are those that were given, and then those that are held
+pub split_held : (n : ℕ) (held shown : List ℕ) {held' : List ℕ} → take n shown ≡ take n held → held' ≡ drop n held
+    → held ≡ take n shown ++ held'
+split_held n held shown gave left =
+    sym (take-append-drop n held) ∙ ap (λ l. l ++ drop n held) (sym gave) ∙ ap (λ l. take n shown ++ l) (sym left)
 
--- no held bytes are sound at any position
-pub sound_none : (held : List ℕ) (position : ℕ) (content : List ℕ) → held ≡ [] → IsSound held position content
-sound_none held position content empty = subst (λ l. IsSound l position content) (sym empty) (omega arith, refl)
+module _ {R : Type 0} {S : ℕ} {inner : Reader R} {old new : BufReader R S} where
+  -- bytes were held
+  pub by_held : (n : ℕ) (buf shown : List ℕ) → length shown ≡ length buf → 0 < length (reader_held old)
+      → reader_inner new ≡ reader_inner old → n ≡ min (length (reader_held old)) (length buf) → take n shown ≡ take n (reader_held old)
+      → reader_behind new ≡ reader_behind old ++ take n shown → reader_held new ≡ drop n (reader_held old)
+      → ReadLaw (buf_reader inner) old buf (Ok n) shown new
+  by_held n buf shown long some same is gave front left = record {
+    bound = omega (arith, is, long);
+    takes = rw same (takes_held S (reader_behind old) (reader_held old) _ (take n shown) _ (split_held n (reader_held old) shown gave left)
+        front (held-le old));
+    end = λ none room. absurd (omega (arith, none, room, is, long, some));
+    call = record {
+      held = λ h. (
+        same,
+        passes_on new n (length shown) (reader_behind old) (reader_held old) shown
+            (omega (arith, is, long)) gave front left,
+      );
+      direct = λ none. absurd (omega (arith, some, none));
+      filled = λ none. absurd (omega (arith, some, none));
+    };
+  }
 
--- an error is no `Ok`
-pub not_ok : (e : Error) → IsOk {T = Unit {0}} {E = Error} (Err e) → ⊥
-not_ok e is = let no : ⊥ = cc in no
+  -- none were, and the caller's room is large
+  pub by_direct : {room : ℕ} {answer : Result (List ℕ) Error} → length (reader_held old) ≡ 0 → S ≤ room
+      → ReadCallLaw inner (reader_inner old) (Gave room answer) (reader_inner new) → HasNoBuffer new → ReadsBelow inner old room answer new
+  by_direct none large read empty = record {
+    held = λ some. absurd (omega (arith, some, none));
+    direct = λ _ _. (read, empty);
+    filled = λ _ small. absurd (omega (arith, large, small));
+  }
 
--- if bytes are held, a `fill_buf` lends them and changes nothing
-pub lends_held : {R : Type 0} {S : ℕ} (may : R → ReadCall → R → Type 0) (r : BufReader R S) → 0 < length (reader_held r)
-    → FillsBelow may r (Ok (reader_held r)) r
-lends_held may r some = record { held = λ _. refl; filled = λ none. absurd (omega (arith, some, none)); lends = refl; failed = tt }
+  -- or small
+  by_fill : {room : ℕ} {answer : Result (List ℕ) Error} (read : Result (List ℕ) Error) → length (reader_held old) ≡ 0 → room < S
+      → ReadCallLaw inner (reader_inner old) (Gave S read) (reader_inner new) → PassesOn [] read room answer new
+      → ReadsBelow inner old room answer new
+  by_fill read none small law passes = record {
+    held = λ some. absurd (omega (arith, some, none));
+    direct = λ _ large. absurd (omega (arith, large, small));
+    filled = λ _ _. (read, law, passes);
+  }
 
--- of the bytes that were read into the buffer as many were given as both have
-pub passes_on : (n room : ℕ) (read shown held : List ℕ) → n ≡ min (length read) room → take n shown ≡ take n read → held ≡ drop n read
-    → PassesOn (Ok read) room (Ok (take n shown)) held
-passes_on n room read shown held is gave left = grind (arith, common_steps)
+  -- the buffer was filled, and gave these bytes
+  pub by_filled : (n room : ℕ) (mid shown : List ℕ) → length (reader_held old) ≡ 0 → room < S
+      → ReadCallLaw inner (reader_inner old) (Gave S (Ok mid)) (reader_inner new) → n ≡ min (length mid) room → take n shown ≡ take n mid
+      → reader_behind new ≡ take n shown → reader_held new ≡ drop n mid → ReadsBelow inner old room (Ok (take n shown)) new
+  by_filled n room mid shown none small law is gave front left =
+      by_fill (Ok mid) none small law (passes_on new n room [] mid shown is gave front left)
 
--- what was held is given first, without a call of the inner reader
-pub gives_first : {R : Type 0} {S : ℕ} (may : R → ReadCall → R → Type 0) (old new : BufReader R S) (n size : ℕ) (buf : List ℕ)
-    → n ≤ length buf → length buf ≡ size → 0 < size → n ≡ length (reader_held old) → take n buf ≡ take n (reader_held old)
-    → reader_held new ≡ drop n (reader_held old) → reader_inner new ≡ reader_inner old → (reader_held old ≡ [] → new ≡ old)
-    → (C : List ReadCall) × Made (ReaderMay may) old C new × Gathers (IsRest size) C (take n buf)
-gives_first may old new zero size buf within long some is gave left same none = ([], none (nil_from_length _ (sym is)), no_read)
-gives_first may old new (suc k) size buf within long some is gave left same none =
-    let given = take (suc k) buf in
-    let more : 0 < length given = omega (arith, length-take-le (suc k) buf within) in (
-      Gave (length buf) (Ok given) ∷ [],
-      (
-        new,
-        record {
-          held = λ h. (same, passes_on (suc k) (length buf) (reader_held old) buf (reader_held new) (omega (arith, is, within)) gave left);
-          direct = λ empty past. absurd (omega (arith, empty, is));
-          filled = λ empty short. absurd (omega (arith, empty, is));
-        },
-        refl,
-      ),
-      and_gave [] [] given (length buf) no_read (omega (arith, long), omega (arith, long, some)) more,
-    )
+  -- or the fill failed
+  pub by_fault : {room : ℕ} {e : Error} → length (reader_held old) ≡ 0 → room < S
+      → ReadCallLaw inner (reader_inner old) (Gave S (Err e)) (reader_inner new) → HasNoBuffer new → ReadsBelow inner old room (Err e) new
+  by_fault {e = e} none small law empty = by_fill (Err e) none small law (refl, empty)
 
--- what was held was appended, and then what the inner reader's `read_to_end` gave
-pub drained : {R : Type 0} {may : R → ReadCall → R → Type 0} {a b : R} {mid new : List ℕ} {reply : Result ℕ Error} (old held : List ℕ)
-    (len : ℕ)
-    → ToEndMade may a mid reply new b → mid ≡ old ++ held → len ≡ length old → ToEndMade may a held reply (drop len new) b
-drained old held len m is long = grind (arith, common_steps)
+  -- a `fill_buf` lends the bytes that are held, and changes nothing
+  pub lends_held : {answer : Result (List ℕ) Error} → 0 < length (reader_held old) → answer ≡ Ok (reader_held old) → new ≡ old
+      → FillsBelow inner old answer new
+  lends_held some is same = record { held = λ _. (is, same); filled = λ none. absurd (omega (arith, some, none)) }
+
+  -- or fills the buffer
+  pub lends_filled : {answer : Result (List ℕ) Error} → length (reader_held old) ≡ 0
+      → ReadCallLaw inner (reader_inner old) (Gave S answer) (reader_inner new) → HasBuffer new [] (bytes_given answer)
+      → FillsBelow inner old answer new
+  lends_filled none law buffer = record { held = λ some. absurd (omega (arith, some, none)); filled = λ _. (law, buffer) }

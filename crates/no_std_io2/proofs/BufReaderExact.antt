@@ -1,132 +1,351 @@
--- How far an exact read has come.
-use Rattle.std.proofs.lemmas.Grind.{common_steps}
-use Rattle.std.proofs.Common.{◌≡◌, ℕ, ◌+◌, ◌-◌, ◌<◌, ◌≤◌, List, ◌++◌, length, take, min, Ok, sym, ap, ◌∙◌, []}
-use Rattle.std.proofs.Common.{nat_le, if◌then◌else◌, ⊎_elim, length-take-le, arith, length-append, append-nil}
-use Rattle.std.proofs.lemmas.Bool.{cases_lt, le-leb, lt-leb}
-use Rattle.std.proofs.lemmas.Bool.Decides.{nat_tests}
-use Rattle.no_std_io2_base.specs.Read.{Event, events_of, Reads, Fills}
-use Rattle.no_std_io2_base.proofs.EventLemmas.{length-events_of, bytes-events_of, HasNoFault-events_of, cut-bytes}
-use Rattle.no_std_io2_base.proofs.ReadToEndTaken.{Taken}
+-- Which inner reads an exact read of a `BufReader` makes, and what is in the buffer then.
+use Rattle.std.proofs.Common.{◌≡◌, ℕ, zero, suc, ◌+◌, ◌-◌, ◌<◌, ◌≤◌, ◌⊎◌, min, max, List, [], ◌∷◌, ◌++◌, Result, Ok, Err, length, take}
+use Rattle.std.proofs.Common.{drop}
+use Rattle.std.proofs.Common.{refl, sym, ap, subst, ◌∙◌, arith, append_assoc, append-nil, length-append, take-append-drop, length-take}
+use Rattle.std.proofs.Common.{length-take-le, length-drop, inl, inr, ⊎_elim, take_all, le_refl}
+use Rattle.std.proofs.lemmas.Bool.{cases_lt}
+use Rattle.std.proofs.lemmas.List.{nil_from_length}
+use Rattle.no_std_io2_base.specs.declared.error.Error.{Error}
+use Rattle.no_std_io2_base.specs.Errors.{IsInterruption}
+use Rattle.no_std_io2_base.specs.Events.{events_of}
+use Rattle.no_std_io2_base.specs.Takes.{Takes}
+use Rattle.no_std_io2_base.specs.Write.{Made, IsFront}
+use Rattle.no_std_io2_base.specs.Read.{Reader, ReadCall, Gave, Gathers, no_read, and_gave, and_again, IsRest, GathersUntil}
+use Rattle.no_std_io2_base.specs.Read.{FillCalls}
+use Rattle.no_std_io2_base.specs.Read.{ExactCalls, tells, FillsOrEnds}
+use Rattle.no_std_io2_base.specs.Read.{ReadCallLaw, ReadExactLaw, bytes_given}
+use Rattle.no_std_io2_base.proofs.CallsLemmas.{made_more, made_split}
+use Rattle.no_std_io2_base.proofs.ReadCalls.{exact_own}
+use Rattle.no_std_io2_base.proofs.ReadLoop.{reads_none, reads_more}
+use Rattle.no_std_io2_base.proofs.ReadExactLoop.{ExactSoFar}
+use Rattle.no_std_io2_base.proofs.TakesLemmas.{gives_none, gives_whole, bytes_more}
+use Rattle.no_std_io2.specs.declared.buffered.buf_reader.BufReader.{BufReader}
 use Rattle.no_std_io2.specs.Buffer.{IsSuffix}
-use Rattle.no_std_io2.specs.BufReader.{held_or_to_come, exact_reads, exact_left, behind_anew}
+use Rattle.no_std_io2.specs.BufReader.{reader_held, reader_behind, reader_inner, HasNoBuffer, PassesOn, AsksExact, ExactBelow}
+use Rattle.no_std_io2.specs.BufReader.{LeavesExact, GivesHeld}
+use Rattle.no_std_io2.proofs.BufferedReads.{takes_held}
+use Rattle.no_std_io2.proofs.BufReaderCalls.{buf_reader, by_held}
+use Rattle.no_std_io2.proofs.BufReaderRoom.{held-le}
 
--- Over a filling reader: `all` bytes were to come, `held` of them held, and `len` are wanted; `at` of them were given.
-pub record Exact (room len held all at now_held now_inner : ℕ) : Type 0 where
-  pub begun : held ≤ at
-  pub total : now_held + now_inner + at ≡ all
-  pub none : at ≡ held → now_held ≡ 0
-  pub read : held < at → at ≡ min len all
-  pub left : held < at → now_held ≡ exact_left room len held all
+module _ {R : Type 0} {S : ℕ} (inner : Reader R) (old : BufReader R S) (room : ℕ) (past : length (reader_held old) < room) where
+  -- x was given so far: no call was made yet; or the held bytes were given; or a read was made
+  data Stage (x given : List ℕ) (now : BufReader R S) : Type 0 where
+    at_start : x ≡ [] → given ≡ [] → now ≡ old → Stage x given now
+    past_held : x ≡ reader_held old → reader_held now ≡ [] → Stage x given now
+    past_read : (reader_held now ≡ []) ⊎ (length x ≡ room) → IsSuffix x (reader_behind now) → length (reader_behind now) < S
+        → Stage x given now
 
--- how many bytes lie behind while a `read_exact` of `len` bytes, with `held` held at its start, has given `at` and read at least once
-abbrev pub behind_so_far : ℕ → ℕ → ℕ → ℕ → ℕ
-behind_so_far room len held at = if nat_le room (len - held) then 0 else at - held
+  record Below (x : List ℕ) (now : BufReader R S) : Type 0 where
+    pub reads : List ReadCall
+    pub given : List ℕ
+    pub made : Made (ReadCallLaw inner) (reader_inner old) reads (reader_inner now)
+    pub gathers : Gathers (AsksExact S room (length (reader_held old))) reads given
+    pub split : reader_held old ++ given ≡ x ++ reader_held now
+    pub stage : Stage x given now
+
+  -- a last read had this result
+  record Ends (x : List ℕ) (answer : Result (List ℕ) Error) (new : BufReader R S) : Type 0 where
+    pub reads : List ReadCall
+    pub given : List ℕ
+    pub made : Made (ReadCallLaw inner) (reader_inner old) reads (reader_inner new)
+    pub are : GathersUntil (AsksExact S room (length (reader_held old))) reads given answer
+    pub all : reader_held old ++ given ≡ x
+    pub empty : HasNoBuffer new
+
+  below_none : {now : BufReader R S} → now ≡ old → Below [] now
+  below_none same = record {
+    reads = [];
+    given = [];
+    made = ap reader_inner same;
+    gathers = no_read;
+    split = append-nil (reader_held old) ∙ ap reader_held (sym same);
+    stage = at_start refl refl same;
+  }
+
+  module _ {x : List ℕ} {now : BufReader R S} {size : ℕ} (before : Below x now) (into : IsRest room (length x) size) where
+    -- as many bytes were read as are wanted no longer
+    long : length (reader_held old) + length before.given ≡ length x + length (reader_held now)
+    long = sym (length-append (reader_held old) before.given) ∙ ap length before.split ∙ length-append x (reader_held now)
+
+    -- the next inner read is as large as that
+    asks : (n : ℕ) → length (reader_held now) ≡ 0 → n ≡ max S size → AsksExact S room (length (reader_held old)) (length before.given) n
+    asks n none is =
+        let rest : size ≡ room - (length (reader_held old) + length before.given) = omega (arith, long, none, into.0) in
+        (omega (arith, long, none, into.0, into.1), is ∙ ap (max S) rest)
+
+    -- bytes are held only before the first call
+    first : 0 < length (reader_held now) → (x ≡ []) × (before.given ≡ []) × (now ≡ old)
+    first some = by before.stage
+      where
+        by : Stage x before.given now → (x ≡ []) × (before.given ≡ []) × (now ≡ old)
+        by (at_start none unread same) = (none, unread, same)
+        by (past_held all none) = absurd (omega (arith, some, ap length none))
+        by (past_read (inl none) front short) = absurd (omega (arith, some, ap length none))
+        by (past_read (inr full) front short) = absurd (omega (arith, full, into.0, into.1))
+
+    -- a read gave some bytes more
+    below_more : {new : BufReader R S} (y : List ℕ) → ReadCallLaw (buf_reader inner) now (Gave size (Ok y)) new → 0 < length y
+        → Below (x ++ y) new
+    below_more {new} y law some = ⊎_elim held none (cases_lt 0 (length (reader_held now)))
+      where
+        held : 0 < length (reader_held now) → Below (x ++ y) new
+        held h =
+            let start = first h in
+            let call = law.call.held h in
+            let is : y ≡ take size (reader_held now) = ap bytes_given call.1.0 in
+            let fits : length (reader_held now) ≤ size =
+            omega (arith, past, into.0, ap length start.0, ap (λ r. length (reader_held r)) start.2) in
+            let whole : y ≡ reader_held now = is ∙ take_all size (reader_held now) fits in
+            let empty : reader_held new ≡ [] =
+            nil_from_length (reader_held new) (omega (arith, ap length call.1.1.1, length-drop size (reader_held now), fits)) in
+            record {
+              reads = before.reads;
+              given = before.given;
+              made = subst (Made (ReadCallLaw inner) (reader_inner old) before.reads) (sym call.0) before.made;
+              gathers = before.gathers;
+              split = before.split ∙ ap (λ l. x ++ l) (sym whole) ∙ sym (append-nil (x ++ y)) ∙ ap (λ l. (x ++ y) ++ l) (sym empty);
+              stage = past_held (ap (λ l. l ++ y) start.0 ∙ whole ∙ ap reader_held start.2) empty;
+            }
+
+        -- an inner read that gave r
+        put : (r : List ℕ) (n : ℕ) → length (reader_held now) ≡ 0 → n ≡ max S size
+            → ReadCallLaw inner (reader_inner now) (Gave n (Ok r)) (reader_inner new) → r ≡ y ++ reader_held new
+            → (reader_held new ≡ []) ⊎ (length (x ++ y) ≡ room) → IsSuffix (x ++ y) (reader_behind new) → length (reader_behind new) < S
+            → Below (x ++ y) new
+        put r n unheld is inner_law whole state front short = record {
+          reads = before.reads ++ Gave n (Ok r) ∷ [];
+          given = before.given ++ r;
+          made = made_more (ReadCallLaw inner) before.reads (reader_inner old) before.made inner_law;
+          gathers = and_gave before.reads before.given r n before.gathers (asks n unheld is)
+              (omega (arith, some, ap length whole, length-append y (reader_held new)));
+          split = sym (append_assoc (reader_held old) before.given r) ∙ ap (λ l. l ++ r) before.split
+              ∙ ap (λ l. (x ++ l) ++ r) (nil_from_length (reader_held now) unheld) ∙ ap (λ l. l ++ r) (append-nil x)
+              ∙ ap (λ l. x ++ l) whole
+              ∙ sym (append_assoc x y (reader_held new));
+          stage = past_read state front short;
+        }
+
+        filled : (answer : Result (List ℕ) Error) → length (reader_held now) ≡ 0 → size < S
+            → ReadCallLaw inner (reader_inner now) (Gave S answer) (reader_inner new) → PassesOn [] answer size (Ok y) new
+            → Below (x ++ y) new
+        filled (Ok r) none small inner_law passes =
+            let is : y ≡ take size r = ap bytes_given passes.0 in
+            let whole : r ≡ y ++ reader_held new =
+            sym (take-append-drop size r) ∙ ap (λ l. l ++ drop size r) (sym is) ∙ ap (λ l. y ++ l) (sym passes.1.1) in
+            put r S none (omega (arith, small)) inner_law whole
+            (⊎_elim
+            (λ less. inr (omega (arith, length-append x y, into.0, ap length is, length-take size r, less)))
+            (λ all. inl (nil_from_length (reader_held new) (omega (arith, ap length passes.1.1, length-drop size r, all))))
+            (cases_lt size (length r)))
+            (x, ap (λ l. x ++ l) (is ∙ sym passes.1.0)) (omega (arith, ap length passes.1.0, length-take size r, small))
+        filled (Err e) none small inner_law passes = absurd (let no : ⊥ = cc in no)
+
+        none : length (reader_held now) ≤ 0 → Below (x ++ y) new
+        none h =
+            let empty : length (reader_held now) ≡ 0 = omega (arith, h) in
+            ⊎_elim
+            (λ small. let call = law.call.filled empty small in filled call.0 empty small call.1 call.2)
+            (λ large.
+            let call = law.call.direct empty large in
+            put y size empty (omega (arith, large)) call.0 (sym (append-nil y) ∙ ap (λ l. y ++ l) (sym call.1.1)) (inl call.1.1)
+            (x ++ y, sym (append-nil (x ++ y)) ∙ ap (λ l. (x ++ y) ++ l) (sym call.1.0)) (omega (arith, ap length call.1.0, old.some_room)))
+            (cases_lt size S)
+
+    -- a read gave nothing: the inner read that it made had the same result, and the buffer is empty
+    record Stopped (answer : Result (List ℕ) Error) (new : BufReader R S) : Type 0 where
+      pub part : ℕ
+      pub asked : AsksExact S room (length (reader_held old)) (length before.given) part
+      pub law : ReadCallLaw inner (reader_inner now) (Gave part answer) (reader_inner new)
+      pub none : reader_held now ≡ []
+      pub empty : HasNoBuffer new
+
+    stops : {new : BufReader R S} (answer : Result (List ℕ) Error) → ReadCallLaw (buf_reader inner) now (Gave size answer) new
+        → bytes_given answer ≡ [] → Stopped answer new
+    stops {new} answer law nothing = ⊎_elim
+        (λ some.
+        let call = law.call.held some in
+        absurd (omega (arith, some, into.1, ap length (sym nothing ∙ ap bytes_given call.1.0), length-take size (reader_held now))))
+        (λ h.
+        let empty : length (reader_held now) ≡ 0 = omega (arith, h) in
+        ⊎_elim (λ small. let call = law.call.filled empty small in filled call.0 empty small call.1 call.2)
+        (λ large. let call = law.call.direct empty large in end size empty (omega (arith, large)) call.0 call.1)
+        (cases_lt size S))
+        (cases_lt 0 (length (reader_held now)))
+      where
+        end : (n : ℕ) → length (reader_held now) ≡ 0 → n ≡ max S size
+            → ReadCallLaw inner (reader_inner now) (Gave n answer) (reader_inner new)
+            → HasNoBuffer new → Stopped answer new
+        end n unheld is inner_law empty =
+            record { part = n; asked = asks n unheld is; law = inner_law; none = nil_from_length (reader_held now) unheld; empty = empty }
+
+        filled : (read : Result (List ℕ) Error) → length (reader_held now) ≡ 0 → size < S
+            → ReadCallLaw inner (reader_inner now) (Gave S read) (reader_inner new) → PassesOn [] read size answer new → Stopped answer new
+        filled (Ok r) none small inner_law passes =
+            let gone : take size r ≡ [] = sym (ap bytes_given passes.0) ∙ nothing in
+            let unread : r ≡ [] = nil_from_length r (omega (arith, ap length gone, length-take size r, into.1)) in
+            end S none (omega (arith, small))
+            (subst (λ a. ReadCallLaw inner (reader_inner now) (Gave S a) (reader_inner new)) (sym (passes.0 ∙ ap Ok (gone ∙ sym unread)))
+            inner_law) (
+              passes.1.0 ∙ gone,
+              nil_from_length (reader_held new)
+                  (omega (arith, ap length passes.1.1, length-drop size r, ap length unread)),
+            )
+        filled (Err e) none small inner_law passes =
+            end S none (omega (arith, small))
+            (subst (λ a. ReadCallLaw inner (reader_inner now) (Gave S a) (reader_inner new)) (sym passes.0) inner_law) passes.1
+
+    -- a read was interrupted
+    below_again : {new : BufReader R S} (e : Error) → ReadCallLaw (buf_reader inner) now (Gave size (Err e)) new → IsInterruption e
+        → Below x new
+    below_again {new} e law again =
+        let stop = stops (Err e) law refl in
+        record {
+          reads = before.reads ++ Gave stop.part (Err e) ∷ [];
+          given = before.given;
+          made = made_more (ReadCallLaw inner) before.reads (reader_inner old) before.made stop.law;
+          gathers = and_again before.reads before.given stop.part e before.gathers stop.asked again;
+          split = before.split ∙ ap (λ l. x ++ l) (stop.none ∙ sym stop.empty.1);
+          stage = past_read (inl stop.empty.1) (x, sym (append-nil x) ∙ ap (λ l. x ++ l) (sym stop.empty.0))
+              (omega (arith, ap length stop.empty.0, old.some_room));
+        }
+
+    -- a read ended the call too early
+    below_until : {new : BufReader R S} (answer : Result (List ℕ) Error) → ReadCallLaw (buf_reader inner) now (Gave size answer) new
+        → bytes_given answer ≡ [] → Ends x answer new
+    below_until answer law nothing =
+        let stop = stops answer law nothing in
+        record {
+          reads = before.reads ++ Gave stop.part answer ∷ [];
+          given = before.given;
+          made = made_more (ReadCallLaw inner) before.reads (reader_inner old) before.made stop.law;
+          are = (before.reads, stop.part, before.gathers, stop.asked, refl);
+          all = before.split ∙ ap (λ l. x ++ l) stop.none ∙ append-nil x;
+          empty = stop.empty;
+        }
+
+  -- any reads
+  below : {C : List ReadCall} {x : List ℕ} → Gathers (IsRest room) C x → (now : BufReader R S)
+      → Made (ReadCallLaw (buf_reader inner)) old C now
+      → Below x now
+  below no_read now made = below_none made
+  below (and_gave C x y size gathers asks some) now made =
+      let parts = made_split (ReadCallLaw (buf_reader inner)) C old (Gave size (Ok y) ∷ []) now made in
+      let before = below gathers parts.0 parts.1 in
+      subst (Below (x ++ y)) (sym parts.2.2) (below_more before asks y parts.2.1 some)
+  below (and_again C x size e gathers asks again) now made =
+      let parts = made_split (ReadCallLaw (buf_reader inner)) C old (Gave size (Err e) ∷ []) now made in
+      let before = below gathers parts.0 parts.1 in
+      subst (Below x) (sym parts.2.2) (below_again before asks e parts.2.1 again)
+
+  below_end : {C : List ReadCall} {x : List ℕ} (now : BufReader R S) (answer : Result (List ℕ) Error)
+      → GathersUntil (IsRest room) C x answer
+      → Made (ReadCallLaw (buf_reader inner)) old C now → bytes_given answer ≡ [] → Ends x answer now
+  below_end {x = x} now answer (D, size, gathers, into, is) made nothing =
+      let law = ReadCallLaw (buf_reader inner) in
+      let parts = made_split law D old (Gave size answer ∷ []) now (subst (λ K. Made law old K now) is made) in
+      subst (Ends x answer) (sym parts.2.2) (below_until (below gathers parts.0 parts.1) into answer parts.2.1 nothing)
+
+  -- these are the reads of an exact read
+  pub exact_below : {buf : List ℕ} {now : BufReader R S} (reply : Result (Unit {0}) Error) (C : List ReadCall) → FillCalls C reply buf
+      → Made (ReadCallLaw (buf_reader inner)) old C now → length buf ≡ room → ExactBelow inner old room reply buf now
+  exact_below {buf} {now} (Ok u) C calls made long =
+      let all = below (subst (λ n. Gathers (IsRest n) C buf) long calls) now made in
+      let end = by all.stage in
+      record { reads = all.reads; given = all.given; made = all.made; are = all.gathers; leaves = (all.split, end.0, end.1) }
+    where
+      by : {given : List ℕ} → Stage buf given now → IsSuffix buf (reader_behind now) × (length (reader_behind now) < S)
+      by (at_start none unread same) = absurd (omega (arith, past, long, ap length none))
+      by (past_held all none) = absurd (omega (arith, past, long, ap length all))
+      by (past_read state front short) = (front, short)
+  exact_below {buf} {now} (Err e) C (x, front, inl (end, calls)) made long =
+      let last = below_end now (Ok []) (subst (λ n. GathersUntil (IsRest n) C x (Ok [])) long calls) made refl in
+      record {
+        reads = last.reads;
+        given = last.given;
+        made = last.made;
+        are = inl (end, last.are);
+        leaves = (subst (λ l. IsFront l buf) (sym last.all) front, last.empty);
+      }
+  exact_below {buf} {now} (Err e) C (x, front, inr (fault, calls)) made long =
+      let last = below_end now (Err e) (subst (λ n. GathersUntil (IsRest n) C x (Err e)) long calls) made refl in
+      record {
+        reads = last.reads;
+        given = last.given;
+        made = last.made;
+        are = inr (fault, last.are);
+        leaves = (subst (λ l. IsFront l buf) (sym last.all) front, last.empty);
+      }
+
+-- an exact read, by its law
+pub leaves_exact : {R : Type 0} {S : ℕ} {inner : Reader R} {old new : BufReader R S} {buf buf' : List ℕ} (reply : Result (Unit {0}) Error)
+    → ReadExactLaw (buf_reader inner) old buf reply buf' new → length buf' ≡ length buf → length (reader_held old) < length buf
+    → LeavesExact inner old (length buf) reply buf' new
+leaves_exact {inner = inner} {old} {new} {buf} {buf'} reply law long past =
+    (λ fits. absurd (omega (arith, fits, past)), λ _. by law.calls.are)
+  where
+    by : ExactCalls law.calls.calls reply buf' → ExactBelow inner old (length buf) reply buf' new
+    by (inl own) =
+        let one = subst (λ C. Made (ReadCallLaw (buf_reader inner)) old C new) own law.calls.made in
+        absurd (omega (arith, one.1.0.0, long, past))
+    by (inr reads) = exact_below inner old (length buf) past reply law.calls.calls reads law.calls.made long
 
 -- the held bytes were given first
-pub exact_begins : {room len held all at now_held now_inner : ℕ} → at ≡ held → now_held ≡ 0
-    → now_held + now_inner + at ≡ all → Exact room len held all at now_held now_inner
-exact_begins begun none total = grind (arith, common_steps)
+pub exact_first : {R : Type 0} {S : ℕ} {inner : Reader R} {old now : BufReader R S} {buf shown : List ℕ} (n : ℕ) → length shown ≡ length buf
+    → length (reader_held old) < length buf → reader_inner now ≡ reader_inner old → n ≡ min (length (reader_held old)) (length buf)
+    → take n shown ≡ take n (reader_held old) → reader_behind now ≡ reader_behind old ++ take n shown
+    → reader_held now ≡ drop n (reader_held old) → (reader_held old ≡ [] → now ≡ old)
+    → ExactSoFar (buf_reader inner) old buf n shown now
+unfolding reads_none reads_more bytes_more
+exact_first {inner = inner} {old} {buf = buf} {shown} zero same_length past same is gave front left none =
+    subst (ExactSoFar (buf_reader inner) old buf 0 shown) (sym (none (nil_from_length (reader_held old) (omega (arith, is, past)))))
+    (record {
+      long = same_length;
+      within = omega arith;
+      untouched = λ nothing. refl;
+      given = [];
+      filled = refl;
+      reads = reads_none old;
+      gives = gives_none (length buf);
+    })
+exact_first {old = old} {buf = buf} {shown} (suc k) same_length past same is gave front left none =
+    let fits : length (take (suc k) shown) ≤ length buf = omega (arith, same_length, length-take (suc k) shown) in
+    record {
+      long = same_length;
+      within = omega (arith, is, same_length);
+      untouched = λ nothing. absurd (omega (arith, nothing, past));
+      given = take (suc k) shown;
+      filled = refl;
+      reads = reads_more (reads_none old) (by_held (suc k) buf shown same_length (omega (arith, is, past)) same is gave front left)
+          (λ no. absurd (omega (arith, no))) (omega (arith, same_length), omega (arith, same_length, past));
+      gives = gives_whole (take (suc k) shown) fits;
+    }
 
--- while room is left, nothing is held
-pub exact_none : (room len held all at now_held now_inner : ℕ) → Exact room len held all at now_held now_inner → at < len → now_held ≡ 0
-exact_none room len held all at now_held now_inner t more = grind (arith, common_steps)
-
--- if bytes still come, none were read yet
-pub exact_first : (room len held all at now_held now_inner n : ℕ) → Exact room len held all at now_held now_inner
-    → at < len → n ≡ min (len - at) now_inner → 0 < n → held < len → at ≡ held
-exact_first room len held all at now_held now_inner n t more is some short = grind (arith, common_steps)
-
--- one read, straight into the buffer or over the own one
-pub exact_read : {room len held all at now_held now_inner : ℕ} (n next_held next_inner : ℕ)
-    → Exact room len held all at now_held now_inner → at < len
-    → n ≡ min (len - at) now_inner → (room ≤ len - at → next_held ≡ 0) → (len - at < room → next_held + n ≡ min room now_inner)
-    → next_held + next_inner + n ≡ now_held + now_inner → 0 < n → held < len → Exact room len held all (at + n) next_held next_inner
-exact_read {room} {len} {held} {all} {at} {now_held} {now_inner} n next_held next_inner t more is direct filled moved some short = grind (arith, common_steps)
-
--- after a read with nothing held, the bytes behind are a suffix of the bytes that it gave, shorter than a full buffer
-pub read_ends : (room at rest n : ℕ) (buf buf' got behind : List ℕ) → behind ≡ behind_anew room rest (take n got) → 0 < room
-    → n ≤ length got → n ≤ rest → take (at + n) buf' ≡ take at buf ++ take n got
-    → IsSuffix (take (at + n) buf') behind × (length behind < room)
-read_ends room at rest n buf buf' got behind is some fits within shown = ⊎_elim
-    (λ own.
-    let last = is ∙ ap (λ b. if b then [] else take n got) (lt-leb room rest own) in (
-      (take at buf, shown ∙ ap (λ l. take at buf ++ l) (sym last)),
-      omega (arith, ap length last, length-take-le n got fits),
-    ))
-    (λ past.
-    let none = is ∙ ap (λ b. if b then [] else take n got) (le-leb room rest past) in (
-      (take (at + n) buf', sym (append-nil _) ∙ ap (λ l. take (at + n) buf' ++ l) (sym none)),
-      omega (arith, ap length none, some),
-    ))
-    (cases_lt rest room)
-
--- if it was the first read, this suffix has that length
-pub read_behind : (room len held at n : ℕ) (rest : ℕ) (got behind : List ℕ) → behind ≡ behind_anew room rest (take n got)
-    → n ≤ length got → at ≡ held → rest ≡ len - at → length behind ≡ behind_so_far room len held (at + n)
-read_behind room len held at n rest got behind is fits first left = grind (arith, common_steps)
-
--- after a read that gave nothing, nothing lies behind
-pub none_behind : (room rest n : ℕ) (got behind : List ℕ) → behind ≡ behind_anew room rest (take n got) → n ≡ 0 → behind ≡ []
-none_behind = grind (arith, common_steps)
-
--- how many inner reads it took
-pub exact_end : {room len held all at now_held now_inner : ℕ} → Exact room len held all at now_held now_inner → len ≤ at
-    → held < len → exact_reads len held all ≡ min 1 (at - held)
-exact_end {len} {all} {at} t done short = grind (arith, common_steps)
-
--- if the end came before the buffer was full, there was one more inner read, which met the end
-pub exact_short : {room len held all at now_held now_inner : ℕ} → Exact room len held all at now_held now_inner
-    → at < len → now_inner ≡ 0 → held < len → exact_reads len held all ≡ min 1 (at - held) + 1
-exact_short {room = room} {len = len} {held = held} {all = all} {at = at} {now_held = now_held} {now_inner = now_inner} t more end short = grind (arith, common_steps)
-
--- the first bytes that were taken, fewer than there is room
-pub taken_first : {E : List Event} {room : ℕ} (more : List ℕ) {rest : List Event} → E ≡ events_of more ++ rest
-    → length more < room → Taken E room more rest
-taken_first {E = E} more is short = grind (arith, common_steps, HasNoFault-events_of, bytes-events_of)
-
--- the number of events is that of the held bytes and that of the inner events together
-pub length-events : (held : List ℕ) (E : List Event) → length (events_of held ++ E) ≡ length held + length E
-length-events held E = length-append (events_of held) E ∙ ap (λ n. n + length E) (length-events_of held)
-
--- as many fewer are held and to come as were given
-pub moved_length : (held held' got : List ℕ) (E E' : List Event) (n : ℕ)
-    → events_of held ++ E ≡ events_of got ++ (events_of held' ++ E') → length got ≡ n
-    → length held' + length E' + n ≡ length held + length E
-moved_length held held' got E E' n is long =
-    let all : length held + length E ≡ length got + (length held' + length E') =
-    sym (length-events held E) ∙ ap length is ∙ length-events got (events_of held' ++ E')
-    ∙ ap (λ k. length got + k) (length-events held' E') in
-    omega arith
-
--- with nothing held, a read gives of what is to come
-pub gives_to_come : (held to_come : ℕ) → held ≡ 0 → held_or_to_come held to_come ≡ to_come
-gives_to_come held to_come h = ap (λ k. held_or_to_come k to_come) h
-
--- a read of no byte took nothing
-pub nothing_read : (E E' : List Event) (n : ℕ) (buf : List ℕ) → Reads E (Ok n) buf E' → n ≡ 0 → E ≡ E'
-nothing_read E E' n buf read zero = read.0 ∙ ap (λ m. events_of (take m buf) ++ E') zero
-
--- what is left after a read of no byte over a filling reader
-pub exact_left-end : (room : ℕ) {len held all at now_held now_inner : ℕ} (next_held rest : ℕ)
-    → Exact room len held all at now_held now_inner → at < len → now_inner ≡ 0
-    → (room ≤ rest → next_held ≡ 0) → (rest < room → next_held + 0 ≡ min room now_inner) → held < len
-    → (next_held ≡ exact_left room len held all) × (0 ≡ all - len)
-exact_left-end room {len} {held} {all} {at} {now_held} {now_inner} next_held rest t more end direct filled short = grind (arith, common_steps)
-
--- what is left once the buffer is full
-pub exact_left-full : {room len held all at now_held now_inner : ℕ} (next : ℕ) → Exact room len held all at now_held now_inner
-    → len ≤ at → held < len → next ≡ now_held + now_inner
-    → (now_held ≡ exact_left room len held all) × (next ≡ all - len)
-exact_left-full {len} {all} {at} next t full short is = grind (arith, common_steps)
-
--- a front of bytes fills a buffer of its length
-pub fills_front : (E rest : List Event) (got : List ℕ) → E ≡ events_of got ++ rest → Fills E got rest
-fills_front E rest got is = grind (arith, common_steps, cut-bytes, append-nil, HasNoFault-events_of, bytes-events_of)
-
--- if enough bytes are held, that many fewer are held afterwards
-pub exact_left-held : (room len held all next : ℕ) → len ≤ held → next ≡ held - len → next ≡ exact_left room len held all
-exact_left-held room len held all next fits is = grind (arith, nat_tests)
-
--- and no inner read is made
-pub exact_reads-held : (len held all : ℕ) → len ≤ held → exact_reads len held all ≡ 0
-exact_reads-held len held all fits = grind (arith, nat_tests)
+-- only held bytes were given
+pub exact_held : {R : Type 0} {S : ℕ} {inner : Reader R} {old new : BufReader R S} {buf buf' : List ℕ}
+    → length buf ≤ length (reader_held old)
+    → reader_inner new ≡ reader_inner old → buf' ≡ take (length buf) (reader_held old)
+    → reader_held new ≡ drop (length buf) (reader_held old)
+    → reader_behind new ≡ reader_behind old ++ buf' → (length buf ≡ 0 → new ≡ old)
+    → ReadExactLaw (buf_reader inner) old buf (Ok tt) buf' new × LeavesExact inner old (length buf) (Ok tt) buf' new
+exact_held {S = S} {inner} {old} {new} {buf} {buf'} fits same gave left front none =
+    let held = reader_held old in
+    let same_length : length buf' ≡ length buf = ap length gave ∙ length-take-le (length buf) held fits in
+    let gives : GivesHeld old (length buf) (Ok buf') new =
+    (same, (ap Ok gave, (front ∙ ap (λ l. reader_behind old ++ l) gave, left))) in
+    let takes : Takes (tells (buf_reader inner) old) (events_of buf') (tells (buf_reader inner) new) =
+    rw same (takes_held S (reader_behind old) held _ buf' _ (sym (take-append-drop (length buf) held)
+    ∙ ap (λ l. l ++ drop (length buf) held) (sym gave) ∙ ap (λ l. buf' ++ l) (sym left)) front (held-le old)) in
+    let ends : FillsOrEnds (length buf') (events_of buf') (Ok buf') (tells (buf_reader inner) new) =
+    (gives_whole buf' (le_refl _), refl) in (
+      record {
+        taken = events_of buf';
+        takes = takes;
+        ends = ends;
+        empty = λ nothing. (refl, none nothing);
+        calls = exact_own (
+          (omega (arith, same_length, fits), subst (λ n. GivesHeld old n (Ok buf') new) (sym same_length) gives),
+          (events_of buf', takes, ends),
+        );
+      },
+      (λ _. gives, λ past. absurd (omega (arith, past, fits))),
+    )

@@ -3,8 +3,9 @@ use Rattle.no_std_io2_base.specs.Writers.{TakesAll, CallOf}
 use Rattle.std.proofs.Common.{rules, []}
 use Rattle.std.proofs.lemmas.Grind.{common_steps}
 use Rattle.std.proofs.lemmas.List.{nil_from_length}
-use Rattle.std.proofs.Common.{◌≡◌, ◌+◌, ℕ, ◌<◌, ◌≤◌, List, ◌∷◌, ◌++◌, length, Result, Ok, Err, Some, OnOk, IsOk, IfOk}
-use Rattle.std.proofs.Common.{refl, sym, subst, ap, ◌∙◌, arith, le_refl, take_all, append-nil, if◌then◌else◌, nat_le, nat_lt, ⊎_elim, inl, inr}
+use Rattle.std.proofs.Common.{◌≡◌, ◌+◌, ℕ, ◌<◌, ◌≤◌, List, ◌∷◌, ◌++◌, length, Result, Ok, Err, OnOk, IsOk, IfOk}
+use Rattle.std.proofs.Common.{refl, sym, subst, ap, ◌∙◌, arith, le_refl, take_all, append-nil, if◌then◌else◌, nat_le, nat_lt, ⊎_elim, inl}
+use Rattle.std.proofs.Common.{inr}
 use Rattle.std.proofs.lemmas.Bool.{cases_lt}
 use Rattle.std.proofs.lemmas.Bool.Decides.{nat_tests}
 use Rattle.no_std_io2_base.specs.declared.error.Error.{Error}
@@ -14,7 +15,7 @@ use Rattle.no_std_io2_base.specs.Write.{Told, Moves, MovesFront, WriteCall, Made
 use Rattle.no_std_io2_base.specs.Write.{calls_for, none as no_write}
 use Rattle.no_std_io2_base.proofs.MovesLemmas.{IsFront-refl, Moves-then, zero_write-whole}
 use Rattle.no_std_io2_base.proofs.CallsLemmas.{made_split, writes_whole}
-use Rattle.no_std_io2_base.proofs.WritesFacts.{writes_fault, writes_sends, writes_all}
+use Rattle.no_std_io2_base.proofs.WritesFacts.{writes_fault, writes_sends}
 use Rattle.no_std_io2_base.proofs.AllFacts.{all_calls, call_steady}
 use Rattle.no_std_io2_base.specs.Meter.{charges}
 use Rattle.no_std_io2.proofs.MeterLemmas.{writes_count, all_count}

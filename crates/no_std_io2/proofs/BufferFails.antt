@@ -6,7 +6,8 @@ use Rattle.no_std_io2_base.specs.Writers.{Writer}
 use Rattle.no_std_io2_base.specs.Fails.{FailsBy, FailsOnly}
 use Rattle.no_std_io2_base.proofs.CallsLemmas.{made_split}
 use Rattle.no_std_io2_base.proofs.FailsLemmas.{bare, writes_fail, all_fails}
-use Rattle.no_std_io2.specs.BufWriter.{Step, Then, stops, goes_on, PastEmpty, SendCalls, WayCalls, PutCalls, Buffered, WriteCalls, WriteAllCalls}
+use Rattle.no_std_io2.specs.BufWriter.{Step, Then, stops, goes_on, PastEmpty, SendCalls, WayCalls, PutCalls, Buffered, WriteCalls}
+use Rattle.no_std_io2.specs.BufWriter.{WriteAllCalls}
 use Rattle.no_std_io2.specs.BufWriter.{FlushCalls, OneWrite, OneWriteAll, OneFlush, BufferMay}
 use Rattle.no_std_io2_base.specs.Lines.{lines_of, unfinished_line}
 use Rattle.no_std_io2.specs.LineWriter.{SendLineCalls, LinesCalls, HoldsTail, SendLinesCalls, LineWriteCalls, LineWriteAllCalls, LineMay}
@@ -89,7 +90,8 @@ module _ {W : Type 0} (I : Writer W) (Q : Error → Type 0) (fails : FailsOnly Q
     | inr sent ↦ send_fails held C reply left sent.1 a b made
   ]
 
-  tail_some : (S : ℕ) (x lines : List ℕ) (answer reply : Result ℕ Error) (left : List ℕ) → 0 < length lines → HoldsTail S x answer reply left
+  tail_some : (S : ℕ) (x lines : List ℕ) (answer reply : Result ℕ Error) (left : List ℕ) → 0 < length lines
+      → HoldsTail S x answer reply left
       → Some lines answer → Some x reply
   tail_some S x lines (Ok n) reply left some tail gave =
       subst (Some x) (sym tail.1) (tt, λ any. omega (arith, gave.1 some))

@@ -1,12 +1,12 @@
 -- Whose fault an error is.
-use Rattle.std.proofs.Common.{◌≡◌, ℕ, List, [], ◌∷◌, ◌++◌, ap, ◌∙◌, subst, arith, Some, append_assoc, inl, inr, ◌+◌, ◌==◌, None, Option}
-use Rattle.std.proofs.Common.{count_by, eq-eqb, if◌then◌else◌, refl}
+use Rattle.std.proofs.Common.{◌≡◌, ℕ, List, [], ◌∷◌, ◌++◌, ap, ◌∙◌, subst, arith, Some, append_assoc, inl, inr, ◌⊎◌, ◌+◌, ◌==◌, None}
+use Rattle.std.proofs.Common.{count_by, eq-eqb, if◌then◌else◌, refl, Option}
 use Rattle.no_std_io2_base.specs.declared.error.ErrorKind.{ErrorKind}
 use Rattle.no_std_io2_base.specs.declared.error.Error.{Error}
 use Rattle.no_std_io2_base.specs.Errors.{error_kind, kind_number, is_interruption, IsInterruption, IsFault}
-use Rattle.no_std_io2_base.specs.Read.{Event, byte, fails, HasNoFault}
+use Rattle.no_std_io2_base.specs.Events.{Event, byte, fails, HasNoFault}
 use Rattle.no_std_io2_base.specs.Write.{Told, Moves, HasSpent}
-use Rattle.no_std_io2.specs.Faults.{HasFirstFault, TellsMishap, MayFail, IsFaultOf}
+use Rattle.no_std_io2.specs.Faults.{HasFirstFault, TellsMishap, MayFail}
 
 -- if the mishaps to come were told, one that happened was among them
 told_mishap : (old : Option (List ErrorKind)) (kind : ErrorKind) (new : Option (List ErrorKind)) → HasSpent old (kind ∷ []) new
@@ -43,6 +43,6 @@ no_first_fault E e none f =
 
 -- a reader without a fault and a writer without a mishap leave no failure
 pub no_failure : (E : List Event) (old : Told) → HasNoFault E → old.mishaps ≡ Some [] → (e : Error)
-    → IsFaultOf E old e → ⊥
+    → HasFirstFault E e ⊎ MayFail old e → ⊥
 no_failure E old none steady e (inl f) = no_first_fault E e none f
 no_failure E old none steady e (inr f) = absurd (omega (arith, subst (λ m. TellsMishap m (error_kind e)) steady f.mishap))

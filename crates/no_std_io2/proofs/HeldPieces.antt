@@ -1,14 +1,25 @@
--- A piece at the front of the held bytes.
+-- A piece at the front of the held bytes, and what lies behind after a piece was taken.
 use Rattle.std.proofs.lemmas.Grind.{common_steps}
-use Rattle.std.proofs.Common.{◌≡◌, ℕ, Bool, true, List, ◌∷◌, ◌++◌, length, take, drop, refl, sym, ap, ap₂, ◌∙◌, arith, ◌≤◌, ◌<◌, []}
-use Rattle.std.proofs.Common.{Result, Ok, ⊎_elim, append_assoc, length-append, length-take-le, take-append-drop}
+use Rattle.std.proofs.Common.{◌≡◌, ℕ, ◌≤◌, ◌<◌, Bool, true, List, [], ◌∷◌, ◌++◌, length, take, drop, refl, sym, ap, ap₂, subst, ◌∙◌}
+use Rattle.std.proofs.Common.{arith}
+use Rattle.std.proofs.Common.{Result, Ok, Err, ⊎_elim, inl, inr, append_assoc, append-nil, length-append, length-take-le, take-append-drop}
 use Rattle.std.proofs.Common.{take_all}
+use Rattle.std.proofs.Common.{Vec}
+use Rattle.std.proofs.lemmas.Bool.{cases_lt}
 use Rattle.no_std_io2_base.specs.declared.error.Error.{Error}
-use Rattle.no_std_io2_base.specs.BufRead.{IsNotEmpty}
-use Rattle.no_std_io2_base.specs.Pieces.{AnswersLine, Lacks, EndsPiece, FindsPiece}
+use Rattle.no_std_io2_base.specs.Write.{Made}
+use Rattle.no_std_io2_base.specs.Events.{bytes}
+use Rattle.no_std_io2_base.specs.Read.{Reader, ReadCall, Filled, Consumed}
+use Rattle.no_std_io2_base.specs.BufRead.{LendCallLaw, ConsumeLaw, ReadUntilLaw}
+use Rattle.no_std_io2_base.specs.Pieces.{AnswersLine, Lacks, EndsPiece, FindsPiece, newline, PartCalls, no_part, and_part, and_waited}
+use Rattle.no_std_io2_base.specs.Pieces.{PieceMade}
+use Rattle.no_std_io2_base.specs.Pieces.{PieceCalls}
+use Rattle.no_std_io2_base.proofs.CallsLemmas.{made_split}
 use Rattle.no_std_io2_base.proofs.PieceLemmas.{found_end}
 use Rattle.no_std_io2.specs.declared.buffered.buf_reader.BufReader.{BufReader}
-use Rattle.no_std_io2.specs.BufReader.{reader_held, reader_behind, reader_inner, TakesHeld, TakesHeldLine}
+use Rattle.no_std_io2.specs.Buffer.{IsSuffix}
+use Rattle.no_std_io2.specs.BufReader.{reader_held, reader_behind, reader_inner, FillsBelow, TakesHeld, TakesHeldLine}
+use Rattle.no_std_io2.proofs.BufReaderCalls.{buf_lender}
 
 -- if d is among the bytes, they do not lack it
 has_end : (d : ℕ) (front rest : List ℕ) → Lacks d (front ++ d ∷ rest) → ⊥
@@ -31,13 +42,8 @@ whole : (d : ℕ) (piece rest : List ℕ) (ends : EndsPiece d piece) → piece +
 whole d piece rest ends = ap (λ l. l ++ rest) ends.1 ∙ append_assoc ends.0 (d ∷ []) rest
 
 -- with a piece held, some bytes are
-pub piece_some : (d : ℕ) (piece rest : List ℕ) {held : List ℕ} → held ≡ piece ++ rest → EndsPiece d piece → IsNotEmpty held
+pub piece_some : (d : ℕ) (piece rest : List ℕ) {held : List ℕ} → held ≡ piece ++ rest → EndsPiece d piece → 0 < length held
 piece_some d piece rest is ends = omega (arith, ap length (is ∙ whole d piece rest ends), length-append ends.0 (d ∷ rest))
-
--- all of these bytes were searched, so that its end was found
-pub piece_open : (d : ℕ) (piece rest lent : List ℕ) (n : ℕ) → lent ≡ piece ++ rest → EndsPiece d piece → n ≡ length lent
-    → Lacks d (take n lent) → ⊥
-piece_open d piece rest lent n is ends all lacks = grind (arith, common_steps, has_end, take_all, whole)
 
 -- what was found is that piece
 pub piece_found : {d : ℕ} {n : ℕ} {is_whole : Bool} (piece rest lent : List ℕ) → lent ≡ piece ++ rest → EndsPiece d piece
@@ -53,28 +59,157 @@ piece_found {d} {n} piece rest lent is ends found ended = ⊎_elim
     (λ none. let some = piece_some d piece rest is ends in absurd (omega (arith, some, ap length none)))
     (found.whole ended)
 
+module _ {R : Type 0} {S : ℕ} (K : Reader R) (old : BufReader R S) (d : ℕ) where
+  -- a call, by its law
+  abbrev law : BufReader R S → ReadCall → BufReader R S → Type 0
+  law = LendCallLaw (buf_lender K)
+
+  -- with a piece held, the first `fill_buf` lends it, so no part is taken before it
+  module _ (piece rest : List ℕ) (is : reader_held old ≡ piece ++ rest) (ends : EndsPiece d piece) where
+    some : 0 < length (reader_held old)
+    some = piece_some d piece rest is ends
+
+    no_part_first : {C : List ReadCall} {x : List ℕ} → PartCalls d C x → (mid : BufReader R S) → Made law old C mid → (x ≡ []) × (mid ≡ old)
+    no_part_first no_part mid made = (refl, made)
+    no_part_first (and_part C x lent parts _ lacks) mid made =
+        let split = made_split law C old (Filled (Ok lent) ∷ Consumed (length lent) ∷ []) mid made in
+        let first = no_part_first parts split.0 split.1 in
+        let filled = split.2.1.held (subst (λ r. 0 < length (reader_held r)) (sym first.1) some) in
+        let held : lent ≡ piece ++ rest = (let same : lent ≡ reader_held split.0 = cc in same) ∙ ap reader_held first.1 ∙ is in
+        absurd (has_end d ends.0 rest (subst (Lacks d) (held ∙ whole d piece rest ends) lacks))
+    no_part_first (and_waited C x e parts again) mid made =
+        let split = made_split law C old (Filled (Err e) ∷ []) mid made in
+        let first = no_part_first parts split.0 split.1 in
+        let filled = split.2.1.held (subst (λ r. 0 < length (reader_held r)) (sym first.1) some) in
+        absurd (let no : ⊥ = cc in no)
+
+    -- so that piece is taken
+    pub until_held : {A : Type 0} {buf buf' : Vec ℕ A} {new : BufReader R S} (reply : Result ℕ Error)
+        → ReadUntilLaw (buf_lender K) old d buf reply buf' new → TakesHeld piece rest old buf.items reply buf'.items new
+    until_held {buf = buf} {buf'} {new} (Ok n) until =
+        let (D, y, lent, k, parts, found, x, calls) = until.calls.are in
+        let split = made_split law D old (Filled (Ok lent) ∷ Consumed k ∷ []) new
+        (subst (λ C. Made law old C new) calls until.calls.made) in
+        let first = no_part_first parts split.0 split.1 in
+        let filled = split.2.1.held (subst (λ r. 0 < length (reader_held r)) (sym first.1) some) in
+        let lends : lent ≡ reader_held old = (let same : lent ≡ reader_held split.0 = cc in same) ∙ ap reader_held first.1 in
+        let is_piece = piece_found piece rest lent (lends ∙ is) ends found refl in
+        let same : split.2.0 ≡ old = filled.1 ∙ first.1 in
+        let given : bytes until.taken ≡ piece = x ∙ ap₂ (λ a b. a ++ b) first.0 is_piece.1 in
+        let part : take k (reader_held split.2.0) ≡ piece = ap (λ r. take k (reader_held r)) same ∙ ap (take k) (sym lends) ∙ is_piece.1 in
+        let left : drop k (reader_held split.2.0) ≡ rest = ap (λ r. drop k (reader_held r)) same ∙ ap (drop k) (sym lends) ∙ is_piece.2 in
+        let consumed = split.2.2.1.1.call in
+        let end : new ≡ split.2.2.0 = split.2.2.2 in (
+          until.ends.1 ∙ ap length given,
+          until.appends ∙ ap (λ l. buf.items ++ l) given,
+          (
+            ap reader_behind end ∙ consumed.1.0 ∙ ap₂ (λ a b. a ++ b) (ap reader_behind same) part,
+            ap reader_held end ∙ consumed.1.1 ∙ left,
+          ),
+          ap reader_inner end ∙ consumed.0 ∙ ap reader_inner same,
+        )
+    until_held {buf = buf} {buf'} {new} (Err e) until = by until.calls.are
+      where
+        by : PieceCalls (Unit {0}) d until.calls.calls (bytes until.taken) (Err e)
+            → TakesHeld piece rest old buf.items (Err e) buf'.items new
+        by (D, parts, inl (fault, calls)) =
+            let split = made_split law D old (Filled (Err e) ∷ []) new (subst (λ C. Made law old C new) calls until.calls.made) in
+            let first = no_part_first parts split.0 split.1 in
+            let filled = split.2.1.held (subst (λ r. 0 < length (reader_held r)) (sym first.1) some) in
+            absurd (let no : ⊥ = cc in no)
+        by (D, parts, inr (_, memory, lent, _, calls)) =
+            let split = made_split law D old (Filled (Ok lent) ∷ []) new (subst (λ C. Made law old C new) calls until.calls.made) in
+            let first = no_part_first parts split.0 split.1 in
+            let filled = split.2.1.held (subst (λ r. 0 < length (reader_held r)) (sym first.1) some) in (
+              memory,
+              until.appends ∙ ap (λ l. buf.items ++ l) first.0 ∙ append-nil buf.items,
+              split.2.2 ∙ filled.1 ∙ first.1,
+            )
+
 -- a held line was read into a vector of its own, and then appended to a text
-pub line_held : {R : Type 0} {S : ℕ} (line rest none items lent : List ℕ) (old new : BufReader R S) (read reply : Result ℕ Error)
-    (len capacity : ℕ) (text text' : List ℕ) → none ≡ [] → lent ≡ items → TakesHeld line rest old none read items new
-    → AnswersLine lent read len capacity reply text text' → TakesHeldLine line rest old text reply text' new
+pub line_held : {R : Type 0} {S : ℕ} (line rest none items : List ℕ) (old new : BufReader R S) (read reply : Result ℕ Error)
+    (len capacity : ℕ) (text mid text' : List ℕ) → none ≡ [] → mid ≡ text → TakesHeld line rest old none read items new
+    → AnswersLine items read len capacity reply mid text' → TakesHeldLine line rest old text reply text' new
 line_held = grind (arith, common_steps)
 
 -- the part of the held bytes that was found is a line, if it is whole and not empty
-pub line_first : {n : ℕ} {is_whole : Bool} {lent : List ℕ} (held : List ℕ) → lent ≡ held → FindsPiece 10 lent n is_whole
-    → is_whole ≡ true → 0 < n → (n ≤ length held) × EndsPiece 10 (take n held)
+pub line_first : {n : ℕ} {is_whole : Bool} {lent : List ℕ} (held : List ℕ) → lent ≡ held → FindsPiece newline lent n is_whole
+    → is_whole ≡ true → 0 < n → (n ≤ length held) × EndsPiece newline (take n held)
 line_first {n} {is_whole} held same finds ended some = grind (arith, common_steps)
 
 -- a line that was held went straight to the text
-pub line_given : {R : Type 0} {S n : ℕ} (line rest : List ℕ) (old new : BufReader R S) (text : List ℕ) {text' : List ℕ}
-    → n ≤ length (reader_held old) → EndsPiece 10 (take n (reader_held old)) → reader_held new ≡ drop n (reader_held old)
-    → reader_behind new ≡ reader_behind old ++ take n (reader_held old) → reader_inner new ≡ reader_inner old
-    → text' ≡ text ++ take n (reader_held old) → reader_held old ≡ line ++ rest → EndsPiece 10 line
+pub line_given : {R : Type 0} {S n : ℕ} (K : Reader R) (line rest : List ℕ) (old new : BufReader R S) (text : List ℕ) {text' : List ℕ}
+    → n ≤ length (reader_held old) → EndsPiece newline (take n (reader_held old)) → ConsumeLaw (buf_lender K) old n new
+    → text' ≡ text ++ take n (reader_held old) → reader_held old ≡ line ++ rest → EndsPiece newline line
     → TakesHeldLine line rest old text (Ok n) text' new
-line_given {n = n} line rest old new text within first held behind inner given is ends =
-    let part = piece_found line rest (reader_held old) is ends (found_end within first) refl in (
+line_given {n = n} K line rest old new text within first dropped given is ends =
+    let part = piece_found line rest (reader_held old) is ends (found_end within first) refl in
+    let call = dropped.call in (
       part.0,
       given ∙ ap (λ l. text ++ l) part.1,
-      held ∙ part.2,
-      behind ∙ ap (λ l. reader_behind old ++ l) part.1,
-      inner,
+      (call.1.0 ∙ ap (λ l. reader_behind old ++ l) part.1, call.1.1 ∙ part.2),
+      call.0,
     )
+
+-- what is behind after a `fill_buf`
+filled_behind : {R : Type 0} {S : ℕ} {K : Reader R} {answer : Result (List ℕ) Error} (x : List ℕ) (old new : BufReader R S)
+    → FillsBelow K old answer new → IsSuffix x (reader_behind old) → IsSuffix x (reader_behind new)
+filled_behind x old new fills front = ⊎_elim
+    (λ some. (front.0, front.1 ∙ ap (λ r. front.0 ++ reader_behind r) (sym (fills.held some).1)))
+    (λ none. (x, sym (append-nil x) ∙ ap (λ l. x ++ l) (sym (fills.filled (omega (arith, none))).1.0)))
+    (cases_lt 0 (length (reader_held old)))
+
+-- and after a `consume`
+consumed_behind : (x part : List ℕ) {behind behind' : List ℕ} → IsSuffix x behind → behind' ≡ behind ++ part → IsSuffix (x ++ part) behind'
+consumed_behind x part {behind} (front, is) more =
+    (front, ap (λ l. l ++ part) is ∙ append_assoc front behind part ∙ ap (λ l. front ++ l) (sym more))
+
+module _ {R : Type 0} {S : ℕ} (K : Reader R) (old : BufReader R S) (d : ℕ) where
+  lent_behind : (x lent : List ℕ) (n : ℕ) (now mid new : BufReader R S) → IsSuffix x (reader_behind now)
+      → LendCallLaw (buf_lender K) now (Filled (Ok lent)) mid → LendCallLaw (buf_lender K) mid (Consumed n) new
+      → IsSuffix (x ++ take n lent) (reader_behind new)
+  lent_behind x lent n now mid new front filled dropped =
+      consumed_behind x (take n lent) (filled_behind x now mid filled.call front)
+      (dropped.1.call.1.0 ∙ ap (λ l. reader_behind mid ++ take n l) filled.lends)
+
+  parts_behind : {C : List ReadCall} {x : List ℕ} → PartCalls d C x → (now : BufReader R S) → Made (LendCallLaw (buf_lender K)) old C now
+      → IsSuffix (reader_behind old ++ x) (reader_behind now)
+  parts_behind no_part now made = ([], append-nil (reader_behind old) ∙ ap reader_behind (sym made))
+  parts_behind (and_part C x lent parts _ lacks) now made =
+      let split = made_split (LendCallLaw (buf_lender K)) C old (Filled (Ok lent) ∷ Consumed (length lent) ∷ []) now made in
+      let before = parts_behind parts split.0 split.1 in
+      let after = lent_behind (reader_behind old ++ x) lent (length lent) split.0 split.2.0 split.2.2.0 before split.2.1 split.2.2.1 in
+      subst (IsSuffix (reader_behind old ++ (x ++ lent))) (ap reader_behind (sym split.2.2.2))
+      (subst (λ l. IsSuffix l (reader_behind split.2.2.0))
+      (ap (λ l. (reader_behind old ++ x) ++ l) (take_all (length lent) lent (omega arith)) ∙ append_assoc (reader_behind old) x lent) after)
+  parts_behind (and_waited C x e parts again) now made =
+      let split = made_split (LendCallLaw (buf_lender K)) C old (Filled (Err e) ∷ []) now made in
+      let before = parts_behind parts split.0 split.1 in
+      subst (IsSuffix (reader_behind old ++ x)) (ap reader_behind (sym split.2.2))
+      (filled_behind (reader_behind old ++ x) split.0 split.2.0 split.2.1.call before)
+
+  -- The bytes behind after a piece was taken are a suffix of those behind before, followed by the piece.
+  pub piece_behind : {x : List ℕ} {new : BufReader R S} {may_refuse : Type 0} (reply : Result ℕ Error)
+      → PieceMade may_refuse (LendCallLaw (buf_lender K)) old d reply x new → IsSuffix (reader_behind old ++ x) (reader_behind new)
+  piece_behind {x} {new} {may_refuse} reply m = by reply m.are
+    where
+      made : (C : List ReadCall) → m.calls ≡ C → Made (LendCallLaw (buf_lender K)) old C new
+      made C is = subst (λ C. Made (LendCallLaw (buf_lender K)) old C new) is m.made
+
+      by : (reply : Result ℕ Error) → PieceCalls may_refuse d m.calls x reply → IsSuffix (reader_behind old ++ x) (reader_behind new)
+      by (Ok k) (D, y, lent, n, parts, found, is, calls) =
+          let split = made_split (LendCallLaw (buf_lender K)) D old (Filled (Ok lent) ∷ Consumed n ∷ []) new (made _ calls) in
+          let after = lent_behind (reader_behind old ++ y) lent n split.0 split.2.0 split.2.2.0
+          (parts_behind parts split.0 split.1) split.2.1
+          split.2.2.1 in
+          subst (IsSuffix (reader_behind old ++ x)) (ap reader_behind (sym split.2.2.2))
+          (subst (λ l. IsSuffix l (reader_behind split.2.2.0))
+          (append_assoc (reader_behind old) y (take n lent) ∙ ap (λ l. reader_behind old ++ l) (sym is)) after)
+      by (Err e) (D, parts, inl (fault, calls)) =
+          let split = made_split (LendCallLaw (buf_lender K)) D old (Filled (Err e) ∷ []) new (made _ calls) in
+          subst (IsSuffix (reader_behind old ++ x)) (ap reader_behind (sym split.2.2))
+          (filled_behind (reader_behind old ++ x) split.0 split.2.0 split.2.1.call (parts_behind parts split.0 split.1))
+      by (Err e) (D, parts, inr (_, memory, lent, _, calls)) =
+          let split = made_split (LendCallLaw (buf_lender K)) D old (Filled (Ok lent) ∷ []) new (made _ calls) in
+          subst (IsSuffix (reader_behind old ++ x)) (ap reader_behind (sym split.2.2))
+          (filled_behind (reader_behind old ++ x) split.0 split.2.0 split.2.1.call (parts_behind parts split.0 split.1))

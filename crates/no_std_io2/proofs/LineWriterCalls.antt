@@ -268,7 +268,8 @@ module _ {W : Type 0} (I : Writer W) where
 
   -- by three calls at most of an inner writer that takes all
   pub line_write_all_keeps : (S : ℕ) {x held left : List ℕ} {C : List WriteCall} {reply : Result (Unit {0}) Error}
-      → LineWriteAllCalls S x held C reply left → (a b : W) → Made (CallOf I) a C b → TakesAll I a → TakesAll I b × IsOk reply × (charges C ≤ 3)
+      → LineWriteAllCalls S x held C reply left → (a b : W) → Made (CallOf I) a C b → TakesAll I a → TakesAll I b × IsOk reply
+      × (charges C ≤ 3)
   line_write_all_keeps S {x} {held} {reply = reply} write a b made takes = elim write [
     | inl plain ↦
         counted_keeps I _ reply b

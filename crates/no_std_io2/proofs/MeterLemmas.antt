@@ -1,6 +1,6 @@
 -- What calls of a writer cost, and how many calls the calls of the trait's loops count as.
 use Rattle.no_std_io2_base.specs.Writers.{TakesAll, CallOf}
-use Rattle.std.proofs.Common.{◌≡◌, ℕ, ◌+◌, ◌-◌, ⊎_elim, List, [], ◌∷◌, ◌++◌, length, Result, IsOk, Some, arith, ap, ◌∙◌, inl, inr}
+use Rattle.std.proofs.Common.{◌≡◌, ℕ, ◌+◌, List, [], ◌∷◌, ◌++◌, length, Result, IsOk, arith, ap, ◌∙◌, inl, inr}
 use Rattle.no_std_io2_base.specs.declared.error.Error.{Error}
 use Rattle.no_std_io2_base.specs.Write.{WriteCall, Made, AllCalls, calls_for}
 use Rattle.no_std_io2_base.specs.Write.{Writes, none, took, again, stuck, fault}
@@ -9,12 +9,6 @@ use Rattle.no_std_io2_base.proofs.CallsLemmas.{law_may}
 use Rattle.no_std_io2_base.proofs.WritesFacts.{writes_all}
 use Rattle.no_std_io2_base.proofs.AllFacts.{all_calls}
 use Rattle.no_std_io2_base.specs.Meter.{charges, IsMeter}
-use Rattle.no_std_io2_base.specs.ReadMeter.{IsReadMeter}
-use Rattle.no_std_io2_base.specs.Read.{ReadCall}
-use Rattle.no_std_io2.specs.declared.buffered.buf_reader.BufReader.{BufReader}
-use Rattle.no_std_io2.specs.BufReader.{reader_held, reader_inner, ReadsBelow, FillsBelow}
-use Rattle.no_std_io2.proofs.BufReaderRoom.{some_room}
-use Rattle.std.proofs.lemmas.Bool.{cases_lt}
 
 -- calls and then others count as both
 pub charges-append : (C D : List WriteCall) → charges (C ++ D) ≡ charges C + charges D
@@ -37,28 +31,6 @@ writes_charge (took some more w) = omega (arith, writes_charge w)
 writes_charge (again some interrupted w) = omega (arith, writes_charge w)
 writes_charge (stuck some says) = omega arith
 writes_charge (fault some is) = omega arith
-
--- A read of a buffered reader costs one inner read if nothing is held, and none if some bytes are.
-pub read_cost : {R : Type 0} {S : ℕ} (may : R → ReadCall → R → Type 0) (cost : R → ℕ) → IsReadMeter may cost
-    → (old new : BufReader R S) (room : ℕ) (answer : Result (List ℕ) Error) → ReadsBelow may old room answer new
-    → cost (reader_inner new) ≡ cost (reader_inner old) + (1 - length (reader_held old))
-read_cost may cost meter old new room answer read =
-    let some = some_room old in ⊎_elim
-    (λ none. ⊎_elim
-    (λ few. let one = (read.filled (omega (arith, none)) few).1 in omega (arith, none, some, meter _ _ _ _ one))
-    (λ many. let one = read.direct (omega (arith, none)) many in omega (arith, none, some, many, meter _ _ _ _ one.0))
-    (cases_lt room _))
-    (λ held. let same = ap cost (read.held (omega (arith, held))).0 in omega (arith, held, same))
-    (cases_lt (length (reader_held old)) 1)
-
--- and so does a `fill_buf`
-pub fill_cost : {R : Type 0} {S : ℕ} (may : R → ReadCall → R → Type 0) (cost : R → ℕ) → IsReadMeter may cost
-    → (old new : BufReader R S) (answer : Result (List ℕ) Error) → FillsBelow may old answer new
-    → cost (reader_inner new) ≡ cost (reader_inner old) + (1 - length (reader_held old))
-fill_cost may cost meter old new answer fill = ⊎_elim
-    (λ none. let one = fill.filled (omega (arith, none)) in omega (arith, none, some_room old, meter _ _ _ _ one))
-    (λ held. let same = ap (λ r. cost (reader_inner r)) (fill.held (omega (arith, held))) in omega (arith, held, same))
-    (cases_lt (length (reader_held old)) 1)
 
 module _ {W : Type 0} (I : Writer W) where
   -- over a writer that takes all, a loop of writes counts as one, or none for no bytes

@@ -10,7 +10,8 @@ use Rattle.no_std_io2_base.specs.declared.error.ErrorKind.{ErrorKind}
 use Rattle.no_std_io2_base.specs.Write.{Told, Moves, MovesFront, call_mishap}
 use Rattle.no_std_io2_base.specs.Text.{MovesText}
 pub use Rattle.no_std_io2_base.proofs.MovesLemmas.{Moves-refl, Moves-trans, Moves-then, Moves-ends, Moves-each, Moves-quiet, Moves-steady}
-pub use Rattle.no_std_io2_base.proofs.MovesLemmas.{Moves-more, Moves-forget, MovesFront-join, MovesFront-first, MovesFront-sends, Sends-then}
+pub use Rattle.no_std_io2_base.proofs.MovesLemmas.{Moves-more, Moves-forget, MovesFront-join, MovesFront-first, MovesFront-sends}
+pub use Rattle.no_std_io2_base.proofs.MovesLemmas.{Sends-then}
 pub use Rattle.no_std_io2_base.proofs.MovesLemmas.{IsFront-refl, IsFront-trans, count_by-append}
 pub use Rattle.no_std_io2_base.proofs.TextLemmas.{MovesFront-text}
 use Rattle.no_std_io2.specs.declared.buffered.buf_writer.BufWriter.{BufWriter}

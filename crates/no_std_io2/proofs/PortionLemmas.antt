@@ -1,92 +1,156 @@
--- The calls of a loop that takes a number of bytes.
-use Rattle.std.proofs.Common.{◌≡◌, ℕ, ◌+◌, ◌-◌, ◌<◌, List, [], ◌∷◌, ◌++◌, Result, Ok, Err, min, length, take, refl, ap, subst, arith, inl, inr}
-use Rattle.std.proofs.Common.{length-append, length-take-le}
-use Rattle.std.specs.Borrow.{Bor}
+-- A loop that takes a number of bytes, by what its calls do, for any reader that lends.
+use Rattle.std.proofs.Common.{◌≡◌, ℕ, ◌+◌, ◌-◌, ◌<◌, ◌≤◌, List, [], ◌∷◌, ◌++◌, Ok, Err, min, length, take, refl, sym, ap, subst, ◌∙◌, arith}
+use Rattle.std.proofs.Common.{inl, inr, length-append, length-take-le, Result}
 use Rattle.no_std_io2_base.specs.declared.error.Error.{Error}
 use Rattle.no_std_io2_base.specs.Errors.{IsFault, IsInterruption, IsUnexpectedEnd}
+use Rattle.no_std_io2_base.specs.Events.{Event, fails, events_of, bytes, HasNoFault}
+use Rattle.no_std_io2_base.specs.Takes.{Takes}
 use Rattle.no_std_io2_base.specs.Read.{ReadCall, Filled, Consumed}
-use Rattle.no_std_io2_base.specs.BufRead.{lent_bytes}
+use Rattle.no_std_io2_base.specs.BufRead.{Lender, lender_tells, ConsumeLaw, FilledLaw, LendCallLaw}
 use Rattle.no_std_io2_base.specs.Write.{Made}
-use Rattle.no_std_io2.specs.Passing.{PortionCalls, no_portion, and_portion, and_waited, SkipMade}
 use Rattle.no_std_io2_base.proofs.CallsLemmas.{made_more, made_then}
+use Rattle.no_std_io2_base.proofs.EventLemmas.{HasNoFault-append, HasNoFault-events_of, length-events_of}
+use Rattle.no_std_io2_base.proofs.PieceLemmas.{bytes_more, bytes_still}
+use Rattle.no_std_io2_base.proofs.TakesLemmas.{takes_none, takes_then, takes_still, takes_turns, takes_all, spends}
+use Rattle.no_std_io2.specs.Passing.{PortionCalls, no_portion, and_portion, and_waited, Skipped}
 
--- The calls so far. They took `over`; of n bytes, `left` are still wanted.
-pub record PortionsMade {X : Type 0} (may : X → ReadCall → X → Type 0) (old : X) (n left : ℕ) (now : X) : Type 0 where
+-- Of n bytes, `left` are still wanted; the others were taken, by these calls.
+pub record PortionsTaken {X : Type 0} (R : Lender X) (old : X) (n left : ℕ) (now : X) : Type 0 where
+  pub taken : List Event
+  pub takes : Takes (lender_tells R old) taken (lender_tells R now)
+  pub no_fault : HasNoFault taken
+  pub count : length (bytes taken) + left ≡ n
   pub calls : List ReadCall
-  pub over : List ℕ
-  pub count : length over + left ≡ n
-  pub made : Made may old calls now
-  pub are : PortionCalls n calls over
+  pub made : Made (LendCallLaw R) old calls now
+  pub are : PortionCalls n calls (bytes taken)
 
--- at the start there are none
-pub portions_none : {X : Type 0} {may : X → ReadCall → X → Type 0} {old : X} {n : ℕ} → PortionsMade may old n n old
-portions_none = record { calls = []; over = []; count = omega arith; made = refl; are = no_portion }
+-- at the start all are wanted
+pub portions_none : {X : Type 0} {R : Lender X} {old : X} {n : ℕ} → PortionsTaken R old n n old
+portions_none {R = R} {old} = record {
+  taken = [];
+  takes = takes_none (lender_tells R old);
+  no_fault = tt;
+  count = omega arith;
+  calls = [];
+  made = refl;
+  are = no_portion;
+}
 
-module _ {X : Type 0} {may : X → ReadCall → X → Type 0} {old now : X} {n left : ℕ} (before : PortionsMade may old n left now)
-    (more : 0 < left) where
+-- all were skipped
+pub skip_whole : {X : Type 0} {R : Lender X} {old now : X} {n left : ℕ} {done : Unit {0}} → PortionsTaken R old n left now → left ≡ 0
+    → Skipped R old n (Ok done) left now
+skip_whole before none = record {
+  taken = before.taken;
+  takes = before.takes;
+  count = before.count;
+  ends = (before.no_fault, none);
+  calls = (before.calls, before.made, before.are);
+}
+
+module _ {X : Type 0} {R : Lender X} {old now : X} {n left : ℕ} (before : PortionsTaken R old n left now) (more : 0 < left) where
   -- some bytes are still wanted
-  wanted : length before.over < n
+  wanted : length (bytes before.taken) < n
   wanted = omega (arith, before.count, more)
 
-  module _ {after : X} {reply answer : Result (Bor (List ℕ)) Error} (call : may now (Filled (lent_bytes reply)) after)
-      (is : reply ≡ answer) where
-    -- the `fill_buf`, as a call
-    filled : may now (Filled (lent_bytes answer)) after
-    filled = subst (λ r. may now (Filled (lent_bytes r)) after) is call
+  module _ {after : X} {e : Error} (filled : FilledLaw R now (Err e) after) where
+    same : bytes before.taken ≡ bytes (before.taken ++ fails e ∷ [])
+    same = sym (bytes_still before.taken e)
 
-    -- the calls up to it
-    calls : Made may old (before.calls ++ Filled (lent_bytes answer) ∷ []) after
-    calls = made_more may before.calls old before.made filled
-
-  module _ {after : X} {reply : Result (Bor (List ℕ)) Error} {e : Error} (call : may now (Filled (lent_bytes reply)) after)
-      (is : reply ≡ Err e) where
     -- an interruption is ignored
-    pub portions_waited : IsInterruption e → PortionsMade may old n left after
+    pub portions_waited : IsInterruption e → PortionsTaken R old n left after
     portions_waited again = record {
-      calls = _;
-      over = before.over;
-      count = before.count;
-      made = calls call is;
-      are = and_waited _ _ _ before.are wanted again;
+      taken = before.taken ++ fails e ∷ [];
+      takes = takes_then before.takes filled.takes;
+      no_fault = HasNoFault-append before.taken (fails e ∷ []) before.no_fault (again, tt);
+      count = ap (λ l. length l + left) (sym same) ∙ before.count;
+      calls = before.calls ++ Filled (Err e) ∷ [];
+      made = made_more (LendCallLaw R) before.calls old before.made filled;
+      are = subst (PortionCalls n _) same (and_waited _ _ _ before.are wanted again);
     }
 
     -- a fault ends a `skip`
-    pub skip_faults : IsFault e → SkipMade may old n (Err e) left after
+    pub skip_faults : IsFault e → Skipped R old n (Err e) left after
     skip_faults fault = record {
-      calls = _;
-      over = before.over;
-      count = before.count;
-      made = calls call is;
-      are = inl (fault, (before.calls, before.are, wanted, refl));
+      taken = before.taken ++ fails e ∷ [];
+      takes = takes_then before.takes filled.takes;
+      count = ap (λ l. length l + left) (sym same) ∙ before.count;
+      ends = (more, inl (before.taken, refl, before.no_fault, fault));
+      calls = (
+        before.calls ++ Filled (Err e) ∷ [],
+        made_more (LendCallLaw R) before.calls old before.made filled,
+        inl (
+          fault,
+          (before.calls, subst (PortionCalls n before.calls) same before.are, subst (λ l. length l < n) same wanted, refl),
+        ),
+      );
     }
 
-  module _ {after : X} {reply : Result (Bor (List ℕ)) Error} {lent : Bor (List ℕ)} (call : may now (Filled (lent_bytes reply)) after)
-      (is : reply ≡ Ok lent) where
-    -- a portion is taken
-    pub portions_took : {len : ℕ} {new : X} → 0 < length lent.now → len ≡ min (length lent.now) left → may after (Consumed len) new
-        → PortionsMade may old n (left - len) new
-    portions_took {len} {new} some least dropped =
-        let within = length-take-le len lent.now (omega (arith, least)) in
-        let took = Filled (Ok lent.now) ∷ Consumed len ∷ [] in
-        record {
-          calls = _;
-          over = before.over ++ take len lent.now;
-          count = omega (arith, before.count, least, within, length-append before.over (take len lent.now));
-          made = made_then may before.calls old took now new before.made (after, filled call is, (new, dropped, refl));
-          are = and_portion _ _ _ _ before.are wanted some (omega (arith, least, before.count));
-        }
-
+  module _ {after : X} {lent : List ℕ} (filled : FilledLaw R now (Ok lent) after) where
     -- the end ends a `skip`
-    pub skip_ends : {e : Error} → lent.now ≡ [] → IsUnexpectedEnd e → SkipMade may old n (Err e) left after
+    pub skip_ends : {e : Error} → lent ≡ [] → IsUnexpectedEnd e → Skipped R old n (Err e) left after
     skip_ends none end = record {
-      calls = _;
-      over = before.over;
+      taken = before.taken;
+      takes = takes_still before.takes filled.takes;
       count = before.count;
-      made = calls call is;
-      are = inr (end, (before.calls, before.are, wanted, ap (λ l. before.calls ++ Filled (Ok l) ∷ []) none));
+      ends = (more, inr (end, before.no_fault, takes_all before.taken before.takes (filled.end (ap Ok none))));
+      calls = (
+        before.calls ++ Filled (Ok lent) ∷ [],
+        made_more (LendCallLaw R) before.calls old before.made filled,
+        inr (end, (before.calls, before.are, wanted, ap (λ l. before.calls ++ Filled (Ok l) ∷ []) none)),
+      );
     }
 
--- the end of a `skip` that skipped all
-pub skip_whole : {X : Type 0} {may : X → ReadCall → X → Type 0} {old now : X} {n left : ℕ} → PortionsMade may old n left now
-    → SkipMade may old n (Ok tt) left now
-skip_whole before = record { calls = before.calls; over = before.over; count = before.count; made = before.made; are = before.are }
+    module _ {len : ℕ} {new : X} (dropped : ConsumeLaw R after len new) (some : 0 < length lent)
+        (least : len ≡ min (length lent) left) where
+      within : length (take len lent) ≡ len
+      within = length-take-le len lent (omega (arith, least))
+
+      -- the lent bytes that are wanted
+      taken : Takes (lender_tells R after) (events_of (take len lent)) (lender_tells R new)
+      taken = subst (λ l. Takes (lender_tells R after) (events_of (take len l)) (lender_tells R new)) filled.lends dropped.takes
+
+      -- are taken
+      pub portions_took : PortionsTaken R old n (left - len) new
+      portions_took =
+          let grown = bytes_more before.taken (take len lent) in
+          let fits = subst (λ l. len ≤ length l) (sym filled.lends) (omega (arith, least)) in
+          let calls = Filled (Ok lent) ∷ Consumed len ∷ [] in
+          record {
+            taken = before.taken ++ events_of (take len lent);
+            takes = takes_then (takes_still before.takes filled.takes) taken;
+            no_fault = HasNoFault-append before.taken _ before.no_fault (HasNoFault-events_of (take len lent));
+            count =
+                omega (arith, before.count, least, within, ap length grown, length-append (bytes before.taken) (take len lent));
+            calls = before.calls ++ calls;
+            made = made_then (LendCallLaw R) before.calls old calls now new before.made (after, filled, (new, (fits, dropped), refl));
+            are = subst (PortionCalls n _) (sym grown)
+                (and_portion _ _ _ _ before.are wanted some (omega (arith, least, before.count)));
+          }
+
+      -- and a turn is spent
+      pub portion_spends : R.turns new < R.turns now
+      portion_spends =
+          let less : R.turns new < R.turns after =
+          spends taken (omega (arith, some, least, more, within, length-events_of (take len lent))) in
+          omega (arith, less, takes_turns filled.takes)
+
+-- a `skip` that skips some bytes spends a turn
+pub skip_spends : {X : Type 0} {R : Lender X} {old new : X} {n left : ℕ} {reply : Result (Unit {0}) Error} → Skipped R old n reply left new
+    → left < n → R.turns new < R.turns old
+skip_spends {R = R} {old} {new} {n} {left} skipped less = by skipped.taken skipped.takes skipped.count
+  where
+    by : (P : List Event) → Takes (lender_tells R old) P (lender_tells R new) → length (bytes P) + left ≡ n → R.turns new < R.turns old
+    by [] takes count = absurd (omega (arith, count, less))
+    by (event ∷ P) takes count = omega (arith, takes.turns)
+
+-- and none of no bytes makes a call
+no_portions : {want : ℕ} {C : List ReadCall} {x : List ℕ} → want ≡ 0 → PortionCalls want C x → C ≡ []
+no_portions none no_portion = refl
+no_portions none (and_portion C x lent n before more some is) = absurd (omega (arith, none, more))
+no_portions none (and_waited C x e before more again) = absurd (omega (arith, none, more))
+
+pub skip_unmoved : {X : Type 0} {R : Lender X} {old new : X} {n left : ℕ} (reply : Result (Unit {0}) Error) → n ≡ 0
+    → Skipped R old n reply left new → new ≡ old
+skip_unmoved {R = R} {old} {new} (Ok done) none skipped =
+    subst (λ C. Made (LendCallLaw R) old C new) (no_portions none skipped.calls.2) skipped.calls.1
+skip_unmoved (Err e) none skipped = absurd (omega (arith, none, skipped.count, skipped.ends.0))

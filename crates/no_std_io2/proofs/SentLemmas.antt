@@ -1,18 +1,40 @@
 -- The calls of a buffered writer that first send the held bytes: its seeks and `into_inner`.
 use Rattle.no_std_io2_base.specs.Writers.{CallOf}
 use Rattle.std.proofs.lemmas.Grind.{common_steps}
-use Rattle.std.proofs.Common.{◌≡◌, ℕ, List, length, Result, Ok, Err, IsOk, refl, ap, subst, arith, []}
+use Rattle.std.proofs.Common.{◌≡◌, ℕ, List, length, Result, Ok, Err, IsOk, IfOk, Option, refl, sym, ap, subst, arith, [], ◌∷◌}
 use Rattle.no_std_io2_base.specs.declared.error.Error.{Error}
 use Rattle.no_std_io2_base.specs.Writers.{Writer}
 use Rattle.no_std_io2_base.specs.Write.{WriteCall, Made}
+use Rattle.no_std_io2_base.specs.Takes.{Store, KeepsContent}
+use Rattle.no_std_io2_base.specs.Seek.{IsPosition}
 use Rattle.no_std_io2_base.proofs.MovesLemmas.{Moves-steady}
 use Rattle.no_std_io2_base.proofs.CallsLemmas.{writes_whole}
 use Rattle.no_std_io2_base.proofs.WritesFacts.{writes_fault, writes_left, writes_idle, writes_sends}
-use Rattle.no_std_io2.specs.BufWriter.{SendCalls, TakesStep, SendsFirst, SendsHeld, Unwraps}
+use Rattle.no_std_io2.specs.BufWriter.{SendCalls, TakesStep, SendsFirst, SendsHeld, Unwraps, store_unheld}
 use Rattle.no_std_io2.specs.declared.buffered.into_inner_error.IntoInnerError.{IntoInnerError}
 use Rattle.no_std_io2.specs.BufWriter.{into_inner_error_writer, into_inner_error_cause}
 use Rattle.no_std_io2.proofs.BufWriterCalls.{send_tells, send_counts}
 use Rattle.no_std_io2.proofs.StepLemmas.{no_ok, Stepped}
+
+-- the told store of a writer with a buffer, if the sending failed: then some bytes were held
+pub store_refused : (Goes : ℕ → ℕ → ℕ → Type 0) (held : List ℕ) (s s' : Option Store) → (held ≡ [] → ⊥)
+    → KeepsContent (store_unheld held s) Goes s'
+store_refused Goes [] s s' some = absurd (some refl)
+store_refused Goes (b ∷ held) s s' some = tt
+
+-- if all was sent, it is what a seek made of the inner writer's, which without held bytes was the same before
+pub store_sought : (Goes : ℕ → ℕ → ℕ → Type 0) (held held' : List ℕ) (s s' : Option Store) → held' ≡ []
+    → (held ≡ [] → KeepsContent s Goes s')
+    → KeepsContent (store_unheld held s) Goes (store_unheld held' s')
+store_sought Goes [] held' s s' none seek = subst (λ l. KeepsContent s Goes (store_unheld l s')) (sym none) (seek refl)
+store_sought Goes (b ∷ held) held' s s' none seek = tt
+
+-- and so is its position
+pub position_sought : (held : List ℕ) (s : Option Store) (reply : Result ℕ Error) → IfOk reply (IsPosition s)
+    → IfOk reply (IsPosition (store_unheld held s))
+position_sought [] s reply at = at
+position_sought (b ∷ held) s (Ok n) at = tt
+position_sought (b ∷ held) s (Err e) at = tt
 
 module _ {W : Type 0} {I : Writer W} {a b : W} {held left : List ℕ} where
   -- with nothing held there was no inner call
@@ -54,7 +76,8 @@ module _ {W B : Type 0} {I : Writer W} {inner : B → W} {buffer : B → List �
       }
 
   -- or a fault came, with the writer
-  pub unwraps_err : (e : IntoInnerError B) → TakesStep I inner buffer SendCalls old (Err (into_inner_error_cause e)) (into_inner_error_writer e)
+  pub unwraps_err : (e : IntoInnerError B)
+      → TakesStep I inner buffer SendCalls old (Err (into_inner_error_cause e)) (into_inner_error_writer e)
       → Unwraps I inner buffer old (Err e)
   unwraps_err e calls =
       let moves = send_tells I _ _ _ _ calls.2 (inner old) (inner (into_inner_error_writer e)) calls.1 in

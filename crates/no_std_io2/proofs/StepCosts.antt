@@ -1,11 +1,11 @@
 -- What the calls of a buffered writer cost, by each number that counts the calls of the inner writer, if that takes all.
-use Rattle.std.proofs.Common.{◌≡◌, ◌+◌, ℕ, ◌<◌, ◌≤◌, List, length, Result, Ok, Err, Some, IsOk, IfOk, arith}
+use Rattle.std.proofs.Common.{◌≡◌, ◌+◌, ℕ, ◌<◌, ◌≤◌, List, Result, Ok, Err, IsOk, IfOk, arith}
 use Rattle.std.proofs.lemmas.Bool.Decides.{nat_tests}
 use Rattle.no_std_io2_base.specs.Writers.{TakesAll, Writer}
 use Rattle.no_std_io2_base.specs.declared.error.Error.{Error}
 use Rattle.no_std_io2_base.specs.Write.{calls_for}
-use Rattle.no_std_io2_base.specs.Meter.{charges, IsMeter, Costs, CostsAtMost}
-use Rattle.no_std_io2.specs.BufWriter.{Step, TakesStep, SendCalls, UnwrapCalls, writing_calls}
+use Rattle.no_std_io2_base.specs.Meter.{charges, IsMeter, Costs}
+use Rattle.no_std_io2.specs.BufWriter.{Step, TakesStep, UnwrapCalls, writing_calls}
 use Rattle.no_std_io2.specs.declared.buffered.into_inner_error.IntoInnerError.{IntoInnerError}
 use Rattle.no_std_io2.proofs.StepLemmas.{Counts}
 use Rattle.no_std_io2.proofs.BufWriterCalls.{send_counts, writing_all_calls}
@@ -17,7 +17,8 @@ writing_all-is S x held some = grind (arith, nat_tests)
 
 module _ {W : Type 0} (I : Writer W) where
   -- A step costs what its calls count as.
-  pub step_cost : {A B : Type 0} (cost : W → ℕ) → IsMeter I.may cost → (inner : B → W) (buffer : B → List ℕ) (step : Step A) (n : List ℕ → ℕ)
+  pub step_cost : {A B : Type 0} (cost : W → ℕ) → IsMeter I.may cost
+      → (inner : B → W) (buffer : B → List ℕ) (step : Step A) (n : List ℕ → ℕ)
       → Counts I step n → (old new : B) {reply : Result A Error} → TakesStep I inner buffer step old reply new → TakesAll I (inner old)
       → TakesAll I (inner new) × IsOk reply × (cost (inner new) ≡ cost (inner old) + n (buffer old))
   step_cost cost meter inner buffer step n counts old new {reply} takes all =

@@ -1,9 +1,9 @@
 -- What a `BufWriter` and its error hold and tell, how a buffer is sent, and what the calls do. I are the ghost members of the inner writer,
 -- K those of the inner writer as a seeker.
 use Rattle.std.specs.Prelude.{◌≡◌, ℕ, ◌+◌, List, [], ◌++◌, length, nat_lt, nat_le, ◌&&◌, if◌then◌else◌, ◌<◌, ◌≤◌, ◌⊎◌, ◌∷◌, Some}
-use Rattle.std.specs.Prelude.{Result, Ok, Err, IsOk, IsOkAnd, IfOk, IfErr, OnOk, codes}
+use Rattle.std.specs.Prelude.{Result, Ok, Err, IsOk, IsOkAnd, IfOk, IfErr, OnOk, codes, Option, None}
 use Rattle.no_std_io2_base.specs.declared.error.Error.{Error}
-use Rattle.no_std_io2_base.specs.Write.{Told, Moves, calls_for, call_mishap}
+use Rattle.no_std_io2_base.specs.Write.{Told, Moves, call_mishap}
 use Rattle.no_std_io2_base.specs.Write.{WriteCall, Wrote, WroteAll, WroteRest, Flushed, Made, Writes, AllCalls}
 use Rattle.no_std_io2_base.specs.Writers.{Writer, TakesAll, CallOf}
 use Rattle.no_std_io2.specs.Buffer.{buffer_held}
@@ -12,7 +12,8 @@ use Rattle.no_std_io2.specs.declared.buffered.buf_writer.BufWriter.{BufWriter}
 use Rattle.no_std_io2.specs.declared.buffered.into_inner_error.IntoInnerError.{IntoInnerError}
 use Rattle.no_std_io2_base.specs.Errors.{error_kind, IsFault, IsNoInterruption}
 use Rattle.no_std_io2_base.specs.declared.traits.seek.SeekFrom.{SeekFrom}
-use Rattle.no_std_io2_base.specs.Seek.{Seeks, Seeker, SeekCall, Sought, Measured}
+use Rattle.no_std_io2_base.specs.Seek.{Seeker, SeekCall, Sought, SeekLaw}
+use Rattle.no_std_io2_base.specs.Takes.{Store}
 use denote.Param.{param, number}
 use denote.RattleType.{RattleType}
 use Rattle.std.specs.Mem.{FitsInMemory}
@@ -53,6 +54,11 @@ sender_told told w = with_buffer (told w.inner) (sender_buffer w)
 -- what a `BufWriter` tells if its inner writer tells `told`
 abbrev pub writer_told : {W : Type 0} {S : ℕ} → (W → Told) → BufWriter W S → Told
 writer_told told w = sender_told told w.core
+
+-- the inner writer's store, if nothing is held
+abbrev pub store_unheld : List ℕ → Option Store → Option Store
+store_unheld [] store = store
+store_unheld (b ∷ held) store = None
 
 -- the number of inner calls that make room for n more bytes, if the inner writer takes all
 abbrev pub way_calls : ℕ → List ℕ → ℕ → ℕ
@@ -193,7 +199,8 @@ all_or_none (Err e) x = []
 pub record Puts {W B : Type 0} (I : Writer W) (inner : B → W) (buffer : B → List ℕ) (S : ℕ) (x : List ℕ) (old : B)
     (reply : Result (Unit {0}) Error) (new : B) : Type 0 where
   -- all of x was accepted, or nothing of it, and an error is a mishap
-  pub moves : Moves (buffered_told I.told inner buffer old) (all_or_none reply x) (call_mishap reply) (buffered_told I.told inner buffer new)
+  pub moves : Moves (buffered_told I.told inner buffer old) (all_or_none reply x) (call_mishap reply)
+      (buffered_told I.told inner buffer new)
   -- the error is never an interruption
   pub fault : IsNoInterruption reply
   -- the inner calls are those of a `write_all` of x
@@ -249,11 +256,7 @@ pub record SeeksAfterSending {W : Type 0} (I : Writer W) (K : Seeker W) (old : W
   pub sent : W
   pub sends : SendsHeld I old held sent
   -- one seek of the inner writer, whose result is returned
-  pub sought : K.may sent (Sought to reply) new
-  -- if it then told a store, the seek moved its position
-  pub seeks : K.has_store sent
-      → K.has_store new × (K.content new ≡ K.content sent)
-      × Seeks (length (K.content sent)) (K.position sent) to reply (K.position new)
+  pub sought : SeekLaw K sent to reply new
 
 -- A seek of a writer with a buffer: the sending failed, and bytes are still held; or all held bytes were sent, and then the inner seek was
 -- made.
@@ -262,10 +265,10 @@ pub record SendsThenSeeks {W B : Type 0} (I : Writer W) (K : Seeker W) (inner : 
   pub first : SendsFirst I inner buffer old reply new
   pub sent : buffer new ≡ [] → SeeksAfterSending I K (inner old) (buffer old) to (inner new) reply
 
--- what a call of `Seek` may do to a buffered writer, which has no body of its own for `stream_len`
+-- what a call of `Seek` may do to a buffered writer, which has no other body of its own
 abbrev pub WriterMaySeek : {W : Type 0} {S : ℕ} → Writer W → Seeker W → BufWriter W S → SeekCall → BufWriter W S → Type 0
 WriterMaySeek I K old (Sought to reply) new = SendsThenSeeks I K writer_inner writer_buffer old to reply new
-WriterMaySeek I K old (Measured reply) new = ⊥
+WriterMaySeek I K old _ new = ⊥
 
 -- a `BufWriter<W, S>` fits in memory
 abbrev pub BufWriterFits : RattleType → ℕ → Type 0

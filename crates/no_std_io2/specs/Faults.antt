@@ -1,9 +1,10 @@
 -- Whose error a call returned that uses a reader and a writer.
-use Rattle.std.specs.Prelude.{◌≡◌, ◌⊎◌, ℕ, ◌<◌, ◌==◌, List, ◌++◌, count_by, Option, None, Some, ⊤}
+use Rattle.std.specs.Prelude.{◌≡◌, ◌⊎◌, ◌<◌, ◌==◌, List, ◌++◌, count_by, Option, None, Some, IfSome, ⊤}
 use Rattle.no_std_io2_base.specs.declared.error.ErrorKind.{ErrorKind}
 use Rattle.no_std_io2_base.specs.declared.error.Error.{Error}
 use Rattle.no_std_io2_base.specs.Errors.{error_kind, kind_number, IsInterruption}
-use Rattle.no_std_io2_base.specs.Read.{Event, EndsInFault}
+use Rattle.no_std_io2_base.specs.Events.{Event, EndsInFault}
+use Rattle.no_std_io2_base.specs.Takes.{Tells, to_come}
 use Rattle.no_std_io2_base.specs.Write.{Told}
 
 -- The first fault of E is e.
@@ -24,6 +25,6 @@ pub record MayFail (told : Told) (e : Error) : Type 0 where
   pub mishap : TellsMishap told.mishaps (error_kind e)
   pub turn : IsInterruption e → 0 < told.turns
 
--- e is the first fault of a reader with the events E, or a failure of a writer that told this
-abbrev pub IsFaultOf : List Event → Told → Error → Type 0
-IsFaultOf E told e = HasFirstFault E e ⊎ MayFail told e
+-- e is the first fault that a reader told, or a failure of a writer that told this
+abbrev pub IsFaultOf : Tells → Told → Error → Type 0
+IsFaultOf from told e = IfSome (to_come from) (λ E. HasFirstFault E e) ⊎ MayFail told e

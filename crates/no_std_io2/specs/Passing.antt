@@ -1,37 +1,12 @@
--- Events that were taken and have no fault, and the calls that take a number of bytes.
+-- The bytes that `skip` skips, and the calls that take a number of bytes.
 use Rattle.std.specs.Prelude.{◌≡◌, ◌⊎◌, ℕ, ◌+◌, ◌-◌, ◌<◌, min, List, [], ◌∷◌, ◌++◌, length, take, Result, Ok, Err}
 use Rattle.no_std_io2_base.specs.declared.error.Error.{Error}
 use Rattle.no_std_io2_base.specs.Errors.{IsFault, IsInterruption, IsUnexpectedEnd}
-use Rattle.no_std_io2_base.specs.Read.{Event, fails, bytes, HasNoFault, ReadCall, Filled, Consumed}
+use Rattle.no_std_io2_base.specs.Events.{Event, bytes, HasNoFault, EndsInFault}
+use Rattle.no_std_io2_base.specs.Takes.{Tells, Takes, IsAll}
+use Rattle.no_std_io2_base.specs.Read.{ReadCall, Filled, Consumed}
+use Rattle.no_std_io2_base.specs.BufRead.{Lender, lender_tells, LendCallLaw}
 use Rattle.no_std_io2_base.specs.Write.{Made}
-
--- The first events of E are taken. They have no fault, and their bytes are `taken`.
-pub record TakesBytes (E : List Event) (taken : List ℕ) (after : List Event) : Type 0 where
-  pub front : List Event
-  pub split : E ≡ front ++ after
-  pub no_fault : HasNoFault front
-  pub gave : bytes front ≡ taken
-
--- The first events of E are taken. They have no fault, and their bytes were appended: `old` became `new`.
-pub record Gathered (E : List Event) (old new : List ℕ) (after : List Event) : Type 0 where
-  pub more : List ℕ
-  pub is : new ≡ old ++ more
-  pub passes : TakesBytes E more after
-
--- The first events of E are taken. They have no fault, and their bytes were skipped: of n bytes, `left` are still to be skipped.
-pub record SkipsBytes (n : ℕ) (E : List Event) (left : ℕ) (after : List Event) : Type 0 where
-  pub over : List ℕ
-  pub count : length over + left ≡ n
-  pub passes : TakesBytes E over after
-
--- the reader's fault came next, and is taken; or the end came
-abbrev pub StopsThere : List Event → Error → List Event → Type 0
-StopsThere mid e after = ((mid ≡ fails e ∷ after) × IsFault e) ⊎ ((mid ≡ []) × (after ≡ []) × IsUnexpectedEnd e)
-
--- n bytes were skipped; or all except `left`, and then an error came
-abbrev pub Skips : ℕ → List Event → Result (Unit {0}) Error → ℕ → List Event → Type 0
-Skips n E (Ok u) left after = SkipsBytes n E left after
-Skips n E (Err e) left after = (mid : List Event) × SkipsBytes n E left mid × StopsThere mid e after
 
 -- C are the calls of a loop that takes `want` bytes and has taken x: each `fill_buf` lent some bytes, and as many of them as were still
 -- wanted were consumed; or it was interrupted
@@ -51,11 +26,19 @@ abbrev pub SkipCalls : ℕ → List ReadCall → List ℕ → Result (Unit {0}) 
 SkipCalls n C x (Ok u) = PortionCalls n C x
 SkipCalls n C x (Err e) = (IsFault e × PortionsUntil n C x (Err e)) ⊎ (IsUnexpectedEnd e × PortionsUntil n C x (Ok []))
 
--- The calls that a `skip` of n bytes made. `left` of them are still to be skipped.
-pub record SkipMade {X : Type 0} (may : X → ReadCall → X → Type 0) (old : X) (n : ℕ) (reply : Result (Unit {0}) Error) (left : ℕ) (new : X)
-    : Type 0 where
-  pub calls : List ReadCall
-  pub over : List ℕ
-  pub count : length over + left ≡ n
-  pub made : Made may old calls new
-  pub are : SkipCalls n calls over reply
+-- how a `skip` that took P ended, with `left` bytes still to be skipped: all were skipped; or a fault came first, or the end
+abbrev pub SkipEnds : Tells → List Event → Result (Unit {0}) Error → ℕ → Type 0
+SkipEnds old P (Ok u) left = HasNoFault P × (left ≡ 0)
+SkipEnds old P (Err e) left = (0 < left) × (EndsInFault P e ⊎ (IsUnexpectedEnd e × HasNoFault P × IsAll old P))
+
+-- `skip(&mut left)`: of n bytes, `left` are still to be skipped
+pub record Skipped {X : Type 0} (R : Lender X) (old : X) (n : ℕ) (reply : Result (Unit {0}) Error) (left : ℕ) (new : X) : Type 0 where
+  -- what it takes
+  pub taken : List Event
+  pub takes : Takes (lender_tells R old) taken (lender_tells R new)
+  -- its bytes are the skipped ones
+  pub count : length (bytes taken) + left ≡ n
+  -- how it ended
+  pub ends : SkipEnds (lender_tells R old) taken reply left
+  -- which calls it made
+  pub calls : (C : List ReadCall) × Made (LendCallLaw R) old C new × SkipCalls n C (bytes taken) reply

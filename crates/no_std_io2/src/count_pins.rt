@@ -1,14 +1,18 @@
-// Functions that nothing calls. Their contracts say how many inner writes each call of a buffered writer makes, if the
-// inner writer takes all: for every number that counts the calls of that writer.
-ghost use Rattle.std.specs.Prelude.{◌<◌, IfOk};
+// Functions that nothing calls. Their contracts say how many inner writes each call of a buffered writer makes, if the inner writer takes
+// all, and how many inner reads a buffered reader and `copy` make: for every number that counts the calls of the inner stream.
+ghost use Rattle.std.specs.Prelude.{ℕ, ◌≡◌, ◌+◌, ◌-◌, ◌<◌, ◌^◌, min, nat_lt, if◌then◌else◌, length, IfOk, IsOkAnd, OnOk};
+ghost use Rattle.no_std_io2_base.specs.ReadMeter.{IsReadMeter, FillsRoom};
+ghost use Rattle.no_std_io2.specs.BufReader.{reader_held, reader_inner, filled_length, held_or_to_come, exact_reads, exact_left};
+ghost use Rattle.no_std_io2.specs.Copy.{copy_reads};
 ghost use Rattle.no_std_io2_base.specs.Write.{calls_for};
 ghost use Rattle.no_std_io2_base.specs.Meter.{Costs, CostsAtMost};
 ghost use Rattle.no_std_io2.specs.BufWriter.{writer_inner, writer_buffer, writing_calls};
 ghost use Rattle.no_std_io2.specs.LineWriter.{line_inner};
 
-use crate::buffered::{BufWriter, IntoInnerError, LineWriter};
+use crate::buffered::{BufReader, BufWriter, IntoInnerError, LineWriter};
+use crate::util::copy;
 use no_std_io2_base::error::Result;
-use no_std_io2_base::traits::Write;
+use no_std_io2_base::traits::{BufRead, Read, Write};
 
 // One inner write if held bytes must be sent first, and one more for S bytes or more.
 fn write_counted<W: Write + Drop, const S: usize>(
@@ -62,4 +66,48 @@ fn line_write_all_counted<W: Write + Drop, const S: usize>(
     ensures { CostsAtMost W.Write (line_inner w.old) 3 (line_inner w.new) }
 {
     w.write_all(x)
+}
+
+// A fill makes one inner read if nothing is held, and else none.
+fn lend_counted<R: Read, const S: usize>(r: &mut BufReader<R, S>) -> Result<usize>
+    ensures reads { (cost : R → ℕ) → IsReadMeter R.may cost → cost (reader_inner r.new) ≡ cost (reader_inner r.old)
+        + (if nat_lt 0 (length (reader_held r.old)) then 0 else 1) }
+    ensures fills { (fills : FillsRoom R.Read) → IsOkAnd result (λ n. (n ≡ length (reader_held r.new))
+        × (n ≡ filled_length S (length (reader_held r.old)) (length (fills.left (reader_inner r.old))))) }
+{
+    let lent = r.fill_buf()?;
+    Ok(lent.len())
+}
+
+// A read makes one inner read if nothing is held, and else none.
+fn read_counted<R: Read, const S: usize>(r: &mut BufReader<R, S>, buf: &mut [u8]) -> Result<usize>
+    ensures reads { (cost : R → ℕ) → IsReadMeter R.may cost → cost (reader_inner r.new) ≡ cost (reader_inner r.old)
+        + (if nat_lt 0 (length (reader_held r.old)) then 0 else 1) }
+    ensures fills { (fills : FillsRoom R.Read) → IsOkAnd result (λ n. n ≡ min (length buf.old) (held_or_to_come
+        (length (reader_held r.old)) (length (fills.left (reader_inner r.old))))) }
+{
+    r.read(buf)
+}
+
+// An exact read makes at most two inner reads of a reader that fills its room.
+fn read_exact_counted<R: Read, const S: usize>(
+    r: &mut BufReader<R, S>,
+    buf: &mut [u8],
+) -> Result<()>
+    ensures reads { (cost : R → ℕ) → IsReadMeter R.may cost → (fills : FillsRoom R.Read)
+        → cost (reader_inner r.new) ≡ cost (reader_inner r.old) + exact_reads (length buf.old) (length (reader_held r.old))
+        (length (reader_held r.old) + length (fills.left (reader_inner r.old))) }
+    ensures left { (fills : FillsRoom R.Read) → length (reader_held r.new) ≡ exact_left S (length buf.old) (length (reader_held r.old))
+        (length (reader_held r.old) + length (fills.left (reader_inner r.old))) }
+{
+    r.read_exact(buf)
+}
+
+// A copy makes one read for each S bytes, rounded up, and one more.
+fn copy_counted<R: Read, W: Write, const S: usize>(reader: &mut R, writer: &mut W) -> Result<u64>
+    requires { S < 2 ^ 63 }
+    ensures { (cost : R → ℕ) → IsReadMeter R.may cost → 0 < S → (fills : FillsRoom R.Read) → OnOk result
+        (cost reader.new ≡ cost reader.old + copy_reads S (length (fills.left reader.old))) }
+{
+    copy::<R, W, S>(reader, writer)
 }

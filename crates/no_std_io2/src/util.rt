@@ -1,12 +1,9 @@
 //! Functions over streams: [`copy`] copies a reader to a writer, [`skip`] skips bytes, [`read_exact_at`]
 //! reads at a place, and [`write_with_retries`] writes again after a fault. [`empty`] and [`sink`]
 //! make streams without a device.
-ghost use Rattle.no_std_io2_base.specs.Writers.{TakesAll};
-ghost use Rattle.no_std_io2_base.specs.ReadMeter.{IsReadMeter};
-ghost use Rattle.std.specs.Prelude.{ℕ, ◌≡◌, ◌+◌, ◌≤◌, ◌<◌, ◌^◌, length, IfErr, OnOk, OnErr};
-ghost use Rattle.no_std_io2_base.specs.Errors.{IsFault};
-ghost use Rattle.no_std_io2.specs.Copy.{Copies, CopyMoves, CopyHands, copy_reads};
-ghost use Rattle.no_std_io2.specs.Passing.{Skips, SkipMade};
+ghost use Rattle.std.specs.Prelude.{◌<◌, ◌^◌};
+ghost use Rattle.no_std_io2.specs.Copy.{Copied};
+ghost use Rattle.no_std_io2.specs.Passing.{Skipped};
 
 use no_std_io2_base::error::Result;
 use no_std_io2_base::internal::failed_to_fill;
@@ -51,24 +48,7 @@ pub use sinks::Sink;
 /// ```
 pub fn copy<R: Read, W: Write, const S: usize>(reader: &mut R, writer: &mut W) -> Result<u64>
     requires { S < 2 ^ 63 }
-    ensures told { R.tells reader.old → R.tells reader.new
-        × Copies S (R.events reader.old) result (R.events reader.new)
-        (W.told writer.old) (W.told writer.new) }
-    ensures moves { CopyMoves result (W.told writer.old) (W.told writer.new) }
-    // Each read is into the whole buffer. It makes one `write_all` for the bytes of each read, none after a fault,
-    // and no other call.
-    ensures calls { CopyHands R.Read W.Write S reader.old writer.old result reader.new writer.new }
-    ensures unchanged { S ≡ 0 → writer.new ≡ writer.old }
-    ensures all { TakesAll W.Write writer.old → TakesAll W.Write writer.new }
-    ensures never_interrupted { IfErr result IsFault }
-    ensures turns_never_rise { R.turns reader.new ≤ R.turns reader.old }
-    ensures reads { (cost : R → ℕ) → IsReadMeter R.may cost → 0 < S → R.is_filling reader.old → OnOk result
-        (cost reader.new ≡ cost reader.old + copy_reads S (length (R.events reader.old))) }
-    ensures filling { R.is_filling reader.old → R.is_filling reader.new }
-    ensures store { R.has_store reader.old → R.has_store reader.new
-        × (R.content reader.new ≡ R.content reader.old)
-        × (R.position reader.new + length (R.events reader.new)
-        ≡ R.position reader.old + length (R.events reader.old)) }
+    ensures { Copied R.Read W.Write S reader.old writer.old result reader.new writer.new }
 {
     let mut buf = [0u8; S];
     let mut copied = 0u64;
@@ -105,21 +85,7 @@ pub fn copy<R: Read, W: Write, const S: usize>(reader: &mut R, writer: &mut W) -
 /// ```
 #[tactic(auto, using(crate::proofs::PortionLemmas::portions_none))]
 pub fn skip<B: BufRead>(reader: &mut B, left: &mut u64) -> Result<()>
-    ensures told { B.tells reader.old → B.tells reader.new
-        × Skips left.old (B.events reader.old) result left.new (B.events reader.new) }
-    ensures left { left.new ≤ left.old }
-    ensures done { OnOk result (left.new ≡ 0) }
-    ensures missing { OnErr result (0 < left.new) }
-    ensures none { left.old ≡ 0 → reader.new ≡ reader.old }
-    // It makes a `fill_buf` and a `consume` for each portion, and none after the last.
-    ensures calls { SkipMade B.may reader.old left.old result left.new reader.new }
-    ensures never_interrupted { IfErr result IsFault }
-    ensures turns_never_rise { B.turns reader.new ≤ B.turns reader.old }
-    ensures spends_turn { left.new < left.old → B.turns reader.new < B.turns reader.old }
-    ensures filling { B.is_filling reader.old → B.is_filling reader.new }
-    ensures store { B.has_store reader.old → B.has_store reader.new
-        × (B.content reader.new ≡ B.content reader.old)
-        × (B.position reader.new + left.new ≡ B.position reader.old + left.old) }
+    ensures { Skipped B.BufRead reader.old left.old result left.new reader.new }
 {
     'pieces: while *left > 0 {
         match reader.fill_buf() {

@@ -1,126 +1,100 @@
 -- A boxed object after a call on the value in it.
-use Rattle.std.proofs.Common.{◌≡◌, ℕ, ◌<◌, ◌≤◌, List, [], ◌++◌, length, take, drop, Result, OnOk, IfOk, IsOk, IsOkAnd, refl, sym, subst, ap}
-use Rattle.std.specs.Borrow.{Bor}
+use Rattle.std.proofs.Common.{◌≡◌, ℕ, List, Result, sym, subst, refl}
 use Rattle.std.specs.declared.dyn_box.DynBox.{DynBox}
 use Rattle.no_std_io2_base.specs.declared.error.Error.{Error}
-use Rattle.no_std_io2_base.specs.declared.traits.read.Read.{Ghosts as ReaderGhosts}
-use Rattle.no_std_io2_base.specs.Errors.{IsNoInterruption}
-use Rattle.no_std_io2_base.specs.Read.{events_of, Reads, ReadsExact, SpendsTurn, ReadLaw, ReadExactLaw, Gave, gave}
-use Rattle.no_std_io2_base.specs.Read.{ExactMade, Filled, Consumed}
-use Rattle.no_std_io2_base.proofs.ReadCalls.{exact_map}
-use Rattle.no_std_io2_base.specs.BufRead.{ConsumeLaw, IsNotEmpty, BeginsWith, LendsFrom, LendingTurn, lent_bytes}
-use Rattle.no_std_io2_base.proofs.Readers.{box_reader, holds_alone, lends_as}
+use Rattle.std.specs.Borrow.{Bor}
+use Rattle.no_std_io2_base.specs.Read.{Reader, ReadLaw, ReadExactLaw}
+use Rattle.no_std_io2_base.specs.BufRead.{Lender, ConsumeLaw, FillBufLaw, AfterLoan}
 use Rattle.no_std_io2_base.proofs.CallsLemmas.{made_map}
+use Rattle.no_std_io2_base.proofs.Forwards.{ReadsThrough, read_through, exact_through, LendsThrough, consume_through, fill_through}
+use Rattle.no_std_io2_base.proofs.Forwards.{loan_through}
 use Rattle.no_std_io2_base.specs.Write.{WriteCall, Wrote, WroteAll, WroteRest, Flushed, Made, BoxMay}
-use Rattle.no_std_io2_base.specs.Writers.{Writer, CallOf}
-use Rattle.no_std_io2_base.specs.Writers.{WriteAllOf, WriteRestOf}
+use Rattle.no_std_io2_base.specs.Writers.{Writer, CallOf, WriteAllOf, WriteRestOf}
 
-module _ {I A : Type 0} {V : I → Type 0} (o : (p : (x : I) × V x) → ReaderGhosts (V p.0)) (box : DynBox I A V) where
+module _ {I A : Type 0} {V : I → Type 0} (box : DynBox I A V) where
   -- the box with another value
-  abbrev read_box : (i : I) → V i → DynBox I A V
-  read_box i new = record { ptr = box.ptr; vtable = i; alloc = box.alloc; value = new }
+  abbrev pub holding : (i : I) → V i → DynBox I A V
+  holding i new = record { ptr = box.ptr; vtable = i; alloc = box.alloc; value = new }
 
-  -- what a `read` did to the value that was lent, it did to the box
-  abbrev pub ReadIn : List ℕ → List ℕ → Result ℕ Error → ((x : I) × V x) → Type 0
-  ReadIn buf buf' reply lent = (new : V lent.0) → IfOk reply (λ n. n ≤ length buf')
-      → ((o lent).tells lent.1 → (o (lent.0, new)).tells new × Reads ((o lent).events lent.1) reply buf' ((o (lent.0, new)).events new))
-      → (o (lent.0, new)).turns new ≤ (o lent).turns lent.1 → SpendsTurn reply ((o lent).turns lent.1) ((o (lent.0, new)).turns new)
-      → (o lent).may lent.1 (Gave (length buf') (gave reply buf')) new
-      → ReadLaw (box_reader o) box buf reply buf' (read_box lent.0 new)
+  -- what a call did to the value that was lent, it did to the box, which that value is in
+  pub in_box : (P : (i : I) → V i → V i → Type 0) (Q : DynBox I A V → Type 0)
+      → ((new : V box.vtable) → P box.vtable box.value new → Q (holding box.vtable new))
+      → (lent : (i : I) × V i) → lent ≡ (box.vtable, box.value) → (new : V lent.0) → P lent.0 lent.1 new → Q (holding lent.0 new)
+  in_box P Q did lent back = subst (λ l. (new : V l.0) → P l.0 l.1 new → Q (holding l.0 new)) (sym back) did
 
-  -- and a `read_exact`
-  abbrev pub Exact : List ℕ → List ℕ → Result (Unit {0}) Error → ((x : I) × V x) → Type 0
-  Exact buf buf' reply lent = (new : V lent.0)
-      → ((o lent).tells lent.1 → (o (lent.0, new)).tells new
-      × ReadsExact ((o lent).may_take_none lent.1) ((o lent).events lent.1) reply buf' ((o (lent.0, new)).events new))
-      → IsNoInterruption reply → (length buf ≡ 0 → IsOk reply × (new ≡ lent.1)) → (o (lent.0, new)).turns new ≤ (o lent).turns lent.1
-      → (0 < length buf → OnOk reply ((o (lent.0, new)).turns new < (o lent).turns lent.1))
-      → ExactMade (λ v. (o (lent.0, v)).may v) lent.1 reply buf' new
-      → ReadExactLaw (box_reader o) box buf reply buf' (read_box lent.0 new)
+-- the value in a box, by what its trait object tells, and the box
+abbrev pub value_reader : {I : Type 0} {V : I → Type 0} → ((p : (x : I) × V x) → Reader (V p.0)) → (i : I) → Reader (V i)
+value_reader o i = record {
+  store = λ v. (o (i, v)).store v;
+  turns = λ v. (o (i, v)).turns v;
+  events = λ v. (o (i, v)).events v;
+  may = λ v. (o (i, v)).may v;
+}
 
-  -- the value that was lent is that in the box
-  pub call_in_box : (buf buf' : List ℕ) (reply : Result ℕ Error) (lent : (x : I) × V x) → lent ≡ (box.vtable, box.value)
-      → ReadIn buf buf' reply lent
-  call_in_box buf buf' reply lent back = subst (ReadIn buf buf' reply) (sym back) (λ new bound told less spent call. record {
-    bound = bound;
-    told = told;
-    turns_never_rise = less;
-    spends_turn = spent;
-    fills = λ f. absurd f;
-    store = λ s. absurd s;
-    call = (new, refl, call);
-  })
+abbrev pub box_reader : {I A : Type 0} {V : I → Type 0} → ((p : (x : I) × V x) → Reader (V p.0)) → Reader (DynBox I A V)
+box_reader o = record {
+  store = λ b. (value_reader o b.vtable).store b.value;
+  turns = λ b. (value_reader o b.vtable).turns b.value;
+  events = λ b. (value_reader o b.vtable).events b.value;
+  may = λ b. BoxMay b (value_reader o b.vtable).may;
+}
 
-  pub exact_box : (buf buf' : List ℕ) (reply : Result (Unit {0}) Error) (lent : (x : I) × V x) → lent ≡ (box.vtable, box.value)
-      → Exact buf buf' reply lent
-  exact_box buf buf' reply lent back = subst (Exact buf buf' reply) (sym back) (λ new told fault empty less spent calls. record {
-    told = told;
-    never_interrupted = fault;
-    empty = λ none. let done = empty none in (done.0, ap (read_box box.vtable) done.1);
-    turns_never_rise = less;
-    spends_turn = spent;
-    filling = λ f. f;
-    store = λ s. absurd s;
-    calls = exact_map (read_box box.vtable) (λ a b call made. (b, refl, made)) calls;
-  })
+module _ {I A : Type 0} {V : I → Type 0} (o : (p : (x : I) × V x) → Reader (V p.0)) (box : DynBox I A V) where
+  of_reader : ReadsThrough (value_reader o box.vtable) (box_reader o) (holding box box.vtable)
+  of_reader = record { told = λ x. refl; may = λ x y call may. (y, refl, may) }
 
-  -- a `consume` of the value that was lent, and of the box
-  abbrev pub ConsumeIn : (((x : I) × V x) → List ℕ) → ℕ → ((x : I) × V x) → Type 0
-  ConsumeIn held amount lent = (new : V lent.0) → held (lent.0, new) ≡ drop amount (held lent)
-      → ((o lent).tells lent.1 → (o (lent.0, new)).tells new
-      × ((o lent).events lent.1 ≡ events_of (take amount (held lent)) ++ (o (lent.0, new)).events new))
-      → (o (lent.0, new)).turns new ≤ (o lent).turns lent.1 → (0 < amount → (o (lent.0, new)).turns new < (o lent).turns lent.1)
-      → (o lent).may lent.1 (Consumed amount) new
-      → ConsumeLaw (lends_as (box_reader o) (holds_alone (λ b. held (b.vtable, b.value)))) box amount
-      (read_box lent.0 new)
+  -- what a call did to the value that was lent, it did to the box
+  pub read_box : {buf buf' : List ℕ} {reply : Result ℕ Error} (lent : (x : I) × V x) → lent ≡ (box.vtable, box.value)
+      → (new : V lent.0) → ReadLaw (value_reader o lent.0) lent.1 buf reply buf' new
+      → ReadLaw (box_reader o) box buf reply buf' (holding box lent.0 new)
+  read_box {buf} {buf'} {reply} =
+      in_box box (λ i a b. ReadLaw (value_reader o i) a buf reply buf' b) (ReadLaw (box_reader o) box buf reply buf')
+      (λ new. read_through (holding box box.vtable) of_reader)
 
-  pub consume_box : (held : ((x : I) × V x) → List ℕ) (amount : ℕ) (lent : (x : I) × V x) → lent ≡ (box.vtable, box.value)
-      → ConsumeIn held amount lent
-  consume_box held amount lent back = subst (ConsumeIn held amount) (sym back) (λ new dropped told less spent call. record {
-    held = dropped;
-    told = told;
-    turns_never_rise = less;
-    spends_turn = spent;
-    filling = λ f. f;
-    store = λ s. absurd s;
-    call = (new, refl, call);
-  })
+  pub exact_box : {buf buf' : List ℕ} {reply : Result (Unit {0}) Error} (lent : (x : I) × V x) → lent ≡ (box.vtable, box.value)
+      → (new : V lent.0) → ReadExactLaw (value_reader o lent.0) lent.1 buf reply buf' new
+      → ReadExactLaw (box_reader o) box buf reply buf' (holding box lent.0 new)
+  exact_box {buf} {buf'} {reply} = in_box box (λ i a b. ReadExactLaw (value_reader o i) a buf reply buf' b)
+      (ReadExactLaw (box_reader o) box buf reply buf') (λ new. exact_through (holding box box.vtable) of_reader)
 
-module _ {I A : Type 0} {V : I → Type 0} (o : (p : (x : I) × V x) → ReaderGhosts (V p.0)) (held : ((x : I) × V x) → List ℕ)
-    (box : DynBox I A V) (reply : Result (Bor (List ℕ)) Error) where
-  -- what a `fill_buf` of a value says
-  abbrev pub Lent : ((x : I) × V x) → Type 0
-  Lent old = (IsNotEmpty (held old) → IsOkAnd reply (λ s. s.now ≡ held old))
-      × ((o old).tells old.1 → IfOk reply (λ s. BeginsWith ((o old).events old.1) s.now))
-      × ((o old).tells old.1 → IfOk reply (λ s. s.now ≡ [] → (o old).events old.1 ≡ []))
+-- a value that lends, and its box
+abbrev pub value_lender : {I : Type 0} {V : I → Type 0} → ((p : (x : I) × V x) → Lender (V p.0)) → (i : I) → Lender (V i)
+value_lender o i = record {
+  store = λ v. (o (i, v)).store v;
+  turns = λ v. (o (i, v)).turns v;
+  events = λ v. (o (i, v)).events v;
+  may = λ v. (o (i, v)).may v;
+  held = λ v. (o (i, v)).held v;
+}
 
-  -- what it did to the value that was lent, it did to the box
-  abbrev pub Loan : ((x : I) × V x) → Type 0
-  Loan lent = (new : V lent.0) → Lent lent
-      → ((o lent).tells lent.1 → (o (lent.0, new)).tells new × LendsFrom ((o lent).events lent.1) reply ((o (lent.0, new)).events new))
-      → (o (lent.0, new)).turns new ≤ (o lent).turns lent.1
-      → LendingTurn reply ((o lent).turns lent.1) ((o (lent.0, new)).turns new) → (IsNotEmpty (held lent) → new ≡ lent.1)
-      → (o lent).may lent.1 (Filled (lent_bytes reply)) new
-      → Lent (box.vtable, box.value)
-      × ((o (box.vtable, box.value)).tells box.value → (o (lent.0, new)).tells new
-      × LendsFrom ((o (box.vtable, box.value)).events box.value) reply ((o (lent.0, new)).events new))
-      × ((o (lent.0, new)).turns new ≤ (o (box.vtable, box.value)).turns box.value)
-      × LendingTurn reply ((o (box.vtable, box.value)).turns box.value) ((o (lent.0, new)).turns new)
-      × (IsNotEmpty (held (box.vtable, box.value))
-      → record { ptr = box.ptr; vtable = lent.0; alloc = box.alloc; value = new } ≡ box)
-      × BoxMay box (λ v. (o (box.vtable, v)).may v) (Filled (lent_bytes reply))
-      (record { ptr = box.ptr; vtable = lent.0; alloc = box.alloc; value = new })
+abbrev pub box_lender : {I A : Type 0} {V : I → Type 0} → ((p : (x : I) × V x) → Lender (V p.0)) → Lender (DynBox I A V)
+box_lender o = record {
+  store = λ b. (value_lender o b.vtable).store b.value;
+  turns = λ b. (value_lender o b.vtable).turns b.value;
+  events = λ b. (value_lender o b.vtable).events b.value;
+  may = λ b. BoxMay b (value_lender o b.vtable).may;
+  held = λ b. (value_lender o b.vtable).held b.value;
+}
 
-  -- the value that was lent is that in the box
-  pub loan_box : (lent : (x : I) × V x) → lent ≡ (box.vtable, box.value) → Loan lent
-  loan_box lent back = subst Loan (sym back) (λ new law told less turn same call. (
-    law,
-    told,
-    less,
-    turn,
-    λ some. ap (λ v. record { ptr = box.ptr; vtable = box.vtable; alloc = box.alloc; value = v }) (same some),
-    (new, refl, call),
-  ))
+module _ {I A : Type 0} {V : I → Type 0} (o : (p : (x : I) × V x) → Lender (V p.0)) (box : DynBox I A V) where
+  of_lender : LendsThrough (value_lender o box.vtable) (box_lender o) (holding box box.vtable)
+  of_lender = record { reads = record { told = λ x. refl; may = λ x y call may. (y, refl, may) }; held = λ x. refl }
+
+  pub consume_box : {n : ℕ} (lent : (x : I) × V x) → lent ≡ (box.vtable, box.value)
+      → (new : V lent.0) → ConsumeLaw (value_lender o lent.0) lent.1 n new → ConsumeLaw (box_lender o) box n (holding box lent.0 new)
+  consume_box {n} = in_box box (λ i a b. ConsumeLaw (value_lender o i) a n b) (ConsumeLaw (box_lender o) box n)
+      (λ new. consume_through (holding box box.vtable) of_lender)
+
+  pub fill_box : {reply : Result (Bor (List ℕ)) Error} (lent : (x : I) × V x) → lent ≡ (box.vtable, box.value)
+      → FillBufLaw (value_lender o lent.0) lent.1 reply → FillBufLaw (box_lender o) box reply
+  fill_box {reply} lent back =
+      subst (λ l. FillBufLaw (value_lender o l.0) l.1 reply → FillBufLaw (box_lender o) box reply) (sym back)
+      (fill_through (holding box box.vtable) of_lender)
+
+  pub loan_box : (reply : Result (Bor (List ℕ)) Error) (lent : (x : I) × V x) → lent ≡ (box.vtable, box.value)
+      → (new : V lent.0) → AfterLoan (value_lender o lent.0) lent.1 reply new → AfterLoan (box_lender o) box reply (holding box lent.0 new)
+  loan_box reply = in_box box (λ i a b. AfterLoan (value_lender o i) a reply b) (AfterLoan (box_lender o) box reply)
+      (λ new. loan_through {R' = box_lender o} (holding box box.vtable) of_lender reply)
 
 module _ {I A : Type 0} {V : I → Type 0} (o : (p : (x : I) × V x) → Writer (V p.0)) (box : DynBox I A V) where
   -- a value in a box, as a writer,
@@ -139,13 +113,9 @@ module _ {I A : Type 0} {V : I → Type 0} (o : (p : (x : I) × V x) → Writer 
     may = λ b. BoxMay b (value_writer b.vtable).may;
   }
 
-  -- the box with another value
-  abbrev other_box : (i : I) → V i → DynBox I A V
-  other_box i new = record { ptr = box.ptr; vtable = i; alloc = box.alloc; value = new }
-
   -- what a call did to a value, it did to the box
   call_box : (i : I) (old new : V i) (call : WriteCall) → CallOf (value_writer i) old call new
-      → CallOf box_writer (other_box i old) call (other_box i new)
+      → CallOf box_writer (holding box i old) call (holding box i new)
   call_box i old new (Wrote x reply) law = record {
     bound = law.bound;
     moves = law.moves;
@@ -163,44 +133,34 @@ module _ {I A : Type 0} {V : I → Type 0} (o : (p : (x : I) × V x) → Writer 
 
   -- and so did many
   made_box : (i : I) (C : List WriteCall) (old new : V i) → Made (CallOf (value_writer i)) old C new
-      → Made (CallOf box_writer) (other_box i old) C (other_box i new)
-  made_box i = made_map (CallOf (value_writer i)) (CallOf box_writer) (other_box i) (call_box i)
+      → Made (CallOf box_writer) (holding box i old) C (holding box i new)
+  made_box i = made_map (CallOf (value_writer i)) (CallOf box_writer) (holding box i) (call_box i)
 
   -- the value that was lent is that in the box
   pub lent_call : (call : WriteCall) (lent : (i : I) × V i) → lent ≡ (box.vtable, box.value)
-      → (new : V lent.0) → CallOf (value_writer lent.0) lent.1 call new → CallOf box_writer box call (other_box lent.0 new)
-  lent_call call lent back =
-      subst (λ l. (new : V l.0) → CallOf (value_writer l.0) l.1 call new → CallOf box_writer box call (other_box l.0 new)) (sym back)
+      → (new : V lent.0) → CallOf (value_writer lent.0) lent.1 call new → CallOf box_writer box call (holding box lent.0 new)
+  lent_call call = in_box box (λ i a b. CallOf (value_writer i) a call b) (CallOf box_writer box call)
       (λ new law. call_box box.vtable box.value new call law)
 
-  -- what a `write_all` of a value did, and what it did to the box
-  abbrev pub AllOfValue : List ℕ → Result (Unit {0}) Error → ((i : I) × V i) → Type 0
-  AllOfValue x reply lent = (new : V lent.0)
-      → WriteAllOf (value_writer lent.0) lent.1 x reply new
-      → WriteAllOf box_writer box x reply
-      (other_box lent.0 new)
-
-  abbrev pub RestOfValue : List ℕ → Result (Unit {0}) Error → List ℕ → ((i : I) × V i) → Type 0
-  RestOfValue x reply left lent = (new : V lent.0)
-      → WriteRestOf (value_writer lent.0) lent.1 x reply new left
-      → WriteRestOf box_writer box x reply
-      (other_box lent.0 new) left
-
   pub write_all_box : (x : List ℕ) (reply : Result (Unit {0}) Error) (lent : (i : I) × V i) → lent ≡ (box.vtable, box.value)
-      → AllOfValue x reply lent
-  write_all_box x reply lent back = subst (AllOfValue x reply) (sym back) (λ new law. record {
-    never_interrupted = law.never_interrupted;
-    moves = law.moves;
-    all = law.all;
-    calls = (law.calls.0, made_box box.vtable law.calls.0 box.value new law.calls.1, law.calls.2);
-  })
+      → (new : V lent.0) → WriteAllOf (value_writer lent.0) lent.1 x reply new → WriteAllOf box_writer box x reply (holding box lent.0 new)
+  write_all_box x reply = in_box box (λ i a b. WriteAllOf (value_writer i) a x reply b) (WriteAllOf box_writer box x reply)
+      (λ new law. record {
+        never_interrupted = law.never_interrupted;
+        moves = law.moves;
+        all = law.all;
+        calls = (law.calls.0, made_box box.vtable law.calls.0 box.value new law.calls.1, law.calls.2);
+      })
 
   pub write_rest_box : (x : List ℕ) (reply : Result (Unit {0}) Error) (left : List ℕ) (lent : (i : I) × V i)
-      → lent ≡ (box.vtable, box.value) → RestOfValue x reply left lent
-  write_rest_box x reply left lent back = subst (RestOfValue x reply left) (sym back) (λ new law. record {
-    never_interrupted = law.never_interrupted;
-    sends = law.sends;
-    done = law.done;
-    all = law.all;
-    calls = (law.calls.0, made_box box.vtable law.calls.0 box.value new law.calls.1, law.calls.2);
-  })
+      → lent ≡ (box.vtable, box.value) → (new : V lent.0) → WriteRestOf (value_writer lent.0) lent.1 x reply new left
+      → WriteRestOf box_writer box x reply (holding box lent.0 new) left
+  write_rest_box x reply left = in_box box (λ i a b. WriteRestOf (value_writer i) a x reply b left)
+      (λ b. WriteRestOf box_writer box x reply b left)
+      (λ new law. record {
+        never_interrupted = law.never_interrupted;
+        sends = law.sends;
+        done = law.done;
+        all = law.all;
+        calls = (law.calls.0, made_box box.vtable law.calls.0 box.value new law.calls.1, law.calls.2);
+      })

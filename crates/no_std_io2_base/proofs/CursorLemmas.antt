@@ -14,7 +14,8 @@ use Rattle.no_std_io2_base.specs.declared.error.ErrorKind.TheVariants.{WriteZero
 use Rattle.no_std_io2_base.specs.Errors.{error_kind, is_interruption, IsFault, IsNoInterruption, IsOutOfMemory}
 use Rattle.no_std_io2_base.specs.Write.{Told, Moves, MovesFront, told_out, taken, write_mishap, zero_write}
 use Rattle.no_std_io2_base.proofs.CallsLemmas.{all_own}
-use Rattle.no_std_io2_base.specs.Cursor.{bytes_before, put_at, put_over, fitting, IsRefusal, PutsWhole, PutsAll, PutsFitting, PutsAllFitting}
+use Rattle.no_std_io2_base.specs.Cursor.{bytes_before, put_at, put_over, fitting, IsRefusal, PutsWhole, PutsAll, PutsFitting}
+use Rattle.no_std_io2_base.specs.Cursor.{PutsAllFitting}
 use Rattle.no_std_io2_base.specs.Appends.{AppendsWhole}
 
 -- n bytes further on

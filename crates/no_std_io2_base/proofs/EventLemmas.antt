@@ -1,13 +1,17 @@
 -- How bytes, cuts and faults of events go with `++`.
 use Rattle.std.proofs.Common.{◌≡◌, ℕ, zero, suc, ◌+◌, ◌-◌, ◌<◌, ◌≤◌, List, [], ◌∷◌, ◌++◌, length, take, refl, sym, ap, ◌∙◌, arith}
-use Rattle.no_std_io2_base.specs.Read.{Event, byte, fails, events_of, bytes, HasNoFault, cut}
-pub use Rattle.no_std_io2_base.specs.Read.{bytes-events_of}
+use Rattle.no_std_io2_base.specs.Events.{Event, byte, fails, events_of, bytes, HasNoFault, cut}
 
 -- the bytes of P and then Q are the bytes of P, and then those of Q
 pub bytes-append : (P Q : List Event) → bytes (P ++ Q) ≡ bytes P ++ bytes Q
 bytes-append [] Q = refl
 bytes-append (byte b ∷ P) Q = ap (λ l. b ∷ l) (bytes-append P Q)
 bytes-append (fails e ∷ P) Q = bytes-append P Q
+
+-- the bytes of the events of some bytes are these
+pub bytes-events_of : (bs : List ℕ) → bytes (events_of bs) ≡ bs
+bytes-events_of [] = refl
+bytes-events_of (b ∷ bs) = ap (λ l. b ∷ l) (bytes-events_of bs)
 
 -- bytes turned into events are as many as before
 pub length-events_of : (bs : List ℕ) → length (events_of bs) ≡ length bs

@@ -1,13 +1,13 @@
 -- Which errors the loops of a writer return, if each of its calls fails with such errors only.
-use Rattle.std.proofs.Common.{◌≡◌, ℕ, ◌<◌, List, ◌∷◌, Result, Ok, Err, IfErr, IfOk, length, arith, subst, sym, true≢false, inl, inr}
+use Rattle.std.proofs.Common.{ℕ, List, Result, Ok, Err, IfErr, arith, subst, sym, true≢false, inl, inr}
 use Rattle.no_std_io2_base.specs.declared.error.Error.{Error}
 use Rattle.no_std_io2_base.specs.Errors.{IsOutOfMemory}
-use Rattle.no_std_io2_base.specs.Write.{WriteCall, Wrote, WroteAll, WroteRest, Flushed, Made, RestCalls, AllCalls}
+use Rattle.no_std_io2_base.specs.Write.{WriteCall, Wrote, WroteAll, WroteRest, Flushed, Made, AllCalls}
 use Rattle.no_std_io2_base.specs.Write.{Writes, none, took, again, stuck, fault}
 use Rattle.no_std_io2_base.specs.Writers.{Writer, CallOf, WriteAllOf, FlushOf}
 use Rattle.no_std_io2_base.proofs.CallsLemmas.{made_map, law_may}
 use Rattle.no_std_io2_base.specs.Appends.{AppendsWhole, AppendsMay}
-use Rattle.no_std_io2_base.specs.Fails.{FailsBy, FailsOnly}
+use Rattle.no_std_io2_base.specs.Fails.{FailsOnly}
 
 -- a vector fails by `OutOfMemory` only
 whole_fails : {A : Type 0} (old new x : List ℕ) (len capacity : ℕ) (reply : Result A Error) → AppendsWhole old len capacity x reply new

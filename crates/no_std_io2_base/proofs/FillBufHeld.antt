@@ -1,12 +1,16 @@
 -- The events begin with the held bytes.
 use Rattle.std.proofs.Common.{◌≡◌, ℕ, zero, suc, ◌≤◌, ◌==◌, true, List, [], ◌∷◌, ◌++◌, length, take, refl, sym, ap, ◌∙◌, arith}
-use Rattle.std.proofs.Common.{append_assoc, append-nil}
-use Rattle.no_std_io2_base.specs.Read.{Event, byte, events_of, cut}
-use Rattle.no_std_io2_base.specs.BufRead.{BeginsWith}
+use Rattle.std.proofs.Common.{append_assoc, append-nil, Option, None, Some, IfSome}
+use Rattle.no_std_io2_base.specs.Events.{Event, byte, events_of, cut, BeginsWith}
 
 -- the events that are these bytes begin with all of them
 pub begins_whole : (bs : List ℕ) → BeginsWith (events_of bs) bs
 begins_whole bs = record { rest = []; is = sym (append-nil (events_of bs)) }
+
+-- any events begin with no bytes
+pub begins_nothing : (E : Option (List Event)) → IfSome E (λ l. BeginsWith l [])
+begins_nothing None = tt
+begins_nothing (Some E) = record { rest = E; is = refl }
 
 -- events that begin with these bytes still do if more events follow
 pub begins_append : {E : List Event} {bs : List ℕ} (F : List Event) → BeginsWith E bs → BeginsWith (E ++ F) bs

@@ -1,12 +1,20 @@
--- What one piece taken says of all pieces that a reader gives.
-use Rattle.std.proofs.Common.{◌≡◌, ℕ, ◌<◌, ◌⊎◌, true, false, cond, if◌then◌else◌, Option, Some, None, List, [], ◌∷◌}
-use Rattle.std.proofs.Common.{◌++◌, length, filter, refl, sym, ap, ap₂, ◌∙◌, subst, arith, append-nil, append_assoc}
-use Rattle.std.proofs.Common.{eq-eqb, ne_eqb, inl, inr, length-append, drop_of_length-le}
+-- What a call that takes one piece says of all pieces that are to come, if the reader tells its events; and what its error is.
+use Rattle.std.proofs.Common.{◌≡◌, ℕ, ◌+◌, ◌<◌, ◌≤◌, ◌⊎◌, true, false, cond, if◌then◌else◌, Option, Some, None, List, [], ◌∷◌}
+use Rattle.std.proofs.Common.{◌++◌, length, filter, refl, sym, ap, ap₂, ◌∙◌, subst, arith, append-nil, append_assoc, Result, Ok, Err}
+use Rattle.std.proofs.Common.{inl, inr, ⊎_elim, length-append, IfSome, OnSome, IfOk, IfErr, Vec, vec_len, vec_capacity, ne_eqb, Bool, ◌==◌}
+use Rattle.std.proofs.Common.{suc}
+use Rattle.std.proofs.lemmas.List.{append_cancel_left, nil_from_length}
 use Rattle.no_std_io2_base.specs.declared.error.Error.{Error}
-use Rattle.no_std_io2_base.specs.Read.{Event, byte, fails, bytes, HasNoFault, EndsInFault, bytes_to_fault, first_fault}
-use Rattle.no_std_io2_base.specs.Pieces.{Lacks, ends_in, in_front, pieces, GivesPiece, pieces_before, pieces_given}
-use Rattle.no_std_io2_base.proofs.EventLemmas.{bytes-append}
-use Rattle.no_std_io2_base.proofs.PieceLaws.{pieces-at, pieces-other}
+use Rattle.no_std_io2_base.specs.Errors.{IsFault, IsOutOfMemory}
+use Rattle.no_std_io2_base.specs.Events.{Event, byte, fails, events_of, bytes, HasNoFault, EndsInFault, bytes_to_fault, first_fault}
+use Rattle.no_std_io2_base.specs.Takes.{Tells, Takes, AreTaken, to_come}
+use Rattle.no_std_io2_base.specs.BufRead.{Lender, lender_tells, ReadUntilLaw, SkipUntilLaw, NextPieceLaw, at_most_max}
+use Rattle.no_std_io2_base.specs.Pieces.{Lacks, EndsAt, IsPiecePart, ComesBehind, PieceEnds, YieldsRead, ends_in, but_last, up_to, pieces}
+use Rattle.no_std_io2_base.specs.Pieces.{pieces_before, pieces_given, ends_at, items_left}
+use Rattle.no_std_io2_base.proofs.EventLemmas.{bytes-append, bytes-events_of, length-events_of, HasNoFault-events_of}
+use Rattle.no_std_io2_base.proofs.PieceLaws.{pieces-first, pieces-last, ends_in-end, ends_in-lacks}
+use Rattle.no_std_io2_base.proofs.PieceLemmas.{memory_fault}
+use Rattle.no_std_io2_base.proofs.TakesLemmas.{spends}
 
 -- the first fault of events without a fault, followed by others, is that of the others
 pub first_fault-append : (P Q : List Event) → HasNoFault P → first_fault (P ++ Q) ≡ first_fault Q
@@ -19,28 +27,6 @@ pub bytes_to_fault-append : (P Q : List Event) → HasNoFault P → bytes_to_fau
 bytes_to_fault-append [] Q h = refl
 bytes_to_fault-append (byte b ∷ P) Q h = ap (λ l. b ∷ l) (bytes_to_fault-append P Q h)
 bytes_to_fault-append (fails e ∷ P) Q h = ap (λ t. if t then bytes_to_fault (P ++ Q) else []) h.0 ∙ bytes_to_fault-append P Q h.1
-
--- the first piece ends at the first d
-pub pieces-first : (d : ℕ) (bs cs : List ℕ) → Lacks d bs → pieces d (bs ++ d ∷ cs) ≡ (bs ++ d ∷ []) ∷ pieces d cs
-pieces-first d [] cs h = pieces-at d d cs refl
-pieces-first d (b ∷ bs) cs h = pieces-other d b (bs ++ d ∷ cs) h.0 ∙ ap (in_front b) (pieces-first d bs cs h.1)
-
--- without a d there is one piece
-pub pieces-last : (d b : ℕ) (bs : List ℕ) → Lacks d (b ∷ bs) → pieces d (b ∷ bs) ≡ (b ∷ bs) ∷ []
-pieces-last d b [] h = pieces-other d b [] h.0
-pieces-last d b (c ∷ bs) h = pieces-other d b (c ∷ bs) h.0 ∙ ap (in_front b) (pieces-last d c bs h.1)
-
--- bytes followed by d end in d
-pub ends_in-end : (d : ℕ) (bs : List ℕ) → ends_in d (bs ++ d ∷ []) ≡ true
-ends_in-end d [] = eq-eqb d d refl
-ends_in-end d (b ∷ []) = eq-eqb d d refl
-ends_in-end d (b ∷ c ∷ bs) = ends_in-end d (c ∷ bs)
-
--- bytes without a d do not end in d
-pub ends_in-lacks : (d : ℕ) (bs : List ℕ) → Lacks d bs → ends_in d bs ≡ false
-ends_in-lacks d [] h = refl
-ends_in-lacks d (b ∷ []) h = ne_eqb b d h.0
-ends_in-lacks d (b ∷ c ∷ bs) h = ends_in-lacks d (c ∷ bs) h.1
 
 -- a piece that ends in d is the first piece, whatever follows
 before-first : (d : ℕ) (f : Option Error) (bs cs : List ℕ) → Lacks d bs
@@ -59,45 +45,54 @@ given-last : (d : ℕ) (bs : List ℕ) → Lacks d bs → 0 < length bs → piec
 given-last d [] none some = absurd (omega (arith, some))
 given-last d (b ∷ bs) none some = ap (pieces d) (append-nil (b ∷ bs)) ∙ pieces-last d b bs none
 
--- one piece, and then what the rest gives
-pub given_next : (d : ℕ) (E : List Event) (n : ℕ) (piece : List ℕ) (after : List Event) → GivesPiece d E n [] piece after → 0 < n
-    → (pieces_given d E ≡ piece ∷ pieces_given d after) × (first_fault E ≡ first_fault after)
-given_next d E n piece after g some = (by_end g.ends, ap first_fault g.split ∙ first_fault-append g.taken after g.no_fault)
-  where
-    by_end : ((front : List Event) × (g.taken ≡ front ++ byte d ∷ []) × Lacks d (bytes front)) ⊎ (Lacks d (bytes g.taken) × (after ≡ []))
-        → pieces_given d E ≡ piece ∷ pieces_given d after
-    by_end (inl end) =
-        let is : bytes g.taken ≡ bytes end.0 ++ d ∷ [] = ap bytes end.1 ∙ bytes-append end.0 (byte d ∷ []) in
-        let rest = bytes_to_fault after in
-        let whole : bytes g.taken ++ rest ≡ bytes end.0 ++ d ∷ rest = ap (λ l. l ++ rest) is ∙ append_assoc (bytes end.0) (d ∷ []) rest in
-        ap (pieces_given d) g.split ∙ given-front d g.taken after g.no_fault ∙ ap (pieces_before d (first_fault after)) whole
-        ∙ before-first d (first_fault after) (bytes end.0) rest end.2 ∙ ap (λ l. l ∷ pieces_given d after) (sym is ∙ sym g.appended)
-    by_end (inr end) =
-        let all : E ≡ g.taken ++ [] = g.split ∙ ap (λ l. g.taken ++ l) end.1 in
-        ap (pieces_given d) all ∙ given-front d g.taken [] g.no_fault ∙ given-last d (bytes g.taken) end.0 (omega (arith, some, g.count))
-        ∙ ap (λ l. l ∷ []) (sym g.appended) ∙ ap (λ l. piece ∷ pieces_given d l) (sym end.1)
+-- the events E give this piece next, and then what those after it give
+pub record GivesNext (d : ℕ) (E : List Event) (piece : List ℕ) (after : List Event) : Type 0 where
+  pub pieces : pieces_given d E ≡ piece ∷ pieces_given d after
+  pub fault : first_fault E ≡ first_fault after
+  pub bytes : bytes_to_fault E ≡ piece ++ bytes_to_fault after
 
--- no byte was given: nothing is to come
-pub given_none : (d : ℕ) (E : List Event) (piece : List ℕ) (after : List Event) → GivesPiece d E 0 [] piece after
-    → (pieces_given d E ≡ []) × (first_fault E ≡ None)
-given_none d E piece after g = by_end g.ends
+-- they give nothing, and have no fault
+abbrev pub GivesNone : ℕ → List Event → Type 0
+GivesNone d E = (pieces_given d E ≡ []) × (first_fault E ≡ None)
+
+-- What a piece that was read with this result says of the events E: it comes next; or none does. After an error, it is the first fault, and
+-- no piece comes before it; or a byte was to come, and memory was refused.
+abbrev pub GivenRead : ℕ → List Event → List ℕ → Result ℕ Error → List Event → Type 0
+GivenRead d E piece (Ok n) after = ((0 < length piece) × GivesNext d E piece after) ⊎ ((length piece ≡ 0) × GivesNone d E)
+GivenRead d E piece (Err e) after = ((pieces_given d E ≡ []) × (first_fault E ≡ Some e))
+    ⊎ (IsOutOfMemory e × (0 < length (bytes_to_fault E)))
+
+-- events that end in d, or all, are the next piece
+given_next : (d : ℕ) (E P after : List Event) → E ≡ P ++ after → HasNoFault P → EndsAt d P ⊎ (Lacks d (bytes P) × (after ≡ []))
+    → 0 < length (bytes P) → GivesNext d E (bytes P) after
+given_next d E P after split free ends some = record {
+  pieces = by_end ends;
+  fault = ap first_fault split ∙ first_fault-append P after free;
+  bytes = ap bytes_to_fault split ∙ bytes_to_fault-append P after free;
+}
   where
-    by_end : ((front : List Event) × (g.taken ≡ front ++ byte d ∷ []) × Lacks d (bytes front)) ⊎ (Lacks d (bytes g.taken) × (after ≡ []))
-        → (pieces_given d E ≡ []) × (first_fault E ≡ None)
+    by_end : EndsAt d P ⊎ (Lacks d (bytes P) × (after ≡ [])) → pieces_given d E ≡ bytes P ∷ pieces_given d after
     by_end (inl end) =
-        absurd
-        (omega (
-          arith,
-          g.count,
-          ap length (ap bytes end.1 ∙ bytes-append end.0 (byte d ∷ [])),
-          length-append (bytes end.0) (d ∷ []),
-        ))
+        let is : bytes P ≡ bytes end.0 ++ d ∷ [] = ap bytes end.1 ∙ bytes-append end.0 (byte d ∷ []) in
+        let rest = bytes_to_fault after in
+        let whole : bytes P ++ rest ≡ bytes end.0 ++ d ∷ rest = ap (λ l. l ++ rest) is ∙ append_assoc (bytes end.0) (d ∷ []) rest in
+        ap (pieces_given d) split ∙ given-front d P after free ∙ ap (pieces_before d (first_fault after)) whole
+        ∙ before-first d (first_fault after) (bytes end.0) rest end.2 ∙ ap (λ l. l ∷ pieces_given d after) (sym is)
     by_end (inr end) =
-        let all : E ≡ g.taken ++ [] = g.split ∙ ap (λ l. g.taken ++ l) end.1 in
-        let none : bytes g.taken ≡ [] = drop_of_length-le (bytes g.taken) {i = 0} (omega (arith, g.count)) in (
-          ap (pieces_given d) all ∙ given-front d g.taken [] g.no_fault ∙ ap (λ l. pieces d (l ++ [])) none,
-          ap first_fault all ∙ first_fault-append g.taken [] g.no_fault,
-        )
+        let all : E ≡ P ++ [] = split ∙ ap (λ l. P ++ l) end.1 in
+        ap (pieces_given d) all ∙ given-front d P [] free ∙ given-last d (bytes P) end.0 some
+        ∙ ap (λ l. bytes P ∷ pieces_given d l) (sym end.1)
+
+-- if they have no byte, they are all
+given_none : (d : ℕ) (E P after : List Event) → E ≡ P ++ after → HasNoFault P → EndsAt d P ⊎ (Lacks d (bytes P) × (after ≡ []))
+    → length (bytes P) ≡ 0 → GivesNone d E
+given_none d E P after split free (inl end) none =
+    absurd (omega (arith, none, ap length (ap bytes end.1 ∙ bytes-append end.0 (byte d ∷ [])), length-append (bytes end.0) (d ∷ [])))
+given_none d E P after split free (inr end) none =
+    let all : E ≡ P ++ [] = split ∙ ap (λ l. P ++ l) end.1 in (
+      ap (pieces_given d) all ∙ given-front d P [] free ∙ ap (λ l. pieces d (l ++ [])) (nil_from_length (bytes P) none),
+      ap first_fault all ∙ first_fault-append P [] free,
+    )
 
 -- bytes without a d give no piece that a d ended
 none_ended : (d : ℕ) (bs : List ℕ) → Lacks d bs → filter (ends_in d) (pieces d bs) ≡ []
@@ -117,3 +112,224 @@ given_fault d E e taken after split none f =
           ∙ ap (λ l. filter (ends_in d) (pieces d l)) (append-nil (bytes f.0)) ∙ none_ended d (bytes f.0) (subst (Lacks d) front none),
       ap first_fault all ∙ first_fault-append f.0 (fails e ∷ after) f.2 ∙ here,
     )
+
+-- a part of a piece comes before the first fault
+part_comes : (P rest : List Event) (part : List ℕ) → HasNoFault P
+    → bytes_to_fault (P ++ (events_of part ++ rest)) ≡ bytes P ++ (part ++ bytes_to_fault rest)
+part_comes P rest part free = bytes_to_fault-append P _ free
+    ∙ ap (λ l. bytes P ++ l) (bytes_to_fault-append (events_of part) rest (HasNoFault-events_of part)
+    ∙ ap (λ l. l ++ bytes_to_fault rest) (bytes-events_of part))
+
+-- if events are told, they still are, and P is gone
+told_after : (E : List Event) (P : List Event) (old new : Option (List Event)) → AreTaken old P new → old ≡ Some E
+    → (after : List Event) × (new ≡ Some after) × (E ≡ P ++ after)
+told_after E P None new are is = absurd (let no : ⊥ = cc in no)
+told_after E P (Some F) None are is = absurd are
+told_after E P (Some F) (Some after) are is = (after, refl, let same : E ≡ F = cc in same ∙ are)
+
+-- what holds if events are told holds of them
+of_told : {E : List Event} (t : Option (List Event)) (Q : List Event → Type 0) → t ≡ Some E → IfSome t Q → Q E
+of_told t Q is h = subst (λ o. IfSome o Q) is h
+
+-- if P is all, nothing is left
+none_left : (E P after : List Event) → E ≡ P ++ after → E ≡ P → after ≡ []
+none_left E P after split all = append_cancel_left P after [] (sym split ∙ all ∙ sym (append-nil P))
+
+-- what a piece says of all
+given_read : (lacks : ℕ → Type 0) (d : ℕ) (t : Tells) (E P after : List Event) (read : Result ℕ Error) → to_come t ≡ Some E → E ≡ P ++ after
+    → PieceEnds lacks d t P read → GivenRead d E (bytes P) read after
+given_read lacks d t E P after (Ok n) told split (free, count, ends) = by_length (bytes P) refl
+  where
+    ends_by : EndsAt d P ⊎ (Lacks d (bytes P) × (after ≡ []))
+    ends_by = ⊎_elim inl (λ all. inr (all.0, none_left E P after split (of_told (to_come t) (λ l. l ≡ P) told all.1))) ends
+
+    by_length : (bs : List ℕ) → bytes P ≡ bs
+        → ((0 < length (bytes P)) × GivesNext d E (bytes P) after) ⊎ ((length (bytes P) ≡ 0) × GivesNone d E)
+    by_length [] is = let none = ap length is in inr (none, given_none d E P after split free ends_by none)
+    by_length (b ∷ bs) is =
+        let some : 0 < length (bytes P) = omega (arith, ap length is) in inl (some, given_next d E P after split free ends_by some)
+given_read lacks d t E P after (Err e) told split (none, inl fault) = inl (given_fault d E e P after split none fault)
+given_read lacks d t E P after (Err e) told split (none, inr (free, refused, (part, is_part, comes, why))) =
+    let here = of_told (to_come t) (λ l. (rest : List Event) × (l ≡ P ++ (events_of part ++ rest))) told comes in
+    let is = ap length (ap bytes_to_fault here.1 ∙ part_comes P here.0 part free) in
+    let rest = bytes_to_fault here.0 in
+    inr (refused, omega (arith, is_part.0, is, length-append (bytes P) (part ++ rest), length-append part rest))
+
+-- A call that takes one piece from a reader that tells the events E: those after it are told, and the piece says this of all pieces of E.
+pub piece_given : (lacks : ℕ → Type 0) (d : ℕ) (t t' : Tells) (E P : List Event) (read : Result ℕ Error) → Takes t P t'
+    → PieceEnds lacks d t P read → to_come t ≡ Some E
+    → (after : List Event) × (to_come t' ≡ Some after) × (E ≡ P ++ after) × GivenRead d E (bytes P) read after
+piece_given lacks d t t' E P read takes ends told =
+    let (after, still, split) = told_after E P (to_come t) (to_come t') takes.events told in
+    (after, still, split, given_read lacks d t E P after read told split ends)
+
+-- each error of such a call is a fault
+pub piece_fault : (lacks : ℕ → Type 0) (d : ℕ) (t : Tells) (P : List Event) (read : Result ℕ Error) → PieceEnds lacks d t P read
+    → IfErr read IsFault
+piece_fault lacks d t P (Ok n) ends = tt
+piece_fault lacks d t P (Err e) ends = ⊎_elim (λ fault. fault.3) (λ memory. memory_fault e memory.1) ends.1
+
+-- there are no more bytes than events
+few_bytes : (P : List Event) → length (bytes P) ≤ length P
+few_bytes [] = omega arith
+few_bytes (byte b ∷ P) = omega (arith, few_bytes P)
+few_bytes (fails e ∷ P) = omega (arith, few_bytes P)
+
+-- some bytes spend a turn
+pub piece_spends : {t t' : Tells} {P : List Event} → Takes t P t' → 0 < length (bytes P) → t'.turns < t.turns
+piece_spends {P = P} takes some = spends takes (omega (arith, some, few_bytes P))
+
+-- at the end no event is taken, and nothing is read
+pub piece_at_end : (lacks : ℕ → Type 0) (d : ℕ) (t t' : Tells) (P : List Event) (read : Result ℕ Error) → Takes t P t'
+    → PieceEnds lacks d t P read → to_come t ≡ Some [] → (read ≡ Ok 0) × (P ≡ [])
+piece_at_end lacks d t t' P read takes ends told =
+    let (after, still, split) = told_after [] P (to_come t) (to_come t') takes.events told in
+    let none : P ≡ [] = nil_from_length P (omega (arith, ap length split, length-append P after)) in
+    (by_read read (subst (λ l. PieceEnds lacks d t l read) none ends), none)
+  where
+    by_read : (read : Result ℕ Error) → PieceEnds lacks d t [] read → read ≡ Ok 0
+    by_read (Ok n) ends = ap Ok ends.1
+    by_read (Err e) (lacks_end, inl fault) = absurd (omega (arith, ap length fault.1, length-append fault.0 (fails e ∷ [])))
+    by_read (Err e) (lacks_end, inr (free, refused, (part, is_part, comes, why))) =
+        let here = of_told (to_come t) (λ l. (rest : List Event) × (l ≡ events_of part ++ rest)) told comes in
+        absurd (omega (arith, is_part.0, ap length here.1, length-append (events_of part) here.0, length-events_of part))
+
+-- a part of a piece is among the bytes up to the first d
+up_to-part : (d : ℕ) (part rest : List ℕ) → Lacks d (but_last part) → length part ≤ length (up_to d (part ++ rest))
+up_to-part d [] rest none = omega arith
+up_to-part d (b ∷ []) rest none = by (b == d)
+  where
+    by : (t : Bool) → 1 ≤ length (if t then b ∷ [] else b ∷ up_to d rest)
+    by true = omega arith
+    by false = omega arith
+up_to-part d (b ∷ c ∷ bs) rest none =
+    let more = up_to-part d (c ∷ bs) rest none.1 in
+    let is = ap length (ap (λ t. if t then b ∷ [] else b ∷ up_to d (c ∷ bs ++ rest)) (ne_eqb b d none.0)) in omega (arith, more, is)
+
+-- bytes without a d come before those up to it
+up_to-lacks : (d : ℕ) (bs cs : List ℕ) → Lacks d bs → up_to d (bs ++ cs) ≡ bs ++ up_to d cs
+up_to-lacks d [] cs none = refl
+up_to-lacks d (b ∷ bs) cs none =
+    ap (λ t. if t then b ∷ [] else b ∷ up_to d (bs ++ cs)) (ne_eqb b d none.0) ∙ ap (λ l. b ∷ l) (up_to-lacks d bs cs none.1)
+
+-- if the vector has room for the first piece, no allocation fails: an error is the first fault
+pub until_room : {X A : Type 0} {R : Lender X} {old new : X} {d : ℕ} {buf buf' : Vec ℕ A} {E : List Event} (reply : Result ℕ Error)
+    → ReadUntilLaw R old d buf reply buf' new → to_come (lender_tells R old) ≡ Some E
+    → vec_len buf + length (up_to d (bytes_to_fault E)) ≤ vec_capacity buf → IfErr reply (λ e. first_fault E ≡ Some e)
+until_room (Ok n) law told room = tt
+until_room {R = R} {old} {new} {d} {buf} {E = E} (Err e) law told room =
+    let (after, still, split) =
+    told_after E law.taken (to_come (lender_tells R old)) (to_come (lender_tells R new)) law.takes.events told in
+    ⊎_elim (λ fault. (given_fault d E e law.taken after split law.ends.0 fault).1) (λ memory. absurd (fits memory)) law.ends.1
+  where
+    fits : HasNoFault law.taken × IsOutOfMemory e × ((part : List ℕ) × IsPiecePart d part × ComesBehind (lender_tells R old) law.taken part
+        × (vec_capacity buf < vec_len buf + (length (bytes law.taken) + length part))) → ⊥
+    fits (free, refused, (part, is_part, comes, full)) =
+        let x = bytes law.taken in
+        let here = of_told (to_come (lender_tells R old))
+        (λ l. (rest : List Event) × (l ≡ law.taken ++ (events_of part ++ rest))) told comes in
+        let rest = bytes_to_fault here.0 in
+        let is = ap (up_to d) (ap bytes_to_fault here.1 ∙ part_comes law.taken here.0 part free)
+        ∙ up_to-lacks d x (part ++ rest) law.ends.0 in
+        omega (arith, room, full, ap length is, length-append x (up_to d (part ++ rest)), up_to-part d part rest is_part.1)
+
+module _ {X T : Type 0} {R : Lender X} {old new : X} {view : T → List ℕ} {trim : List ℕ → List ℕ} {refuses : List ℕ → Error
+    → Type 0} {d : ℕ}
+  where
+    -- each item of `Split` and `Lines` spends a turn
+    pub next_turns : (result : Option (Result T Error)) → NextPieceLaw R old view trim refuses d result new
+        → OnSome result (items_left (ends_at result) (R.turns new) < items_left false (R.turns old))
+    next_turns None law = tt
+    next_turns (Some (Err e)) law = omega arith
+    next_turns (Some (Ok item)) law = by_read law.read law.yields
+      where
+        by_read : (read : Result ℕ Error) → YieldsRead view trim refuses (bytes law.taken) read (Some (Ok item))
+            → suc (R.turns new) < suc (R.turns old)
+        by_read (Ok n) yields = let less : R.turns new < R.turns old = piece_spends law.takes yields.0 in omega (arith, less)
+        by_read (Err e) yields = absurd (let no : ⊥ = cc in no)
+
+    -- and each of their errors is a fault
+    pub next_fault : (result : Option (Result T Error)) → ((piece : List ℕ) (e : Error) → refuses piece e → IsFault e)
+        → NextPieceLaw R old view trim refuses d result new → IfSome result (λ item. IfErr item IsFault)
+    next_fault None refused law = tt
+    next_fault (Some (Ok item)) refused law = tt
+    next_fault (Some (Err e)) refused law = by_read law.read law.yields law.ends
+      where
+        by_read : (read : Result ℕ Error) → YieldsRead view trim refuses (bytes law.taken) read (Some (Err e))
+            → PieceEnds (λ _. Unit {0}) d (lender_tells R old) law.taken read → IsFault e
+        by_read (Ok n) yields ends = refused (bytes law.taken) e yields.1
+        by_read (Err f) yields ends =
+            let same : f ≡ e = cc in subst IsFault same (piece_fault (λ _. Unit {0}) d (lender_tells R old) law.taken (Err f) ends)
+
+    module _ {E : List Event} (told : to_come (lender_tells R old) ≡ Some E) where
+      -- an item is the next piece, trimmed
+      pub next_item : {item : T} → NextPieceLaw R old view trim refuses d (Some (Ok item)) new
+          → (after : List Event) × (to_come (lender_tells R new) ≡ Some after)
+          × ((piece : List ℕ) × (view item ≡ trim piece) × GivesNext d E piece after)
+      next_item {item} law =
+          let (after, still, split, given) = piece_given (λ _. Unit {0}) d _ _ E law.taken law.read law.takes law.ends told in
+          let shown = by_read law.read after law.yields given in
+          (after, still, (bytes law.taken, shown.0, shown.1))
+        where
+          by_read : (read : Result ℕ Error) (after : List Event) → YieldsRead view trim refuses (bytes law.taken) read (Some (Ok item))
+              → GivenRead d E (bytes law.taken) read after → (view item ≡ trim (bytes law.taken)) × GivesNext d E (bytes law.taken) after
+          by_read (Ok n) after yields (inl given) = (yields.1, given.1)
+          by_read (Ok n) after yields (inr given) = absurd (omega (arith, yields.0, given.0))
+          by_read (Err e) after yields given = absurd (let no : ⊥ = cc in no)
+
+      -- after the last item there is no piece, and no fault
+      pub next_none : NextPieceLaw R old view trim refuses d None new → GivesNone d E
+      next_none law =
+          let (after, still, split, given) = piece_given (λ _. Unit {0}) d _ _ E law.taken law.read law.takes law.ends told in
+          by_read law.read after law.yields given
+        where
+          by_read : (read : Result ℕ Error) (after : List Event) → YieldsRead view trim refuses (bytes law.taken) read None
+              → GivenRead d E (bytes law.taken) read after → GivesNone d E
+          by_read (Ok n) after yields (inl given) = absurd (omega (arith, yields, given.0))
+          by_read (Ok n) after yields (inr given) = given.1
+          by_read (Err e) after yields given = absurd (let no : ⊥ = cc in no)
+
+      -- an error is the first fault, before which there is no piece; or it refuses the next piece; or memory was refused, and a byte was to
+      -- come
+      pub next_error : {e : Error} → NextPieceLaw R old view trim refuses d (Some (Err e)) new
+          → ((pieces_given d E ≡ []) × (first_fault E ≡ Some e))
+          ⊎ (((piece : List ℕ) × (after : List Event) × GivesNext d E piece after × refuses piece e)
+          ⊎ (IsOutOfMemory e × (0 < length (bytes_to_fault E))))
+      next_error {e} law =
+          let (after, still, split, given) = piece_given (λ _. Unit {0}) d _ _ E law.taken law.read law.takes law.ends told in
+          by_read law.read after law.yields given
+        where
+          by_read : (read : Result ℕ Error) (after : List Event) → YieldsRead view trim refuses (bytes law.taken) read (Some (Err e))
+              → GivenRead d E (bytes law.taken) read after → ((pieces_given d E ≡ []) × (first_fault E ≡ Some e))
+              ⊎ (((piece : List ℕ) × (after : List Event) × GivesNext d E piece after × refuses piece e)
+              ⊎ (IsOutOfMemory e × (0 < length (bytes_to_fault E))))
+          by_read (Ok n) after yields (inl given) = inr (inl (bytes law.taken, after, given.1, yields.1))
+          by_read (Ok n) after yields (inr given) = absurd (omega (arith, yields.0, given.0))
+          by_read (Err f) after yields (inl given) = let same : f ≡ e = cc in inl (given.0, given.1 ∙ ap Some same)
+          by_read (Err f) after yields (inr given) = let same : f ≡ e = cc in inr (inr (subst IsOutOfMemory same given.0, given.1))
+
+-- the same of a piece that was counted
+pub piece_turns : (lacks : ℕ → Type 0) (d : ℕ) (t t' : Tells) (P : List Event) (read : Result ℕ Error) → Takes t P t'
+    → PieceEnds lacks d t P read → IfOk read (λ n. 0 < n → t'.turns < t.turns)
+piece_turns lacks d t t' P (Ok n) takes ends = λ some. piece_spends takes (omega (arith, some, ends.1))
+piece_turns lacks d t t' P (Err e) takes ends = tt
+
+-- `read_until` returns the number of bytes that it appends, and its errors are faults
+module _ {X A : Type 0} {R : Lender X} {old new : X} {d : ℕ} {buf buf' : Vec ℕ A} where
+  pub until_count : (reply : Result ℕ Error) → ReadUntilLaw R old d buf reply buf' new → IfOk reply (λ n. vec_len buf' ≡ vec_len buf + n)
+  until_count (Ok n) law =
+      omega (arith, law.ends.1, buf.ok.0, buf'.ok.0, ap length law.appends, length-append buf.items (bytes law.taken))
+  until_count (Err e) law = tt
+
+  pub until_never_interrupted : (reply : Result ℕ Error) → ReadUntilLaw R old d buf reply buf' new → IfErr reply IsFault
+  until_never_interrupted reply law = piece_fault (λ n. vec_capacity buf < vec_len buf + n) d (lender_tells R old) law.taken reply law.ends
+
+-- so are those of `skip_until`
+pub skip_never_interrupted : {X : Type 0} {R : Lender X} {old new : X} {d : ℕ} (reply : Result ℕ Error) → SkipUntilLaw R old d reply new
+    → IfErr reply IsFault
+skip_never_interrupted {R = R} {old} {d = d} reply law =
+    subst (λ r. IfErr r IsFault) (sym law.is) (by_read law.read (piece_fault (λ _. ⊥) d (lender_tells R old) law.taken law.read law.ends))
+  where
+    by_read : (read : Result ℕ Error) → IfErr read IsFault → IfErr (at_most_max read) IsFault
+    by_read (Ok n) fault = tt
+    by_read (Err e) fault = fault

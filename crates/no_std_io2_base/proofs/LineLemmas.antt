@@ -4,10 +4,9 @@ use Rattle.std.proofs.Common.{◌≡◌, ◌≢◌, ℕ, ◌<◌, ◌≤◌, ◌
 use Rattle.std.proofs.lemmas.List.{get_or_default}
 use Rattle.std.proofs.lemmas.List.Elements.{recursion_from_All, All-from_recursion, Contains-append_left, Contains-append_right}
 use Rattle.std.proofs.Common.{suc, subst, arith, true≢false, eqb-true, eq-eqb, Contains, take, drop}
-use Rattle.no_std_io2_base.specs.Pieces.{Lacks, ends_in, in_front, pieces, newline, ArePieces}
+use Rattle.no_std_io2_base.specs.Pieces.{Lacks, ends_in, pieces, newline, ArePieces}
 use Rattle.no_std_io2_base.specs.Lines.{lines_of, unfinished_line, lines_len, IsLineState}
-use Rattle.no_std_io2_base.proofs.PieceLaws.{pieces-at, pieces-other, pieces_are}
-use Rattle.no_std_io2_base.proofs.GivenPieces.{ends_in-lacks}
+use Rattle.no_std_io2_base.proofs.PieceLaws.{pieces-at, pieces-other, pieces_are, ends_in-lacks}
 
 -- one byte more in front: it belongs to the lines, if there are some or it is a newline; if not, to the unfinished line
 abbrev Joins : ℕ → List ℕ → Type 0

@@ -1,5 +1,5 @@
 -- What passes each call on to a value counts what the value counts.
-use Rattle.std.proofs.Common.{◌≡◌, ℕ, ap, ◌∙◌}
+use Rattle.std.proofs.Common.{ℕ, ap, ◌∙◌}
 use Rattle.std.specs.declared.dyn_box.DynBox.{DynBox}
 use Rattle.no_std_io2_base.specs.Write.{WriteCall, BoxMay}
 use Rattle.no_std_io2_base.specs.Meter.{IsMeter}

@@ -3,7 +3,7 @@ use Rattle.std.proofs.Common.{◌≡◌, ◌≢◌, ℕ, ◌==◌, true, false, 
 use Rattle.std.proofs.Common.{sym, ap, ◌∙◌, subst, arith, true≢false, eqb-true, eq-eqb, ne_eqb, suc-ne-zero, get_or}
 use Rattle.std.proofs.Common.{drop}
 use Rattle.std.specs.List.{concat}
-use Rattle.no_std_io2_base.specs.Pieces.{in_front, pieces, ArePieces}
+use Rattle.no_std_io2_base.specs.Pieces.{Lacks, ends_in, in_front, pieces, ArePieces}
 
 -- the pieces if the first byte is d, and if it is not
 pub pieces-at : (d b : ℕ) (bs : List ℕ) → b ≡ d → pieces d (b ∷ bs) ≡ (b ∷ []) ∷ pieces d bs
@@ -108,3 +108,25 @@ pieces_only d (b ∷ bs) ((c ∷ e ∷ p) ∷ q ∷ ps) h =
     })
     in
     ap (in_front c) rest ∙ ap (λ n. in_front n (pieces d bs)) is.0 ∙ sym (pieces-other d b bs (λ same. differ (is.0 ∙ same)))
+
+-- the first piece ends at the first d
+pub pieces-first : (d : ℕ) (bs cs : List ℕ) → Lacks d bs → pieces d (bs ++ d ∷ cs) ≡ (bs ++ d ∷ []) ∷ pieces d cs
+pieces-first d [] cs h = pieces-at d d cs refl
+pieces-first d (b ∷ bs) cs h = pieces-other d b (bs ++ d ∷ cs) h.0 ∙ ap (in_front b) (pieces-first d bs cs h.1)
+
+-- without a d there is one piece
+pub pieces-last : (d b : ℕ) (bs : List ℕ) → Lacks d (b ∷ bs) → pieces d (b ∷ bs) ≡ (b ∷ bs) ∷ []
+pieces-last d b [] h = pieces-other d b [] h.0
+pieces-last d b (c ∷ bs) h = pieces-other d b (c ∷ bs) h.0 ∙ ap (in_front b) (pieces-last d c bs h.1)
+
+-- bytes followed by d end in d
+pub ends_in-end : (d : ℕ) (bs : List ℕ) → ends_in d (bs ++ d ∷ []) ≡ true
+ends_in-end d [] = eq-eqb d d refl
+ends_in-end d (b ∷ []) = eq-eqb d d refl
+ends_in-end d (b ∷ c ∷ bs) = ends_in-end d (c ∷ bs)
+
+-- bytes without a d do not end in d
+pub ends_in-lacks : (d : ℕ) (bs : List ℕ) → Lacks d bs → ends_in d bs ≡ false
+ends_in-lacks d [] h = refl
+ends_in-lacks d (b ∷ []) h = ne_eqb b d h.0
+ends_in-lacks d (b ∷ c ∷ bs) h = ends_in-lacks d (c ∷ bs) h.1

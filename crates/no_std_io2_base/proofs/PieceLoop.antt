@@ -1,29 +1,22 @@
--- A loop that reads one piece, by what each of its turns does, for any reader that lends.
-use Rattle.std.proofs.Common.{◌≡◌, ℕ, ◌+◌, ◌-◌, ◌<◌, ◌≤◌, Bool, true, false, List, [], ◌∷◌, ◌++◌, Result, Ok, Err, Vec, vec_len}
-use Rattle.std.proofs.Common.{vec_capacity, length, take, drop, refl, sym, ap, ap₂, subst, ◌∙◌, arith, append-nil, le_refl, le_trans}
-use Rattle.std.proofs.Common.{lt_of_le_of_lt, inl, inr}
-use Rattle.std.proofs.lemmas.List.{take_all}
+-- A loop that takes one piece, by what its calls do, for any reader that lends.
+use Rattle.std.proofs.Common.{◌≡◌, ℕ, ◌+◌, ◌-◌, ◌<◌, ◌≤◌, ◌⊎◌, Bool, true, false, List, [], ◌∷◌, ◌++◌, Result, Ok, Err, Vec, vec_len}
+use Rattle.std.proofs.Common.{vec_capacity, length, take, refl, sym, ap, subst, ◌∙◌, arith, append_assoc, append-nil, le_refl, le_trans}
+use Rattle.std.proofs.Common.{⊎_elim, inl, inr, length-append, length-take-le, take_all}
 use Rattle.std.specs.Borrow.{Bor}
 use Rattle.no_std_io2_base.specs.declared.error.Error.{Error}
 use Rattle.no_std_io2_base.specs.Errors.{IsInterruption, IsFault, IsOutOfMemory}
-use Rattle.no_std_io2_base.specs.Read.{events_of, ReadCall, Filled, Consumed}
-use Rattle.no_std_io2_base.specs.BufRead.{Lender, FillBufLaw, AfterLoan, ConsumeLaw, ReadUntilLaw, lent_bytes}
-use Rattle.no_std_io2_base.specs.Pieces.{FindsPiece, PartCalls, no_part, and_part, and_waited, PieceMade}
-use Rattle.no_std_io2_base.specs.Write.{IsFront, Made}
-use Rattle.no_std_io2_base.proofs.PieceLemmas.{PieceSoFar, piece_none, piece_more, piece_interruption, piece_ended, piece_fault, byte_next}
-use Rattle.no_std_io2_base.proofs.PieceLemmas.{piece_memory, part_taken, none_taken, error_taken, whole_part, front_more, front_same}
-use Rattle.no_std_io2_base.proofs.PieceLemmas.{spent_more, part_fits, memory_fault, part_has_room}
-use Rattle.no_std_io2_base.proofs.ReadToEndGathered.{gathered_first_fault}
-use Rattle.no_std_io2_base.proofs.ReadToEndTaken.{moved_read, no_error}
+use Rattle.no_std_io2_base.specs.Events.{Event, byte, fails, events_of, bytes, HasNoFault}
+use Rattle.no_std_io2_base.specs.Takes.{Tells, Takes, IsAll}
+use Rattle.no_std_io2_base.specs.Read.{ReadCall, Filled, Consumed}
+use Rattle.no_std_io2_base.specs.BufRead.{Lender, lender_tells, FillBufLaw, AfterLoan, ConsumeLaw, FilledLaw, LendCallLaw, ReadUntilLaw}
+use Rattle.no_std_io2_base.specs.BufRead.{lent_bytes}
+use Rattle.no_std_io2_base.specs.Pieces.{Lacks, EndsPiece, EndsAt, FindsPiece, PieceEnds, PartCalls, no_part, and_part, and_waited}
+use Rattle.no_std_io2_base.specs.Pieces.{PieceMade}
+use Rattle.no_std_io2_base.specs.Write.{Made}
 use Rattle.no_std_io2_base.proofs.CallsLemmas.{made_more, made_then, made_map}
-
--- the calls so far, which took x
-abbrev pub PartMade : {X : Type 0} → (X → ReadCall → X → Type 0) → X → ℕ → List ℕ → X → Type 0
-PartMade may old d x now = (C : List ReadCall) × Made may old C now × PartCalls d C x
-
--- at the start there are none
-pub made_none : {X : Type 0} {may : X → ReadCall → X → Type 0} {old : X} {d : ℕ} → PartMade may old d [] old
-made_none = ([], refl, no_part)
+use Rattle.no_std_io2_base.proofs.EventLemmas.{events_of-append, HasNoFault-append, HasNoFault-events_of, length-events_of}
+use Rattle.no_std_io2_base.proofs.PieceLemmas.{bytes_more, bytes_still, Lacks-append, found_part, comes_behind}
+use Rattle.no_std_io2_base.proofs.TakesLemmas.{takes_none, takes_then, takes_still, takes_turns, takes_all, spends}
 
 -- the calls of a part are calls of the whole
 pub piece_map : {S T may_refuse : Type 0} {may : S → ReadCall → S → Type 0} {may' : T → ReadCall → T → Type 0} {old new : S} {d : ℕ}
@@ -32,244 +25,251 @@ pub piece_map : {S T may_refuse : Type 0} {may : S → ReadCall → S → Type 0
 piece_map {may = may} {may' = may'} put each m =
     record { calls = m.calls; made = made_map may may' put each m.calls _ _ m.made; are = m.are }
 
--- a piece that was read into an empty vector is its content
-pub whole_made : {X A : Type 0} {R : Lender X} {old new : X} {d : ℕ} {read : Result ℕ Error} (none all : Vec ℕ A) → none.items ≡ []
-    → ReadUntilLaw R old d none read all new → PieceMade (Unit {0}) R.may old d read all.items new
-whole_made {R = R} {old} {new} {d} {read} none all empty law =
-    let whole = sym (law.appends.1 ∙ ap (λ l. l ++ law.appends.0) empty) in
-    subst (λ l. PieceMade (Unit {0}) R.may old d read l new) whole law.calls
-
-module _ {X : Type 0} (R : Lender X) {old now after : X} {d : ℕ} {x : List ℕ} {reply : Result (Bor (List ℕ)) Error}
-    (before : PartMade R.may old d x now) (filled : AfterLoan R now reply after) where
-  -- the `fill_buf`, as a call
-  loan : {answer : Result (Bor (List ℕ)) Error} → reply ≡ answer → R.may now (Filled (lent_bytes answer)) after
-  loan is = subst (λ r. R.may now (Filled (lent_bytes r)) after) is filled.call
-
-  module _ {e : Error} (is : reply ≡ Err e) where
-    -- the calls up to a `fill_buf` that returned an error
-    failed : Made R.may old (before.0 ++ Filled (Err e) ∷ []) after
-    failed = made_more R.may before.0 old before.1 (loan is)
-
-    -- if it was interrupted, the loop continues
-    pub part_waited : IsInterruption e → PartMade R.may old d x after
-    part_waited again = (_, failed, and_waited _ _ _ before.2 again)
-
-    -- a fault ends the loop
-    pub piece_faults : {may_refuse : Type 0} → IsFault e → PieceMade may_refuse R.may old d (Err e) x after
-    piece_faults fault = record { calls = _; made = failed; are = (before.0, before.2, inl (fault, refl)) }
-
-  module _ {lent : Bor (List ℕ)} (is : reply ≡ Ok lent) where
-    -- a failed allocation ends the loop
-    pub piece_refused : {e : Error} → IsOutOfMemory e → PieceMade (Unit {0}) R.may old d (Err e) x after
-    piece_refused refused =
-        let made = made_more R.may before.0 old before.1 (loan is) in
-        record { calls = _; made = made; are = (before.0, before.2, inr (tt, refused, lent.now, refl)) }
-
-    module _ {n : ℕ} {is_whole : Bool} (found : FindsPiece d lent.now n is_whole) {new : X} (dropped : ConsumeLaw R after n new) where
-      -- the calls up to a `consume`
-      took : Made R.may old (before.0 ++ Filled (Ok lent.now) ∷ Consumed n ∷ []) new
-      took =
-          made_then R.may before.0 old (Filled (Ok lent.now) ∷ Consumed n ∷ []) now new before.1 (after, loan is, (new, dropped.call, refl))
-
-      -- if the piece is not complete, all lent bytes belong to it
-      pub part_took : is_whole ≡ false → PartMade R.may old d (x ++ take n lent.now) new
-      part_took going =
-          let part = found.open_ended going in
-          let all = part.2 in
-          let whole : take n lent.now ≡ lent.now = ap (λ k. take k lent.now) all ∙ take_all (length lent.now) lent.now (le_refl _) in (
-            _,
-            subst (λ k. Made R.may old (before.0 ++ Filled (Ok lent.now) ∷ Consumed k ∷ []) new) all took,
-            rw whole (and_part before.0 x lent.now before.2 (subst (λ k. 0 < k) all part.0) (rw (sym whole) part.1)),
-          )
-
-      -- the end of the piece ends the loop
-      pub piece_took : {may_refuse : Type 0} {count : ℕ} → is_whole ≡ true
-          → PieceMade may_refuse R.may old d (Ok count) (x ++ take n lent.now) new
-      piece_took whole =
-          let found' = subst (FindsPiece d lent.now n) whole found in
-          record { calls = _; made = took; are = (before.0, x, lent.now, n, before.2, found', refl, refl) }
-
--- the position of such a loop in a told store
-abbrev pub StoreSoFar : {X : Type 0} → Lender X → X → X → Type 0
-StoreSoFar R old now = R.has_store old → R.has_store now × (R.content now ≡ R.content old)
-    × (R.position now + length (R.events now) ≡ R.position old + length (R.events old))
-
--- what was taken was appended, without an end so far
-pub record UntilSoFar {X A : Type 0} (R : Lender X) (d : ℕ) (old : X) (buf buf' : Vec ℕ A) (now : X) : Type 0 where
-  pub grows : vec_len buf ≤ vec_len buf'
-  pub capacity : vec_capacity buf ≤ vec_capacity buf'
-  pub front : IsFront buf.items buf'.items
-  pub turns : R.turns now ≤ R.turns old
-  pub spent : vec_len buf < vec_len buf' → R.turns now < R.turns old
-  pub told : R.tells old → R.tells now × PieceSoFar d (R.events old) buf.items buf'.items (R.events now)
-  pub filling : R.is_filling old → R.is_filling now
-  pub store : StoreSoFar R old now
-  pub calls : PartMade R.may old d front.0 now
-
--- at the start nothing is taken
-pub until_none : {X A : Type 0} {R : Lender X} {d : ℕ} {old : X} {buf : Vec ℕ A} → UntilSoFar R d old buf buf old
-until_none = record {
-  grows = le_refl _;
-  capacity = le_refl _;
-  front = ([], sym (append-nil _));
-  turns = le_refl _;
-  spent = λ more. absurd (omega (arith, more));
-  told = λ t. (t, piece_none refl);
-  filling = λ f. f;
-  store = λ s. (s, refl, refl);
-  calls = made_none;
+-- a `fill_buf` and its loan are a call
+fill_law : {X : Type 0} {R : Lender X} {old new : X} (reply : Result (Bor (List ℕ)) Error) → FillBufLaw R old reply
+    → AfterLoan R old reply new → FilledLaw R old (lent_bytes reply) new
+fill_law (Ok s) law loan = record {
+  held = λ some. (ap Ok (law.held some), loan.unchanged some);
+  front = law.front;
+  lends = loan.lends;
+  end = λ is. law.end (let none : s.now ≡ [] = cc in none);
+  takes = loan.takes;
+  call = loan.call;
+}
+fill_law (Err e) law loan = record {
+  held = λ some. absurd (law.held some);
+  front = tt;
+  lends = loan.lends;
+  end = λ is. absurd (let no : ⊥ = cc in no);
+  takes = loan.takes;
+  call = loan.call;
 }
 
-module _ {X : Type 0} (R : Lender X) (old : X) {now after : X} {reply : Result (Bor (List ℕ)) Error} (so_far : StoreSoFar R old now)
-    (law : (x : X) → R.has_store x → R.tells x × (R.events x ≡ events_of (drop (R.position x) (R.content x))))
-    (filled : AfterLoan R now reply after) where
-  -- a reader that returns an error tells no store
-  pub no_store : {e : Error} → reply ≡ Err e → R.has_store old → ⊥
-  no_store is s =
-      let tells = law now (so_far s).0 in
-      no_error _ tells.1 (error_taken is (filled.told tells.0).1)
+pub filled_law : {X : Type 0} {R : Lender X} {old new : X} {reply answer : Result (Bor (List ℕ)) Error} → reply ≡ answer
+    → FillBufLaw R old reply → AfterLoan R old reply new → FilledLaw R old (lent_bytes answer) new
+filled_law {R = R} {old} {new} {reply} is law loan = subst (λ r. FilledLaw R old (lent_bytes r) new) is (fill_law reply law loan)
 
-  module _ {lent : Bor (List ℕ)} {n : ℕ} (is : reply ≡ Ok lent) (within : n ≤ length lent.now) {new : X}
-      (dropped : ConsumeLaw R after n new) where
-    -- what was lent and then dropped is gone
-    pub lent_gone : R.tells now → R.tells new × (R.events now ≡ events_of (take n lent.now) ++ R.events new)
-    lent_gone t =
-        let loan = filled.told t in
-        let rest = dropped.told loan.0 in
-        (rest.0, part_taken lent _ (R.events new) n is filled.lends loan.1 rest.1)
+-- why an allocation failed, in weaker words
+pub piece_since : {lacks lacks' : ℕ → Type 0} (d : ℕ) (old : Tells) (P : List Event) (read : Result ℕ Error)
+    → ((n : ℕ) → lacks n → lacks' n) → PieceEnds lacks d old P read → PieceEnds lacks' d old P read
+piece_since d old P (Ok n) since ends = ends
+piece_since d old P (Err e) since ends =
+    (ends.0, ⊎_elim inl (λ m. inr (m.0, m.1, (m.2.0, m.2.1, m.2.2, since _ m.2.3))) ends.1)
 
-    -- and the position has moved by it
-    pub lent_passed : StoreSoFar R old new
-    lent_passed s =
-        let before = so_far s in
-        let loan = filled.store before.0 in
-        let rest = dropped.store loan.0 in
-        let gone = (lent_gone (law now before.0).0).1 in (
-          rest.0,
-          rest.1 ∙ loan.1 ∙ before.1,
-          moved_read (R.events new) n lent.now _ within gone (rest.2 ∙ ap (λ p. p + n) loan.2) before.2,
-        )
+-- Such a loop took the events P so far, of one piece, and no d.
+pub record PartTaken {X : Type 0} (R : Lender X) (d : ℕ) (old : X) (P : List Event) (now : X) : Type 0 where
+  pub takes : Takes (lender_tells R old) P (lender_tells R now)
+  pub no_fault : HasNoFault P
+  pub lacks : Lacks d (bytes P)
+  pub calls : List ReadCall
+  pub made : Made (LendCallLaw R) old calls now
+  pub are : PartCalls d calls (bytes P)
 
-module _ {X A : Type 0} {R : Lender X} {d : ℕ} {old now after : X} {buf xs : Vec ℕ A} {reply : Result (Bor (List ℕ)) Error}
-    (before : UntilSoFar R d old buf xs now)
-    (law : (x : X) → R.has_store x → R.tells x × (R.events x ≡ events_of (drop (R.position x) (R.content x))))
-    (filled : AfterLoan R now reply after) where
-  module _ {e : Error} (is : reply ≡ Err e) where
+-- It took P, and ended with this result.
+pub record PieceTaken {X : Type 0} (R : Lender X) (lacks : ℕ → Type 0) (may_refuse : Type 0) (d : ℕ) (old : X) (P : List Event)
+    (read : Result ℕ Error) (new : X) : Type 0 where
+  pub takes : Takes (lender_tells R old) P (lender_tells R new)
+  pub ends : PieceEnds lacks d (lender_tells R old) P read
+  pub calls : PieceMade may_refuse (LendCallLaw R) old d read (bytes P) new
+
+-- at the start nothing is taken
+pub part_none : {X : Type 0} (R : Lender X) (d : ℕ) (old : X) → PartTaken R d old [] old
+part_none R d old =
+    record { takes = takes_none (lender_tells R old); no_fault = tt; lacks = tt; calls = []; made = refl; are = no_part }
+
+module _ {X : Type 0} {R : Lender X} {d : ℕ} {old now after : X} {P : List Event} (before : PartTaken R d old P now) where
+  module _ {e : Error} (filled : FilledLaw R now (Err e) after) where
+    -- after an interruption the loop continues
+    pub part_waited : IsInterruption e → PartTaken R d old (P ++ fails e ∷ []) after
+    part_waited again =
+        let same = sym (bytes_still P e) in
+        let calls = before.calls ++ Filled (Err e) ∷ [] in
+        record {
+          takes = takes_then before.takes filled.takes;
+          no_fault = HasNoFault-append P (fails e ∷ []) before.no_fault (again, tt);
+          lacks = subst (Lacks d) same before.lacks;
+          calls = calls;
+          made = made_more (LendCallLaw R) before.calls old before.made filled;
+          are = subst (PartCalls d calls) same (and_waited _ _ _ before.are again);
+        }
+
+    -- a fault ends it
+    pub piece_faulted : {lacks : ℕ → Type 0} {may_refuse : Type 0} → IsFault e
+        → PieceTaken R lacks may_refuse d old (P ++ fails e ∷ []) (Err e) after
+    piece_faulted fault =
+        let same = sym (bytes_still P e) in
+        record {
+          takes = takes_then before.takes filled.takes;
+          ends = (subst (Lacks d) same before.lacks, inl (P, refl, before.no_fault, fault));
+          calls = record {
+            calls = before.calls ++ Filled (Err e) ∷ [];
+            made = made_more (LendCallLaw R) before.calls old before.made filled;
+            are = (before.calls, subst (PartCalls d before.calls) same before.are, inl (fault, refl));
+          };
+        }
+
+  module _ {lent : List ℕ} {n : ℕ} {is_whole : Bool} (filled : FilledLaw R now (Ok lent) after) (found : FindsPiece d lent n is_whole) where
+    -- so does a failed allocation
+    pub piece_refused : {lacks : ℕ → Type 0} {e : Error} → IsOutOfMemory e → 0 < length (take n lent)
+        → lacks (length (bytes P) + length (take n lent)) → PieceTaken R lacks (Unit {0}) d old P (Err e) after
+    piece_refused refused some short =
+        let part = found_part d lent n is_whole found some in
+        let comes = comes_behind P lent n before.takes filled.front in
+        record {
+          takes = takes_still before.takes filled.takes;
+          ends = (before.lacks, inr (before.no_fault, refused, (take n lent, part, comes, short)));
+          calls = record {
+            calls = before.calls ++ Filled (Ok lent) ∷ [];
+            made = made_more (LendCallLaw R) before.calls old before.made filled;
+            are = (
+              before.calls,
+              before.are,
+              inr
+                  (tt, refused, lent, omega (arith, some, found.within, length-take-le n lent found.within), refl),
+            );
+          };
+        }
+
+    module _ {new : X} (dropped : ConsumeLaw R after n new) where
+      -- the lent bytes that belong to the piece
+      taken : Takes (lender_tells R after) (events_of (take n lent)) (lender_tells R new)
+      taken = subst (λ l. Takes (lender_tells R after) (events_of (take n l)) (lender_tells R new)) filled.lends dropped.takes
+
+      takes : Takes (lender_tells R old) (P ++ events_of (take n lent)) (lender_tells R new)
+      takes = takes_then (takes_still before.takes filled.takes) taken
+
+      made : Made (LendCallLaw R) old (before.calls ++ Filled (Ok lent) ∷ Consumed n ∷ []) new
+      made =
+          let within = subst (λ l. n ≤ length l) (sym filled.lends) found.within in
+          let calls = Filled (Ok lent) ∷ Consumed n ∷ [] in
+          made_then (LendCallLaw R) before.calls old calls now new before.made (after, filled, (new, (within, dropped), refl))
+
+      no_fault : HasNoFault (P ++ events_of (take n lent))
+      no_fault = HasNoFault-append P _ before.no_fault (HasNoFault-events_of (take n lent))
+
+      -- if they do not end it, they are all, and the loop continues
+      pub part_more : is_whole ≡ false → PartTaken R d old (P ++ events_of (take n lent)) new
+      part_more going =
+          let (some, lacks, all) = found.open_ended going in
+          let whole : take n lent ≡ lent = take_all n lent (omega (arith, all)) in
+          let more = sym (bytes_more P (take n lent)) in
+          let calls = before.calls ++ Filled (Ok lent) ∷ Consumed n ∷ [] in
+          record {
+            takes = takes;
+            no_fault = no_fault;
+            lacks = subst (Lacks d) more (Lacks-append d (bytes P) (take n lent) before.lacks lacks);
+            calls = calls;
+            made = made;
+            are = subst (PartCalls d calls) (ap (λ l. bytes P ++ l) (sym whole) ∙ more)
+                (subst (λ k. PartCalls d (before.calls ++ Filled (Ok lent) ∷ Consumed k ∷ []) (bytes P ++ lent)) (sym all)
+                (and_part before.calls (bytes P) lent before.are (omega (arith, some, all)) (subst (Lacks d) whole lacks)));
+          }
+
+      -- and a turn is spent
+      pub part_spends : is_whole ≡ false → R.turns new < R.turns now
+      part_spends going =
+          let some = (found.open_ended going).0 in
+          let long = length-events_of (take n lent) in
+          let less : R.turns new < R.turns after = spends taken (omega (arith, some, long, length-take-le n lent found.within)) in
+          omega (arith, less, takes_turns filled.takes)
+
+      -- the bytes with the d end the piece; or there are none, at the end
+      ended : EndsPiece d (take n lent) ⊎ (lent ≡ []) → EndsAt d (P ++ events_of (take n lent))
+          ⊎ (Lacks d (bytes (P ++ events_of (take n lent))) × IsAll (lender_tells R old) (P ++ events_of (take n lent)))
+      ended (inl end) = inl (
+        P ++ events_of end.0,
+        ap (λ l. P ++ l) (ap events_of end.1 ∙ events_of-append end.0 (d ∷ [])) ∙ sym (append_assoc P (events_of end.0) (byte d ∷ [])),
+        subst (Lacks d) (sym (bytes_more P end.0)) (Lacks-append d (bytes P) end.0 before.lacks end.2),
+      )
+      ended (inr none) =
+          let zero : n ≡ 0 = omega (arith, found.within, ap length none) in
+          let same : P ≡ P ++ events_of (take n lent) = sym (ap (λ k. P ++ events_of (take k lent)) zero ∙ append-nil P) in
+          let all = takes_all P before.takes (filled.end (ap Ok none)) in
+          inr (subst (λ l. Lacks d (bytes l)) same before.lacks, subst (IsAll (lender_tells R old)) same all)
+
+      -- then the loop ends
+      pub piece_whole : {lacks : ℕ → Type 0} {may_refuse : Type 0} {count : ℕ} → is_whole ≡ true
+          → count ≡ length (bytes (P ++ events_of (take n lent)))
+          → PieceTaken R lacks may_refuse d old (P ++ events_of (take n lent)) (Ok count) new
+      piece_whole whole counts = record {
+        takes = takes;
+        ends = (no_fault, counts, ended (found.whole whole));
+        calls = record {
+          calls = before.calls ++ Filled (Ok lent) ∷ Consumed n ∷ [];
+          made = made;
+          are = (before.calls, bytes P, lent, n, before.are, subst (FindsPiece d lent n) whole found, bytes_more P (take n lent), refl);
+        };
+      }
+
+-- What a loop took so far was appended.
+pub record UntilSoFar {X A : Type 0} (R : Lender X) (d : ℕ) (old : X) (buf buf' : Vec ℕ A) (now : X) : Type 0 where
+  pub taken : List Event
+  pub part : PartTaken R d old taken now
+  pub capacity : vec_capacity buf ≤ vec_capacity buf'
+  pub gave : buf'.items ≡ buf.items ++ bytes taken
+
+-- at the start nothing was
+pub until_none : {X A : Type 0} {R : Lender X} {d : ℕ} {old : X} {buf : Vec ℕ A} → UntilSoFar R d old buf buf old
+until_none {R = R} {d} {old} = record { taken = []; part = part_none R d old; capacity = le_refl _; gave = sym (append-nil _) }
+
+-- some bytes more were appended
+gave_more : (buf : List ℕ) {xs ys : List ℕ} (P : List Event) (x : List ℕ) → xs ≡ buf ++ bytes P → ys ≡ xs ++ x
+    → ys ≡ buf ++ bytes (P ++ events_of x)
+gave_more buf P x gave more =
+    more ∙ ap (λ l. l ++ x) gave ∙ append_assoc buf (bytes P) x ∙ ap (λ l. buf ++ l) (sym (bytes_more P x))
+
+-- a piece that was taken and appended
+pub until_law : {X A : Type 0} {R : Lender X} {d : ℕ} {old new : X} {buf buf' : Vec ℕ A} {P : List Event} {reply : Result ℕ Error}
+    → PieceTaken R (λ n. vec_capacity buf < vec_len buf + n) (Unit {0}) d old P reply new → vec_capacity buf ≤ vec_capacity buf'
+    → buf'.items ≡ buf.items ++ bytes P → ReadUntilLaw R old d buf reply buf' new
+until_law {P = P} piece grown gave =
+    record { taken = P; takes = piece.takes; appends = gave; ends = piece.ends; capacity = grown; calls = piece.calls }
+
+module _ {X A : Type 0} {R : Lender X} {d : ℕ} {old now after : X} {buf xs : Vec ℕ A} (before : UntilSoFar R d old buf xs now) where
+  module _ {e : Error} (filled : FilledLaw R now (Err e) after) where
     -- an interruption is ignored
     pub until_interruption : IsInterruption e → UntilSoFar R d old buf xs after
     until_interruption again = record {
-      grows = before.grows;
+      taken = before.taken ++ fails e ∷ [];
+      part = part_waited before.part filled again;
       capacity = before.capacity;
-      front = before.front;
-      turns = le_trans filled.turns_never_rise before.turns;
-      spent = λ more. lt_of_le_of_lt filled.turns_never_rise (before.spent more);
-      told = λ t.
-          let so_far = before.told t in
-          let loan = filled.told so_far.0 in
-          (loan.0, piece_interruption so_far.1 (error_taken is loan.1) again);
-      filling = λ f. filled.filling (before.filling f);
-      store = λ s. absurd (no_store R old before.store law filled is s);
-      calls = part_waited R before.calls filled is again;
+      gave = before.gave ∙ ap (λ l. buf.items ++ l) (sym (bytes_still before.taken e));
     }
 
     -- a fault ends the loop
     pub until_fault : IsFault e → ReadUntilLaw R old d buf (Err e) xs after
-    until_fault fault = record {
-      told = λ t.
-          let so_far = before.told t in
-          let loan = filled.told so_far.0 in
-          (loan.0, piece_fault so_far.1 (error_taken is loan.1) fault);
-      appends = before.front;
-      count = tt;
-      capacity = before.capacity;
-      room = λ t enough.
-          let so_far = before.told t in gathered_first_fault so_far.1.gathered (error_taken is (filled.told so_far.0).1) fault;
-      never_interrupted = fault;
-      turns_never_rise = le_trans filled.turns_never_rise before.turns;
-      spends_turn = tt;
-      filling = λ f. filled.filling (before.filling f);
-      store = λ s. absurd (no_store R old before.store law filled is s);
-      calls = piece_faults R before.calls filled is fault;
-    }
+    until_fault fault =
+        until_law (piece_faulted before.part filled fault) before.capacity
+        (before.gave ∙ ap (λ l. buf.items ++ l) (sym (bytes_still before.taken e)))
 
-  module _ {lent : Bor (List ℕ)} {n : ℕ} {is_whole : Bool} (is : reply ≡ Ok lent) (shows : FillBufLaw R now (Ok lent))
-      (found : FindsPiece d lent.now n is_whole) where
-    -- a failed allocation ends it
-    pub until_refused : {v : Vec ℕ A} {e : Error} → vec_capacity xs ≤ vec_capacity v → IsOutOfMemory e → v.items ≡ xs.items
-        → vec_capacity xs < vec_len xs + length (take n lent.now) → ReadUntilLaw R old d buf (Err e) v after
-    until_refused grown refused same full = record {
-      told = λ t.
-          let so_far = before.told t in
-          let loan = filled.told so_far.0 in
-          let next = byte_next (shows.front so_far.0) found (omega (arith, xs.ok.1)) full in
-          (loan.0, piece_memory so_far.1 (none_taken lent is loan.1) same refused next);
-      appends = front_same _ before.front same;
-      count = tt;
-      capacity = le_trans before.capacity grown;
-      room = λ t enough.
-          let so_far = before.told t in
-          absurd (part_has_room so_far.1 (shows.front so_far.0) found enough before.capacity buf.ok.0 xs.ok.0 full);
-      never_interrupted = memory_fault _ refused;
-      turns_never_rise = le_trans filled.turns_never_rise before.turns;
-      spends_turn = tt;
-      filling = λ f. filled.filling (before.filling f);
-      store = λ s.
-          let so_far = before.store s in
-          let loan = filled.store so_far.0 in
-          let told = filled.told (law now so_far.0).0 in
-          (loan.0, loan.1 ∙ so_far.1, ap₂ (λ p l. p + length l) loan.2 (none_taken lent is told.1) ∙ so_far.2);
-      calls = piece_refused R before.calls filled is refused;
-    }
+  module _ {lent : List ℕ} {n : ℕ} {is_whole : Bool} (filled : FilledLaw R now (Ok lent) after) (found : FindsPiece d lent n is_whole)
+      {v : Vec ℕ A} (grown : vec_capacity xs ≤ vec_capacity v) where
+    -- so does a failed allocation
+    pub until_refused : {e : Error} → IsOutOfMemory e → v.items ≡ xs.items → vec_capacity xs < vec_len xs + length (take n lent)
+        → ReadUntilLaw R old d buf (Err e) v after
+    until_refused refused same full =
+        let long : vec_len xs ≡ vec_len buf + length (bytes before.taken) =
+        omega (arith, xs.ok.0, buf.ok.0, ap length before.gave, length-append buf.items (bytes before.taken)) in
+        until_law (piece_refused before.part filled found refused (omega (arith, full, xs.ok.1))
+        (omega (arith, full, long, before.capacity)))
+        (le_trans before.capacity grown) (same ∙ before.gave)
 
-    module _ {new : X} (dropped : ConsumeLaw R after n new) where
-      -- the events that are gone, and the position in the store
-      taken : R.tells now → R.tells new × (R.events now ≡ events_of (take n lent.now) ++ R.events new)
-      taken = lent_gone R old before.store law filled is found.within dropped
+    module _ {new : X} (dropped : ConsumeLaw R after n new) (appended : v.items ≡ xs.items ++ take n lent) where
+      -- after a part of the piece the loop continues
+      pub until_more : is_whole ≡ false → UntilSoFar R d old buf v new
+      until_more going = record {
+        taken = before.taken ++ events_of (take n lent);
+        part = part_more before.part filled found dropped going;
+        capacity = le_trans before.capacity grown;
+        gave = gave_more buf.items before.taken (take n lent) before.gave appended;
+      }
 
-      moved : StoreSoFar R old new
-      moved = lent_passed R old before.store law filled is found.within dropped
-
-      module _ {v : Vec ℕ A} (grown : vec_capacity xs ≤ vec_capacity v) (appended : v.items ≡ xs.items ++ take n lent.now)
-          (len : vec_len v ≡ vec_len xs + length (take n lent.now)) where
-        -- after a part without the end the loop continues
-        pub until_more : is_whole ≡ false → UntilSoFar R d old buf v new
-        until_more going = record {
-          grows = omega (arith, before.grows, len);
-          capacity = le_trans before.capacity grown;
-          front = front_more _ _ before.front appended;
-          turns = omega (arith, dropped.turns_never_rise, filled.turns_never_rise, before.turns);
-          spent = spent_more before.spent before.turns filled.turns_never_rise dropped.turns_never_rise dropped.spends_turn
-              (part_fits _ _ len found.within);
-          told = λ t.
-              let so_far = before.told t in
-              let rest = taken so_far.0 in
-              (rest.0, piece_more _ so_far.1 rest.1 (found.open_ended going).1 appended);
-          filling = λ f. dropped.filling (filled.filling (before.filling f));
-          store = moved;
-          calls = part_took R before.calls filled is found dropped going;
-        }
-
-        -- the part that makes the piece whole, and the loop ends
-        pub until_whole : {start end : ℕ} → is_whole ≡ true → start ≡ vec_len buf → end ≡ vec_len v
-            → ReadUntilLaw R old d buf (Ok (end - start)) v new
-        until_whole whole from to = record {
-          told = λ t.
-              let so_far = before.told t in
-              let rest = taken so_far.0 in (
-                rest.0,
-                piece_ended so_far.1 rest.1 (whole_part found whole (shows.end so_far.0)) appended
-                    (omega (arith, v.ok.0, buf.ok.0, from, to)),
-              );
-          appends = front_more _ _ before.front appended;
-          count = omega (arith, from, to, before.grows, len);
-          capacity = le_trans before.capacity grown;
-          room = λ t enough. tt;
-          never_interrupted = tt;
-          turns_never_rise = omega (arith, dropped.turns_never_rise, filled.turns_never_rise, before.turns);
-          spends_turn =
-              λ some. spent_more before.spent before.turns filled.turns_never_rise dropped.turns_never_rise dropped.spends_turn
-              (part_fits _ _ len found.within) (omega (arith, some, from, to));
-          filling = λ f. dropped.filling (filled.filling (before.filling f));
-          store = moved;
-          calls = piece_took R before.calls filled is found dropped whole;
-        }
+      -- the end of the piece ends it
+      pub until_whole : {start end : ℕ} → is_whole ≡ true → start ≡ vec_len buf → end ≡ vec_len v
+          → ReadUntilLaw R old d buf (Ok (end - start)) v new
+      until_whole {start} {end} whole from to =
+          let all = bytes (before.taken ++ events_of (take n lent)) in
+          let gave : v.items ≡ buf.items ++ all = gave_more buf.items before.taken (take n lent) before.gave appended in
+          let counts : end - start ≡ length all =
+          omega (arith, from, to, v.ok.0, buf.ok.0, ap length gave, length-append buf.items all) in
+          until_law (piece_whole before.part filled found dropped whole counts) (le_trans before.capacity grown) gave

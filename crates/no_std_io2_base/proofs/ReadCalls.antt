@@ -1,17 +1,11 @@
 -- The calls of a reader, one after another.
-use Rattle.std.proofs.Common.{◌≡◌, ℕ, List, [], ◌∷◌, ◌++◌, Result, Ok, Err, length, take, drop, Vec, vec_len}
-use Rattle.std.proofs.Common.{refl, sym, ap, subst, ◌∙◌, append_assoc, append-nil, take-append-drop, inl, inr}
+use Rattle.std.proofs.Common.{◌≡◌, ℕ, List, [], ◌∷◌, ◌++◌, Result, Ok, Err, length}
+use Rattle.std.proofs.Common.{refl, sym, ap, subst, ◌∙◌, append_assoc, append-nil, inl, inr}
 use Rattle.no_std_io2_base.specs.declared.error.Error.{Error}
 use Rattle.no_std_io2_base.specs.Write.{Made}
-use Rattle.no_std_io2_base.proofs.CallsLemmas.{made_then, made_map}
-use Rattle.no_std_io2_base.specs.Read.{ReadCall, Gave, GaveExactly, GaveAll, gave, gave_whole, ended, Gathers, no_read, and_gave, and_again}
+use Rattle.no_std_io2_base.proofs.CallsLemmas.{made_then}
+use Rattle.no_std_io2_base.specs.Read.{ReadCall, Gave, GaveExactly, GaveAll, gave_whole, ended, Gathers, no_read, and_gave, and_again}
 use Rattle.no_std_io2_base.specs.Read.{GathersUntil, IsRoom, ToEndCalls, ExactMade, ToEndMade, Drains}
-
--- a read of no bytes
-pub gave_nothing : {S : Type 0} (may : S → ReadCall → S → Type 0) {old new : S} {reply : Result ℕ Error} {n : ℕ} (buf : List ℕ)
-    → may old (Gave (length buf) (gave reply buf)) new → reply ≡ Ok n → n ≡ 0 → may old (Gave (length buf) (Ok [])) new
-gave_nothing may {old} {new} buf call is zero =
-    subst (λ answer. may old (Gave (length buf) answer) new) (ap (λ r. gave r buf) is ∙ ap (λ k. Ok (take k buf)) zero) call
 
 -- the `read_exact` of a type that has a body of its own for it is one call
 pub exact_own : {S : Type 0} {may : S → ReadCall → S → Type 0} {old new : S} {reply : Result (Unit {0}) Error} {buf : List ℕ}
@@ -23,40 +17,6 @@ pub to_end_by : {S : Type 0} {may : S → ReadCall → S → Type 0} {old new : 
     → buf' ≡ buf ++ x → may old (GaveAll x (ended reply)) new → ToEndMade may old buf reply buf' new
 to_end_by {new = new} x grown own =
     record { calls = _; given = x; made = (new, own, refl); appended = grown; are = inl ([], [], x, no_read, refl, refl) }
-
-pub to_end_own : {S A : Type 0} {may : S → ReadCall → S → Type 0} {old new : S} {buf' : List ℕ} {reply : Result ℕ Error} (buf : Vec ℕ A)
-    → take (vec_len buf) buf' ≡ buf.items → may old (GaveAll (drop (vec_len buf) buf') (ended reply)) new
-    → ToEndMade may old buf.items reply buf' new
-to_end_own {buf' = buf'} buf front own =
-    let x = drop (vec_len buf) buf' in
-    to_end_by x (sym (take-append-drop (vec_len buf) buf') ∙ ap (λ l. l ++ x) front) own
-
--- what it appended to one list it appends to another
-pub drains : {S : Type 0} {may : S → ReadCall → S → Type 0} {old new : S} {buf buf' : List ℕ} {reply : Result ℕ Error}
-    {answer : Result (Unit {0}) Error} (x : List ℕ) (m : ToEndMade may old buf reply buf' new) → ended reply ≡ answer
-    → Drains may old x answer (x ++ m.given) new
-drains {reply = reply} x m same =
-    (reply, same, record { calls = m.calls; given = m.given; made = m.made; appended = refl; are = m.are })
-
--- the calls of a part are calls of the whole
-pub exact_map : {S T : Type 0} {may : S → ReadCall → S → Type 0} {may' : T → ReadCall → T → Type 0} {old new : S}
-    {reply : Result (Unit {0}) Error} {buf : List ℕ} (put : S → T)
-    → ((a b : S) (call : ReadCall) → may a call b → may' (put a) call (put b)) → ExactMade may old reply buf new
-    → ExactMade may' (put old) reply buf (put new)
-exact_map {may = may} {may' = may'} put each m =
-    record { calls = m.calls; made = made_map may may' put each m.calls _ _ m.made; are = m.are }
-
-pub to_end_map : {S T : Type 0} {may : S → ReadCall → S → Type 0} {may' : T → ReadCall → T → Type 0} {old new : S}
-    {buf buf' : List ℕ} {reply : Result ℕ Error} (put : S → T)
-    → ((a b : S) (call : ReadCall) → may a call b → may' (put a) call (put b)) → ToEndMade may old buf reply buf' new
-    → ToEndMade may' (put old) buf reply buf' (put new)
-to_end_map {may = may} {may' = may'} put each m = record {
-  calls = m.calls;
-  given = m.given;
-  made = made_map may may' put each m.calls _ _ m.made;
-  appended = m.appended;
-  are = m.are;
-}
 
 -- reads and then others
 pub gathers_then : {C D : List ReadCall} {x y : List ℕ} → Gathers IsRoom C x → Gathers IsRoom D y → Gathers IsRoom (C ++ D) (x ++ y)
@@ -114,3 +74,10 @@ to_end_after may {old} {mid} {new} {buf} {reply = reply} {reply' = reply'} C x m
   appended = last.appended ∙ ap (λ l. l ++ last.given) is ∙ append_assoc buf x last.given;
   are = to_end_then reply reply' same first last.are;
 }
+
+-- what it appended to one list it appends to another
+pub drains : {S : Type 0} {may : S → ReadCall → S → Type 0} {old new : S} {buf buf' : List ℕ} {reply : Result ℕ Error}
+    {answer : Result (Unit {0}) Error} (x : List ℕ) (m : ToEndMade may old buf reply buf' new) → ended reply ≡ answer
+    → Drains may old x answer (x ++ m.given) new
+drains {reply = reply} x m same =
+    (reply, same, record { calls = m.calls; given = m.given; made = m.made; appended = refl; are = m.are })

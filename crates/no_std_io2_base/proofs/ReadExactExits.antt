@@ -8,10 +8,6 @@ pub length_stays : (at : ℕ) (xs ys : List ℕ) → length ys ≡ length (take 
     → length (put_mid at (length xs - at) xs ys) ≡ length xs
 length_stays at xs ys same = same_len_mid at (length xs - at) xs ys same
 
--- what was filled is shorter than the whole
-pub short_before : (at whole : ℕ) (xs : List ℕ) → at < length xs → whole ≡ length xs → length (take at xs) < whole
-short_before at whole xs below same = omega (arith, below, same, length-take at xs)
-
 -- the part that is not filled yet has room
 pub some_part : (at : ℕ) (xs ys : List ℕ) → at < length xs → length ys ≡ length (take (length xs - at) (drop at xs)) → 0 < length ys
 some_part at xs ys below same = omega (arith, below, same, length-take (length xs - at) (drop at xs), length-drop at xs)

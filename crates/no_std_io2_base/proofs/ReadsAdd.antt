@@ -21,6 +21,25 @@ pub record EachAdds {R : Type 0} (may : R → ReadCall → R → Type 0) (Adds :
   pub lent : (a b : R) (answer : Result (List ℕ) Error) → may a (Filled answer) b → Adds a [] b
   pub took : (a b c : R) (x : List ℕ) (n : ℕ) → may a (Filled (Ok x)) b → may b (Consumed n) c → n ≤ length x → Adds a (take n x) c
 
+-- so do calls that are among these
+pub each_of : {R : Type 0} {may may' : R → ReadCall → R → Type 0} {Adds : R → List ℕ → R → Type 0}
+    → ((a b : R) (call : ReadCall) → may' a call b → may a call b) → EachAdds may Adds → EachAdds may' Adds
+each_of among each = record {
+  joins = each.joins;
+  gave = λ a b room answer call. each.gave a b room answer (among a b (Gave room answer) call);
+  exactly = λ a b room answer call. each.exactly a b room answer (among a b (GaveExactly room answer) call);
+  all = λ a b x answer call. each.all a b x answer (among a b (GaveAll x answer) call);
+  lent = λ a b answer call. each.lent a b answer (among a b (Filled answer) call);
+  took = λ a b c x n lent took. each.took a b c x n (among a b (Filled (Ok x)) lent) (among b c (Consumed n) took);
+}
+
+-- after `Ok` a line was appended
+pub line_appended : (old old' line : List ℕ) (len capacity : ℕ) (reply read : Result ℕ Error)
+    → AnswersLine line read len capacity reply old old' → OnOk reply (old' ≡ old ++ line)
+line_appended old old' line len capacity (Ok m) (Ok n) answers = answers.0.1
+line_appended old old' line len capacity (Ok m) (Err f) answers = absurd answers
+line_appended old old' line len capacity (Err e) read answers = tt
+
 module _ {R : Type 0} {may : R → ReadCall → R → Type 0} {Adds : R → List ℕ → R → Type 0} (each : EachAdds may Adds) where
   -- calls, and one more
   and_last : (C : List ReadCall) {x y : List ℕ} (call : ReadCall) (a b : R) → ((mid : R) → Made may a C mid → Adds a x mid)
@@ -68,8 +87,8 @@ module _ {R : Type 0} {may : R → ReadCall → R → Type 0} {Adds : R → List
   fill_adds : (C : List ReadCall) (buf : List ℕ) (reply : Result (Unit {0}) Error) (a b : R) → FillCalls C reply buf → Made may a C b
       → (x : List ℕ) × OnOk reply (x ≡ buf) × Adds a x b
   fill_adds C buf (Ok u) a b reads made = (buf, refl, gathers_add reads a b made)
-  fill_adds C buf (Err e) a b (x, inl end) made = (x, tt, until_add (Ok []) refl end.1 a b made)
-  fill_adds C buf (Err e) a b (x, inr fault) made = (x, tt, until_add (Err e) refl fault.1 a b made)
+  fill_adds C buf (Err e) a b (x, front, inl end) made = (x, tt, until_add (Ok []) refl end.1 a b made)
+  fill_adds C buf (Err e) a b (x, front, inr fault) made = (x, tt, until_add (Err e) refl fault.1 a b made)
 
   -- those of a `read_exact`: all of the buffer after `Ok`, and the bytes that were taken after an error
   pub exact_adds : {buf : List ℕ} (reply : Result (Unit {0}) Error) (a b : R) → ExactMade may a reply buf b
@@ -117,7 +136,7 @@ module _ {R : Type 0} {may : R → ReadCall → R → Type 0} {Adds : R → List
   piece_adds {x = x} (Err e) a b m =
       let are = m.are in
       let last : (answer : Result (List ℕ) Error) × (m.calls ≡ are.0 ++ Filled answer ∷ []) =
-      elim are.2 [ inl fault ↦ (Err e, fault.1) | inr refused ↦ (Ok refused.2, refused.3) ] in
+      elim are.2 [ inl fault ↦ (Err e, fault.1) | inr refused ↦ (Ok refused.2, refused.4) ] in
       subst (λ l. Adds a l b) (append-nil x)
       (and_last are.0 (Filled last.0) a b (λ mid c. parts_add are.1 a mid c) (λ c d call. each.lent c d last.0 call)
       (subst (λ K. Made may a K b) last.1 m.made))
@@ -127,11 +146,4 @@ module _ {R : Type 0} {may : R → ReadCall → R → Type 0} {Adds : R → List
       → (made : (line : List ℕ) × (read : Result ℕ Error)
       × PieceMade (Unit {0}) may a 10 read line b × AnswersLine line read len capacity reply old old')
       → (line : List ℕ) × OnOk reply (old' ≡ old ++ line) × Adds a line b
-  line_adds {old} {old'} {len} {capacity} reply a b (line, read, made, answers) =
-      (line, appended old old' line len capacity reply read answers, piece_adds read a b made)
-    where
-      appended : (old old' line : List ℕ) (len capacity : ℕ) (reply read : Result ℕ Error)
-          → AnswersLine line read len capacity reply old old' → OnOk reply (old' ≡ old ++ line)
-      appended old old' line len capacity (Ok m) (Ok n) answers = answers.0.1
-      appended old old' line len capacity (Ok m) (Err f) answers = absurd answers
-      appended old old' line len capacity (Err e) read answers = tt
+  line_adds reply a b (line, read, made, answers) = (line, line_appended _ _ line _ _ reply read answers, piece_adds read a b made)

@@ -1,13 +1,14 @@
--- The calls of a `stream_len`, and those of a boxed object.
-use Rattle.std.proofs.Common.{◌≡◌, ◌≢◌, ℕ, pos, List, [], ◌∷◌, Result, Ok, Err, IfOk, refl, sym, subst}
+-- The calls of a `stream_len`, and those of a reference, a box and a boxed object.
+use Rattle.std.proofs.Common.{◌≡◌, ◌≢◌, ℕ, ℤ, pos, List, [], ◌∷◌, Result, Ok, Err, refl, subst, inl, inr}
 use Rattle.std.specs.declared.dyn_box.DynBox.{DynBox}
 use Rattle.no_std_io2_base.specs.declared.error.Error.{Error}
 use Rattle.no_std_io2_base.specs.declared.traits.seek.SeekFrom.{SeekFrom}
-use Rattle.no_std_io2_base.specs.declared.traits.seek.SeekFrom.TheVariants.{Start, End}
+use Rattle.no_std_io2_base.specs.declared.traits.seek.SeekFrom.TheVariants.{Start, End, Current}
 use Rattle.no_std_io2_base.specs.Seek.{SeekCall, Sought, Measured, LenCalls, measured, no_place, no_end, at_end, back, no_way_back, here}
-use Rattle.no_std_io2_base.specs.Seek.{Seeker, SeekLaw, StreamLenLaw}
+use Rattle.no_std_io2_base.specs.Seek.{Seeker, SeekLaw, StreamPositionLaw, RewindLaw, StreamLenLaw, SeekRelativeLaw, WithoutPosition}
 use Rattle.no_std_io2_base.specs.Write.{Made, BoxMay}
 use Rattle.no_std_io2_base.proofs.CallsLemmas.{made_map}
+use Rattle.no_std_io2_base.proofs.BoxedObjects.{holding, in_box}
 
 -- some calls were made, with this result
 abbrev pub Lens : {X : Type 0} → (X → SeekCall → X → Type 0) → X → X → Result ℕ Error → Type 0
@@ -55,45 +56,91 @@ module _ {X : Type 0} (may : X → SeekCall → X → Type 0) {old new : X} wher
     no_way_back elsewhere,
   )
 
-module _ {I A : Type 0} {V : I → Type 0} (may : (i : I) → V i → SeekCall → V i → Type 0) (box : DynBox I A V) where
-  -- what a box tells
-  abbrev pub box_seeker : Seeker (DynBox I A V)
-  box_seeker = record { has_store = λ _. ⊥; content = λ _. []; position = λ _. 0; may = λ b. BoxMay b (may b.vtable) }
+-- S' tells the store of S, whose values are put into its own, and may make its calls
+pub record SeeksThrough {X Y : Type 0} (S : Seeker X) (S' : Seeker Y) (put : X → Y) : Type 0 where
+  pub store : (x : X) → S'.store (put x) ≡ S.store x
+  pub may : (x y : X) (call : SeekCall) → S.may x call y → S'.may (put x) call (put y)
 
-  -- the box with another value
-  abbrev other_box : (i : I) → V i → DynBox I A V
-  other_box i new = record { ptr = box.ptr; vtable = i; alloc = box.alloc; value = new }
+sought_through : {X Y : Type 0} {S : Seeker X} {S' : Seeker Y} {put : X → Y} → SeeksThrough S S' put → (a b : X) (target : SeekFrom)
+    (reply : Result (Unit {0}) Error) → WithoutPosition (λ answer. S.may a (Sought target answer) b) reply
+    → WithoutPosition (λ answer. S'.may (put a) (Sought target answer) (put b)) reply
+sought_through through a b target (Ok done) call = (call.0, through.may _ _ _ call.1)
+sought_through through a b target (Err e) call = through.may _ _ _ call
+
+-- what a call did to a value, it did to that which the value was put into
+module _ {X Y : Type 0} {S : Seeker X} {S' : Seeker Y} (put : X → Y) (through : SeeksThrough S S' put) {a b : X} where
+  pub seek_through : {target : SeekFrom} {reply : Result ℕ Error} → SeekLaw S a target reply b → SeekLaw S' (put a) target reply (put b)
+  seek_through law = record {
+    store = rw (through.store a, through.store b) law.store;
+    position = rw (through.store b) law.position;
+    call = through.may _ _ _ law.call;
+  }
+
+  pub stream_position_through : {reply : Result ℕ Error} → StreamPositionLaw S a reply b → StreamPositionLaw S' (put a) reply (put b)
+  stream_position_through law = record {
+    store = rw (through.store a, through.store b) law.store;
+    position = rw (through.store b) law.position;
+    call = through.may _ _ _ law.call;
+  }
+
+  pub rewind_through : {reply : Result (Unit {0}) Error} → RewindLaw S a reply b → RewindLaw S' (put a) reply (put b)
+  rewind_through {reply} law = record {
+    store = rw (through.store a, through.store b) law.store;
+    call = sought_through through a b (Start 0) reply law.call;
+  }
+
+  pub stream_len_through : {reply : Result ℕ Error} → StreamLenLaw S a reply b → StreamLenLaw S' (put a) reply (put b)
+  stream_len_through law = record {
+    store = rw (through.store a, through.store b) law.store;
+    calls = (law.calls.0, made_map S.may S'.may put through.may law.calls.0 a b law.calls.1, law.calls.2);
+  }
+
+  pub seek_relative_through : {offset : ℤ} {reply : Result (Unit {0}) Error} → SeekRelativeLaw S a offset reply b
+      → SeekRelativeLaw S' (put a) offset reply (put b)
+  seek_relative_through {offset} {reply} law = record {
+    store = rw (through.store a, through.store b) law.store;
+    call = elim law.call [
+      | inl one ↦ inl (sought_through through a b (Current offset) reply one)
+      | inr moved ↦ inr (through.may _ _ _ moved)
+    ];
+  }
+
+module _ {I A : Type 0} {V : I → Type 0} (o : (p : (x : I) × V x) → Seeker (V p.0)) (box : DynBox I A V) where
+  -- the value in a box, by what its trait object tells, and the box
+  abbrev pub value_seeker : (i : I) → Seeker (V i)
+  value_seeker i = record { store = λ v. (o (i, v)).store v; may = λ v. (o (i, v)).may v }
+
+  abbrev pub box_seeker : Seeker (DynBox I A V)
+  box_seeker = record { store = λ b. (value_seeker b.vtable).store b.value; may = λ b. BoxMay b (value_seeker b.vtable).may }
+
+  in_value : SeeksThrough (value_seeker box.vtable) box_seeker (holding box box.vtable)
+  in_value = record { store = λ x. refl; may = λ x y call may. (y, refl, may) }
 
   -- what a call did to the value that was lent, it did to the box
-  abbrev pub SeekOf : SeekFrom → Result ℕ Error → ((i : I) × V i) → Type 0
-  SeekOf target reply lent = (new : V lent.0) → may lent.0 lent.1 (Sought target reply) new
-      → SeekLaw box_seeker box target reply (other_box lent.0 new)
+  pub seek_box : {target : SeekFrom} {reply : Result ℕ Error} (lent : (x : I) × V x) → lent ≡ (box.vtable, box.value)
+      → (new : V lent.0) → SeekLaw (value_seeker lent.0) lent.1 target reply new
+      → SeekLaw box_seeker box target reply (holding box lent.0 new)
+  seek_box {target} {reply} = in_box box (λ i a b. SeekLaw (value_seeker i) a target reply b) (SeekLaw box_seeker box target reply)
+      (λ new. seek_through (holding box box.vtable) in_value)
 
-  abbrev pub StreamLenOf : Result ℕ Error → ((i : I) × V i) → Type 0
-  StreamLenOf reply lent = (new : V lent.0) → Lens (may lent.0) lent.1 new reply
-      → StreamLenLaw box_seeker box reply (other_box lent.0 new)
+  pub stream_position_box : {reply : Result ℕ Error} (lent : (x : I) × V x) → lent ≡ (box.vtable, box.value)
+      → (new : V lent.0) → StreamPositionLaw (value_seeker lent.0) lent.1 reply new
+      → StreamPositionLaw box_seeker box reply (holding box lent.0 new)
+  stream_position_box {reply} = in_box box (λ i a b. StreamPositionLaw (value_seeker i) a reply b) (StreamPositionLaw box_seeker box reply)
+      (λ new. stream_position_through (holding box box.vtable) in_value)
 
-  -- nothing is claimed if no store is told
-  untold : (reply : Result ℕ Error) → IfOk reply (λ n. ⊥ → 0 ≡ n)
-  untold (Ok n) = λ no. absurd no
-  untold (Err e) = tt
+  pub rewind_box : {reply : Result (Unit {0}) Error} (lent : (x : I) × V x) → lent ≡ (box.vtable, box.value)
+      → (new : V lent.0) → RewindLaw (value_seeker lent.0) lent.1 reply new → RewindLaw box_seeker box reply (holding box lent.0 new)
+  rewind_box {reply} = in_box box (λ i a b. RewindLaw (value_seeker i) a reply b) (RewindLaw box_seeker box reply)
+      (λ new. rewind_through (holding box box.vtable) in_value)
 
-  -- the value that was lent is that in the box
-  pub seek_box : (target : SeekFrom) (reply : Result ℕ Error) (lent : (i : I) × V i) → lent ≡ (box.vtable, box.value)
-      → SeekOf target reply lent
-  seek_box target reply lent same =
-      subst (SeekOf target reply) (sym same)
-      (λ new call. record { store = λ s. absurd s; position = untold reply; call = (new, refl, call) })
+  pub stream_len_box : {reply : Result ℕ Error} (lent : (x : I) × V x) → lent ≡ (box.vtable, box.value)
+      → (new : V lent.0) → StreamLenLaw (value_seeker lent.0) lent.1 reply new → StreamLenLaw box_seeker box reply (holding box lent.0 new)
+  stream_len_box {reply} = in_box box (λ i a b. StreamLenLaw (value_seeker i) a reply b) (StreamLenLaw box_seeker box reply)
+      (λ new. stream_len_through (holding box box.vtable) in_value)
 
-  pub len_box : (reply : Result ℕ Error) (lent : (i : I) × V i) → lent ≡ (box.vtable, box.value) → StreamLenOf reply lent
-  len_box reply lent same =
-      subst (StreamLenOf reply) (sym same)
-      (λ new calls. record {
-        store = λ s. absurd s;
-        calls = (
-          calls.0,
-          made_map (may box.vtable) (λ b. BoxMay b (may b.vtable)) (other_box box.vtable) (λ a b call made. (b, refl, made)) calls.0
-              box.value new calls.1,
-          calls.2,
-        );
-      })
+  pub seek_relative_box : {offset : ℤ} {reply : Result (Unit {0}) Error} (lent : (x : I) × V x) → lent ≡ (box.vtable, box.value)
+      → (new : V lent.0) → SeekRelativeLaw (value_seeker lent.0) lent.1 offset reply new
+      → SeekRelativeLaw box_seeker box offset reply (holding box lent.0 new)
+  seek_relative_box {offset} {reply} = in_box box (λ i a b. SeekRelativeLaw (value_seeker i) a offset reply b)
+      (SeekRelativeLaw box_seeker box offset reply) (λ new. seek_relative_through (holding box box.vtable) in_value)

@@ -19,8 +19,12 @@ use Rattle.no_std_io2_base.specs.Write.{Told, Moves, MovesFront, HasSpent}
 use Rattle.no_std_io2_base.specs.Writers.{Writer, WriteAllOf, PrintsOf, WriteFmtOf}
 use Rattle.no_std_io2_base.specs.Text.{nothing, piece, silent, IsTextError, FailsText, AnswersText, MovesText}
 use Rattle.no_std_io2_base.specs.Errors.{is_interruption, IsNoInterruption}
-use Rattle.no_std_io2_base.proofs.ChainReads.{after_ok}
 use Rattle.no_std_io2_base.proofs.MovesLemmas.{IsFront-refl, Moves-refl, MovesFront-join, MovesFront-first}
+
+-- what holds, holds after an `Ok`
+pub after_ok : {A E : Type 0} {P : Type 0} (reply : Result A E) → P → OnOk reply P
+after_ok (Ok a) p = p
+after_ok (Err e) p = tt
 
 module _ {S : Type 0} {I : Writer S} {old : S} where
   -- a piece more, if the test says that no error was met

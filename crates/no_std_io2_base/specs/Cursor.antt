@@ -83,7 +83,8 @@ PutsMay items capacity old (WroteRest x reply left) new = ⊥
 PutsMay items capacity old (Flushed reply) new = IsOk reply × (new ≡ old)
 
 -- `write_all` of x over a slice: as many bytes as fit are written; it fails if and only if these are not all
-pub record PutsAllFitting (bs : List ℕ) (place : ℕ) (x : List ℕ) (reply : Result (Unit {0}) Error) (bs' : List ℕ) (place' : ℕ) : Type 0 where
+pub record PutsAllFitting (bs : List ℕ) (place : ℕ) (x : List ℕ) (reply : Result (Unit {0}) Error) (bs' : List ℕ)
+    (place' : ℕ) : Type 0 where
   pub variant : IsOk reply ↔ (length x ≤ length bs - place)
   pub says : IfErr reply IsUnwritten
   pub puts : PutsFitting bs place x bs' place'

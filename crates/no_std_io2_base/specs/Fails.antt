@@ -1,5 +1,5 @@
 -- Which errors the calls of a writer may return.
-use Rattle.std.specs.Prelude.{ℕ, ◌<◌, length, IfOk, IfErr}
+use Rattle.std.specs.Prelude.{◌<◌, length, IfOk, IfErr}
 use Rattle.no_std_io2_base.specs.declared.error.Error.{Error}
 use Rattle.no_std_io2_base.specs.Write.{WriteCall, Wrote, WroteAll, WroteRest, Flushed}
 

@@ -3,7 +3,8 @@ use Rattle.std.specs.Prelude.{◌≡◌, ℕ, ◌+◌, ◌≤◌, List, [], ◌�
 use Rattle.no_std_io2_base.specs.Write.{WriteCall, Wrote, WroteAll, WroteRest, Flushed, calls_for}
 use Rattle.no_std_io2_base.specs.Writers.{Writer, TakesAll}
 
--- How many writes a call counts as. A `write_all` of a type that has a body of its own for it counts as one, or as none for no bytes. A flush
+-- How many writes a call counts as. A `write_all` of a type that has a body of its own for it counts as one, or as none for no bytes. A
+-- flush
 -- does not count.
 abbrev pub charge : WriteCall → ℕ
 charge (Wrote x reply) = 1

@@ -1,10 +1,11 @@
 -- Pieces of bytes, each of which ends in a delimiter; which events a call that reads a piece takes; what `Split` and `Lines` yield.
-use Rattle.std.specs.Prelude.{◌≡◌, ◌≢◌, ℕ, ◌+◌, ◌-◌, ◌^◌, ◌<◌, ◌≤◌, ◌==◌, min, true, false, Bool, List, [], ◌∷◌, ◌++◌, length, take, filter}
-use Rattle.std.specs.Prelude.{if◌then◌else◌, ◌⊎◌, ⊤, Option, None, Some, Result, Ok, Err, suc, codes, IsUtf8}
+use Rattle.std.specs.Prelude.{◌≡◌, ◌≢◌, ℕ, ◌+◌, ◌<◌, ◌≤◌, ◌==◌, true, false, Bool, List, [], ◌∷◌, ◌++◌, length, take, filter}
+use Rattle.std.specs.Prelude.{if◌then◌else◌, ◌⊎◌, Option, None, Some, Result, Ok, Err, suc, codes, IsUtf8, IfSome}
 use Rattle.std.specs.List.{AllByRecursion, concat}
 use Rattle.no_std_io2_base.specs.declared.error.Error.{Error}
 use Rattle.no_std_io2_base.specs.Errors.{error_kind, IsInterruption, IsFault, IsOutOfMemory, error_text}
-use Rattle.no_std_io2_base.specs.Read.{Event, byte, fails, bytes, HasNoFault, EndsInFault, bytes_to_fault, first_fault}
+use Rattle.no_std_io2_base.specs.Events.{Event, byte, events_of, bytes, HasNoFault, EndsInFault, bytes_to_fault, first_fault}
+use Rattle.no_std_io2_base.specs.Takes.{Tells, to_come, IsAll}
 use Rattle.no_std_io2_base.specs.Read.{ReadCall, Filled, Consumed}
 use Rattle.no_std_io2_base.specs.Write.{Made}
 use Rattle.no_std_io2_base.specs.declared.error.ErrorKind.TheVariants.{InvalidData, OutOfMemory}
@@ -67,6 +68,10 @@ pub record ArePieces (d : ℕ) (bs : List ℕ) (ps : List (List ℕ)) : Type 0 w
 abbrev pub EndsPiece : ℕ → List ℕ → Type 0
 EndsPiece d bs = (front : List ℕ) × (bs ≡ front ++ d ∷ []) × Lacks d front
 
+-- the events P end in the byte d, the only d in them
+abbrev pub EndsAt : ℕ → List Event → Type 0
+EndsAt d P = (front : List Event) × (P ≡ front ++ byte d ∷ []) × Lacks d (bytes front)
+
 -- The first n of these bytes belong to the next piece. They complete it if they end in d, or if there are no bytes: then nothing is to
 -- come. If they do not complete it, they are all of these bytes.
 pub record FindsPiece (d : ℕ) (bs : List ℕ) (n : ℕ) (is_whole : Bool) : Type 0 where
@@ -74,51 +79,25 @@ pub record FindsPiece (d : ℕ) (bs : List ℕ) (n : ℕ) (is_whole : Bool) : Ty
   pub whole : is_whole ≡ true → EndsPiece d (take n bs) ⊎ (bs ≡ [])
   pub open_ended : is_whole ≡ false → (0 < n) × Lacks d (take n bs) × (n ≡ length bs)
 
--- `read_until(d)` returned `Ok(n)`: a piece of n bytes was taken from E, and its bytes were appended
-pub record GivesPiece (d : ℕ) (E : List Event) (n : ℕ) (old new : List ℕ) (after : List Event) : Type 0 where
-  pub taken : List Event
-  pub split : E ≡ taken ++ after
-  pub appended : new ≡ old ++ bytes taken
-  pub count : n ≡ length (bytes taken)
-  pub no_fault : HasNoFault taken
-  -- d is its last event and the only one; or there is none, and nothing is left
-  pub ends : ((front : List Event) × (taken ≡ front ++ byte d ∷ []) × Lacks d (bytes front)) ⊎ (Lacks d (bytes taken) × (after ≡ []))
+-- these bytes are a part of a piece: there are some, and only the last may be d
+abbrev pub IsPiecePart : ℕ → List ℕ → Type 0
+IsPiecePart d part = (0 < length part) × Lacks d (but_last part)
 
--- a byte comes next
-abbrev pub IsByteNext : List Event → Type 0
-IsByteNext [] = ⊥
-IsByteNext (byte b ∷ E) = ⊤
-IsByteNext (fails e ∷ E) = ⊥
+-- behind the events P these bytes are to come, if events are told
+abbrev pub ComesBehind : Tells → List Event → List ℕ → Type 0
+ComesBehind t P x = IfSome (to_come t) (λ E. (rest : List Event) × (E ≡ P ++ (events_of x ++ rest)))
 
--- `read_until(d)` returned the error e: the bytes that were taken before have no d, and were appended
-pub record StopsInPiece (d : ℕ) (E : List Event) (e : Error) (old new : List ℕ) (after : List Event) : Type 0 where
-  pub taken : List Event
-  pub split : E ≡ taken ++ after
-  pub appended : new ≡ old ++ bytes taken
-  pub no_end : Lacks d (bytes taken)
-  -- it stopped at the first fault, which is taken too; or at a failed allocation, and a byte comes next
-  pub stops : EndsInFault taken e ⊎ (HasNoFault taken × IsOutOfMemory e × IsByteNext after)
-
--- `read_until(d)` took the events of E up to `after`, and appended their bytes: those up to and including the first d, or all if there is
--- none. A fault or a failed allocation stops it.
-abbrev pub TakesPiece : ℕ → List Event → Result ℕ Error → List ℕ → List ℕ → List Event → Type 0
-TakesPiece d E (Ok n) old new after = GivesPiece d E n old new after
-TakesPiece d E (Err e) old new after = StopsInPiece d E e old new after
-
--- `skip_until(d)` took the events of E up to `after`: one piece, and the result is its length, at most `usize::MAX`. A fault stops it, and
--- is taken too.
-abbrev pub SkipsPiece : ℕ → List Event → Result ℕ Error → List Event → Type 0
-SkipsPiece d E (Ok n) after = (piece : List ℕ) × GivesPiece d E (length piece) [] piece after × (n ≡ min (length piece) (2 ^ 64 - 1))
-SkipsPiece d E (Err e) after = (taken : List Event) × (E ≡ taken ++ after) × Lacks d (bytes taken) × EndsInFault taken e
+-- How a call that took the events P of one piece ended: with the first d, or at the end; or before a d, with a fault, or since an
+-- allocation failed for the next bytes of the piece. `lacks` is the reason why these and the bytes of P needed one.
+abbrev pub PieceEnds : (ℕ → Type 0) → ℕ → Tells → List Event → Result ℕ Error → Type 0
+PieceEnds lacks d old P (Ok n) = HasNoFault P × (n ≡ length (bytes P)) × (EndsAt d P ⊎ (Lacks d (bytes P) × IsAll old P))
+PieceEnds lacks d old P (Err e) = Lacks d (bytes P) × (EndsInFault P e ⊎ (HasNoFault P × IsOutOfMemory e
+    × ((part : List ℕ) × IsPiecePart d part × ComesBehind old P part × lacks (length (bytes P) + length part))))
 
 -- the bytes up to and including the first d, or all if there is none
 abbrev pub up_to : ℕ → List ℕ → List ℕ
 up_to d [] = []
 up_to d (b ∷ bs) = if b == d then b ∷ [] else b ∷ up_to d bs
-
--- a vector of this length and capacity has room for the bytes of the first piece of E
-abbrev pub HasPieceRoom : ℕ → List Event → ℕ → ℕ → Type 0
-HasPieceRoom d E len capacity = len + length (up_to d (bytes_to_fault E)) ≤ capacity
 
 -- C are the calls of a loop that took x, and no d yet: each `fill_buf` lent some bytes without d, and all of them were consumed; or it was
 -- interrupted
@@ -129,13 +108,13 @@ pub data PartCalls (d : ℕ) : List ReadCall → List ℕ → Type 0 where
   and_waited : (C : List ReadCall) (x : List ℕ) (e : Error) → PartCalls d C x → IsInterruption e → PartCalls d (C ++ Filled (Err e) ∷ []) x
 
 -- C are the calls of a loop that took a piece x: the last `fill_buf` lent the end of x, and the bytes up to this end were consumed; or it
--- lent nothing. If the result is an error, the last `fill_buf` returned this fault; or, if the loop allocates, the allocation for the lent
--- bytes failed, and none of them were consumed.
+-- lent nothing. If the result is an error, the last `fill_buf` returned this fault; or, if the loop allocates, it lent some bytes, the
+-- allocation for them failed, and none of them were consumed.
 abbrev pub PieceCalls : Type 0 → ℕ → List ReadCall → List ℕ → Result ℕ Error → Type 0
 PieceCalls may_refuse d C x (Ok _) = (D : List ReadCall) × (y : List ℕ) × (lent : List ℕ) × (n : ℕ) × PartCalls d D y
     × FindsPiece d lent n true × (x ≡ y ++ take n lent) × (C ≡ D ++ Filled (Ok lent) ∷ Consumed n ∷ [])
 PieceCalls may_refuse d C x (Err e) = (D : List ReadCall) × PartCalls d D x × ((IsFault e × (C ≡ D ++ Filled (Err e) ∷ []))
-    ⊎ (may_refuse × IsOutOfMemory e × (lent : List ℕ) × (C ≡ D ++ Filled (Ok lent) ∷ [])))
+    ⊎ (may_refuse × IsOutOfMemory e × (lent : List ℕ) × (0 < length lent) × (C ≡ D ++ Filled (Ok lent) ∷ [])))
 
 -- The calls that were made to take a piece, and the bytes x that were taken.
 pub record PieceMade {X : Type 0} (may_refuse : Type 0) (may : X → ReadCall → X → Type 0) (old : X) (d : ℕ) (reply : Result ℕ Error)
@@ -181,21 +160,6 @@ IsInvalidText e = (error_kind e ≡ InvalidData) × (error_text e ≡ Some (code
 abbrev pub RefusesLine : List ℕ → Error → Type 0
 RefusesLine piece e = (IsUtf8 (line_text piece) → ⊥) × IsInvalidText e
 
--- a piece of some bytes was taken from E
-pub record TakesSome (d : ℕ) (E : List Event) (piece : List ℕ) (after : List Event) : Type 0 where
-  pub count : ℕ
-  pub some : 0 < count
-  pub gives : GivesPiece d E count [] piece after
-
--- What one `next` yields: nothing at the end; a trimmed piece; the error that stopped it, or the error that refuses the piece. `view` gives
--- the bytes of an item.
-abbrev pub YieldsPiece : {T : Type 0} → (T → List ℕ) → (List ℕ → List ℕ) → (List ℕ → Error → Type 0) → ℕ → List Event
-    → Option (Result T Error) → List Event → Type 0
-YieldsPiece view trim refuses d E None after = (piece : List ℕ) × GivesPiece d E 0 [] piece after
-YieldsPiece view trim refuses d E (Some (Ok item)) after = (piece : List ℕ) × TakesSome d E piece after × (view item ≡ trim piece)
-YieldsPiece view trim refuses d E (Some (Err e)) after =
-    (piece : List ℕ) × (StopsInPiece d E e [] piece after ⊎ (TakesSome d E piece after × refuses piece e))
-
 -- what `next` yields if a piece was read with this result
 abbrev pub YieldsRead : {T : Type 0} → (T → List ℕ) → (List ℕ → List ℕ) → (List ℕ → Error → Type 0) → List ℕ → Result ℕ Error
     → Option (Result T Error) → Type 0
@@ -203,12 +167,6 @@ YieldsRead view trim refuses piece (Ok n) None = length piece ≡ 0
 YieldsRead view trim refuses piece (Ok n) (Some (Ok item)) = (0 < length piece) × (view item ≡ trim piece)
 YieldsRead view trim refuses piece (Ok n) (Some (Err e)) = (0 < length piece) × refuses piece e
 YieldsRead view trim refuses piece (Err e) result = result ≡ Some (Err e)
-
--- The calls that a `next` made: those that read a piece.
-abbrev pub NextMade : {X T : Type 0} → (X → ReadCall → X → Type 0) → X → (T → List ℕ) → (List ℕ → List ℕ) → (List ℕ → Error → Type 0) → ℕ
-    → Option (Result T Error) → X → Type 0
-NextMade may old view trim refuses d result new = (piece : List ℕ) × (read : Result ℕ Error)
-    × PieceMade (Unit {0}) may old d read piece new × YieldsRead view trim refuses piece read result
 
 -- whether the iterator has ended after yielding this: yes, if it is an error
 abbrev pub ends_at : {T : Type 0} → Option (Result T Error) → Bool
@@ -241,12 +199,3 @@ AnswersLine line (Err f) len capacity (Err e) old new =
     ⊎ (((error_kind f ≡ OutOfMemory) → ⊥)
     × ((Follows line old new × (e ≡ f))
     ⊎ (((IsUtf8 line → ⊥) × (e ≡ f) × (new ≡ old)) ⊎ (HasNoRoom line len capacity e × (new ≡ old)))))
-
--- `read_line` took the events of E up to `after`: the line that `read_until` takes with a newline as delimiter. A text of this length and
--- capacity changed from old to new.
-pub record TakesLine (E : List Event) (len capacity : ℕ) (result : Result ℕ Error) (old new : List ℕ) (after : List Event)
-    : Type 0 where
-  pub line : List ℕ
-  pub read : Result ℕ Error
-  pub takes : TakesPiece newline E read [] line after
-  pub answers : AnswersLine line read len capacity result old new

@@ -1,105 +1,12 @@
--- The events that a reader is going to give, what its calls do to them, the law of each call of `Read`, and what `Bytes` yields.
-use Rattle.std.specs.Prelude.{◌≡◌, ℕ, zero, suc, ◌<◌, List, [], ◌∷◌, ◌++◌, length, take, ⊤, Ok, Err, Result, ◌⊎◌, ◌+◌}
-use Rattle.std.specs.Prelude.{◌≤◌, min, Vec, vec_len, vec_capacity, Some, IfOk, IfErr, OnOk, IsOk, IsOkAnd, Option, None, refl}
-use Rattle.std.specs.Prelude.{if◌then◌else◌}
+-- What a call needs to know of a reader, the calls of `Read` with the law of each, and what `Bytes` yields.
+use Rattle.std.specs.Prelude.{◌≡◌, ℕ, ◌<◌, List, [], ◌∷◌, ◌++◌, length, take, Ok, Err, Result, ◌⊎◌, ◌+◌}
+use Rattle.std.specs.Prelude.{◌≤◌, Vec, vec_len, vec_capacity, Some, IfOk, IsOk, Option, None, IfSome}
 use Rattle.no_std_io2_base.specs.declared.error.Error.{Error}
-use Rattle.no_std_io2_base.specs.Errors.{IsInterruption, IsFault, IsUnexpectedEnd, IsOutOfMemory, IsNoInterruption, error_kind}
-use Rattle.no_std_io2_base.specs.Errors.{is_interruption}
+use Rattle.no_std_io2_base.specs.Errors.{IsInterruption, IsFault, IsUnexpectedEnd, IsOutOfMemory}
 use Rattle.no_std_io2_base.specs.declared.traits.bytes.Bytes.{Bytes}
-use Rattle.no_std_io2_base.specs.Write.{Made}
-use Rattle.std.proofs.Common.{ap, sym, ◌∙◌}
-
--- one thing that a reader is going to give: a byte, or an error that a call returns
-pub data Event : Type 0 where
-  byte : ℕ → Event
-  fails : Error → Event
-
--- the events that are these bytes
-abbrev pub events_of : List ℕ → List Event
-events_of [] = []
-events_of (b ∷ bs) = byte b ∷ events_of bs
-
--- the bytes of E, in order
-abbrev pub bytes : List Event → List ℕ
-bytes [] = []
-bytes (byte b ∷ E) = b ∷ bytes E
-bytes (fails e ∷ E) = bytes E
-
--- E has no fault
-abbrev pub HasNoFault : List Event → Type 0
-HasNoFault [] = ⊤
-HasNoFault (byte b ∷ E) = HasNoFault E
-HasNoFault (fails e ∷ E) = IsInterruption e × HasNoFault E
-
--- E up to and including its byte number `limit`, or all of E if it has fewer bytes; nothing if `limit` is 0
-abbrev pub cut : ℕ → List Event → List Event
-cut zero E = []
-cut (suc k) [] = []
-cut (suc k) (byte b ∷ E) = byte b ∷ cut k E
-cut (suc k) (fails e ∷ E) = fails e ∷ cut (suc k) E
-
--- one `read` took the events of E up to `after`: the n bytes that are now at the front of buf, or the error that E began with. It gives 0
--- bytes only at the end, or if buf is empty
-abbrev pub Reads : List Event → Result ℕ Error → List ℕ → List Event → Type 0
-Reads E (Ok n) buf after = (E ≡ events_of (take n buf) ++ after) × (n ≡ 0 → 0 < length buf → E ≡ [])
-Reads E (Err e) buf after = E ≡ fails e ∷ after
-
--- a call spent a turn if it gave bytes or returned an error
-abbrev pub SpendsTurn : Result ℕ Error → ℕ → ℕ → Type 0
-SpendsTurn (Ok n) old new = 0 < n → new < old
-SpendsTurn (Err e) old new = new < old
-
--- P ends in the fault e, and has no other fault
-abbrev pub EndsInFault : List Event → Error → Type 0
-EndsInFault P e = (Q : List Event) × (P ≡ Q ++ fails e ∷ []) × HasNoFault Q × IsFault e
-
--- how many bytes a call gave
-abbrev pub given : Result ℕ Error → ℕ
-given (Ok n) = n
-given (Err e) = 0
-
--- The front of E that fills a buffer with these bytes is taken. It ends right after the last of them.
-pub record Fills (E : List Event) (buf : List ℕ) (after : List Event) : Type 0 where
-  pub split : E ≡ cut (length buf) E ++ after
-  pub no_fault : HasNoFault (cut (length buf) E)
-  pub filled : bytes (cut (length buf) E) ≡ buf
-
--- E has no fault and fewer bytes than `room`. All of E is taken, or none if the reader may take none.
-pub record FallsShort (may_take_none : Type 0) (E : List Event) (room : ℕ) (e : Error) (after : List Event) : Type 0 where
-  pub no_fault : HasNoFault E
-  pub short : length (bytes E) < room
-  pub answer : IsUnexpectedEnd e
-  pub left : (after ≡ []) ⊎ (may_take_none × (after ≡ E))
-
--- E up to and including its first fault is taken, and has fewer bytes than `room`. This fault is the result.
-pub record StopsAtFault (E : List Event) (room : ℕ) (e : Error) (after : List Event) : Type 0 where
-  pub taken : List Event
-  pub split : E ≡ taken ++ after
-  pub ends : EndsInFault taken e
-  pub short : length (bytes taken) < room
-
--- `read_exact(buf)` took the events of E up to `after`
-abbrev pub ReadsExact : {A : Type 0} → Type 0 → List Event → Result A Error → List ℕ → List Event → Type 0
-ReadsExact may_take_none E (Ok _) buf after = Fills E buf after
-ReadsExact may_take_none E (Err e) buf after = StopsAtFault E (length buf) e after ⊎ FallsShort may_take_none E (length buf) e after
-
--- `read_to_end` took the events of E up to `after`, and appended their bytes: all, or those up to the first fault or a failed allocation
-abbrev pub ReadsToEnd : List Event → Result ℕ Error → List ℕ → List ℕ → List Event → Type 0
-ReadsToEnd E (Ok n) old new after = HasNoFault E × (new ≡ old ++ bytes E) × (n ≡ length (bytes E)) × (after ≡ [])
-ReadsToEnd E (Err e) old new after =
-    (P : List Event) × (E ≡ P ++ after) × (new ≡ old ++ bytes P) × (EndsInFault P e ⊎ (HasNoFault P × IsOutOfMemory e))
-
--- the bytes before the first fault
-abbrev pub bytes_to_fault : List Event → List ℕ
-bytes_to_fault [] = []
-bytes_to_fault (byte b ∷ E) = b ∷ bytes_to_fault E
-bytes_to_fault (fails e ∷ E) = if is_interruption (error_kind e) then bytes_to_fault E else []
-
--- the first fault, if there is one
-abbrev pub first_fault : List Event → Option Error
-first_fault [] = None
-first_fault (byte b ∷ E) = first_fault E
-first_fault (fails e ∷ E) = if is_interruption (error_kind e) then first_fault E else Some e
+use Rattle.no_std_io2_base.specs.Events.{Event, byte, fails, events_of, bytes, HasNoFault, cut, EndsInFault, BeginsWith}
+use Rattle.no_std_io2_base.specs.Takes.{Store, Tells, Takes, to_come, IsAtEnd}
+use Rattle.no_std_io2_base.specs.Write.{Made, IsFront}
 
 -- A call of a reader, with its result.
 pub data ReadCall : Type 0 where
@@ -155,10 +62,10 @@ IsRest size at room = (at + room ≡ size) × (0 < room)
 abbrev pub IsRoom : ℕ → ℕ → Type 0
 IsRoom at room = 0 < room
 
--- C are the reads of a `read_exact(buf)`: they fill buf, unless the end or a fault comes first
+-- C are the reads of a `read_exact(buf)`: they fill buf, or its front if the end or a fault comes first
 abbrev pub FillCalls : List ReadCall → Result (Unit {0}) Error → List ℕ → Type 0
 FillCalls C (Ok u) buf = Gathers (IsRest (length buf)) C buf
-FillCalls C (Err e) buf = (x : List ℕ) × ((IsUnexpectedEnd e × GathersUntil (IsRest (length buf)) C x (Ok []))
+FillCalls C (Err e) buf = (x : List ℕ) × IsFront x buf × ((IsUnexpectedEnd e × GathersUntil (IsRest (length buf)) C x (Ok []))
     ⊎ (IsFault e × GathersUntil (IsRest (length buf)) C x (Err e)))
 
 -- C are the calls of a `read_exact(buf)`: these reads, or the `read_exact` of a type that has a body of its own for it
@@ -196,96 +103,119 @@ pub record ToEndMade {S : Type 0} (may : S → ReadCall → S → Type 0) (old :
 abbrev pub Drains : {S : Type 0} → (S → ReadCall → S → Type 0) → S → List ℕ → Result (Unit {0}) Error → List ℕ → S → Type 0
 Drains may old x answer y new = (reply : Result ℕ Error) × (ended reply ≡ answer) × ToEndMade may old x reply y new
 
--- the ghost members of a reader, as `⟦<R as Read>⟧` names them: those of its store, and its own
+-- the ghost members of a reader, as `⟦<R as Read>⟧` names them: that of its store, and its own
 abbrev pub Reader : Type 0 → Type 1
 Reader S = record {
-  has_store : S → Type 0;
-  content : S → List ℕ;
-  position : S → ℕ;
-  tells : S → Type 0;
-  events : S → List Event;
+  store : S → Option Store;
   turns : S → ℕ;
-  is_filling : S → Type 0;
-  may_take_none : S → Type 0;
+  events : S → Option (List Event);
   may : S → ReadCall → S → Type 0;
 }
 
--- a told store keeps its content, and the position moves by the number of bytes that are gone from the events
-abbrev pub GoesOn : {S : Type 0} → Reader S → S → S → Type 0
-GoesOn R old new = R.has_store old → R.has_store new × (R.content new ≡ R.content old)
-    × (R.position new + length (R.events new) ≡ R.position old + length (R.events old))
+-- what a reader tells
+abbrev pub tells : {S : Type 0} → Reader S → S → Tells
+tells R x = record { events = R.events x; store = R.store x; turns = R.turns x }
 
--- the least room into which a read to the end reads
-abbrev pub least_room : ℕ
-least_room = 32
+-- the events that a `read` took, by its answer: the given bytes, or the error
+abbrev pub answered : Result (List ℕ) Error → List Event
+answered (Ok x) = events_of x
+answered (Err e) = fails e ∷ []
 
--- a vector of this length and capacity has room for the bytes before the first fault of E, and for `more` bytes
-abbrev pub HasRoom : ℕ → List Event → ℕ → ℕ → Type 0
-HasRoom more E len capacity = len + length (bytes_to_fault E) + more ≤ capacity
+-- the events that a `fill_buf` took: none, or the error that it returned
+abbrev pub fault_of : Result (List ℕ) Error → List Event
+fault_of (Ok x) = []
+fault_of (Err e) = fails e ∷ []
+
+-- P has no fault, and its bytes are x. If these are `room` bytes, it ends with the last of them.
+pub record Gives (room : ℕ) (P : List Event) (x : List ℕ) : Type 0 where
+  pub no_fault : HasNoFault P
+  pub given : bytes P ≡ x
+  pub within : cut room P ≡ P
+
+-- all was taken; or nothing was, of fewer bytes than `room` without a fault
+abbrev pub AllOrNone : List Event → ℕ → List Event → Type 0
+AllOrNone P room left = (left ≡ []) ⊎ ((P ≡ []) × HasNoFault left × (length (bytes left) < room))
+
+-- how a `read_exact` of `room` bytes that took P ended: it gave them; or a fault came before the last of them, or the end
+abbrev pub FillsOrEnds : ℕ → List Event → Result (List ℕ) Error → Tells → Type 0
+FillsOrEnds room P (Ok x) new = Gives room P x × (length x ≡ room)
+FillsOrEnds room P (Err e) new = (length (bytes P) < room)
+    × (EndsInFault P e ⊎ (IsUnexpectedEnd e × HasNoFault P × IfSome (to_come new) (AllOrNone P room)))
+
+-- how a `read_to_end` that took P ended: at the end; or after a fault; or since an allocation failed, for which `lacks` is a reason
+abbrev pub DrainsOrStops : {A : Type 0} → Type 0 → List Event → Result A Error → Tells → Type 0
+DrainsOrStops lacks P (Ok _) new = HasNoFault P × IsAtEnd new
+DrainsOrStops lacks P (Err e) new = EndsInFault P e ⊎ (HasNoFault P × IsOutOfMemory e × lacks)
+
+-- a `read`, by its answer
+pub record GaveLaw {S : Type 0} (R : Reader S) (old : S) (room : ℕ) (answer : Result (List ℕ) Error) (new : S) : Type 0 where
+  -- it gives at most as many bytes as fit
+  pub bound : length (bytes_given answer) ≤ room
+  -- it takes the bytes or the error that it gives
+  pub takes : Takes (tells R old) (answered answer) (tells R new)
+  -- it gives no bytes only at the end, or if there is no room
+  pub end : answer ≡ Ok [] → 0 < room → IsAtEnd (tells R new)
+  -- it is one call
+  pub call : R.may old (Gave room answer) new
+
+-- a call, by its law
+abbrev pub ReadCallLaw : {S : Type 0} → Reader S → S → ReadCall → S → Type 0
+ReadCallLaw R old (Gave room answer) new = GaveLaw R old room answer new
+ReadCallLaw R old (GaveExactly room answer) new = R.may old (GaveExactly room answer) new
+    × ((P : List Event) × Takes (tells R old) P (tells R new) × FillsOrEnds room P answer (tells R new))
+ReadCallLaw R old (GaveAll x answer) new = R.may old (GaveAll x answer) new
+    × ((P : List Event) × Takes (tells R old) P (tells R new) × (bytes P ≡ x) × DrainsOrStops (Unit {0}) P answer (tells R new))
+ReadCallLaw R old (Filled answer) new = R.may old (Filled answer) new × Takes (tells R old) (fault_of answer) (tells R new)
+    × IfOk answer (λ x. IfSome (to_come (tells R old)) (λ E. BeginsWith E x))
+ReadCallLaw R old (Consumed n) new = R.may old (Consumed n) new
+    × ((x : List ℕ) × (length x ≡ n) × Takes (tells R old) (events_of x) (tells R new))
 
 -- `read(buf)`
 pub record ReadLaw {S : Type 0} (R : Reader S) (old : S) (buf : List ℕ) (reply : Result ℕ Error) (buf' : List ℕ) (new : S) : Type 0 where
   -- it gives at most as many bytes as fit
   pub bound : IfOk reply (λ n. n ≤ length buf')
-  -- the bytes or the error that it gives are gone from the front of the events
-  pub told : R.tells old → R.tells new × Reads (R.events old) reply buf' (R.events new)
-  -- turns never rise
-  pub turns_never_rise : R.turns new ≤ R.turns old
-  -- a call that gives bytes or returns an error lowers them
-  pub spends_turn : SpendsTurn reply (R.turns old) (R.turns new)
-  -- a filling reader gives as many bytes as fit
-  pub fills : R.is_filling old → R.is_filling new × IsOkAnd reply (λ n. n ≡ min (length buf) (length (R.events old)))
-  -- a told store keeps its content, and the position moves by the number of given bytes
-  pub store : R.has_store old → R.has_store new × (R.content new ≡ R.content old) × (R.position new ≡ R.position old + given reply)
+  -- it takes the bytes or the error that it gives
+  pub takes : Takes (tells R old) (answered (gave reply buf')) (tells R new)
+  -- it gives 0 bytes only at the end, or if buf is empty
+  pub end : IfOk reply (λ n. n ≡ 0 → 0 < length buf' → IsAtEnd (tells R new))
   -- it is one call
   pub call : R.may old (Gave (length buf') (gave reply buf')) new
 
 -- `read_exact(buf)`
 pub record ReadExactLaw {S : Type 0} (R : Reader S) (old : S) (buf : List ℕ) (reply : Result (Unit {0}) Error) (buf' : List ℕ)
     (new : S) : Type 0 where
-  -- it takes the first events that fill the buffer, or those up to the first fault; or there are too few bytes
-  pub told : R.tells old → R.tells new × ReadsExact (R.may_take_none old) (R.events old) reply buf' (R.events new)
-  -- the result is never an interruption
-  pub never_interrupted : IsNoInterruption reply
+  -- what it takes
+  pub taken : List Event
+  pub takes : Takes (tells R old) taken (tells R new)
+  -- that fills the buffer, or ends in a fault, or is too short
+  pub ends : FillsOrEnds (length buf') taken (gave_whole reply buf') (tells R new)
   -- an empty buffer makes no call
   pub empty : length buf ≡ 0 → IsOk reply × (new ≡ old)
-  -- turns never rise
-  pub turns_never_rise : R.turns new ≤ R.turns old
-  -- if a buffer that is not empty was filled, a turn was spent
-  pub spends_turn : 0 < length buf → OnOk reply (R.turns new < R.turns old)
-  -- a filling reader stays filling
-  pub filling : R.is_filling old → R.is_filling new
-  -- a told store keeps its content, and the position moves by the number of bytes that were taken
-  pub store : GoesOn R old new
   -- which calls it made
-  pub calls : ExactMade R.may old reply buf' new
+  pub calls : ExactMade (ReadCallLaw R) old reply buf' new
 
--- `read_to_end(&mut buf)`
-pub record ReadToEndLaw {S A : Type 0} (R : Reader S) (old : S) (buf : Vec ℕ A) (reply : Result ℕ Error) (buf' : Vec ℕ A)
+-- the least room into which a read to the end reads
+abbrev pub least_room : ℕ
+least_room = 32
+
+-- `read_to_end(&mut buf)` of a reader that gives up only if `lacks` holds for the number of bytes that it took
+pub record ToEndLaw {S A : Type 0} (lacks : ℕ → Type 0) (R : Reader S) (old : S) (buf : Vec ℕ A) (reply : Result ℕ Error) (buf' : Vec ℕ A)
     (new : S) : Type 0 where
-  -- all events are taken, or those up to the first fault or a failed allocation, and their bytes are appended
-  pub told : R.tells old → R.tells new × ReadsToEnd (R.events old) reply buf.items buf'.items (R.events new)
-  -- the old content of the vector stays
-  pub appends : take (vec_len buf) buf'.items ≡ buf.items
-  -- the result is the number of bytes by which the vector grew
-  pub count : IfOk reply (λ n. vec_len buf' ≡ vec_len buf + n)
+  -- what it takes
+  pub taken : List Event
+  pub takes : Takes (tells R old) taken (tells R new)
+  -- its bytes are appended, and the result is their number
+  pub appends : (buf'.items ≡ buf.items ++ bytes taken) × IfOk reply (λ n. n ≡ length (bytes taken))
+  -- that is all, or it ends in a fault, or an allocation failed
+  pub ends : DrainsOrStops (lacks (length (bytes taken))) taken reply (tells R new)
   -- the capacity never shrinks
   pub capacity : vec_capacity buf ≤ vec_capacity buf'
-  -- if the vector has room enough, an error is the first fault of E, and not a failed allocation
-  pub room : R.tells old → HasRoom least_room (R.events old) (vec_len buf) (vec_capacity buf)
-      → IfErr reply (λ e. first_fault (R.events old) ≡ Some e)
-  -- the result is never an interruption
-  pub never_interrupted : IsNoInterruption reply
-  -- turns never rise
-  pub turns_never_rise : R.turns new ≤ R.turns old
-  -- if bytes were appended, a turn was spent
-  pub spends_turn : vec_len buf < vec_len buf' → R.turns new < R.turns old
-  -- a filling reader stays filling
-  pub filling : R.is_filling old → R.is_filling new
-  -- a told store keeps its content, and the position moves by the number of bytes that were taken
-  pub store : GoesOn R old new
   -- which calls it made, and the bytes that they gave
-  pub calls : ToEndMade R.may old buf.items reply buf'.items new
+  pub calls : ToEndMade (ReadCallLaw R) old buf.items reply buf'.items new
+
+-- `read_to_end(&mut buf)`: an allocation can fail only if buf had no room for the bytes that were taken and 32 more
+abbrev pub ReadToEndLaw : {S A : Type 0} → Reader S → S → Vec ℕ A → Result ℕ Error → Vec ℕ A → S → Type 0
+ReadToEndLaw R old buf = ToEndLaw (λ n. vec_capacity buf < vec_len buf + (n + least_room)) R old buf
 
 -- the inner reader
 abbrev pub bytes_reader : {R : Type 0} → Bytes R → R
@@ -295,15 +225,15 @@ bytes_reader s = s.inner
 abbrev pub IsInterruptionsAlone : List Event → Type 0
 IsInterruptionsAlone E = HasNoFault E × (bytes E ≡ [])
 
--- E up to and including this event is taken, and only interruptions are before it
-abbrev pub TakesFirst : List Event → Event → List Event → Type 0
-TakesFirst E event after = (P : List Event) × (E ≡ P ++ event ∷ after) × IsInterruptionsAlone P
+-- P are interruptions, and then this event
+abbrev pub IsRetried : List Event → Event → Type 0
+IsRetried P event = (Q : List Event) × (P ≡ Q ++ event ∷ []) × IsInterruptionsAlone Q
 
--- `next` took E up to and including its first byte or fault, and yields that; or E has neither, and `next` yields nothing
-abbrev pub NextByte : List Event → Option (Result ℕ Error) → List Event → Type 0
-NextByte E None after = IsInterruptionsAlone E × (after ≡ [])
-NextByte E (Some (Ok b)) after = TakesFirst E (byte b) after
-NextByte E (Some (Err e)) after = TakesFirst E (fails e) after × IsFault e
+-- how a `next` that took P ended: with a byte, with a fault, or at the end
+abbrev pub EndsNext : List Event → Option (Result ℕ Error) → Tells → Type 0
+EndsNext P None new = IsInterruptionsAlone P × IsAtEnd new
+EndsNext P (Some (Ok b)) new = IsRetried P (byte b)
+EndsNext P (Some (Err e)) new = IsRetried P (fails e) × IsFault e
 
 -- what the last read of a `next` returned, if `next` yields this
 abbrev pub last_read : Option (Result ℕ Error) → Result (List ℕ) Error
@@ -315,25 +245,11 @@ last_read (Some (Err e)) = Err e
 abbrev pub IsOne : ℕ → ℕ → Type 0
 IsOne at room = room ≡ 1
 
--- The reads that a `next` made, each into room for one byte. All but the last were interrupted.
-abbrev pub NextReads : {S : Type 0} → (S → ReadCall → S → Type 0) → S → Option (Result ℕ Error) → S → Type 0
-NextReads may old result new = (C : List ReadCall) × Made may old C new × GathersUntil IsOne C [] (last_read result)
-
--- bytes turned into events and back are the same bytes
-pub bytes-events_of : (bs : List ℕ) → bytes (events_of bs) ≡ bs
-bytes-events_of [] = refl
-bytes-events_of (b ∷ bs) = ap (λ l. b ∷ l) (bytes-events_of bs)
-
--- the events of bytes are only bytes
-pub bytes_alone : (bs : List ℕ) → events_of bs ≡ events_of (bytes (events_of bs))
-bytes_alone bs = ap events_of (sym (bytes-events_of bs))
-
--- if events of bytes are cut, they are only bytes
-pub cut_alone-events_of : (k : ℕ) (bs : List ℕ) → cut k (events_of bs) ≡ events_of (bytes (cut k (events_of bs)))
-cut_alone-events_of zero bs = refl
-cut_alone-events_of (suc k) [] = refl
-cut_alone-events_of (suc k) (b ∷ bs) = ap (λ l. byte b ∷ l) (cut_alone-events_of k bs)
-
--- if events are only bytes, they still are after a cut
-pub cut_alone : (k : ℕ) (E : List Event) → E ≡ events_of (bytes E) → cut k E ≡ events_of (bytes (cut k E))
-cut_alone k E h = ap (cut k) h ∙ cut_alone-events_of k (bytes E) ∙ ap (λ l. events_of (bytes (cut k l))) (sym h)
+-- A `next` took some events, by reads into room for one byte each. All but the last were interrupted.
+pub record NextLaw {S : Type 0} (R : Reader S) (old : S) (result : Option (Result ℕ Error)) (new : S) : Type 0 where
+  pub taken : List Event
+  pub takes : Takes (tells R old) taken (tells R new)
+  -- they end in the byte or the fault that it yields
+  pub ends : EndsNext taken result (tells R new)
+  -- which reads it made
+  pub calls : (C : List ReadCall) × Made (ReadCallLaw R) old C new × GathersUntil IsOne C [] (last_read result)

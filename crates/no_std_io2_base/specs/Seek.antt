@@ -1,10 +1,11 @@
 -- Where a seek goes, and the law of each call of `Seek`.
-use Rattle.std.specs.Prelude.{◌≡◌, ◌≢◌, ℕ, ℤ, pos, negsuc, ◌+◌, ◌^◌, ◌<◌, Ok, Err, Result, List, [], ◌∷◌, length, IfOk, IsOk, IsOkAnd}
+use Rattle.std.specs.Prelude.{◌≡◌, ◌≢◌, ℕ, ℤ, pos, negsuc, ◌+◌, ◌^◌, ◌<◌, Ok, Err, Result, List, [], ◌∷◌, IfOk, IsOk, Option, IfSome, ◌⊎◌}
 use Rattle.no_std_io2_base.specs.declared.error.Error.{Error}
 use Rattle.no_std_io2_base.specs.declared.traits.seek.SeekFrom.{SeekFrom}
 use Rattle.no_std_io2_base.specs.declared.traits.seek.SeekFrom.TheVariants.{Start, End, Current}
 use Rattle.no_std_io2_base.specs.Errors.{IsInvalidSeek}
 use Rattle.no_std_io2_base.specs.Write.{Made}
+use Rattle.no_std_io2_base.specs.Takes.{Store, KeepsContent}
 
 -- n is `base + offset`
 abbrev pub IsAtOffset : ℕ → ℤ → ℕ → Type 0
@@ -31,6 +32,8 @@ pub data SeekCall : Type 0 where
   Sought : SeekFrom → Result ℕ Error → SeekCall
   -- a `stream_len` of a type that has a body of its own for it
   Measured : Result ℕ Error → SeekCall
+  -- a `seek_relative` of such a type
+  Moved : ℤ → Result (Unit {0}) Error → SeekCall
 
 -- C are the calls of a `stream_len()`, with its result: its own call, of a type that has a body for it; or seeks to the current position,
 -- to the end, and back if the position was elsewhere. The first error ends them.
@@ -48,46 +51,52 @@ abbrev pub WithoutPosition : (Result ℕ Error → Type 0) → Result (Unit {0})
 WithoutPosition answers (Ok done) = (n : ℕ) × answers (Ok n)
 WithoutPosition answers (Err e) = answers (Err e)
 
--- the ghost members of a seeker, as `⟦<S as Seek>⟧` names them: those of its store, and its own
+-- the ghost members of a seeker, as `⟦<S as Seek>⟧` names them: that of its store, and its own
 abbrev pub Seeker : Type 0 → Type 1
 Seeker X = record {
-  has_store : X → Type 0;
-  content : X → List ℕ;
-  position : X → ℕ;
+  store : X → Option Store;
   may : X → SeekCall → X → Type 0;
 }
+
+-- if a store is told, this is its position
+abbrev pub IsPosition : Option Store → ℕ → Type 0
+IsPosition store n = IfSome store (λ s. s.position ≡ n)
 
 -- `seek(target)`
 pub record SeekLaw {X : Type 0} (S : Seeker X) (old : X) (target : SeekFrom) (reply : Result ℕ Error) (new : X) : Type 0 where
   -- a told store keeps its content, and its position moves to the target, or stays if there is none
-  pub store : S.has_store old → S.has_store new × (S.content new ≡ S.content old)
-      × Seeks (length (S.content old)) (S.position old) target reply (S.position new)
+  pub store : KeepsContent (S.store old) (λ len was now. Seeks len was target reply now) (S.store new)
   -- the result is the position
-  pub position : IfOk reply (λ n. S.has_store new → S.position new ≡ n)
+  pub position : IfOk reply (IsPosition (S.store new))
   -- it is one call
   pub call : S.may old (Sought target reply) new
 
 -- `stream_position()`
 pub record StreamPositionLaw {X : Type 0} (S : Seeker X) (old : X) (reply : Result ℕ Error) (new : X) : Type 0 where
   -- a told store does not change, and the result is its position
-  pub store : S.has_store old → S.has_store new × (S.content new ≡ S.content old)
-      × (S.position new ≡ S.position old) × IsOkAnd reply (λ n. n ≡ S.position old)
+  pub store : KeepsContent (S.store old) (λ len was now. (now ≡ was) × (reply ≡ Ok was)) (S.store new)
   -- the result is the position
-  pub position : IfOk reply (λ n. S.has_store new → S.position new ≡ n)
+  pub position : IfOk reply (IsPosition (S.store new))
   -- it made one seek, by 0 bytes
   pub call : S.may old (Sought here reply) new
 
 -- `rewind()`
 pub record RewindLaw {X : Type 0} (S : Seeker X) (old : X) (reply : Result (Unit {0}) Error) (new : X) : Type 0 where
   -- a told store keeps its content, and its position is the start
-  pub store : S.has_store old → S.has_store new × (S.content new ≡ S.content old) × (S.position new ≡ 0) × IsOk reply
+  pub store : KeepsContent (S.store old) (λ len was now. (now ≡ 0) × IsOk reply) (S.store new)
   -- it made one seek, to the start
   pub call : WithoutPosition (λ answer. S.may old (Sought (Start 0) answer) new) reply
 
 -- `stream_len()`
 pub record StreamLenLaw {X : Type 0} (S : Seeker X) (old : X) (reply : Result ℕ Error) (new : X) : Type 0 where
   -- a told store does not change, and the result is its length
-  pub store : S.has_store old → S.has_store new × (S.content new ≡ S.content old)
-      × (S.position new ≡ S.position old) × IsOkAnd reply (λ n. n ≡ length (S.content old))
+  pub store : KeepsContent (S.store old) (λ len was now. (now ≡ was) × (reply ≡ Ok len)) (S.store new)
   -- which calls it made
   pub calls : (C : List SeekCall) × Made S.may old C new × LenCalls C reply
+
+-- `seek_relative(offset)`
+pub record SeekRelativeLaw {X : Type 0} (S : Seeker X) (old : X) (offset : ℤ) (reply : Result (Unit {0}) Error) (new : X) : Type 0 where
+  -- a told store keeps its content, and its position moves by the offset, or stays if there is no such place
+  pub store : KeepsContent (S.store old) (λ len was now. WithoutPosition (λ at. Seeks len was (Current offset) at now) reply) (S.store new)
+  -- it made one seek; or it is a call of its own, of a type that has a body for it
+  pub call : WithoutPosition (λ answer. S.may old (Sought (Current offset) answer) new) reply ⊎ S.may old (Moved offset reply) new

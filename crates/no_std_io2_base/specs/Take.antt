@@ -1,8 +1,10 @@
--- The limit and the inner reader of a `Take`, and what its calls do.
-use Rattle.std.specs.Prelude.{◌≡◌, ℕ, ◌+◌, ◌<◌, min, List, [], ◌++◌, length, take, Result, Ok, Err}
+-- The limit and the inner reader of a `Take`, what it tells, and what its calls do.
+use Rattle.std.specs.Prelude.{◌≡◌, ℕ, ◌+◌, ◌<◌, min, List, [], length, take, Option, None, Some, Result, Ok, Err}
 use Rattle.no_std_io2_base.specs.declared.error.Error.{Error}
 use Rattle.no_std_io2_base.specs.declared.traits.take.Take.{Take}
-use Rattle.no_std_io2_base.specs.Read.{Event, bytes, cut, Reader, ReadCall, Gave, Filled, Consumed, bytes_given}
+use Rattle.no_std_io2_base.specs.Events.{Event, bytes, cut}
+use Rattle.no_std_io2_base.specs.Takes.{Tells, Takes, to_come}
+use Rattle.no_std_io2_base.specs.Read.{Reader, tells, ReadCall, Gave, Filled, Consumed, ReadCallLaw, bytes_given}
 
 -- `t.limit()`
 abbrev pub take_limit : {T : Type 0} → Take T → ℕ
@@ -12,9 +14,14 @@ take_limit t = t.limit
 abbrev pub take_inner : {T : Type 0} → Take T → T
 take_inner t = t.inner
 
--- the inner reader's events, up to and including the byte at the limit
-abbrev pub take_events : {T : Type 0} → (T → List Event) → Take T → List Event
-take_events events t = cut t.limit (events t.inner)
+-- the events up to and including the byte at the limit, if they are told
+abbrev pub cut_to_come : ℕ → Option (List Event) → Option (List Event)
+cut_to_come limit None = None
+cut_to_come limit (Some E) = Some (cut limit E)
+
+-- the events of a `Take` of a reader that tells this
+abbrev pub take_events : {T : Type 0} → (T → Tells) → Take T → Option (List Event)
+take_events told t = cut_to_come t.limit (to_come (told t.inner))
 
 -- at most `limit` of the inner reader's held bytes
 abbrev pub take_held : {T : Type 0} → (T → List ℕ) → Take T → List ℕ
@@ -24,36 +31,31 @@ take_held held t = take t.limit (held t.inner)
 abbrev pub take_with_inner : {T : Type 0} → Take T → T → Take T
 take_with_inner t x = record t { inner = x }
 
--- The events that a call removed from the front of E cut at `limit` are also gone from E, and `limit` fell by the number of bytes among
--- them.
-pub record TakesAlong (limit : ℕ) (E : List Event) (new_limit : ℕ) (after : List Event) : Type 0 where
-  pub removed : List Event
-  pub below : E ≡ removed ++ after
-  pub here : cut limit E ≡ removed ++ cut new_limit after
-  pub falls : new_limit + length (bytes removed) ≡ limit
-
--- From old to new a `Take` gave n bytes: the limit fell by n, at limit 0 no inner call was made, and the events that are gone from the
--- `Take` are gone from the inner reader.
-pub record TakeGives {T : Type 0} (inner : Reader T) (old : Take T) (n : ℕ) (new : Take T) : Type 0 where
-  pub limit : take_limit new + n ≡ take_limit old
-  pub at_limit : take_limit old ≡ 0 → take_inner new ≡ take_inner old
-  pub along : inner.tells (take_inner old) → inner.tells (take_inner new)
-      × TakesAlong (take_limit old) (inner.events (take_inner old)) (take_limit new) (inner.events (take_inner new))
-
 -- at most the first k of the lent bytes, or the error
 abbrev pub lent_within : ℕ → Result (List ℕ) Error → Result (List ℕ) Error
 lent_within k (Ok x) = Ok (take k x)
 lent_within k (Err e) = Err e
 
--- What a call may do to a `Take`: at limit 0 it gives nothing and makes no inner call. Above 0, a `read` is one inner read into as much of
--- the room as the limit allows, a `fill_buf` lends as many as the limit allows of the bytes that the inner reader lends, and a `consume` is
--- one inner `consume`.
+-- From old to new a `Take` took P, which does not go past the byte at the limit: so did its inner reader, and the limit fell by the bytes
+-- of P. At limit 0 nothing changed.
+pub record TakeTakes {T : Type 0} (inner : Reader T) (old : Take T) (P : List Event) (new : Take T) : Type 0 where
+  pub takes : Takes (tells inner (take_inner old)) P (tells inner (take_inner new))
+  pub within : cut (take_limit old) P ≡ P
+  pub limit : take_limit new + length (bytes P) ≡ take_limit old
+  pub at_limit : take_limit old ≡ 0 → new ≡ old
+
+-- From old to new a `Take` made this call of its inner reader, and the limit fell by n. At limit 0 it made none, and nothing changed.
+pub record TakeAsks {T : Type 0} (inner : Reader T) (old : Take T) (call : ReadCall) (n : ℕ) (new : Take T) : Type 0 where
+  pub limit : take_limit new + n ≡ take_limit old
+  pub at_limit : take_limit old ≡ 0 → new ≡ old
+  pub asks : 0 < take_limit old → ReadCallLaw inner (take_inner old) call (take_inner new)
+
+-- What a call may do to a `Take`: at limit 0 it gives nothing. Above 0, a `read` is one inner read into as much of the room as the limit
+-- allows, a `fill_buf` lends as many as the limit allows of the bytes that the inner reader lends, and a `consume` is one inner `consume`.
 abbrev pub TakeMay : {T : Type 0} → Reader T → Take T → ReadCall → Take T → Type 0
-TakeMay inner old (Gave room answer) new = TakeGives inner old (length (bytes_given answer)) new × (take_limit old ≡ 0 → answer ≡ Ok [])
-    × (0 < take_limit old → inner.may (take_inner old) (Gave (min room (take_limit old)) answer) (take_inner new))
-TakeMay inner old (Filled answer) new = TakeGives inner old 0 new × (take_limit old ≡ 0 → answer ≡ Ok [])
-    × (0 < take_limit old → (lent : Result (List ℕ) Error) × inner.may (take_inner old) (Filled lent) (take_inner new)
-    × (answer ≡ lent_within (take_limit old) lent))
-TakeMay inner old (Consumed n) new = TakeGives inner old n new
-    × (0 < take_limit old → inner.may (take_inner old) (Consumed n) (take_inner new))
+TakeMay inner old (Gave room answer) new = (take_limit old ≡ 0 → answer ≡ Ok [])
+    × TakeAsks inner old (Gave (min room (take_limit old)) answer) (length (bytes_given answer)) new
+TakeMay inner old (Filled answer) new = (lent : Result (List ℕ) Error) × (take_limit old ≡ 0 → answer ≡ Ok [])
+    × (0 < take_limit old → answer ≡ lent_within (take_limit old) lent) × TakeAsks inner old (Filled lent) 0 new
+TakeMay inner old (Consumed n) new = TakeAsks inner old (Consumed n) n new
 TakeMay inner old _ new = ⊥

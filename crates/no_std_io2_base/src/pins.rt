@@ -3,11 +3,14 @@
 //! empty.
 ghost use Rattle.std.specs.Hash as fed;
 ghost use Rattle.std.specs.Prelude.{ℕ, ◌≡◌, ◌+◌, ◌-◌, ◌≤◌, ◌<◌, ◌↔◌, length, drop, Ok, Some};
-ghost use Rattle.std.specs.Prelude.{IsTrue, IsOk, IsOkAnd, IfOk, IfErr, IfSome, OnSome};
+ghost use Rattle.std.specs.Prelude.{IsTrue, IsOk, IsOkAnd, IfOk, IfErr, IfSome, IsSomeAnd, OnSome};
 ghost use Rattle.std.specs.Box.{boxed_slice_items};
 ghost use Rattle.no_std_io2_base.specs.Cursor.{cursor_inner, cursor_position, bytes_before};
 ghost use Rattle.no_std_io2_base.specs.Errors.{IsFault, error_display, kind_number};
-ghost use Rattle.no_std_io2_base.specs.Read.{events_of, bytes_reader, NextByte, ReadCall};
+ghost use Rattle.no_std_io2_base.specs.Events.{events_of};
+ghost use Rattle.no_std_io2_base.specs.Takes.{to_come};
+ghost use Rattle.no_std_io2_base.specs.Read.{tells, bytes_reader, NextLaw, ReadCall};
+ghost use Rattle.no_std_io2_base.specs.ReadMeter.{FillsRoom, IsReadMeter};
 ghost use Rattle.no_std_io2_base.specs.Seek.{SeekCall};
 ghost use Rattle.no_std_io2_base.specs.Write.{told_out, WriteCall, BoxMay};
 ghost use Rattle.no_std_io2_base.specs.Meter.{IsMeter};
@@ -95,8 +98,7 @@ fn vector_tells<A: Allocator>(v: &Vec<u8, A>)
 // A queue has accepted the bytes that it contains, and will give these.
 fn queue_tells<A: Allocator>(queue: &VecDeque<u8, A>)
     ensures told { ⟦<VecDeque<u8, A> as Write>⟧.told queue.now ≡ told_out queue.now.items }
-    ensures tells { ⟦<VecDeque<u8, A> as Read>⟧.tells queue.now }
-    ensures events { ⟦<VecDeque<u8, A> as Read>⟧.events queue.now ≡ events_of queue.now.items }
+    ensures events { ⟦<VecDeque<u8, A> as Read>⟧.events queue.now ≡ Some (events_of queue.now.items) }
     ensures turns { ⟦<VecDeque<u8, A> as Read>⟧.turns queue.now ≡ length queue.now.items }
 {}
 
@@ -130,15 +132,11 @@ fn boxed_object_tells(w: &Box<dyn Write + Drop>, new: &Box<dyn Write + Drop>)
 {}
 
 fn lent_store_tells<'a, T: Stored>(r: &&'a mut T)
-    ensures has_store { T.has_store r.now.now → ⟦<&'a mut T as Stored>⟧.has_store r.now }
-    ensures content { ⟦<&'a mut T as Stored>⟧.content r.now ≡ T.content r.now.now }
-    ensures position { ⟦<&'a mut T as Stored>⟧.position r.now ≡ T.position r.now.now }
+    ensures { ⟦<&'a mut T as Stored>⟧.store r.now ≡ T.store r.now.now }
 {}
 
 fn boxed_store_tells<T: Stored>(b: &Box<T>)
-    ensures has_store { T.has_store b.now.value → ⟦<Box<T> as Stored>⟧.has_store b.now }
-    ensures content { ⟦<Box<T> as Stored>⟧.content b.now ≡ T.content b.now.value }
-    ensures position { ⟦<Box<T> as Stored>⟧.position b.now ≡ T.position b.now.value }
+    ensures { ⟦<Box<T> as Stored>⟧.store b.now ≡ T.store b.now.value }
 {}
 
 // A reference or a box makes the seeks of the stream behind it.
@@ -155,54 +153,45 @@ fn seeking_object_tells(old: &Box<dyn Seek + Drop>, new: &Box<dyn Seek + Drop>)
         → BoxMay old.now (Seek-box old.now).Seek.may call new.now }
 {}
 
+// A reference or a box tells what its target tells, makes its calls, and is filling if it is.
 fn lent_reader_tells<'a, R: Read>(r: &&'a mut R, new: &&'a mut R)
-    ensures tells { R.tells r.now.now → ⟦<&'a mut R as Read>⟧.tells r.now }
-    ensures events { ⟦<&'a mut R as Read>⟧.events r.now ≡ R.events r.now.now }
-    ensures turns { ⟦<&'a mut R as Read>⟧.turns r.now ≡ R.turns r.now.now }
-    ensures filling { R.is_filling r.now.now → ⟦<&'a mut R as Read>⟧.is_filling r.now }
-    ensures short { ⟦<&'a mut R as Read>⟧.may_take_none r.now → R.may_take_none r.now.now }
+    ensures told { tells ⟦<&'a mut R as Read>⟧ r.now ≡ tells R.Read r.now.now }
     ensures calls { (call : ReadCall) → ⟦<&'a mut R as Read>⟧.may r.now call new.now → R.may r.now.now call new.now.now }
+    ensures filling { FillsRoom R.Read → FillsRoom ⟦<&'a mut R as Read>⟧ }
+    ensures reads { (cost : R → ℕ) → IsReadMeter R.may cost → IsReadMeter ⟦<&'a mut R as Read>⟧.may (λ v. cost v.now) }
 {}
 
 fn boxed_reader_tells<R: Read>(r: &Box<R>, new: &Box<R>)
-    ensures tells { R.tells r.now.value → ⟦<Box<R> as Read>⟧.tells r.now }
-    ensures events { ⟦<Box<R> as Read>⟧.events r.now ≡ R.events r.now.value }
-    ensures turns { ⟦<Box<R> as Read>⟧.turns r.now ≡ R.turns r.now.value }
-    ensures filling { R.is_filling r.now.value → ⟦<Box<R> as Read>⟧.is_filling r.now }
-    ensures short { ⟦<Box<R> as Read>⟧.may_take_none r.now → R.may_take_none r.now.value }
+    ensures told { tells ⟦<Box<R> as Read>⟧ r.now ≡ tells R.Read r.now.value }
     ensures calls { (call : ReadCall) → ⟦<Box<R> as Read>⟧.may r.now call new.now → R.may r.now.value call new.now.value }
+    ensures filling { FillsRoom R.Read → FillsRoom ⟦<Box<R> as Read>⟧ }
+    ensures reads { (cost : R → ℕ) → IsReadMeter R.may cost → IsReadMeter ⟦<Box<R> as Read>⟧.may (λ v. cost v.value) }
 {}
 
 fn reading_object_tells(r: &Box<dyn Read + Drop>, new: &Box<dyn Read + Drop>)
-    ensures tells { tells r.now → ⟦<Box<dyn Read + Drop> as Read>⟧.tells r.now }
     ensures events { ⟦<Box<dyn Read + Drop> as Read>⟧.events r.now ≡ events r.now }
+    ensures store { ⟦<Box<dyn Read + Drop> as Stored>⟧.store r.now ≡ store r.now }
     ensures turns { ⟦<Box<dyn Read + Drop> as Read>⟧.turns r.now ≡ turns r.now }
-    ensures short { ⟦<Box<dyn Read + Drop> as Read>⟧.may_take_none r.now → may_take_none r.now }
     ensures calls { (call : ReadCall) → ⟦<Box<dyn Read + Drop> as Read>⟧.may r.now call new.now
         → BoxMay r.now (Read-box r.now).Read.may call new.now }
 {}
 
 fn lending_object_tells(r: &Box<dyn BufRead + Drop>)
-    ensures tells { tells r.now → ⟦<Box<dyn BufRead + Drop> as Read>⟧.tells r.now }
     ensures events { ⟦<Box<dyn BufRead + Drop> as Read>⟧.events r.now ≡ events r.now }
+    ensures store { ⟦<Box<dyn BufRead + Drop> as Stored>⟧.store r.now ≡ store r.now }
     ensures turns { ⟦<Box<dyn BufRead + Drop> as Read>⟧.turns r.now ≡ turns r.now }
-    ensures short { ⟦<Box<dyn BufRead + Drop> as Read>⟧.may_take_none r.now → may_take_none r.now }
 {}
 
 // A slice tells its bytes as the events to come, and each read gives as many as fit.
 fn slice_tells<'a>(s: &&'a [u8])
-    ensures tells { ⟦<&'a [u8] as Read>⟧.tells s.now }
-    ensures events { ⟦<&'a [u8] as Read>⟧.events s.now ≡ events_of s.now.now }
+    ensures events { ⟦<&'a [u8] as Read>⟧.events s.now ≡ Some (events_of s.now.now) }
     ensures turns { ⟦<&'a [u8] as Read>⟧.turns s.now ≡ length s.now.now }
-    ensures filling { ⟦<&'a [u8] as Read>⟧.is_filling s.now }
-    ensures takes_none { ⟦<&'a [u8] as Read>⟧.may_take_none s.now }
-    ensures store { ⟦<&'a [u8] as Stored>⟧.has_store s.now → ⊥ }
+    ensures filling { FillsRoom ⟦<&'a [u8] as Read>⟧ }
 {}
 
 // `next` yields the next byte or fault, and spends a turn for it.
 fn next_byte<R: Read + Drop>(bytes: &mut Bytes<R>) -> Option<Result<u8>>
-    ensures told { R.tells (bytes_reader bytes.old) → R.tells (bytes_reader bytes.new)
-        × NextByte (R.events (bytes_reader bytes.old)) result (R.events (bytes_reader bytes.new)) }
+    ensures law { NextLaw R.Read (bytes_reader bytes.old) result (bytes_reader bytes.new) }
     ensures fault { IfSome result (λ item. IfErr item IsFault) }
     ensures turns { R.turns (bytes_reader bytes.new) ≤ R.turns (bytes_reader bytes.old) }
     ensures turn { OnSome result (R.turns (bytes_reader bytes.new) < R.turns (bytes_reader bytes.old)) }
@@ -212,21 +201,18 @@ fn next_byte<R: Read + Drop>(bytes: &mut Bytes<R>) -> Option<Result<u8>>
 
 // A cursor tells a store, whose length and position fit the numbers that the calls return.
 fn cursor_stores<T: AsSlice<u8>>(c: &Cursor<T>)
-    ensures has_store { ⟦<Cursor<T> as Stored>⟧.has_store c.now }
-    ensures content { ⟦<Cursor<T> as Stored>⟧.content c.now ≡ T.slice (cursor_inner c.now) }
-    ensures position { ⟦<Cursor<T> as Stored>⟧.position c.now ≡ cursor_position c.now }
+    ensures { IsSomeAnd (⟦<Cursor<T> as Stored>⟧.store c.now)
+        (λ s. (s.content ≡ T.slice (cursor_inner c.now)) × (s.position ≡ cursor_position c.now)) }
 {
     let _content = c.get_ref().as_slice();
     let _position = c.position();
 }
 
 fn cursor_reads<T: AsSlice<u8>>(c: &Cursor<T>)
-    ensures tells { ⟦<Cursor<T> as Read>⟧.tells c.now }
-    ensures events { ⟦<Cursor<T> as Read>⟧.events c.now
-        ≡ events_of (drop (cursor_position c.now) (T.slice (cursor_inner c.now))) }
+    ensures events { to_come (tells ⟦<Cursor<T> as Read>⟧ c.now)
+        ≡ Some (events_of (drop (cursor_position c.now) (T.slice (cursor_inner c.now)))) }
     ensures turns { ⟦<Cursor<T> as Read>⟧.turns c.now ≡ length (T.slice (cursor_inner c.now)) - cursor_position c.now }
-    ensures filling { ⟦<Cursor<T> as Read>⟧.is_filling c.now }
-    ensures may_take_none { ⟦<Cursor<T> as Read>⟧.may_take_none c.now }
+    ensures filling { FillsRoom ⟦<Cursor<T> as Read>⟧ }
 {}
 
 // The `fill_buf` of a cursor never fails, and lends all bytes from the position on.

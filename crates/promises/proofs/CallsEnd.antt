@@ -1,8 +1,8 @@
 -- Which call of a buffer's inner writer is the last.
-use Rattle.std.proofs.Common.{◌≡◌, ℕ, List, [], ◌∷◌, ◌++◌, Result, Ok, Err, IfOk, IfErr, length, refl, subst, sym, inl, inr}
+use Rattle.std.proofs.Common.{ℕ, List, [], ◌∷◌, ◌++◌, Result, Ok, Err, IfOk, IfErr, length, refl, subst, sym, inl, inr}
 use Rattle.no_std_io2.specs.declared.io.Error.{Error}
 use Rattle.no_std_io2.specs.Write.{WriteCall, Wrote, WroteAll, WroteRest, Flushed, Writes, none, took, again, stuck, fault}
-use Rattle.no_std_io2.specs.BufWriter.{Then, stops, goes_on, SendCalls, WayCalls, FlushCalls, WriteCalls, PutCalls, OneWrite}
+use Rattle.no_std_io2.specs.BufWriter.{stops, goes_on, WayCalls, FlushCalls, WriteCalls, PutCalls, OneWrite}
 use Rattle.promises.specs.Promises.{HasNoFlush, FailedWith, EndsIn}
 
 -- one more call before the others changes nothing, if there are others

@@ -1,2 +1,3 @@
 mod Nothing
 mod CallsEnd
+mod ToldAfter

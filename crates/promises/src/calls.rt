@@ -3,13 +3,12 @@ ghost use Rattle.std.specs.Prelude.{◌≡◌, ◌+◌, ◌*◌, ◌/◌, ◌<�
 ghost use Rattle.no_std_io2.specs.BufWriter.{BufWriterFits, writer_inner, writer_buffer};
 ghost use Rattle.no_std_io2.specs.Write.{Made, WriteCall};
 ghost use Rattle.no_std_io2.specs.Writers.{CallOf, TakesAll};
-ghost use Rattle.io_bench.specs.contracts.tally.Tally.{the_row as tally-row};
+ghost use Rattle.no_std_io2.specs.Meter.{CostsAtMost};
 ghost use Rattle.io_bench.specs.Closed.{flushes, given_bytes};
-ghost use Rattle.io_bench.specs.Tally.{tally_inner, tally_writes};
 ghost use Rattle.promises.specs.Promises.{EndsIn, HasNoFlush};
 
-use io_bench::{Op, Reply, Tally, run_closed};
-use no_std_io2::io::{BufWriter, Result, Write};
+use io_bench::{Op, Reply, run_writes};
+use no_std_io2::io::{BufWriter, Error, Result, Write};
 
 /// A `write` passes on the error of the call of the device that failed, with its message, and that call is the last: the fault is not
 /// hidden, the call is not made again, and nothing is flushed.
@@ -44,17 +43,22 @@ pub fn makes_no_call_if_it_fits<W: Write + Drop, const S: usize>(
     w.write(x)
 }
 
-/// Over a device that takes every write whole, a run of N bytes and F flushes makes at most `2 * (N / (S + 1)) + F + 1` writes.
+/// Over a device that takes every write whole, a run of N bytes and F flushes, closed by `into_inner`, makes at most
+/// `2 * (N / (S + 1)) + F + 1` writes, by each number that counts the writes of the device, such as that of a `Tally`.
 pub fn bounds_the_writes_of_a_run<W: Write + Drop, const S: usize>(
-    device: Tally<W>,
+    device: W,
     ops: &[Op<'_>],
     replies: &mut Vec<Reply>,
-) -> Result<Tally<W>>
+) -> Result<W>
     requires some { 0 < S }
-    requires all { TakesAll W.Write (tally_inner device) }
-    requires fits { BufWriterFits (tally-row W.row) S }
-    ensures { IfOk result (λ t. tally_writes t ≤ tally_writes device
-        + (2 * (length (given_bytes ops.now) / (S + 1)) + flushes ops.now + 1)) }
+    requires all { TakesAll W.Write device }
+    requires fits { BufWriterFits W.row S }
+    ensures { IfOk result (λ t. CostsAtMost W.Write device (2 * (length (given_bytes ops.now) / (S + 1)) + flushes ops.now + 1) t) }
 {
-    run_closed::<Tally<W>, S>(device, ops, replies)
+    let mut buffered = BufWriter::<W, S>::new(device);
+    run_writes(&mut buffered, ops, replies)?;
+    match buffered.into_inner() {
+        Ok(inner) => Ok(inner),
+        Err(e) => Err(Error::from(e)),
+    }
 }

@@ -1,6 +1,6 @@
 // Reads of a short text, and runs of writes: calls with many small allocations.
 use crate::outcome::Outcome;
-use io_bench::{Op, Reply, Sink, joined, run_closed, run_writes};
+use io_bench::{Op, Reply, joined, run_writes};
 use no_std_io2::io::{BufRead, BufReader, BufWriter, Cursor, Read, Write};
 use std::alloc::Global;
 
@@ -105,11 +105,4 @@ pub fn by_run_writes(alloc: Global) -> Outcome {
     }
     ran.if_full(replies.len(), 3)
         .if_right(room == *b"heldab123456789\0")
-}
-
-/// Makes a run of writes, and closes the writer.
-pub fn by_run_closed(alloc: Global) -> Outcome {
-    let mut replies = Vec::new(alloc);
-    let ran = Outcome::of(&run_closed::<Sink, 4>(Sink::new(), &OPS, &mut replies));
-    ran.if_full(replies.len(), 3)
 }

@@ -1,6 +1,4 @@
 // A reader that fails once after its first part, if it has one, and tells no events.
-ghost use Rattle.std.specs.Prelude.{[]};
-
 use no_std_io2::io::{Error, ErrorKind, Read, Result, Stored};
 
 #[derive(Drop)]
@@ -23,19 +21,9 @@ impl<'a> Torn<'a> {
     }
 }
 
-impl Stored for Torn<'_> {
-    ghost has_store = { λ _. ⊥ };
-
-    ghost content = { λ _. [] };
-
-    ghost position = { λ _. 0 };
-}
+impl Stored for Torn<'_> {}
 
 impl Read for Torn<'_> {
-    ghost tells = { λ _. ⊥ };
-
-    ghost events = { λ _. [] };
-
     ghost turns = { λ r. r.turns };
 
     fn read(&mut self, buf: &mut [u8]) -> Result<usize> {
@@ -53,10 +41,4 @@ impl Read for Torn<'_> {
             self.first.read(buf)
         }
     }
-
-    ghost filling_tells = { λ r h. absurd h };
-
-    ghost store_tells = { λ r h. absurd h };
-
-    ghost store_fits = { λ r h. absurd h };
 }

@@ -65,23 +65,13 @@ impl<W: Write> Write for Noted<W> {
 }
 
 impl<T: Stored> Stored for Noted<T> {
-    ghost has_store = { λ n. T.has_store n.inner };
-
-    ghost content = { λ n. T.content n.inner };
-
-    ghost position = { λ n. T.position n.inner };
+    ghost store = { λ n. T.store n.inner };
 }
 
 impl<T: Read> Read for Noted<T> {
-    ghost tells = { λ n. T.tells n.inner };
-
-    ghost events = { λ n. T.events n.inner };
-
     ghost turns = { λ n. T.turns n.inner };
 
-    ghost is_filling = { λ n. T.is_filling n.inner };
-
-    ghost may_take_none = { λ n. T.may_take_none n.inner };
+    ghost events = { λ n. T.events n.inner };
 
     fn read(&mut self, buf: &mut [u8]) -> Result<usize> {
         self.inner.read(buf)
@@ -96,12 +86,6 @@ impl<T: Read> Read for Noted<T> {
         note(&self.journal, "read_to_end");
         self.inner.read_to_end(buf)
     }
-
-    ghost filling_tells = { λ n h. T.filling_tells n.inner h };
-
-    ghost store_tells = { λ n h. T.store_tells n.inner h };
-
-    ghost store_fits = { λ n h. T.store_fits n.inner h };
 }
 
 impl<T: BufRead> BufRead for Noted<T> {
@@ -143,6 +127,4 @@ impl<T: Seek> Seek for Noted<T> {
     }
 
     ghost may = { λ old call new. T.may old.inner call new.inner };
-
-    ghost seek_fits = { λ n h. T.seek_fits n.inner h };
 }

@@ -128,24 +128,10 @@ impl Write for Recorder {
     }
 }
 
-impl Stored for Recorder {
-    ghost has_store = { λ _. ⊥ };
-
-    ghost content = { λ _. [] };
-
-    ghost position = { λ _. 0 };
-}
+impl Stored for Recorder {}
 
 impl Read for Recorder {
-    ghost tells = { λ _. ⊥ };
-
-    ghost events = { λ _. [] };
-
     ghost turns = { λ r. r.turns + length (drop r.lent.at r.lent.bytes.items) };
-
-    ghost is_filling = { λ _. ⊥ };
-
-    ghost may_take_none = { λ _. ⊥ };
 
     fn read(&mut self, buf: &mut [u8]) -> Result<usize> {
         let held = self.lent.rest();
@@ -164,12 +150,6 @@ impl Read for Recorder {
         buf[..n].copy_from_slice(&bytes[..n]);
         Ok(n)
     }
-
-    ghost filling_tells = { λ s h. absurd h };
-
-    ghost store_tells = { λ s h. absurd h };
-
-    ghost store_fits = { λ s h. absurd h };
 }
 
 impl BufRead for Recorder {
@@ -202,6 +182,4 @@ impl Seek for Recorder {
             Err(_) => Err(in_use()),
         }
     }
-
-    ghost seek_fits = { λ s h. absurd h };
 }

@@ -5,7 +5,7 @@
 // that reached the device.
 use crate::devices::Devices;
 use examples::records::{peek_header, read_record};
-use no_std_io2::io::BufReader;
+use no_std_io2::io::{BufReader, Seek};
 use rows_play::calls::{Call, make_seek};
 use rows_play::fault::{Fault, Made};
 use rows_play::line::Line;

@@ -1,44 +1,82 @@
 -- A copy, piece by piece.
-use Rattle.no_std_io2.specs.Writers.{CallOf}
-use Rattle.std.proofs.Common.{◌≡◌, ℕ, List, [], ◌∷◌, ◌++◌, ap, ◌∙◌, subst, arith, Ok, Err, Result, Some}
-use Rattle.std.proofs.Common.{append-nil, append_assoc, inl, inr, ◌⊎◌, ◌+◌, ◌==◌, None, Option}
-use Rattle.std.proofs.Common.{Bool, count_by, eq-eqb, if◌then◌else◌, refl, length, length-append}
+use Rattle.std.proofs.Common.{◌≡◌, ℕ, ◌<◌, List, [], ◌∷◌, ◌++◌, ap, ◌∙◌, subst, arith, Ok, Err, Result, Some, None, Option, IfSome}
+use Rattle.std.proofs.Common.{append-nil, inl, inr, ◌⊎◌, Bool, length, length-append}
 use Rattle.std.proofs.lemmas.List.{nil_from_length}
-use Rattle.no_std_io2.specs.declared.io.ErrorKind.{ErrorKind}
 use Rattle.no_std_io2.specs.declared.io.Error.{Error}
-use Rattle.no_std_io2.specs.Errors.{error_kind, kind_number, is_interruption, IsInterruption, IsFault}
-use Rattle.no_std_io2.specs.Read.{Event, byte, fails, HasNoFault}
-use Rattle.no_std_io2.specs.Write.{Told, Moves, HasSpent}
-use Rattle.no_std_io2.proofs.MovesLemmas.{Moves-ends}
+use Rattle.no_std_io2.specs.Errors.{error_kind}
+use Rattle.no_std_io2.specs.Events.{Event, bytes, HasNoFault, EndsInFault}
+use Rattle.no_std_io2.specs.Takes.{Tells, AreTaken, IsAll, to_come}
+use Rattle.no_std_io2.specs.Read.{Reader, tells, ReadCall}
+use Rattle.no_std_io2.specs.Write.{Told, Moves, WriteCall, Flushed, Made}
+use Rattle.no_std_io2.specs.Writers.{Writer, CallOf, FlushOf}
 use Rattle.no_std_io2.specs.BufWriter.{with_buffer}
-use Rattle.no_std_io2.proofs.BufWriterLemmas.{Moves-bare}
-use Rattle.no_std_io2.specs.Copy.{Copies, CopyEnds}
-use Rattle.no_std_io2.specs.Writers.{Writer}
-use Rattle.no_std_io2.specs.Read.{Reader, ReadCall}
-use Rattle.no_std_io2.specs.Write.{WriteCall, Flushed, Made}
-use Rattle.no_std_io2.specs.Writers.{FlushOf}
-use Rattle.no_std_io2.specs.Copy.{Handed, HandsOn}
+use Rattle.no_std_io2.specs.Copy.{Copied, CopyEnds, HandsOn}
 use Rattle.no_std_io2.specs.Towers.{Through}
+use Rattle.no_std_io2.specs.Faults.{HasFirstFault, TellsMishap, MayFail, IsFaultOf}
+use Rattle.no_std_io2.proofs.TakesLemmas.{takes_all}
+use Rattle.no_std_io2.proofs.MovesLemmas.{Moves-ends}
+use Rattle.no_std_io2.proofs.BufWriterLemmas.{Moves-bare}
 use Rattle.no_std_io2.proofs.CallsLemmas.{made_more}
 use Rattle.no_std_io2.proofs.TowerCalls.{through}
-use Rattle.no_std_io2.specs.Faults.{IsFaultOf}
-use Rattle.no_std_io2.proofs.FaultLemmas.{may_fail}
-use Rattle.system_streams.specs.Copies.{MovesCounted, HandsAndFlushes, HandsThrough, BufferCalls}
+use Rattle.no_std_io2.proofs.FaultLemmas.{may_fail, no_failure}
+use Rattle.system_streams.specs.Copies.{CopiesAll, HandsAndFlushes, HandsThrough, BufferCalls}
+
+-- a copy, and then a flush
+pub copies_all : {R W : Type 0} {K : Reader R} {I : Writer W} {from from' : R} {old mid : W} {n : ℕ} {end : Told}
+    → Copied K I 64 from old (Ok n) from' mid → Moves (I.told mid) [] [] end → CopiesAll (tells K from) (I.told old) n end
+copies_all copied flushed = record {
+  taken = copied.taken;
+  all = takes_all copied.taken copied.takes (copied.ends.1 (omega arith));
+  no_fault = copied.ends.0;
+  moves = Moves-ends copied.ends.3 flushed;
+  count = copied.ends.2;
+}
+
+-- a fault that was taken is the first
+first_fault : (E F : Option (List Event)) (P : List Event) (e : Error) → AreTaken E P F → EndsInFault P e
+    → IfSome E (λ l. HasFirstFault l e)
+first_fault None F P e taken ends = tt
+first_fault (Some E) None P e taken ends = absurd taken
+first_fault (Some E) (Some F) P e taken ends = record { front = P; rest = F; split = taken; ends = ends }
 
 -- a copy that failed met the reader's first fault, or a mishap of the writer's
-pub copies_err : {E after : List Event} {old new : Told} {e : Error} → Copies 64 E (Err e) after old new
-    → IsFaultOf E old e
-copies_err {E} {after} {old} {new} {e} c = ends c.3
+pub copies_err : {R W : Type 0} {K : Reader R} {I : Writer W} {from from' : R} {old mid : W} {e : Error}
+    → Copied K I 64 from old (Err e) from' mid → IsFaultOf (tells K from) (I.told old) e
+copies_err {K = K} {I} {from} {from'} {old} {mid} {e} copied = ends copied.ends
   where
-    ends : CopyEnds 64 (Err e) c.0 after old new → IsFaultOf E old e
-    ends (inl f) = inl (record { front = c.0; rest = after; split = c.1; ends = f.0 })
-    ends (inr f) = inr (may_fail f.1.1.2)
+    ends : CopyEnds 64 (Err e) copied.taken (tells K from') (I.told old) (I.told mid) → IsFaultOf (tells K from) (I.told old) e
+    ends (inl fault) = inl (first_fault _ _ copied.taken e copied.takes.events fault.0)
+    ends (inr refuses) = inr (may_fail refuses.1.2.2)
+
+-- what was to come of a reader is to come of a buffer in front of it
+all_through : (a b : Tells) (P : List Event) → to_come a ≡ to_come b → IsAll a P → IsAll b P
+all_through a b P same all = subst (λ E. IfSome E (λ l. l ≡ P)) same all
+
+-- and a fault of the two is one of those behind the buffers
+pub fault_through : {E F : Option (List Event)} {old new : Told} {e : Error} → E ≡ F → old.mishaps ≡ new.mishaps → old.turns ≡ new.turns
+    → IfSome E (λ l. HasFirstFault l e) ⊎ MayFail old e → IfSome F (λ l. HasFirstFault l e) ⊎ MayFail new e
+fault_through {e = e} same mishaps turns (inl fault) = inl (subst (λ E. IfSome E (λ l. HasFirstFault l e)) same fault)
+fault_through {e = e} same mishaps turns (inr fails) = inr (record {
+  mishap = subst (λ m. TellsMishap m (error_kind e)) mishaps fails.mishap;
+  turn = λ again. subst (λ n. 0 < n) turns (fails.turn again);
+})
+
+-- a reader without a fault and a writer without a mishap leave none
+pub is_steady : (E : Option (List Event)) {old : Told} {e : Error} (P : Type 0) → IfSome E (λ l. HasFirstFault l e) ⊎ MayFail old e
+    → IfSome E (λ l. HasNoFault l → old.mishaps ≡ Some [] → P)
+is_steady None P failed = tt
+is_steady (Some E) {old} {e} P failed = λ none steady. absurd (no_failure E old none steady e failed)
 
 -- an empty buffer that is put in front and taken off again changes nothing
-pub passes_off : {a inner mid c : Told} {x : List ℕ} {n : ℕ} (buffer : List ℕ) → inner ≡ a → buffer ≡ []
-    → MovesCounted (with_buffer inner buffer) x n mid → Moves mid [] [] c → MovesCounted a x n c
-passes_off {c = c} {x} {n} buffer same empty p left =
-    subst (λ t. MovesCounted t x n c) same (record { moves = Moves-bare buffer empty (Moves-ends p.moves left); count = p.count })
+pub passes_off : {a b : Tells} {told inner mid end : Told} {n : ℕ} (buffer : List ℕ) → to_come a ≡ to_come b → inner ≡ told → buffer ≡ []
+    → CopiesAll a (with_buffer inner buffer) n mid → Moves mid [] [] end → CopiesAll b told n end
+passes_off {a} {b} {told = told} {end = end} buffer same same' empty copied left = record {
+  taken = copied.taken;
+  all = all_through a b copied.taken same copied.all;
+  no_fault = copied.no_fault;
+  moves = subst (λ t. Moves t (bytes copied.taken) [] end) same' (Moves-bare buffer empty (Moves-ends copied.moves left));
+  count = copied.count;
+}
 
 -- nothing more is held
 pub none_held : {a b : Told} → a.held ≡ [] → Moves a [] [] b → b.held ≡ []

@@ -1,3 +1,3 @@
 pub mod CopyLemmas
-mod LoopLemmas
+pub mod LoopLemmas
 mod KnownLemmas

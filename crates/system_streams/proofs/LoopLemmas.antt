@@ -1,144 +1,234 @@
--- What loops of a patient's calls have moved.
-use Rattle.std.proofs.Common.{◌≡◌, ℕ, zero, suc, ◌+◌, ◌-◌, ◌<◌, ◌≤◌, List, [], ◌++◌, Option, None, Some, Result}
-use Rattle.std.proofs.Common.{Ok, Err, length, take, refl, sym, ap, subst, ◌∙◌, arith, append_assoc, append-nil}
-use Rattle.std.proofs.Common.{inl, inr, ◌⊎◌}
+-- What the reads of a patient give.
+use Rattle.std.proofs.Common.{◌≡◌, ℕ, zero, suc, ◌+◌, ◌<◌, ◌≤◌, List, [], ◌∷◌, ◌++◌, Option, None, Some, Result, Ok, Err, length, take}
+use Rattle.std.proofs.Common.{refl, sym, ap, subst, ◌∙◌, arith, inl, inr, ◌⊎◌, le_refl, append-nil, length-append, IfOk}
+use Rattle.std.specs.Prelude.{min, ⊤}
+use Rattle.std.proofs.KnownBytes.{Consumes-nil, Consumes-trans}
+use Rattle.std.proofs.lemmas.List.{take_all}
+use lib.Seq.{take-append_seam}
 use Rattle.std.specs.Result.{IsErrAnd}
-use borrow.Rule.Slice.PartMut.{put_mid}
-use Rattle.std.proofs.lemmas.Slice.{take-put_mid_below}
 use Rattle.std.specs.Io.KnownBytes.{Consumes, Keeps, ReadConsumes}
 use Rattle.std.specs.declared.io.Error as Std
-use Rattle.no_std_io2.proofs.ReadParts.{take-put_mid}
 use Rattle.no_std_io2.specs.declared.io.Error.{Error}
 use Rattle.no_std_io2.specs.Errors.{is_interruption, IsFault}
-use Rattle.no_std_io2.specs.Read.{Reader, gave}
+use Rattle.no_std_io2.specs.Read.{Reader, ReadLaw, ReadCall, Gave, gave, bytes_given, answered, GaveLaw, ReadCallLaw}
+use Rattle.no_std_io2.specs.Read.{GathersUntil, IsRest, ExactCalls, ExactMade}
+use Rattle.no_std_io2.specs.Write.{Made, IsFront}
+use Rattle.no_std_io2.proofs.CallsLemmas.{made_split}
+use Rattle.no_std_io2.proofs.EventLemmas.{length-events_of}
+use Rattle.no_std_io2.proofs.ReadsAdd.{EachAdds, gathers_add}
 use Rattle.system_streams.specs.declared.patient.Patient.{Patient}
 use Rattle.system_streams.specs.declared.system.SystemRead.{Ghosts as Source}
-use Rattle.system_streams.specs.Patient.{patient_device, patient_turns, patient_taken, patient_error, PatientReads, AsksOnce, Remembers}
+use Rattle.system_streams.specs.Patient.{patient_device, patient_turns, patient_taken, patient_error, PatientReads, AsksOnce, AsksDevice}
+use Rattle.system_streams.specs.Patient.{Remembers, Fills}
 use Rattle.system_streams.specs.Turns.{AnswersRead, GivesOn, EndsReads, IsOutOfTurns, IsPlainInterruption, IsDeviceFault}
 
 -- what a patient reader tells
 abbrev pub patient_reader : {D : Type 0} → Source D → Reader (Patient D)
-patient_reader device = record {
-  has_store = λ _. ⊥;
-  content = λ _. [];
-  position = λ _. 0;
-  tells = λ _. ⊥;
-  events = λ _. [];
-  turns = patient_turns;
-  is_filling = λ _. ⊥;
-  may_take_none = λ _. ⊥;
-  may = PatientReads device;
-}
+patient_reader device = record { store = λ _. None; turns = patient_turns; events = λ _. None; may = PatientReads device }
 
--- with some room and more than one turn, a read makes one read of the device
-pub asks_device : {D : Type 0} (I : Source D) {old new : Patient D} {buf : List ℕ} {given : Result ℕ Std.Error} (reply : Result ℕ Error)
-    → 0 < length buf → 1 < patient_turns old → I.may_read (patient_device old) given buf (patient_device new) → GivesOn given reply
-    → AnswersRead reply (patient_turns old) (patient_turns new) → patient_taken new ≡ patient_taken old
-    → Remembers given (patient_error old) (patient_error new) → AsksOnce I old (length buf) (gave reply buf) new
-asks_device I reply some more asked gives_on turns taken error = record {
-  empty = λ none. absurd (omega (arith, none, some));
-  over = λ none. absurd (omega (arith, none, more));
-  last = λ room one. absurd (omega (arith, one, more));
-  asked = λ room many. record {
-    given = _;
-    reply = reply;
-    buf = _;
-    whole = refl;
-    asked = asked;
-    gives_on = gives_on;
-    turns = turns;
-    answers = refl;
-    error = error;
-  };
-  taken = taken;
-}
+-- known bytes that stay lose nothing
+keeps_consumes : (a b : Option (List ℕ)) → Keeps a b → Consumes a b []
+keeps_consumes None b kept = tt
+keeps_consumes (Some x) None kept = absurd kept
+keeps_consumes (Some x) (Some y) kept = sym kept
 
--- known bytes stay as they are if nothing is read
-keeps_refl : (a : Option (List ℕ)) → Keeps a a
-keeps_refl None = tt
-keeps_refl (Some x) = refl
+-- an error gives no bytes
+no_bytes : (answer : Result (List ℕ) Error) → IsErrAnd answer IsOutOfTurns → bytes_given answer ≡ []
+no_bytes (Ok x) failed = absurd failed
+no_bytes (Err e) failed = refl
 
--- the result is that nothing was given
-abbrev pub GaveNone : Result ℕ Error → Type 0
-GaveNone reply = reply ≡ Ok 0
+-- the events of an answer are as many as its bytes, or one error
+given_events : (answer : Result (List ℕ) Error) → length (bytes_given answer) ≤ length (answered answer)
+given_events (Ok x) = omega (arith, length-events_of x)
+given_events (Err e) = omega arith
 
--- known bytes that stay as they are have lost nothing
-pub consumes_nil : (a : Option (List ℕ)) → Consumes a a []
-consumes_nil None = tt
-consumes_nil (Some x) = refl
+-- a result that came from the device spent a turn, unless it gave nothing
+spent : {old : ℕ} (new : ℕ) (reply : Result ℕ Error) (buf : List ℕ) → AnswersRead reply old new
+    → new + min 1 (length (answered (gave reply buf))) ≤ old
+spent new (Ok zero) buf answers = omega (arith, answers.0 refl)
+spent new (Ok (suc n)) buf answers = omega (arith, answers.1 (omega arith))
+spent new (Err e) buf answers = omega (arith, answers.0)
 
--- known bytes that lost bs at their front, and then cs, have lost both, in that order
-pub consumes_then : (a b c : Option (List ℕ)) (bs cs : List ℕ) → Consumes a b bs → Consumes b c cs → Consumes a c (bs ++ cs)
-consumes_then None b c bs cs p q = tt
-consumes_then (Some x) None c bs cs p q = absurd p
-consumes_then (Some x) (Some y) None bs cs p q = absurd q
-consumes_then (Some x) (Some y) (Some z) bs cs p q = p ∙ ap (λ l. bs ++ l) q ∙ sym (append_assoc bs cs z)
+module _ {D : Type 0} (I : Source D) where
+  -- with some room and more than one turn, a read is one read of the device
+  pub asks_once : {old new : Patient D} {buf buf' : List ℕ} {given : Result ℕ Std.Error} (reply : Result ℕ Error)
+      → 0 < length buf' → 1 < patient_turns old → I.may_read (patient_device old) given buf' (patient_device new)
+      → IfOk reply (λ n. n ≤ length buf') → ReadConsumes (I.known (patient_device old)) (I.known (patient_device new)) reply buf'
+      → GivesOn given reply → AnswersRead reply (patient_turns old) (patient_turns new)
+      → Remembers given (patient_error old) (patient_error new) → patient_taken new ≡ patient_taken old
+      → ReadLaw (patient_reader I) old buf reply buf' new
+  asks_once {buf' = buf'} {given} reply some more asked bound bytes gives_on turns error taken = record {
+    bound = bound;
+    takes = record { events = tt; store = tt; turns = spent _ reply buf' turns };
+    end = any_end reply;
+    call = record {
+      empty = λ none. absurd (omega (arith, none, some));
+      over = λ none. absurd (omega (arith, none, more));
+      last = λ room one. absurd (omega (arith, one, more));
+      asked = λ room many. (
+        reply,
+        buf',
+        refl,
+        refl,
+        record { given = given; asked = asked; gives_on = gives_on; bytes = bytes; turns = turns; error = error },
+      );
+      taken = taken;
+    };
+  }
+    where
+      any_end : (reply : Result ℕ Error) → IfOk reply (λ n. n ≡ 0 → 0 < length buf' → ⊤)
+      any_end (Ok n) = λ _ _. tt
+      any_end (Err e) = tt
 
--- known bytes that lost bs at their front, and stayed so from then on, have lost bs
-pub consumes_kept : (a b c : Option (List ℕ)) (bs : List ℕ) → Consumes a b bs → Keeps b c → Consumes a c bs
-consumes_kept None b c bs p q = tt
-consumes_kept (Some x) None c bs p q = absurd p
-consumes_kept (Some x) (Some y) None bs p q = absurd q
-consumes_kept (Some x) (Some y) (Some z) bs p q = p ∙ ap (λ l. bs ++ l) (sym q)
+  -- x is gone from the known bytes of the device
+  abbrev Lost : Patient D → List ℕ → Patient D → Type 0
+  Lost old x new = Consumes (I.known (patient_device old)) (I.known (patient_device new)) x
 
--- the bytes that a read that gave some consumed: it called the device
-pub consumed_some : {A C : Type 0} {old : ℕ} (n : ℕ) (known known' : Option (List ℕ)) (buf : List ℕ) → (n ≡ 0 → ⊥)
-    → (old ≡ 0 → GaveNone (Ok n) × A) → (old ≡ 1 → ⊥) → (1 < old → Consumes known known' (take n buf) × C)
-    → Consumes known known' (take n buf)
-consumed_some {old = zero} n known known' buf some over last bytes = let none = (over refl).0 in absurd (some cc)
-consumed_some {old = suc zero} n known known' buf some over last bytes = absurd (last refl)
-consumed_some {old = suc (suc old)} n known known' buf some over last bytes = (bytes (omega arith)).0
+  -- the same device has lost nothing
+  lost_none : (old new : Patient D) (answer : Result (List ℕ) Error) → bytes_given answer ≡ [] → patient_device new ≡ patient_device old
+      → Lost old (bytes_given answer) new
+  lost_none old new answer none same =
+      subst (λ x. Lost old x new) (sym none)
+      (subst (λ d. Consumes (I.known (patient_device old)) (I.known d) []) (sym same) (Consumes-nil (I.known (patient_device old))))
 
--- a read that failed consumed nothing
-pub consumed_none : {A B C : Type 0} {old : ℕ} (e : Error) {known known' : Option (List ℕ)}
-    → (old ≡ 0 → GaveNone (Err e) × A) → (old ≡ 1 → B × C × (known' ≡ known)) → (1 < old → Keeps known known') → Keeps known known'
-consumed_none {old = zero} e over last bytes = let none = (over refl).0 in absurd cc
-consumed_none {old = suc zero} e {known = known} over last bytes = subst (Keeps known) (sym (last refl).2) (keeps_refl known)
-consumed_none {old = suc (suc old)} e over last bytes = bytes (omega arith)
+  -- one read of the device
+  asked_loses : (old new : Patient D) {answer : Result (List ℕ) Error} (reply : Result ℕ Error) (buf : List ℕ) → answer ≡ gave reply buf
+      → AsksDevice I old reply buf new → Lost old (bytes_given answer) new
+  asked_loses old new (Ok n) buf is asks = subst (λ a. Lost old (bytes_given a) new) (sym is) asks.bytes.0
+  asked_loses old new (Err e) buf is asks = subst (λ a. Lost old (bytes_given a) new) (sym is) (keeps_consumes _ _ asks.bytes)
 
--- nor did one that gave no byte
-pub consumed_end : {old n : ℕ} (reply : Result ℕ Error) {known known' : Option (List ℕ)} (buf : List ℕ) → reply ≡ Ok n → n ≡ 0
-    → (old ≡ 0 → known' ≡ known) → (old ≡ 1 → IsErrAnd reply IsOutOfTurns) → (1 < old → ReadConsumes known known' reply buf)
-    → Consumes known known' []
-consumed_end {old = zero} reply {known} buf is none over last bytes =
-    subst (λ k. Consumes known k []) (sym (over refl)) (consumes_nil known)
-consumed_end {old = suc zero} reply buf is none over last bytes =
-    absurd (subst (λ r. IsErrAnd r IsOutOfTurns) (is ∙ ap Ok none) (last refl))
-consumed_end {old = suc (suc old)} reply {known} {known'} buf is none over last bytes =
-    (subst (λ r. ReadConsumes known known' r buf) (is ∙ ap Ok none) (bytes (omega arith))).0
+  -- what a read gave is gone from the known bytes of the device, and nothing else
+  loses : {old new : Patient D} (room : ℕ) (answer : Result (List ℕ) Error) → AsksOnce I old room answer new
+      → Lost old (bytes_given answer) new
+  loses {old} {new} zero answer once =
+      let none = once.empty refl in lost_none old new answer (ap bytes_given none.0) (ap patient_device none.1)
+  loses {old} {new} (suc k) answer once = by (patient_turns old) refl
+    where
+      by : (n : ℕ) → patient_turns old ≡ n → Lost old (bytes_given answer) new
+      by zero is = let over = once.over is in lost_none old new answer (ap bytes_given over.0) (ap patient_device over.1)
+      by (suc zero) is = let last = once.last (omega arith) is in lost_none old new answer (no_bytes answer last.0) last.2
+      by (suc (suc n)) is = let asked = once.asked (omega arith) (omega (arith, is)) in asked_loses old new asked.0 asked.1 asked.3 asked.4
 
--- an error but an interruption ends a loop of reads
-pub ends_reads : {A : Type 0} (room : ℕ) (e : Error) {first old new : ℕ} → IsFault e → old ≤ first → new < old
-    → (old ≡ 1 → IsOutOfTurns e × (new ≡ 0) × A)
-    → (1 < old → AnswersRead (Err e) old new) → EndsReads {T = Unit {0}} room (Err e) first new
-ends_reads room e {old = zero} fault fewer spent last asked = absurd (omega (arith, spent))
-ends_reads room e {old = suc zero} fault fewer spent last asked =
-    let out = last refl in
-    (omega (arith, fewer, spent), inl (out.0, out.1, omega (arith, fewer)))
-ends_reads room e {first = first} {old = suc (suc old)} {new = new} fault fewer spent last asked = device (asked (omega arith)).1
-  where
-    device : IsPlainInterruption e ⊎ IsDeviceFault e → EndsReads {T = Unit {0}} room (Err e) first new
-    device (inl plain) = let no = ap is_interruption plain.0 in absurd cc
-    device (inr f) = (omega (arith, fewer, spent), inr (inl (f, omega (arith, fewer, spent))))
+  -- From old to new, reads gave x.
+  record ReadsGave (old : Patient D) (x : List ℕ) (new : Patient D) : Type 0 where
+    pub lost : Lost old x new
+    pub turns : patient_turns new + min 1 (length x) ≤ patient_turns old
+    pub taken : patient_taken new ≡ patient_taken old
 
--- the bytes before the part are still there, and the device kept its bytes, or gave none
-pub got_same : (a k : ℕ) (xs ys : List ℕ) (known known' known'' : Option (List ℕ)) → a ≤ length xs → Consumes known known' (take a xs)
-    → Keeps known' known'' → Consumes known known'' (take a (put_mid a k xs ys))
-got_same a k xs ys known known' known'' within got kept =
-    subst (λ l. Consumes known known'' l) (sym (take-put_mid_below a k xs ys a (omega arith) within))
-    (consumes_kept known known' known'' (take a xs) got kept)
+  read_gave : (old new : Patient D) (room : ℕ) (answer : Result (List ℕ) Error) → GaveLaw (patient_reader I) old room answer new
+      → ReadsGave old (bytes_given answer) new
+  read_gave old new room answer law = record {
+    lost = loses room answer law.call;
+    turns = omega (arith, law.takes.turns, given_events answer);
+    taken = law.call.taken;
+  }
 
--- if nothing more was consumed, the first a bytes are still all that was consumed
-pub got_none : (a k : ℕ) (xs ys : List ℕ) (known known' known'' : Option (List ℕ)) → a ≤ length xs → Consumes known known' (take a xs)
-    → Consumes known' known'' [] → Consumes known known'' (take a (put_mid a k xs ys))
-got_none a k xs ys known known' known'' within got none =
-    subst (λ l. Consumes known known'' l) (append-nil (take a xs) ∙ sym (take-put_mid_below a k xs ys a (omega arith) within))
-    (consumes_then known known' known'' (take a xs) [] got none)
+  adds : EachAdds (ReadCallLaw (patient_reader I)) ReadsGave
+  adds = record {
+    joins = record {
+      none = λ a. record { lost = Consumes-nil _; turns = omega arith; taken = refl };
+      more = λ a b c x y p q. record {
+        lost = Consumes-trans _ _ _ x y p.lost q.lost;
+        turns = omega (arith, p.turns, q.turns, length-append x y);
+        taken = q.taken ∙ p.taken;
+      };
+    };
+    gave = read_gave;
+    exactly = λ a b room answer law. absurd law.0;
+    all = λ a b x answer law. absurd law.0;
+    lent = λ a b answer law. absurd law.0;
+    took = λ a b c x n law next within. absurd law.0;
+  }
 
--- if n bytes more were consumed into the part, the first a + n bytes are all that was consumed
-pub got_more : (a k n : ℕ) (xs ys : List ℕ) (known known' known'' : Option (List ℕ)) → a ≤ length xs → n ≤ length ys
-    → Consumes known known' (take a xs)
-    → Consumes known' known'' (take n ys) → Consumes known known'' (take (a + n) (put_mid a k xs ys))
-got_more a k n xs ys known known' known'' within fits got more =
-    subst (λ l. Consumes known known'' l) (sym (take-put_mid a k n xs ys within fits))
-    (consumes_then known known' known'' (take a xs) (take n ys) got more)
+  -- reads gave x, and then one returned this
+  record Ended (old : Patient D) (x : List ℕ) (answer : Result (List ℕ) Error) (new : Patient D) : Type 0 where
+    pub mid : Patient D
+    pub room : ℕ
+    pub some : 0 < room
+    pub before : ReadsGave old x mid
+    pub law : GaveLaw (patient_reader I) mid room answer new
+
+  reads_ended : {size : ℕ} {C : List ReadCall} {x : List ℕ} (answer : Result (List ℕ) Error) → GathersUntil (IsRest size) C x answer
+      → (old new : Patient D) → Made (ReadCallLaw (patient_reader I)) old C new → Ended old x answer new
+  reads_ended answer until old new made =
+      let call = Gave until.1 answer in
+      let parts =
+      made_split (ReadCallLaw (patient_reader I)) until.0 old (call ∷ []) new
+      (subst (λ K. Made (ReadCallLaw (patient_reader I)) old K new) until.4 made) in
+      record {
+        mid = parts.0;
+        room = until.1;
+        some = until.3.1;
+        before = gathers_add adds until.2 old parts.0 parts.1;
+        law = subst (GaveLaw (patient_reader I) parts.0 until.1 answer) (sym parts.2.2) parts.2.1;
+      }
+
+  -- what the device gave is the front of the buffer
+  fills_err : {old new : Patient D} {buf x : List ℕ} (e : Error) (answer : Result (List ℕ) Error) → bytes_given answer ≡ []
+      → IsFront x buf → Ended old x answer new → EndsReads {T = Unit {0}} (length buf) (Err e) (patient_turns old) (patient_turns new)
+      → Fills I.known (Err e) buf old new
+  fills_err {old} {new} {buf} {x} e answer none front ended ends =
+      let last = read_gave ended.mid new ended.room answer ended.law in
+      let all : Lost old x new =
+      subst (λ l. Lost old l new) (ap (λ l. x ++ l) none ∙ append-nil x) (Consumes-trans _ _ _ x _ ended.before.lost last.lost) in
+      record {
+        bytes = record {
+          count = length x;
+          within = omega (arith, ap length front.1, length-append x front.0);
+          whole = tt;
+          device = subst (λ l. Lost old l new) (sym (take-append_seam x front.0) ∙ ap (take (length x)) (sym front.1)) all;
+        };
+        ends = ends;
+        taken = last.taken ∙ ended.before.taken;
+      }
+
+  -- an error but an interruption ends a loop of reads
+  ends_reads : {old new : Patient D} {x : List ℕ} (room : ℕ) (e : Error) → IsFault e → Ended old x (Err e) new
+      → EndsReads {T = Unit {0}} room (Err e) (patient_turns old) (patient_turns new)
+  ends_reads {old} {new} room e fault ended = by (patient_turns ended.mid) refl
+    where
+      fell : patient_turns new < patient_turns old
+      fell = omega (arith, ended.before.turns, ended.law.takes.turns)
+
+      device : (reply : Result ℕ Error) (buf : List ℕ) → Err e ≡ gave reply buf → AsksDevice I ended.mid reply buf new
+          → EndsReads {T = Unit {0}} room (Err e) (patient_turns old) (patient_turns new)
+      device (Ok n) buf is asks = absurd (cc is)
+      device (Err f) buf is asks = kind asks.turns.1
+        where
+          kind : IsPlainInterruption f ⊎ IsDeviceFault f → EndsReads {T = Unit {0}} room (Err e) (patient_turns old) (patient_turns new)
+          kind (inl plain) = let no = ap is_interruption plain.0 in absurd cc
+          kind (inr failed) = let same : f ≡ e = cc in (omega (arith, fell), inr (inl (subst IsDeviceFault same failed, fell)))
+
+      by : (n : ℕ) → patient_turns ended.mid ≡ n → EndsReads {T = Unit {0}} room (Err e) (patient_turns old) (patient_turns new)
+      by zero is = let over = (ended.law.call.over is).0 in absurd (cc over)
+      by (suc zero) is =
+          let last = ended.law.call.last ended.some is in (omega (arith, fell), inl (last.0, last.1, omega (arith, fell)))
+      by (suc (suc n)) is =
+          let asked = ended.law.call.asked ended.some (omega (arith, is)) in device asked.0 asked.1 asked.3 asked.4
+
+  -- a `read_exact`
+  pub fills : {old new : Patient D} {buf : List ℕ} (reply : Result (Unit {0}) Error)
+      → ExactMade (ReadCallLaw (patient_reader I)) old reply buf new → Fills I.known reply buf old new
+  fills {old} {new} {buf} reply exact = by reply exact.are
+    where
+      by : (reply : Result (Unit {0}) Error) → ExactCalls exact.calls reply buf → Fills I.known reply buf old new
+      by reply (inl own) =
+          let made = subst (λ K. Made (ReadCallLaw (patient_reader I)) old K new) own exact.made in absurd made.1.0
+      by (Ok u) (inr reads) =
+          let all = gathers_add adds reads old new exact.made in
+          record {
+            bytes = record {
+              count = length buf;
+              within = le_refl _;
+              whole = refl;
+              device = subst (λ l. Lost old l new) (sym (take_all (length buf) buf (le_refl _))) all.lost;
+            };
+            ends = (omega (arith, all.turns), λ some. omega (arith, all.turns, some));
+            taken = all.taken;
+          }
+      by (Err e) (inr (x, front, inl (kind, until))) =
+          let ended = reads_ended (Ok []) until old new exact.made in
+          fills_err e (Ok []) refl front ended (omega (arith, ended.before.turns, ended.law.takes.turns), inr (inr kind))
+      by (Err e) (inr (x, front, inr (fault, until))) =
+          let ended = reads_ended (Err e) until old new exact.made in
+          fills_err e (Err e) refl front ended (ends_reads (length buf) e fault ended)

@@ -1,5 +1,7 @@
--- What a copy through buffers does to the writer.
+-- What a copy through buffers takes, and what it does to the writer.
 use Rattle.std.specs.Prelude.{◌≡◌, ℕ, Bool, true, false, List, [], ◌∷◌, ◌++◌, Ok}
+use Rattle.no_std_io2.specs.Events.{Event, bytes, HasNoFault}
+use Rattle.no_std_io2.specs.Takes.{Tells, IsAll}
 use Rattle.no_std_io2.specs.Writers.{Writer, CallOf}
 use Rattle.no_std_io2.specs.Write.{Told, Moves, WriteCall, Flushed, Made}
 use Rattle.no_std_io2.specs.BufWriter.{InnerCalls}
@@ -7,15 +9,13 @@ use Rattle.no_std_io2.specs.LineWriter.{LineCalls}
 use Rattle.no_std_io2.specs.Copy.{counted, Handed}
 use Rattle.no_std_io2.specs.Towers.{Through}
 
--- A writer accepted the bytes b without a mishap, and n is their count.
-pub record MovesCounted (old : Told) (b : List ℕ) (n : ℕ) (new : Told) : Type 0 where
-  pub moves : Moves old b [] new
-  pub count : n ≡ counted b
-
--- A writer accepted some bytes without a mishap, and n is their count.
-pub record MovesSome (old : Told) (n : ℕ) (new : Told) : Type 0 where
-  pub accepted : List ℕ
-  pub passes : MovesCounted old accepted n new
+-- A copy took all events of a reader that told this, and no fault. The writer accepted their bytes without a mishap, and n is their count.
+pub record CopiesAll (from : Tells) (old : Told) (n : ℕ) (new : Told) : Type 0 where
+  pub taken : List Event
+  pub all : IsAll from taken
+  pub no_fault : HasNoFault taken
+  pub moves : Moves old (bytes taken) [] new
+  pub count : n ≡ counted (bytes taken)
 
 -- Pieces of at most 64 bytes were passed on to a writer, by one `write_all` each, and then the writer was flushed once.
 pub record HandsAndFlushes {W : Type 0} (I : Writer W) (old new : W) : Type 0 where

@@ -1,5 +1,6 @@
 -- What a `Patient` tells.
 use Rattle.std.specs.Prelude.{◌≡◌, ℕ, ◌<◌, ◌-◌, ◌^◌, List, [], ◌++◌, length, Option, None, Some, Ok, Err, Result, IsErrAnd}
+use Rattle.std.specs.Io.KnownBytes.{ReadConsumes}
 use Rattle.std.specs.declared.io.Error as Std
 use Rattle.std.specs.declared.io.SeekFrom as StdPlace
 use Rattle.std.specs.declared.io.SeekFrom.TheVariants as place
@@ -7,13 +8,13 @@ use Rattle.no_std_io2.specs.declared.io.Error.{Error}
 use Rattle.no_std_io2.specs.declared.io.SeekFrom.{SeekFrom}
 use Rattle.no_std_io2.specs.declared.io.SeekFrom.TheVariants.{Start, End, Current}
 use Rattle.no_std_io2.specs.Read.{ReadCall, Gave, gave}
-use Rattle.no_std_io2.specs.Seek.{SeekCall, Sought, Measured}
+use Rattle.no_std_io2.specs.Seek.{SeekCall, Sought, Measured, Moved}
 use Rattle.no_std_io2.specs.Write.{Told, WriteCall, Wrote, WroteAll, WroteRest, Flushed, taken}
 use Rattle.system_streams.specs.declared.patient.Patient.{Patient}
 use Rattle.system_streams.specs.declared.system.SystemWrite.{Ghosts as Device}
 use Rattle.system_streams.specs.declared.system.SystemRead.{Ghosts as Source}
 use Rattle.system_streams.specs.declared.system.SystemSeek.{Ghosts as Place}
-use Rattle.system_streams.specs.Turns.{AnswersFor, AnswersRead, GivesOn, IsOutOfTurns}
+use Rattle.system_streams.specs.Turns.{AnswersFor, AnswersRead, GivesOn, IsOutOfTurns, Got, EndsReads}
 
 -- `p.into_inner()`
 abbrev pub patient_device : {D : Type 0} → Patient D → D
@@ -59,18 +60,15 @@ PatientMay I old (Flushed reply) new =
 PatientMay I old (WroteAll x reply) new = ⊥
 PatientMay I old (WroteRest x reply left) new = ⊥
 
--- One read of the device was made, and the answer is made from its result.
-pub record AsksDevice {D : Type 0} (I : Source D) (old : Patient D) (room : ℕ) (answer : Result (List ℕ) Error) (new : Patient D) : Type 0
+-- One read of the device was made, into the buffer buf, and the result is made from the device's result.
+pub record AsksDevice {D : Type 0} (I : Source D) (old : Patient D) (reply : Result ℕ Error) (buf : List ℕ) (new : Patient D) : Type 0
   where
     pub given : Result ℕ Std.Error
-    pub reply : Result ℕ Error
-    -- the caller's buffer afterwards
-    pub buf : List ℕ
-    pub whole : length buf ≡ room
     pub asked : I.may_read (patient_device old) given buf (patient_device new)
     pub gives_on : GivesOn given reply
+    -- known bytes of the device are given, and no others
+    pub bytes : ReadConsumes (I.known (patient_device old)) (I.known (patient_device new)) reply buf
     pub turns : AnswersRead reply (patient_turns old) (patient_turns new)
-    pub answers : answer ≡ gave reply buf
     pub error : Remembers given (patient_error old) (patient_error new)
 
 -- A read of a patient. It makes at most one read of the device.
@@ -83,13 +81,22 @@ pub record AsksOnce {D : Type 0} (I : Source D) (old : Patient D) (room : ℕ) (
     pub last : 0 < room → patient_turns old ≡ 1 → IsErrAnd answer IsOutOfTurns × (patient_turns new ≡ 0)
         × (patient_device new ≡ patient_device old) × (patient_error new ≡ patient_error old)
     -- with more turns it calls the device once
-    pub asked : 0 < room → 1 < patient_turns old → AsksDevice I old room answer new
+    pub asked : 0 < room → 1 < patient_turns old → (reply : Result ℕ Error) × (buf : List ℕ) × (length buf ≡ room)
+        × (answer ≡ gave reply buf) × AsksDevice I old reply buf new
     pub taken : patient_taken new ≡ patient_taken old
 
 -- what one call of a reader does; only its reads call the device
 abbrev pub PatientReads : {D : Type 0} → Source D → Patient D → ReadCall → Patient D → Type 0
 PatientReads I old (Gave room answer) new = AsksOnce I old room answer new
 PatientReads I old call new = ⊥
+
+-- From old to new a patient gave bytes of its device, which are the front of buf: all of it after `Ok`. Each result of the device except
+-- the end spent a turn.
+pub record Fills {D : Type 0} (known : D → Option (List ℕ)) (reply : Result (Unit {0}) Error) (buf : List ℕ) (old new : Patient D)
+    : Type 0 where
+  pub bytes : Got (known (patient_device old)) (known (patient_device new)) reply buf
+  pub ends : EndsReads (length buf) reply (patient_turns old) (patient_turns new)
+  pub taken : patient_taken new ≡ patient_taken old
 
 -- the same place
 abbrev pub std_place : SeekFrom → StdPlace.SeekFrom
@@ -104,3 +111,4 @@ PatientSeeks I old (Sought to reply) new =
     × GivesOn answer reply × Remembers answer (patient_error old) (patient_error new)
     × (patient_turns new ≡ patient_turns old) × (patient_taken new ≡ patient_taken old)
 PatientSeeks I old (Measured reply) new = ⊥
+PatientSeeks I old (Moved offset reply) new = ⊥

@@ -1,5 +1,5 @@
--- The stream in a `ToStd`, and the results of a `ToStd` and a `ToStdKnown`.
-use Rattle.std.specs.Prelude.{◌≡◌, ℕ, List, ◌++◌, Ok, Err, Result}
+-- The stream in a `ToStd`, the bytes that it tells, and its results.
+use Rattle.std.specs.Prelude.{◌≡◌, ℕ, List, ◌++◌, Ok, Err, Result, Option, option_map}
 use Rattle.std.specs.IoError as Io
 use Rattle.std.specs.declared.io.Error as Std
 use Rattle.std.specs.declared.io.ErrorKind as StdKind
@@ -14,12 +14,18 @@ use Rattle.no_std_io2.specs.declared.io.ErrorKind.TheVariants.{InvalidData, Time
 use Rattle.no_std_io2.specs.declared.io.ErrorKind.TheVariants.{Other, UnexpectedEof, Unsupported, OutOfMemory}
 use Rattle.no_std_io2.specs.declared.io.ErrorKind.TheVariants.{Uncategorized}
 use Rattle.no_std_io2.specs.Errors.{error_kind}
+use Rattle.no_std_io2.specs.Events.{bytes}
+use Rattle.no_std_io2.specs.Takes.{Tells, to_come}
 use Rattle.no_std_io2.specs.Write.{Told}
 use Rattle.system_streams.specs.declared.to_std.ToStd.{ToStd}
 
 -- `s.into_inner()`
 abbrev pub std_inner : {T : Type 0} → ToStd T → T
 std_inner s = s.inner
+
+-- the bytes to come, if events are told
+abbrev pub bytes_to_come : Tells → Option (List ℕ)
+bytes_to_come t = option_map bytes (to_come t)
 
 -- the kind of the same name
 abbrev pub std_kind : ErrorKind → StdKind.ErrorKind

@@ -1,10 +1,11 @@
 // [`copy_through`], a copy from a reader to a writer with a buffer at each.
-ghost use Rattle.std.specs.Prelude.{◌≡◌, [], Some, IfOk, IsOk, IfErr};
-ghost use Rattle.no_std_io2.specs.Read.{bytes, HasNoFault};
+ghost use Rattle.std.specs.Prelude.{◌≡◌, [], Some, IfSome, IfOk, IsOk, IfErr};
+ghost use Rattle.no_std_io2.specs.Events.{HasNoFault};
+ghost use Rattle.no_std_io2.specs.Takes.{to_come};
+ghost use Rattle.no_std_io2.specs.Read.{tells};
 ghost use Rattle.no_std_io2.specs.BufReader.{BufReaderFits};
 ghost use Rattle.no_std_io2.specs.Faults.{IsFaultOf};
-ghost use Rattle.system_streams.specs.Copies.{MovesCounted, MovesSome};
-ghost use Rattle.system_streams.specs.Copies.{HandsAndFlushes, HandsThrough};
+ghost use Rattle.system_streams.specs.Copies.{CopiesAll, HandsAndFlushes, HandsThrough};
 ghost use Rattle.no_std_io2.specs.BufWriter.{BufWriterFits};
 ghost use Rattle.no_std_io2.specs.LineWriter.{LineWriterFits};
 
@@ -15,12 +16,10 @@ const ROOM: usize = 64;
 
 // Copies all of `input` to `tower`, flushes `tower`, and returns it.
 fn copy_and_flush<R: Read + Drop, T: Write + Drop>(mut input: R, mut tower: T) -> Result<(u64, T)>
-    ensures some { IfOk result (λ r. MovesSome (T.told tower) r.0 (T.told r.1)) }
-    ensures all { R.tells input → IfOk result (λ r. HasNoFault (R.events input)
-        × MovesCounted (T.told tower) (bytes (R.events input)) r.0 (T.told r.1)) }
+    ensures all { IfOk result (λ r. CopiesAll (tells R.Read input) (T.told tower) r.0 (T.told r.1)) }
     ensures empty { IfOk result (λ r. (T.told r.1).held ≡ []) }
     ensures calls { IfOk result (λ r. HandsAndFlushes T.Write tower r.1) }
-    ensures err { R.tells input → IfErr result (IsFaultOf (R.events input) (T.told tower)) }
+    ensures err { IfErr result (IsFaultOf (tells R.Read input) (T.told tower)) }
 {
     let count = copy::<R, T, ROOM>(&mut input, &mut tower)?;
     tower.flush()?;
@@ -53,15 +52,12 @@ pub fn copy_through<R: Read + Drop, W: Write + Drop>(
     requires reader_fits { BufReaderFits R.row 64 }
     requires buffer_fits { BufWriterFits W.row 64 }
     requires lines_fit { LineWriterFits W.row 64 }
-    ensures some { IfOk result (λ r. MovesSome (W.told output) r.0 (W.told r.1)) }
-    ensures all { R.tells input → IfOk result (λ r. HasNoFault (R.events input)
-        × MovesCounted (W.told output) (bytes (R.events input)) r.0 (W.told r.1)) }
+    ensures all { IfOk result (λ r. CopiesAll (tells R.Read input) (W.told output) r.0 (W.told r.1)) }
     ensures empty { IfOk result (λ r. (W.told r.1).held ≡ []) }
     // The output got the calls that the chosen buffer makes, and no others.
     ensures calls { IfOk result (λ r. HandsThrough W.Write line output r.1) }
-    ensures err { R.tells input → IfErr result (IsFaultOf (R.events input) (W.told output)) }
-    ensures steady { R.tells input → HasNoFault (R.events input) → (W.told output).mishaps ≡ Some []
-        → IsOk result }
+    ensures err { IfErr result (IsFaultOf (tells R.Read input) (W.told output)) }
+    ensures steady { IfSome (to_come (tells R.Read input)) (λ E. HasNoFault E → (W.told output).mishaps ≡ Some [] → IsOk result) }
 {
     let input = BufReader::<R, ROOM>::new(input);
     if line {

@@ -1,14 +1,11 @@
 // [`Patient`], a reader or writer of the system with a number of turns that bounds every loop over
 // it.
-ghost use Rattle.std.specs.Prelude.{◌≡◌, ℕ, ◌+◌, ◌<◌, ◌⊎◌, [], None, Some, Ok, IsErrAnd, Result, length, option_copied, IfSome};
-ghost use Rattle.std.specs.Io.KnownBytes.{ReadConsumes};
+ghost use Rattle.std.specs.Prelude.{◌≡◌, ◌+◌, ◌<◌, ◌⊎◌, [], None, Some, length, option_copied, IfSome};
 ghost use Rattle.std.specs.IoError.{error_kind as std_error_kind};
-ghost use Rattle.std.specs.declared.io.Error.{Error as StdError};
-ghost use Rattle.no_std_io2.specs.Read.{ReadLaw, ReadExactLaw};
-ghost use Rattle.no_std_io2.specs.Errors.{error_kind, IsUnexpectedEnd};
+ghost use Rattle.no_std_io2.specs.Read.{ReadLaw};
+ghost use Rattle.no_std_io2.specs.Errors.{error_kind};
 ghost use Rattle.system_streams.specs.ToStd.{std_kind};
-ghost use Rattle.system_streams.specs.Turns.{IsOutOfTurns, IsPlainInterruption, IsDeviceFault, AnswersRead};
-ghost use Rattle.system_streams.specs.Turns.{GivesOn, Becomes, EndsReads, Got};
+ghost use Rattle.system_streams.specs.Turns.{IsOutOfTurns, IsPlainInterruption, IsDeviceFault, Becomes};
 
 use crate::system::{SystemRead, SystemWrite};
 use crate::to_std::std_error;
@@ -129,12 +126,6 @@ impl<D> Patient<D> {
     }
 }
 
-fn gave_too_little() -> Error
-    ensures { IsUnexpectedEnd result }
-{
-    Error::new(ErrorKind::UnexpectedEof, "failed to fill whole buffer")
-}
-
 fn no_turns_left() -> Error
     ensures { IsOutOfTurns result }
 {
@@ -166,47 +157,22 @@ fn device_error(kind: SystemKind) -> Error
 }
 
 /// Tells no store.
-impl<D> Stored for Patient<D> {
-    ghost has_store = { λ _. ⊥ };
-
-    ghost content = { λ _. [] };
-
-    ghost position = { λ _. 0 };
-}
+impl<D> Stored for Patient<D> {}
 
 /// Tells no events, because those of its device are not known.
 impl<D: SystemRead> Read for Patient<D> {
-    ghost use Rattle.system_streams.specs.Patient.{patient_device, patient_turns, patient_taken, PatientReads};
-
-    ghost tells = { λ _. ⊥ };
-
-    ghost events = { λ _. [] };
+    ghost use Rattle.system_streams.specs.Patient.{patient_turns, AsksDevice, PatientReads};
 
     ghost turns = { patient_turns };
-
-    ghost may_take_none = { λ _. ⊥ };
 
     ghost may = { PatientReads ⟦<D as SystemRead>⟧ };
 
     fn read(&mut self, buf: &mut [u8]) -> Result<usize>
         ensures law { ReadLaw ⟦<Self as Read>⟧ self.old buf.old result buf.new self.new }
 
-        // If the buffer is empty or no turns are left, it reads nothing.
-        ensures empty { length buf.old ≡ 0 → (result ≡ Ok 0) × (self.new ≡ self.old) }
-        ensures over { patient_turns self.old ≡ 0 → (result ≡ Ok 0) × (self.new ≡ self.old) }
-
-        // At the last turn it returns `TimedOut`, and does not call the device.
-        ensures last { 0 < length buf.old → patient_turns self.old ≡ 1 → IsErrAnd result IsOutOfTurns
-            × (patient_turns self.new ≡ 0) × (patient_device self.new ≡ patient_device self.old) }
-
-        // With more turns it calls the device once.
+        // If the buffer is not empty and more than one turn is left, it calls the device once.
         ensures asked { 0 < length buf.old → 1 < patient_turns self.old
-            → AnswersRead result (patient_turns self.old) (patient_turns self.new) }
-        ensures device { 0 < length buf.old → 1 < patient_turns self.old → (answer : Result ℕ StdError)
-            × D.may_read (patient_device self.old) answer buf.new (patient_device self.new) × GivesOn answer result }
-        ensures bytes { 1 < patient_turns self.old → ReadConsumes (D.known (patient_device self.old))
-            (D.known (patient_device self.new)) result buf.new }
-        ensures taken { patient_taken self.new ≡ patient_taken self.old }
+            → AsksDevice ⟦<D as SystemRead>⟧ self.old result buf.new self.new }
     {
         if buf.is_empty() || self.turns == 0 {
             return Ok(0);
@@ -228,34 +194,6 @@ impl<D: SystemRead> Read for Patient<D> {
             }
         }
     }
-
-    fn read_exact(&mut self, buf: &mut [u8]) -> Result<()>
-        ensures law { ReadExactLaw ⟦<Self as Read>⟧ self.old buf.old result buf.new self.new }
-
-        // The bytes are those that the device gave, and each result of it except the end spent a
-        // turn.
-        ensures bytes { Got (D.known (patient_device self.old)) (D.known (patient_device self.new))
-            result buf.new }
-        ensures ends { EndsReads (length buf.old) result (patient_turns self.old) (patient_turns self.new) }
-        ensures taken { patient_taken self.new ≡ patient_taken self.old }
-    {
-        let mut at = 0;
-        'reads: while at < buf.len() {
-            match self.read(&mut buf[at..]) {
-                Ok(0) => return Err(gave_too_little()),
-                Ok(n) => at += n,
-                Err(e) if e.is_interrupted() => {}
-                Err(e) => return Err(e),
-            }
-        }
-        Ok(())
-    }
-
-    ghost filling_tells = { λ p h. absurd h };
-
-    ghost store_tells = { λ p h. absurd h };
-
-    ghost store_fits = { λ p h. absurd h };
 }
 
 /// Tells that the bytes that its device reported as taken are out, and that nothing is held; it tells no mishaps. Each call makes the

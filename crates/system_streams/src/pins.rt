@@ -1,27 +1,24 @@
 //! Functions that nothing calls. Their contracts fix what each type tells. A type whose ghost members say nothing would
 //! still be proved, but every promise about it would be empty.
-ghost use Rattle.std.specs.Prelude.{◌≡◌, Some};
-ghost use Rattle.no_std_io2.specs.Read.{bytes, ReadCall};
-ghost use Rattle.system_streams.specs.Patient.{patient_turns, patient_told, PatientMay, PatientReads, PatientSeeks};
+ghost use Rattle.std.specs.Prelude.{◌≡◌, None, Some, Result};
+ghost use Rattle.no_std_io2.specs.declared.io.Error.{Error};
+ghost use Rattle.no_std_io2.specs.Read.{tells, ReadCall, ReadCallLaw, ExactMade};
+ghost use Rattle.system_streams.specs.Patient.{patient_turns, patient_told, PatientMay, PatientReads, PatientSeeks, Fills};
 ghost use Rattle.no_std_io2.specs.Seek.{SeekCall};
 ghost use Rattle.no_std_io2.specs.Write.{WriteCall};
-ghost use Rattle.system_streams.specs.ToStdKnown.{known_inner};
-ghost use Rattle.system_streams.specs.ToStd.{std_inner, accepted};
+ghost use Rattle.system_streams.specs.ToStd.{std_inner, bytes_to_come, accepted};
 
 use crate::patient::Patient;
 use crate::system::{SystemRead, SystemSeek, SystemWrite};
 use crate::to_std::ToStd;
-use crate::to_std_known::ToStdKnown;
 use no_std_io2::io::{Read, Seek, Stored, Write};
 use std::io;
 
 /// A `Patient` reader tells its turns, and no events and no store.
 pub fn patient_reader_tells<D: SystemRead>(p: &Patient<D>)
-    ensures tells { ⟦<Patient<D> as Read>⟧.tells p.now → ⊥ }
+    ensures events { ⟦<Patient<D> as Read>⟧.events p.now ≡ None }
     ensures turns { ⟦<Patient<D> as Read>⟧.turns p.now ≡ patient_turns p.now }
-    ensures is_filling { ⟦<Patient<D> as Read>⟧.is_filling p.now → ⊥ }
-    ensures may_take_none { ⟦<Patient<D> as Read>⟧.may_take_none p.now → ⊥ }
-    ensures has_store { ⟦<Patient<D> as Stored>⟧.has_store p.now → ⊥ }
+    ensures store { ⟦<Patient<D> as Stored>⟧.store p.now ≡ None }
 {}
 
 /// A `Patient` writer tells that the bytes that its device reported as taken are out.
@@ -42,15 +39,22 @@ pub fn patient_reader_calls<D: SystemRead>(old: &Patient<D>, new: &Patient<D>)
         → PatientReads ⟦<D as SystemRead>⟧ old.now call new.now }
 {}
 
+/// Whatever bytes a `read_exact` of a `Patient` puts into the buffer, the device gave them, and each result of the device except
+/// the end spent a turn.
+pub fn patient_fills<D: SystemRead>(old: &Patient<D>, buf: &[u8], new: &Patient<D>)
+    ensures { (reply : Result (Unit {0}) Error) → ExactMade (ReadCallLaw ⟦<Patient<D> as Read>⟧) old.now reply buf.now new.now
+        → Fills D.known reply buf.now old.now new.now }
+{}
+
 /// Each seek of a `Patient` makes one seek of its device.
 pub fn patient_seeker_calls<D: SystemSeek>(old: &Patient<D>, new: &Patient<D>)
     ensures { (call : SeekCall) → ⟦<Patient<D> as Seek>⟧.may old.now call new.now
         → PatientSeeks ⟦<D as SystemSeek>⟧ old.now call new.now }
 {}
 
-/// A `ToStdKnown` tells `std::io` the bytes to come.
-pub fn to_std_known_tells<R: Read>(t: &ToStdKnown<R>)
-    ensures { ⟦<ToStdKnown<R> as io::Read>⟧.remaining t.now ≡ Some (bytes (R.events (known_inner t.now))) }
+/// A `ToStd` tells `std::io` the bytes to come, if its reader tells its events.
+pub fn to_std_reader_tells<R: Read>(s: &ToStd<R>)
+    ensures { ⟦<ToStd<R> as io::Read>⟧.remaining s.now ≡ bytes_to_come (tells R.Read (std_inner s.now)) }
 {}
 
 /// A `ToStd` tells `std::io` the bytes that its writer accepted.

@@ -1,11 +1,13 @@
 // [`ToStd`], which makes a stream of this library one of Rust's `std::io`.
 ghost use Rattle.std.specs.Prelude.{◌≡◌, ℕ, Some, Result};
+ghost use Rattle.std.specs.Io.{ReadsAtMost};
+ghost use Rattle.std.specs.Io.KnownBytes.{ReadConsumes};
 ghost use Rattle.std.specs.IoError.{error_kind as std_error_kind};
 ghost use Rattle.no_std_io2.specs.declared.io.Error.{Error};
 ghost use Rattle.no_std_io2.specs.Errors.{error_kind};
-ghost use Rattle.no_std_io2.specs.Read.{ReadLaw};
+ghost use Rattle.no_std_io2.specs.Read.{tells, ReadLaw};
 ghost use Rattle.no_std_io2.specs.Writers.{FlushOf, WriteOf};
-ghost use Rattle.system_streams.specs.ToStd.{std_inner, std_kind, SameAnswer, accepted};
+ghost use Rattle.system_streams.specs.ToStd.{std_inner, std_kind, bytes_to_come, SameAnswer, accepted};
 
 use no_std_io2::io::{Error, ErrorKind, Read, Write};
 use std::io;
@@ -14,12 +16,13 @@ use std::io::ErrorKind as StdKind;
 /// Makes a reader or writer of this library one of Rust's `std::io`, for code that needs those.
 ///
 /// Each call is one call of the stream. In contracts of `std::io`, a writer has the bytes that it
-/// accepted, and nothing is known about what a reader will give. For a reader that tells its events
-/// there is [`ToStdKnown`](crate::ToStdKnown).
+/// accepted. A reader that tells its events has the bytes among them left; about the bytes of any
+/// other reader nothing is known.
 ///
 /// # Errors
 /// A call returns the stream's error, with the kind of the same name and at most the first 80 bytes
-/// of its text. The stream is then in the state that its own call promises.
+/// of its text. The stream is then in the state that its own call promises. An error among told
+/// events is returned when it comes, and the events after it are still to come.
 ///
 /// ```rust
 /// let mut r = ToStd::new(Patient::new(b"a".as_slice(), 1));
@@ -93,7 +96,13 @@ pub(crate) fn std_error(e: Error) -> io::Error
 }
 
 impl<R: Read> io::Read for ToStd<R> {
+    ghost remaining = { λ s. bytes_to_come (tells R.Read (std_inner s)) };
+
     fn read(&mut self, buf: &mut [u8]) -> io::Result<usize>
+        ensures bound { ReadsAtMost result buf.new }
+        ensures bytes { ReadConsumes (⟦<Self as io::Read>⟧.remaining self.old) (⟦<Self as io::Read>⟧.remaining self.new)
+            result buf.new }
+
         // It makes one call of the reader, and returns its result.
         ensures law { (reply : Result ℕ Error) × SameAnswer reply result
             × ReadLaw R.Read (std_inner self.old) buf.old reply buf.new (std_inner self.new) }

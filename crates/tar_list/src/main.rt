@@ -10,6 +10,7 @@ ghost use Rattle.std.specs.Process.{exit_status};
 ghost use Rattle.std.specs.Vec.Iter.{into_iter_items};
 ghost use Rattle.tar_list.specs.Words.{Asks};
 ghost use Rattle.tar_reader.specs.Archives.{archive_inner, gathered, left_of_member};
+ghost use Rattle.tar_reader.specs.Asking.{Fetches};
 ghost use Rattle.tar_reader.specs.Members.{IsArchiveEnd};
 
 use no_std_io2::io::{BufRead, BufReader, BufWriter, Error, ErrorKind, Result, Write, copy};
@@ -21,6 +22,9 @@ use system_streams::Patient;
 use tar_reader::{Archive, Kind};
 
 const USAGE: &str = "usage: tar_list [NAME]";
+
+// The size in bytes of each buffer: of the archive, of the copy of a member, and of the output.
+const BUFFER: usize = 65536;
 
 // What the arguments ask for.
 #[derive(Drop)]
@@ -58,8 +62,8 @@ fn parse_words<R: Env + Alloc<A = Global>>(rt: &R) -> Result<Option<Command>> {
 // Prints a line for each member: its size and its name.
 fn list<R: BufRead, W: Write>(archive: &mut Archive<R>, out: &mut W) -> Result<()>
     // After `Ok`, the archive is at its end, and the writer has sent all that it holds.
-    ensures ended { R.tells (archive_inner archive.old) → R.tells (archive_inner archive.new)
-        × OnOk result (IsArchiveEnd (gathered archive.new) (R.events (archive_inner archive.new))) }
+    ensures ended { Fetches R.BufRead (archive_inner archive.old) (λ t P. OnOk result (IsArchiveEnd (gathered archive.new) t P))
+        ⊥ (archive_inner archive.new) }
     ensures flushed { OnOk result ((W.told out.new).held ≡ []) }
 {
     'members: while let Some(header) = archive.next()? {
@@ -86,7 +90,7 @@ fn copy_member<R: BufRead, W: Write>(
     if header.kind == Kind::Directory {
         return Err(Error::new(ErrorKind::InvalidInput, "this member is a directory"));
     }
-    copy::<_, _, 8192>(archive.member(), out)?;
+    copy::<_, _, BUFFER>(archive.member(), out)?;
     if archive.member().limit() > 0 {
         return Err(Error::new(ErrorKind::UnexpectedEof, "the archive ends inside a member"));
     }
@@ -95,8 +99,8 @@ fn copy_member<R: BufRead, W: Write>(
 
 fn run(rt: &HostRuntime, command: Command) -> Result<()> {
     let input = Patient::new(rt.reader(), u64::MAX);
-    let mut archive = Archive::new(BufReader::<_, 8192>::new(input));
-    let mut out = BufWriter::<_, 4096>::new(Patient::new(io::writer(rt), u64::MAX));
+    let mut archive = Archive::new(BufReader::<_, BUFFER>::new(input));
+    let mut out = BufWriter::<_, BUFFER>::new(Patient::new(io::writer(rt), u64::MAX));
     match command {
         Command::List => list(&mut archive, &mut out),
         Command::Copy(name) => copy_member(&mut archive, name.as_str(), &mut out),

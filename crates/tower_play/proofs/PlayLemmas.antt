@@ -1,6 +1,6 @@
 -- What a play writes.
 use Rattle.no_std_io2.specs.Writers.{CallOf}
-use Rattle.std.proofs.Common.{◌≡◌, ℕ, List, [], ◌∷◌, ◌++◌, subst, sym, ap, refl, append_assoc, Ok, Err, Result, IfOk, ◌∙◌}
+use Rattle.std.proofs.Common.{◌≡◌, ℕ, List, [], ◌∷◌, ◌++◌, subst, ap, refl, append_assoc, Ok, Err, Result, IfOk, ◌∙◌}
 use Rattle.no_std_io2.specs.declared.io.Error.{Error}
 use Rattle.no_std_io2.specs.Errors.{error_kind}
 use Rattle.no_std_io2.specs.Write.{Told, Moves, MovesFront}

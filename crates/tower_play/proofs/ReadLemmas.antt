@@ -1,23 +1,25 @@
 -- How the lines that were read so far make a script.
 use Rattle.std.proofs.Common.{◌≡◌, ℕ, ◌+◌, ◌-◌, ◌^◌, List, [], ◌∷◌, ◌++◌}
-use Rattle.std.proofs.Common.{false, Option, None, Some, refl, sym, subst, ap, ◌∙◌, arith, length, length-append, append_assoc}
-use Rattle.std.proofs.Common.{Err, inl, inr, ◌⊎◌, vec_items, Global}
+use Rattle.std.proofs.Common.{false, Option, None, Some, refl, sym, subst, ap, ◌∙◌, arith, ◌<◌, length, length-append, append_assoc}
+use Rattle.std.proofs.Common.{Err, inl, inr, ◌⊎◌}
 use Rattle.std.specs.Prelude.{min, is_some}
 use Rattle.std.specs.Option.{IfSome}
 use Rattle.no_std_io2.specs.declared.io.Error.{Error}
 use Rattle.no_std_io2.specs.Errors.{IsOutOfMemory}
-use Rattle.no_std_io2.specs.Read.{Event, fails}
-use Rattle.no_std_io2.specs.Pieces.{without, YieldsPiece}
+use Rattle.no_std_io2.specs.Events.{Event, fails, bytes_to_fault, first_fault}
+use Rattle.no_std_io2.specs.Takes.{Tells}
+use Rattle.no_std_io2.specs.Pieces.{without, pieces_given}
+use Rattle.no_std_io2.proofs.GivenPieces.{GivesNext}
 use Rattle.io_bench.specs.PieceRuns.{GathersPieces}
-use Rattle.io_bench.proofs.PieceRunLemmas.{GatheredSoFar, gathered_to}
+use Rattle.io_bench.proofs.PieceRunLemmas.{GatheredSoFar, GatheredToldSoFar, gathered_to}
 use Rattle.no_std_io2.specs.Faults.{HasFirstFault}
 use Rattle.tower_play.specs.declared.script.Script.{Script}
 use Rattle.tower_play.specs.Reading.{Adds, AddsAll, IsFreshScript, IsBadLine, IsFirstBad}
 
 -- so many lines were read, and made the script, unless one of them was bad: then its number is known
-pub record ReadSoFar (d : ℕ) (E : List Event) (number : ℕ) (bad : Option ℕ) (script : Script) (after : List Event) : Type 0 where
+pub record ReadSoFar (d : ℕ) (old : Tells) (number : ℕ) (bad : Option ℕ) (script : Script) (now : Tells) : Type 0 where
   pub lines : List (List ℕ)
-  pub gathered : GatheredSoFar (without d) d E lines after
+  pub gathered : GatheredToldSoFar (without d) d old lines now
   pub start : Script
   pub fresh : IsFreshScript start
   pub adds : bad ≡ None → AddsAll lines start script
@@ -75,11 +77,12 @@ first_here lines line n next start script fresh adds is count more = record {
 }
 
 -- a line that could not be read: the reader had its first fault, or an allocation failed
-pub stopped : {d : ℕ} {E mid after : List Event} {lines : List (List ℕ)} {e : Error} → GatheredSoFar (without d) d E lines mid
-    → YieldsPiece (vec_items {X = ℕ} {Z = Global}) (without d) (λ _ _. ⊥) d mid (Some (Err e)) after
+pub stopped : {d : ℕ} {E mid : List Event} {lines : List (List ℕ)} {e : Error} → GatheredSoFar (without d) d E lines mid
+    → ((pieces_given d mid ≡ []) × (first_fault mid ≡ Some e))
+    ⊎ (((piece : List ℕ) × (after : List Event) × GivesNext d mid piece after × ⊥)
+    ⊎ (IsOutOfMemory e × (0 < length (bytes_to_fault mid))))
     → HasFirstFault E e ⊎ IsOutOfMemory e
-stopped {d} {E} {mid} {after} {lines} {e} so no_line =
-    why (gathered_to (Unit {0}) (vec_items {X = ℕ} {Z = Global}) (without d) (λ _ _. ⊥) ⊥ d E lines lines mid e after refl so no_line)
+stopped {d} {E} {lines = lines} {e} so no_line = why (gathered_to (Unit {0}) (without d) (λ _ _. ⊥) ⊥ d refl so no_line)
   where
     why : GathersPieces {A = Unit {0}} (without d) (λ _ _. ⊥) ⊥ d E (Err e) lines → HasFirstFault E e ⊎ IsOutOfMemory e
     why (inl fault) = inl (record {
@@ -90,6 +93,12 @@ stopped {d} {E} {mid} {after} {lines} {e} so no_line =
     })
     why (inr (inl refused)) = absurd refused.refused
     why (inr (inr memory)) = inr memory.refused
+
+-- the same, if events were told
+pub if_stopped : (told : Option (List Event)) {e : Error} → ((E : List Event) → told ≡ Some E → HasFirstFault E e ⊎ IsOutOfMemory e)
+    → IfSome told (λ E. HasFirstFault E e) ⊎ IsOutOfMemory e
+if_stopped None why = inl tt
+if_stopped (Some E) why = why E refl
 
 -- what is not there
 pub is_none : (o : Option ℕ) → is_some o ≡ false → o ≡ None

@@ -1,5 +1,5 @@
 -- The calls of a play, and what it prints.
-use Rattle.std.specs.Prelude.{◌≡◌, ℕ, List, [], ◌++◌}
+use Rattle.std.specs.Prelude.{◌≡◌, ℕ, List, [], ◌++◌, Option, IfSome}
 use Rattle.no_std_io2.specs.Writers.{Writer}
 use Rattle.no_std_io2.specs.Write.{Told, Moves, told_out, WriteCall}
 use Rattle.no_std_io2.specs.BufWriter.{with_buffer, InnerCalls}
@@ -11,7 +11,8 @@ use Rattle.io_bench.specs.declared.runs.Op.{Op}
 use Rattle.io_bench.specs.declared.runs.Reply.{Reply}
 use Rattle.io_bench.specs.Faulty.{with_acts, acts_left}
 use Rattle.io_bench.specs.Runs.{Ran, RunCalls, RunBelow}
-use Rattle.no_std_io2.specs.Read.{Event}
+use Rattle.no_std_io2.specs.Events.{Event}
+use Rattle.no_std_io2.specs.Pieces.{newline}
 use Rattle.tower_play.specs.declared.playing.Shape.{Shape}
 use Rattle.tower_play.specs.declared.playing.Shape.TheVariants.{Buf, Line, BufBuf, LineBuf}
 use Rattle.tower_play.specs.declared.script.Script.{Script}
@@ -56,17 +57,11 @@ pub record Shows {W : Type 0} (I : Writer (Faulty W)) (shape : Shape) (acts : Li
   pub calls : RunBelow I (λ calls below. TowerCalls shape calls below held) old ops replies new
   pub shown : text ≡ printed_report replies (I.told new).out held
 
--- The text shows the run of some calls on such a tower.
-pub record IsPlay {W : Type 0} (I : Writer (Faulty W)) (shape : Shape) (text : List ℕ) : Type 0 where
-  pub acts : List Act
-  pub ops : List Op
-  pub shows : Shows I shape acts ops text
-
--- The text shows the run of the script that is read from these events.
-pub record IsPlayOf {W : Type 0} (I : Writer (Faulty W)) (shape : Shape) (E : List Event) (text : List ℕ) : Type 0 where
+-- The text shows the run of a script on such a tower. If events were to come, the script is read from all of them.
+pub record IsPlay {W : Type 0} (I : Writer (Faulty W)) (shape : Shape) (events : Option (List Event)) (text : List ℕ) : Type 0 where
   pub script : Script
+  pub read : IfSome events (λ E. IsRead newline E script)
   pub ops : List Op
-  pub read : IsRead 10 E script
   pub calls : AreCalls script.calls ops
   pub shows : Shows I shape script.acts.items ops text
 

@@ -1,12 +1,15 @@
 // [`play`], which plays a script on a tower of buffered writers.
 ghost use Rattle.no_std_io2.specs.BufReader.{BufReaderFits};
-ghost use Rattle.std.specs.Prelude.{◌≡◌, ◌++◌, ◌⊎◌, Some, IfOk, IfErr};
+ghost use Rattle.std.specs.Prelude.{◌≡◌, ◌++◌, ◌⊎◌, Some, IfSome, IfOk, IfErr};
 ghost use Rattle.no_std_io2.specs.Errors.{IsOutOfMemory};
 ghost use Rattle.tower_play.specs.declared.playing.Fault.TheVariants.{Io};
-ghost use Rattle.no_std_io2.specs.Faults.{HasFirstFault, MayFail};
+ghost use Rattle.no_std_io2.specs.Faults.{IsFaultOf};
 ghost use Rattle.tower_play.specs.Faults.{fault_display, IfIo, IfLine};
+ghost use Rattle.no_std_io2.specs.Takes.{to_come};
+ghost use Rattle.no_std_io2.specs.Read.{tells};
+ghost use Rattle.no_std_io2.specs.Pieces.{newline};
 ghost use Rattle.tower_play.specs.Reading.{IsBadAt};
-ghost use Rattle.tower_play.specs.Play.{Shows, ShowsRun, IsPlay, IsPlayOf, WritesText};
+ghost use Rattle.tower_play.specs.Play.{Shows, ShowsRun, IsPlay, WritesText};
 
 use crate::memory::{Refused, replies_of};
 use crate::report::report_of;
@@ -139,16 +142,14 @@ pub fn play<R: Read + Drop, W: Write + Drop>(
 ) -> Result<W, Fault>
     requires reader_fits { BufReaderFits R.row 64 }
     // The tower has this shape: the device got the calls that such a tower makes.
-    ensures ok { IfOk result (λ w. WritesText (IsPlay ⟦<Faulty<Vec<u8>> as Write>⟧ shape) (W.told output) (W.told w)) }
     // The script is the text that the input tells.
-    ensures script { R.tells input → IfOk result (λ w. WritesText (IsPlayOf ⟦<Faulty<Vec<u8>> as Write>⟧ shape (R.events input))
+    ensures ok { IfOk result (λ w. WritesText (IsPlay ⟦<Faulty<Vec<u8>> as Write>⟧ shape (to_come (tells R.Read input)))
         (W.told output) (W.told w)) }
     // A reported bad line is the first one of the input.
-    ensures first { R.tells input → IfErr result (IfLine (IsBadAt 10 (R.events input))) }
+    ensures first { IfErr result (IfLine (λ n. IfSome (to_come (tells R.Read input)) (λ E. IsBadAt newline E n))) }
     // Any other error is the first fault of the input, a failed allocation, or an error of the
     // output.
-    ensures other { R.tells input → IfErr result (IfIo (λ e. HasFirstFault (R.events input) e
-        ⊎ IsOutOfMemory e ⊎ MayFail (W.told output) e)) }
+    ensures other { IfErr result (IfIo (λ e. IsFaultOf (tells R.Read input) (W.told output) e ⊎ IsOutOfMemory e)) }
 {
     let reader = BufReader::<R, INPUT_ROOM>::new(input);
     let Script { acts, calls } = Script::read(alloc, reader.split(alloc, b'\n'))?;

@@ -6,6 +6,8 @@ ghost use Rattle.no_std_io2.specs.Faults.{HasFirstFault};
 ghost use Rattle.tower_play.specs.Faults.{IsNumbered, IfIo, IfLine};
 ghost use Rattle.tower_play.specs.Script.{kind_name, IsCount, IsTextArgument, unescaped, IsAppended};
 ghost use Rattle.tower_play.specs.Calls.{IsNext, AreCalls, AddsText, IsFull};
+ghost use Rattle.no_std_io2.specs.Takes.{to_come};
+ghost use Rattle.no_std_io2.specs.Read.{tells};
 ghost use Rattle.tower_play.specs.Reading.{Adds, IsBadLine, IsRead, IsBadAt, LineLacksRoom};
 ghost use Rattle.no_std_io2.specs.Pieces.{split_reader, split_delim, split_is_ended};
 ghost use Rattle.tower_play.specs.declared.script.Line.{Line as Said};
@@ -64,14 +66,14 @@ impl Script {
     pub fn read<R: BufRead + Drop>(alloc: Global, lines: Split<R>) -> Result<Script, Fault>
         ensures numbered { IfErr result IsNumbered }
         // It reads every line, and the script has what each line says.
-        ensures read { split_is_ended lines ≡ false → R.tells (split_reader lines)
-            → IfOk result (IsRead (split_delim lines) (R.events (split_reader lines))) }
+        ensures read { split_is_ended lines ≡ false → IfOk result (λ script. IfSome (to_come (tells R.Read (split_reader lines)))
+            (λ E. IsRead (split_delim lines) E script)) }
         // A reported bad line is the first one; all lines were read.
-        ensures first { split_is_ended lines ≡ false → R.tells (split_reader lines)
-            → IfErr result (IfLine (IsBadAt (split_delim lines) (R.events (split_reader lines)))) }
+        ensures first { split_is_ended lines ≡ false → IfErr result (IfLine (λ n.
+            IfSome (to_come (tells R.Read (split_reader lines))) (λ E. IsBadAt (split_delim lines) E n))) }
         // Any other error is the first fault of the reader, or a failed allocation.
-        ensures stops { split_is_ended lines ≡ false → R.tells (split_reader lines)
-            → IfErr result (IfIo (λ e. HasFirstFault (R.events (split_reader lines)) e ⊎ IsOutOfMemory e)) }
+        ensures stops { split_is_ended lines ≡ false → IfErr result (IfIo (λ e.
+            IfSome (to_come (tells R.Read (split_reader lines))) (λ E. HasFirstFault E e) ⊎ IsOutOfMemory e)) }
     {
         let mut script = Script {
             acts: Vec::new(alloc),

@@ -1,9 +1,8 @@
 //! The parts of a frame: its header, and the rest of its payload.
-ghost use Rattle.std.specs.Prelude.{◌≡◌, ◌<◌, ◌≤◌, ◌^◌, take, length, IfErr};
+ghost use Rattle.std.specs.Prelude.{◌≡◌, ◌<◌, ◌≤◌, ◌^◌, length};
 ghost use Rattle.std.specs.Int.{w32, to_le_bytes, from_le_bytes};
-ghost use Rattle.no_std_io2.specs.Errors.{IsFault};
-ghost use Rattle.no_std_io2.specs.FillTo.{GathersTo, HasTo};
 ghost use Rattle.framing.specs.Frames.{HasHeader, SaysEnded};
+ghost use Rattle.framing.specs.Taking.{FillsRest, SaysNoRoom};
 
 use no_std_io2::io::{Error, ErrorKind, Read, Result};
 
@@ -19,12 +18,8 @@ pub fn fill_rest<R: Read>(
 ) -> Result<bool>
     requires within { at.old ≤ want }
     requires fits { want ≤ length room.old }
-    ensures told { R.tells from.old → R.tells from.new
-        × GathersTo (R.events from.old) result (take at.old room.old) (take at.new room.new) (R.events from.new) }
-    ensures enough { HasTo want result at.new }
-    ensures within { at.new ≤ want }
+    ensures fills { FillsRest R.Read want from.old room.old at.old result from.new room.new at.new }
     ensures long { length room.new ≡ length room.old }
-    ensures never_interrupted { IfErr result IsFault }
     ensures turns_never_rise { R.turns from.new ≤ R.turns from.old }
 {
     'bytes: while *at < want {
@@ -61,4 +56,12 @@ pub fn ended_inside() -> Error
 {
     let text = "the bytes end inside a frame";
     Error::new(ErrorKind::UnexpectedEof, text)
+}
+
+/// Makes the error of a payload that is longer than the room.
+pub fn no_room() -> Error
+    ensures { SaysNoRoom result }
+{
+    let text = "a payload is longer than the room";
+    Error::new(ErrorKind::InvalidInput, text)
 }

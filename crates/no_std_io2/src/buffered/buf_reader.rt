@@ -1,5 +1,5 @@
 // [`BufReader`], a buffer in front of a reader.
-ghost use Rattle.std.specs.Prelude.{◌≡◌, ◌<◌, ◌≤◌, ◌^◌, [], length};
+ghost use Rattle.std.specs.Prelude.{◌≡◌, ◌<◌, ◌≤◌, ◌^◌, length};
 ghost use Rattle.std.specs.Borrow.{Lends, sem};
 
 use super::buffer::Buffer;
@@ -34,7 +34,9 @@ pub struct BufReader<R, const S: usize> {
 }
 
 impl<R: Read, const S: usize> BufReader<R, S> {
-    ghost use Rattle.no_std_io2.specs.BufReader.{reader_held, reader_behind, reader_inner, reader_events};
+    ghost use Rattle.no_std_io2_base.specs.Takes.{to_come};
+    ghost use Rattle.no_std_io2_base.specs.Read.{tells};
+    ghost use Rattle.no_std_io2.specs.BufReader.{reader_inner, HasNoBuffer};
 
     /// Puts an empty buffer of `S` bytes in front of `inner`. `S` is from 1 to 2^63 - 1. Follows
     /// `std::io::BufReader::with_capacity`.
@@ -42,9 +44,8 @@ impl<R: Read, const S: usize> BufReader<R, S> {
         requires some_room { 0 < S }
         requires in_memory { S < 2 ^ 63 }
         ensures inner { reader_inner result ≡ inner }
-        ensures empty { reader_held result ≡ [] }
-        ensures behind { reader_behind result ≡ [] }
-        ensures events { reader_events R.events result ≡ R.events inner }
+        ensures empty { HasNoBuffer result }
+        ensures events { to_come (tells ⟦<BufReader<R, S> as Read>⟧ result) ≡ to_come (tells R.Read inner) }
     {
         BufReader {
             inner,
@@ -125,15 +126,11 @@ impl<R, const S: usize> BufReader<R, S> {
     }
 }
 
-// Tells the inner reader's store, at a position that is lower by the held bytes.
+// Tells the inner reader's store, at a position that is lower by the held bytes, if the buffer is a part of it.
 impl<R: Stored, const S: usize> Stored for BufReader<R, S> {
-    ghost use Rattle.no_std_io2.specs.BufReader.{reader_inner, reader_has_store, reader_position};
+    ghost use Rattle.no_std_io2.specs.BufReader.{reader_store};
 
-    ghost has_store = { reader_has_store R.has_store R.position R.content };
-
-    ghost content = { λ r. R.content (reader_inner r) };
-
-    ghost position = { reader_position R.position };
+    ghost store = { reader_store R.store };
 }
 
 /// Shows the inner reader, and the buffer as `3/8` if 3 bytes are held and 8 can be.

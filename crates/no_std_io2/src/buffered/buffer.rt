@@ -1,10 +1,10 @@
 //! An array whose bytes from a start to an end are held. All buffers of this crate contain one.
-ghost use Rattle.std.specs.Prelude.{◌≡◌, ◌+◌, ◌-◌, ◌<◌, ◌≤◌, [], ◌++◌, min, length, take, drop, IsOk, IfErr, OnOk, OnErr};
+ghost use Rattle.std.specs.Prelude.{◌≡◌, ◌+◌, ◌-◌, ◌<◌, ◌≤◌, [], ◌++◌, min, length, take, drop, IfErr, OnOk, OnErr};
 ghost use Rattle.std.specs.Prelude.{vec_len, vec_capacity};
 ghost use Rattle.std.specs.Bool.{OnTrue, OnFalse};
 ghost use Rattle.no_std_io2_base.specs.Errors.{IsOutOfMemory};
 ghost use Rattle.no_std_io2_base.specs.Cursor.{HasMoved};
-ghost use Rattle.no_std_io2_base.specs.Read.{Gave, gave_whole, least_room};
+ghost use Rattle.no_std_io2_base.specs.Read.{GaveLaw, gave_whole, least_room};
 
 use no_std_io2_base::error::Result;
 use no_std_io2_base::internal::{append_rest, copy_bytes};
@@ -23,7 +23,7 @@ pub(crate) struct Buffer<const S: usize> {
 }
 
 impl<const S: usize> Buffer<S> {
-    ghost use Rattle.no_std_io2.specs.Buffer.{buffer_held, buffer_behind, buffer_room, ReadsAhead, IsInBuffer, IsCutOn, ReadsOn};
+    ghost use Rattle.no_std_io2.specs.Buffer.{buffer_held, buffer_behind, buffer_room, IsInBuffer, IsCutOn, ReadsOn};
 
     #[inline]
     pub(crate) fn new() -> Self
@@ -150,7 +150,7 @@ impl<const S: usize> Buffer<S> {
             (buffer_behind self.new ++ buffer_held self.new ≡ buffer_behind self.old ++ buffer_held self.old) }
         ensures grows { vec_capacity buf.old ≤ vec_capacity buf.new }
         ensures refused { IfErr result IsOutOfMemory }
-        ensures full { OnErr result (vec_capacity buf.old < vec_len buf.old + length (buffer_held self.old) + least_room) }
+        ensures full { OnErr result (vec_capacity buf.old < vec_len buf.new + least_room) }
     {
         let mut rest = self.as_slice();
         let appended = append_rest(&mut rest, buf);
@@ -168,18 +168,7 @@ impl<const S: usize> Buffer<S> {
         requires { 0 < S }
         ensures err { OnErr result (buffer_held self.new ≡ []) }
         ensures behind { buffer_behind self.new ≡ [] }
-        ensures bound { length (buffer_held self.new) ≤ S }
-        ensures told { R.tells from.old → R.tells from.new
-            × ReadsAhead (R.events from.old) result (buffer_held self.new) (R.events from.new) }
-        ensures turns_never_rise { R.turns from.new ≤ R.turns from.old }
-        ensures spends_turn { 0 < length (buffer_held self.new) → R.turns from.new < R.turns from.old }
-        ensures fault_turn { OnErr result (R.turns from.new < R.turns from.old) }
-        ensures fills { R.is_filling from.old → R.is_filling from.new × IsOk result
-            × (length (buffer_held self.new) ≡ min S (length (R.events from.old))) }
-        ensures store { R.has_store from.old → R.has_store from.new
-            × (R.content from.new ≡ R.content from.old)
-            × (R.position from.new ≡ R.position from.old + length (buffer_held self.new)) }
-        ensures call { R.may from.old (Gave S (gave_whole result (buffer_held self.new))) from.new }
+        ensures read { GaveLaw R.Read from.old S (gave_whole result (buffer_held self.new)) from.new }
     {
         self.start = 0;
         self.end = 0;

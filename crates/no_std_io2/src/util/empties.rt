@@ -1,5 +1,5 @@
 // [`Empty`], a stream without bytes.
-ghost use Rattle.std.specs.Prelude.{◌≡◌, []};
+ghost use Rattle.std.specs.Prelude.{◌≡◌, [], Some};
 ghost use Rattle.no_std_io2.specs.Sink.{empty_taken};
 
 use super::sinks::Sink;
@@ -23,31 +23,17 @@ impl Default for Empty {
 }
 
 /// Tells no store, because its position is 0 after every seek.
-impl Stored for Empty {
-    ghost has_store = { λ _. ⊥ };
-
-    ghost content = { λ _. [] };
-
-    ghost position = { λ _. 0 };
-}
+impl Stored for Empty {}
 
 /// Tells that no event is to come.
 impl Read for Empty {
-    ghost tells = { λ _. Unit {0} };
-
-    ghost events = { λ _. [] };
-
     ghost turns = { λ _. 0 };
+
+    ghost events = { λ _. Some [] };
 
     fn read(&mut self, _buf: &mut [u8]) -> Result<usize> {
         Ok(0)
     }
-
-    ghost filling_tells = { λ e h. absurd h };
-
-    ghost store_tells = { λ e h. absurd h };
-
-    ghost store_fits = { λ e h. absurd h };
 }
 
 /// Holds nothing.
@@ -66,8 +52,6 @@ impl Seek for Empty {
     fn seek(&mut self, _pos: SeekFrom) -> Result<u64> {
         Ok(0)
     }
-
-    ghost seek_fits = { λ e h. absurd h };
 }
 
 /// Tells what its sink tells.

@@ -1,7 +1,5 @@
 //! [`read_exact_at`], a seek followed by a read.
-ghost use Rattle.std.specs.Prelude.{◌≡◌, ◌+◌, ◌≤◌, ℕ, length, IfOk, IsOk};
-ghost use Rattle.no_std_io2_base.specs.Seek.{IsTarget};
-ghost use Rattle.no_std_io2.specs.ReadAt.{ReadsAt, SeeksThenReads};
+ghost use Rattle.no_std_io2.specs.ReadAt.{ReadAtLaw};
 
 use no_std_io2_base::error::Result;
 use no_std_io2_base::traits::{Read, Seek, SeekFrom};
@@ -20,12 +18,7 @@ use no_std_io2_base::traits::{Read, Seek, SeekFrom};
 /// assert!(rt; buf == *b"de");
 /// ```
 pub fn read_exact_at<R: Read + Seek>(reader: &mut R, at: SeekFrom, buf: &mut [u8]) -> Result<()>
-    ensures store { R.has_store reader.old → R.has_store reader.new × (R.content reader.new ≡ R.content reader.old)
-        × IfOk result (λ _. ReadsAt (R.content reader.old) (R.position reader.old) at (length buf.old) buf.new
-        (R.position reader.new)) }
-    ensures enough { R.has_store reader.old → (place : ℕ) → IsTarget (length (R.content reader.old)) (R.position reader.old) at place
-        → place + length buf.old ≤ length (R.content reader.old) → IsOk result }
-    ensures calls { SeeksThenReads R.Seek R.Read reader.old at buf.old result buf.new reader.new }
+    ensures { ReadAtLaw R.Seek R.Read reader.old at buf.old result buf.new reader.new }
 {
     reader.seek(at)?;
     reader.read_exact(buf)

@@ -1,7 +1,6 @@
 //! [`copy_sided`], a copy whose error says which side failed.
-ghost use Rattle.std.specs.Prelude.{◌≡◌, ◌≤◌, ◌<◌, ◌^◌, IfErr};
-ghost use Rattle.no_std_io2_base.specs.Errors.{IsFault};
-ghost use Rattle.no_std_io2.specs.CopySides.{side_error, CopiesBySide, SidesMove, SidesHand};
+ghost use Rattle.std.specs.Prelude.{◌≡◌, ◌<◌, ◌^◌};
+ghost use Rattle.no_std_io2.specs.CopySides.{side_error, SidesCopied};
 
 use no_std_io2_base::error::{Error, Result};
 use no_std_io2_base::traits::{Read, Write};
@@ -58,14 +57,7 @@ pub fn copy_sided<R: Read, W: Write, const S: usize>(
     writer: &mut W,
 ) -> std::result::Result<u64, CopyError>
     requires { S < 2 ^ 63 }
-    ensures told { R.tells reader.old → R.tells reader.new × CopiesBySide S (R.events reader.old) result (R.events reader.new)
-        (W.told writer.old) (W.told writer.new) }
-    ensures moves { SidesMove result (W.told writer.old) (W.told writer.new) }
-    // Each read is into the whole buffer. It makes one `write_all` for the bytes of each read, none after a fault,
-    // and no other call.
-    ensures calls { SidesHand R.Read W.Write S reader.old writer.old result reader.new writer.new }
-    ensures never_interrupted { IfErr result (λ side. IsFault (side_error side)) }
-    ensures turns_never_rise { R.turns reader.new ≤ R.turns reader.old }
+    ensures { SidesCopied R.Read W.Write S reader.old writer.old result reader.new writer.new }
 {
     let mut buf = [0u8; S];
     let mut copied = 0u64;

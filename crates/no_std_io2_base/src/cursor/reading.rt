@@ -1,9 +1,11 @@
-ghost use Rattle.std.specs.Prelude.{◌≡◌, ◌+◌, ◌≤◌, ◌<◌, ◌^◌, ◌↔◌, min, length, take, IsOk, IsOkAnd, IfOk, IfErr, OnErr};
-ghost use Rattle.no_std_io2_base.specs.Cursor.{cursor_position, cursor_inner, cursor_left, cursor_stores};
+ghost use Rattle.std.specs.Prelude.{◌≡◌, ◌+◌, ◌≤◌, ◌<◌, ◌^◌, ◌↔◌, min, length, take, Some, IsOk, IsOkAnd, IfOk, IfErr, OnErr};
+ghost use Rattle.no_std_io2_base.specs.Cursor.{cursor_position, cursor_inner, cursor_left};
 ghost use Rattle.no_std_io2_base.specs.BufRead.{ConsumeLaw};
 ghost use Rattle.no_std_io2_base.specs.Errors.{IsUnexpectedEnd};
-ghost use Rattle.no_std_io2_base.specs.Read.{events_of, given, bytes_alone, ReadLaw, ReadExactLaw};
-ghost use Rattle.std.proofs.Common.{rules};
+ghost use Rattle.no_std_io2_base.specs.Events.{events_of};
+ghost use Rattle.no_std_io2_base.specs.Takes.{store_at};
+ghost use Rattle.no_std_io2_base.specs.InMemory.{GivesLeft};
+ghost use Rattle.no_std_io2_base.specs.Read.{ReadLaw, ReadExactLaw};
 
 use super::{AsSlice, Cursor};
 use crate::error::{Result, failed_to_fill};
@@ -12,11 +14,7 @@ use crate::traits::{BufRead, Read, Stored};
 use std::alloc::Allocator;
 
 impl<T: AsSlice<u8>> Stored for Cursor<T> {
-    ghost has_store = { cursor_stores T.slice };
-
-    ghost content = { λ c. T.slice (cursor_inner c) };
-
-    ghost position = { cursor_position };
+    ghost store = { λ c. store_at (T.slice (cursor_inner c)) (cursor_position c) };
 }
 
 impl<T: AsSlice<u8>> Cursor<T> {
@@ -32,13 +30,11 @@ impl<T: AsSlice<u8>> Cursor<T> {
 }
 
 impl<T: AsSlice<u8>> Read for Cursor<T> {
-    ghost tells = { λ _. Unit {0} };
-
-    ghost events = { λ c. events_of (cursor_left T.slice c) };
-
     ghost turns = { λ c. length (cursor_left T.slice c) };
 
-    ghost is_filling = { λ _. Unit {0} };
+    ghost events = { λ c. Some (events_of (cursor_left T.slice c)) };
+
+    ghost may = { GivesLeft (cursor_left T.slice) };
 
     #[inline(always)]
     fn read(&mut self, buf: &mut [u8]) -> Result<usize>
@@ -46,7 +42,7 @@ impl<T: AsSlice<u8>> Read for Cursor<T> {
 
         // It never fails, and gives as many bytes as there are and fit.
         ensures answer { IsOkAnd result (λ n. n ≡ min (length buf.old) (length (cursor_left T.slice self.old))) }
-        ensures position { cursor_position self.new ≡ cursor_position self.old + given result }
+        ensures position { IfOk result (λ n. cursor_position self.new ≡ cursor_position self.old + n) }
         ensures inner { cursor_inner self.new ≡ cursor_inner self.old }
     {
         let n = copy_prefix(self.left(), buf);
@@ -83,12 +79,6 @@ impl<T: AsSlice<u8>> Read for Cursor<T> {
         answer?;
         Ok(len)
     }
-
-    ghost filling_tells = { λ c _. (tt, bytes_alone (cursor_left T.slice c)) };
-
-    ghost store_tells = { λ c _. (tt, Prim.search rules) };
-
-    ghost store_fits = { λ c h. h };
 }
 
 impl<T: AsSlice<u8>> BufRead for Cursor<T> {

@@ -64,6 +64,4 @@ impl<T: AsSlice<u8>> Seek for Cursor<T> {
     {
         Ok(self.inner.as_slice().len() as u64)
     }
-
-    ghost seek_fits = { λ c h. h };
 }

@@ -1,6 +1,6 @@
 use crate::error::Result;
 use crate::traits::{BufRead, Read, Seek, SeekFrom, Stored, Write};
-use std::alloc::Allocator;
+use std::alloc::{Allocator, Global};
 
 /// Passes each call on to the writer in the box.
 impl<W: Write, A: Allocator> Write for Box<W, A> {
@@ -28,24 +28,14 @@ impl<W: Write, A: Allocator> Write for Box<W, A> {
 }
 
 impl<T: Stored, A: Allocator> Stored for Box<T, A> {
-    ghost has_store = { λ b. T.has_store b.value };
-
-    ghost content = { λ b. T.content b.value };
-
-    ghost position = { λ b. T.position b.value };
+    ghost store = { λ b. T.store b.value };
 }
 
 /// Passes each call on to the reader in the box.
 impl<T: Read, A: Allocator> Read for Box<T, A> {
-    ghost tells = { λ b. T.tells b.value };
-
-    ghost events = { λ b. T.events b.value };
-
     ghost turns = { λ b. T.turns b.value };
 
-    ghost is_filling = { λ b. T.is_filling b.value };
-
-    ghost may_take_none = { λ b. T.may_take_none b.value };
+    ghost events = { λ b. T.events b.value };
 
     ghost may = { λ old call new. T.may old.value call new.value };
 
@@ -60,12 +50,6 @@ impl<T: Read, A: Allocator> Read for Box<T, A> {
     fn read_to_end<B: Allocator>(&mut self, buf: &mut Vec<u8, B>) -> Result<usize> {
         Read::read_to_end(&mut **self, buf)
     }
-
-    ghost filling_tells = { λ b h. T.filling_tells b.value h };
-
-    ghost store_tells = { λ b h. T.store_tells b.value h };
-
-    ghost store_fits = { λ b h. T.store_fits b.value h };
 }
 
 impl<T: BufRead, A: Allocator> BufRead for Box<T, A> {
@@ -82,6 +66,10 @@ impl<T: BufRead, A: Allocator> BufRead for Box<T, A> {
     fn read_until<B: Allocator>(&mut self, delim: u8, buf: &mut Vec<u8, B>) -> Result<usize> {
         self.as_mut().read_until(delim, buf)
     }
+
+    fn read_line(&mut self, alloc: Global, buf: &mut String) -> Result<usize> {
+        self.as_mut().read_line(alloc, buf)
+    }
 }
 
 /// Passes each call on to the stream in the box.
@@ -90,11 +78,21 @@ impl<T: Seek, A: Allocator> Seek for Box<T, A> {
         self.as_mut().seek(pos)
     }
 
+    fn stream_position(&mut self) -> Result<u64> {
+        self.as_mut().stream_position()
+    }
+
+    fn rewind(&mut self) -> Result<()> {
+        self.as_mut().rewind()
+    }
+
+    fn seek_relative(&mut self, offset: i64) -> Result<()> {
+        self.as_mut().seek_relative(offset)
+    }
+
     fn stream_len(&mut self) -> Result<u64> {
         self.as_mut().stream_len()
     }
 
     ghost may = { λ old call new. T.may old.value call new.value };
-
-    ghost seek_fits = { λ b h. T.seek_fits b.value h };
 }

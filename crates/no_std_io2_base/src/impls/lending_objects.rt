@@ -1,4 +1,3 @@
-ghost use Rattle.std.specs.Prelude.{[]};
 ghost use Rattle.no_std_io2_base.specs.Write.{BoxMay};
 
 use super::vectors::append;
@@ -10,22 +9,14 @@ use std::alloc::Allocator;
 // traits', written again: a method with a bound of its own is not left to its trait at a boxed
 // trait object.
 impl<A: Allocator> Stored for Box<dyn BufRead + Drop, A> {
-    ghost has_store = { λ _. ⊥ };
-
-    ghost content = { λ _. [] };
-
-    ghost position = { λ _. 0 };
+    ghost store = { λ b. (BufRead-box b).Stored.store b.value };
 }
 
 /// Passes each call on to the reader in the box, and tells what that tells, except for counts.
 impl<A: Allocator> Read for Box<dyn BufRead + Drop, A> {
-    ghost tells = { λ b. (BufRead-box b).Read.tells b.value };
-
-    ghost events = { λ b. (BufRead-box b).Read.events b.value };
-
     ghost turns = { λ b. (BufRead-box b).Read.turns b.value };
 
-    ghost may_take_none = { λ b. (BufRead-box b).Read.may_take_none b.value };
+    ghost events = { λ b. (BufRead-box b).Read.events b.value };
 
     ghost may = { λ b call new. BoxMay b (BufRead-box b).Read.may call new };
 
@@ -57,12 +48,6 @@ impl<A: Allocator> Read for Box<dyn BufRead + Drop, A> {
             }
         }
     }
-
-    ghost filling_tells = { λ r h. absurd h };
-
-    ghost store_tells = { λ r h. absurd h };
-
-    ghost store_fits = { λ r h. absurd h };
 }
 
 impl<A: Allocator> BufRead for Box<dyn BufRead + Drop, A> {

@@ -1,6 +1,6 @@
 use crate::error::Result;
 use crate::traits::{BufRead, Read, Seek, SeekFrom, Stored, Write};
-use std::alloc::Allocator;
+use std::alloc::{Allocator, Global};
 
 /// Passes each call on to the writer behind the reference.
 impl<W: Write> Write for &mut W {
@@ -28,24 +28,14 @@ impl<W: Write> Write for &mut W {
 }
 
 impl<T: Stored> Stored for &mut T {
-    ghost has_store = { λ r. T.has_store r.now };
-
-    ghost content = { λ r. T.content r.now };
-
-    ghost position = { λ r. T.position r.now };
+    ghost store = { λ r. T.store r.now };
 }
 
 /// Passes each call on to the reader behind the reference.
 impl<T: Read> Read for &mut T {
-    ghost tells = { λ r. T.tells r.now };
-
-    ghost events = { λ r. T.events r.now };
-
     ghost turns = { λ r. T.turns r.now };
 
-    ghost is_filling = { λ r. T.is_filling r.now };
-
-    ghost may_take_none = { λ r. T.may_take_none r.now };
+    ghost events = { λ r. T.events r.now };
 
     ghost may = { λ old call new. T.may old.now call new.now };
 
@@ -60,12 +50,6 @@ impl<T: Read> Read for &mut T {
     fn read_to_end<A: Allocator>(&mut self, buf: &mut Vec<u8, A>) -> Result<usize> {
         Read::read_to_end(&mut **self, buf)
     }
-
-    ghost filling_tells = { λ r h. T.filling_tells r.now h };
-
-    ghost store_tells = { λ r h. T.store_tells r.now h };
-
-    ghost store_fits = { λ r h. T.store_fits r.now h };
 }
 
 impl<T: BufRead> BufRead for &mut T {
@@ -82,6 +66,10 @@ impl<T: BufRead> BufRead for &mut T {
     fn read_until<A: Allocator>(&mut self, delim: u8, buf: &mut Vec<u8, A>) -> Result<usize> {
         BufRead::read_until(&mut **self, delim, buf)
     }
+
+    fn read_line(&mut self, alloc: Global, buf: &mut String) -> Result<usize> {
+        BufRead::read_line(&mut **self, alloc, buf)
+    }
 }
 
 /// Passes each call on to the stream behind the reference.
@@ -90,11 +78,21 @@ impl<T: Seek> Seek for &mut T {
         Seek::seek(&mut **self, pos)
     }
 
+    fn stream_position(&mut self) -> Result<u64> {
+        Seek::stream_position(&mut **self)
+    }
+
+    fn rewind(&mut self) -> Result<()> {
+        Seek::rewind(&mut **self)
+    }
+
+    fn seek_relative(&mut self, offset: i64) -> Result<()> {
+        Seek::seek_relative(&mut **self, offset)
+    }
+
     fn stream_len(&mut self) -> Result<u64> {
         Seek::stream_len(&mut **self)
     }
 
     ghost may = { λ old call new. T.may old.now call new.now };
-
-    ghost seek_fits = { λ r h. T.seek_fits r.now h };
 }

@@ -1,4 +1,3 @@
-ghost use Rattle.std.specs.Prelude.{[]};
 ghost use Rattle.no_std_io2_base.specs.Write.{BoxMay};
 
 use crate::error::Result;
@@ -31,11 +30,7 @@ impl<A: Allocator> Write for Box<dyn Write + Drop, A> {
 }
 
 impl<A: Allocator> Stored for Box<dyn Seek + Drop, A> {
-    ghost has_store = { λ _. ⊥ };
-
-    ghost content = { λ _. [] };
-
-    ghost position = { λ _. 0 };
+    ghost store = { λ b. (Seek-box b).Stored.store b.value };
 }
 
 impl<A: Allocator> Seek for Box<dyn Seek + Drop, A> {
@@ -43,11 +38,21 @@ impl<A: Allocator> Seek for Box<dyn Seek + Drop, A> {
         (**self).seek(pos)
     }
 
+    fn stream_position(&mut self) -> Result<u64> {
+        (**self).stream_position()
+    }
+
+    fn rewind(&mut self) -> Result<()> {
+        (**self).rewind()
+    }
+
+    fn seek_relative(&mut self, offset: i64) -> Result<()> {
+        (**self).seek_relative(offset)
+    }
+
     fn stream_len(&mut self) -> Result<u64> {
         (**self).stream_len()
     }
 
     ghost may = { λ b call new. BoxMay b (Seek-box b).Seek.may call new };
-
-    ghost seek_fits = { λ b h. absurd h };
 }

@@ -1,7 +1,9 @@
-ghost use Rattle.std.specs.Prelude.{◌≡◌, ◌+◌, ◌-◌, ◌<◌, ◌≤◌, ◌++◌, [], length, drop, IsOk, OnErr, IfOk, IfErr};
+ghost use Rattle.std.specs.Prelude.{◌≡◌, ◌+◌, ◌-◌, ◌<◌, ◌≤◌, ◌++◌, length, drop, Some, IsOk, IsOkAnd, OnErr, IfOk, IfErr};
 ghost use Rattle.std.specs.VecDeque.{deque_len, deque_capacity};
 ghost use Rattle.no_std_io2_base.specs.Errors.{IsOutOfMemory};
-ghost use Rattle.no_std_io2_base.specs.Read.{events_of, given, ReadLaw};
+ghost use Rattle.no_std_io2_base.specs.Events.{events_of};
+ghost use Rattle.no_std_io2_base.specs.InMemory.{GivesFront};
+ghost use Rattle.no_std_io2_base.specs.Read.{ReadLaw};
 ghost use Rattle.no_std_io2_base.specs.Write.{told_out};
 ghost use Rattle.no_std_io2_base.specs.Writers.{FlushOf, WriteAllOf, WriteOf};
 ghost use Rattle.no_std_io2_base.specs.Appends.{AppendsMay, AppendsWhole};
@@ -42,41 +44,28 @@ fn push_all<A: Allocator>(queue: &mut VecDeque<u8, A>, bytes: &[u8])
 }
 
 // A queue tells no store, because it does not keep the bytes that were read from it.
-impl<A: Allocator> Stored for VecDeque<u8, A> {
-    ghost has_store = { λ _. ⊥ };
-
-    ghost content = { λ _. [] };
-
-    ghost position = { λ _. 0 };
-}
+impl<A: Allocator> Stored for VecDeque<u8, A> {}
 
 /// Reads from the front of a queue. A `read` gives bytes of the first of the two slices of the
 /// queue, so it may give fewer bytes than fit. Follows `std::io::Read for VecDeque<u8>`.
 impl<A: Allocator> Read for VecDeque<u8, A> {
-    ghost tells = { λ _. Unit {0} };
-
-    ghost events = { λ q. events_of q.items };
-
     ghost turns = { λ q. length q.items };
+
+    ghost events = { λ q. Some (events_of q.items) };
+
+    ghost may = { GivesFront (λ q. q.items) };
 
     fn read(&mut self, buf: &mut [u8]) -> Result<usize>
         ensures law { ReadLaw ⟦<Self as Read>⟧ self.old buf.old result buf.new self.new }
 
         // It never fails.
-        ensures ok { IsOk result }
-        ensures rest { self.new.items ≡ drop (given result) self.old.items }
+        ensures rest { IsOkAnd result (λ n. self.new.items ≡ drop n self.old.items) }
     {
         let (front, _) = self.as_slices();
         let n = copy_prefix(front, buf);
         drop_front(self, n);
         Ok(n)
     }
-
-    ghost filling_tells = { λ q h. absurd h };
-
-    ghost store_tells = { λ q h. absurd h };
-
-    ghost store_fits = { λ q h. absurd h };
 }
 
 /// Appends a whole buffer at the back, or returns `OutOfMemory` and leaves the queue as it was.

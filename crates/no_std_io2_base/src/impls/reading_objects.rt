@@ -1,4 +1,3 @@
-ghost use Rattle.std.specs.Prelude.{[]};
 ghost use Rattle.no_std_io2_base.specs.Write.{BoxMay};
 
 use crate::error::Result;
@@ -8,22 +7,14 @@ use std::alloc::Allocator;
 // A boxed trait object tells no store. The body of `read_to_end` is the trait's, written again: a
 // method with a bound of its own is not left to its trait at a boxed trait object.
 impl<A: Allocator> Stored for Box<dyn Read + Drop, A> {
-    ghost has_store = { λ _. ⊥ };
-
-    ghost content = { λ _. [] };
-
-    ghost position = { λ _. 0 };
+    ghost store = { λ b. (Read-box b).Stored.store b.value };
 }
 
 /// Passes each call on to the reader in the box, and tells what that tells, except for counts.
 impl<A: Allocator> Read for Box<dyn Read + Drop, A> {
-    ghost tells = { λ b. (Read-box b).Read.tells b.value };
-
-    ghost events = { λ b. (Read-box b).Read.events b.value };
-
     ghost turns = { λ b. (Read-box b).Read.turns b.value };
 
-    ghost may_take_none = { λ b. (Read-box b).Read.may_take_none b.value };
+    ghost events = { λ b. (Read-box b).Read.events b.value };
 
     ghost may = { λ b call new. BoxMay b (Read-box b).Read.may call new };
 
@@ -55,10 +46,4 @@ impl<A: Allocator> Read for Box<dyn Read + Drop, A> {
             }
         }
     }
-
-    ghost filling_tells = { λ r h. absurd h };
-
-    ghost store_tells = { λ r h. absurd h };
-
-    ghost store_fits = { λ r h. absurd h };
 }

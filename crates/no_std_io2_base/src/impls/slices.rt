@@ -1,6 +1,8 @@
-ghost use Rattle.std.specs.Prelude.{◌≡◌, ◌≤◌, ◌<◌, ◌+◌, ◌++◌, length, [], IfErr, OnOk, OnErr, vec_len, vec_capacity};
+ghost use Rattle.std.specs.Prelude.{◌≡◌, ◌≤◌, ◌<◌, ◌+◌, ◌++◌, length, [], Some, IfErr, OnOk, OnErr, vec_len, vec_capacity};
 ghost use Rattle.no_std_io2_base.specs.Errors.{IsOutOfMemory};
-ghost use Rattle.no_std_io2_base.specs.Read.{events_of, bytes_alone, least_room, ReadExactLaw};
+ghost use Rattle.no_std_io2_base.specs.Events.{events_of};
+ghost use Rattle.no_std_io2_base.specs.InMemory.{GivesLeft};
+ghost use Rattle.no_std_io2_base.specs.Read.{least_room, ReadExactLaw};
 ghost use Rattle.no_std_io2_base.specs.Cursor.{HasMoved};
 
 use super::copying::copy_prefix;
@@ -28,7 +30,7 @@ fn append_parts<A: Allocator>(rest: &mut &[u8], buf: &mut Vec<u8, A>) -> Result<
     ensures done { OnOk result (rest.new.now ≡ []) }
     ensures grows { vec_capacity buf.old ≤ vec_capacity buf.new }
     ensures refused { IfErr result IsOutOfMemory }
-    ensures full { OnErr result (vec_capacity buf.old < vec_len buf.old + length rest.old.now + least_room) }
+    ensures full { OnErr result (vec_capacity buf.old < vec_len buf.new + least_room) }
 {
     reserve_room(buf, LEAST_ROOM)?;
     let all: &[u8] = *rest;
@@ -58,7 +60,7 @@ pub fn append_rest<A: Allocator>(rest: &mut &[u8], buf: &mut Vec<u8, A>) -> Resu
     ensures done { OnOk result (rest.new.now ≡ []) }
     ensures grows { vec_capacity buf.old ≤ vec_capacity buf.new }
     ensures refused { IfErr result IsOutOfMemory }
-    ensures full { OnErr result (vec_capacity buf.old < vec_len buf.old + length rest.old.now + least_room) }
+    ensures full { OnErr result (vec_capacity buf.old < vec_len buf.new + least_room) }
 {
     reserve_ahead(buf, rest.len());
     let all: &[u8] = *rest;
@@ -72,22 +74,14 @@ pub fn append_rest<A: Allocator>(rest: &mut &[u8], buf: &mut Vec<u8, A>) -> Resu
 }
 
 // A slice tells no store, because it does not keep the bytes that were read from it.
-impl Stored for &[u8] {
-    ghost has_store = { λ _. ⊥ };
-
-    ghost content = { λ _. [] };
-
-    ghost position = { λ _. 0 };
-}
+impl Stored for &[u8] {}
 
 impl Read for &[u8] {
-    ghost tells = { λ _. Unit {0} };
-
-    ghost events = { λ s. events_of s.now };
-
     ghost turns = { λ s. length s.now };
 
-    ghost is_filling = { λ _. Unit {0} };
+    ghost events = { λ s. Some (events_of s.now) };
+
+    ghost may = { GivesLeft (λ s. s.now) };
 
     #[inline(always)]
     fn read(&mut self, buf: &mut [u8]) -> Result<usize> {
@@ -120,12 +114,6 @@ impl Read for &[u8] {
         append_rest(self, buf)?;
         Ok(len)
     }
-
-    ghost filling_tells = { λ s _. (tt, bytes_alone s.now) };
-
-    ghost store_tells = { λ s h. absurd h };
-
-    ghost store_fits = { λ s h. absurd h };
 }
 
 impl BufRead for &[u8] {

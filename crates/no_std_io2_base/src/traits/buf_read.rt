@@ -118,8 +118,8 @@ pub trait BufRead: Read {
 
     /// Appends the next line to `buf`, with its newline, and returns the number of its bytes: 0
     /// means the end. The last line may have no newline. It ignores interruptions. If `buf` is empty,
-    /// the line is read into its own memory; if not, into a vector from `alloc` first. Follows
-    /// `std::io::BufRead::read_line`.
+    /// the line is read into its own memory; if not, into a vector from `alloc` first. The capacity
+    /// of `buf` never shrinks. Follows `std::io::BufRead::read_line`.
     ///
     /// # Errors
     /// Returns `InvalidData` if the line is not UTF-8; `buf` is unchanged, and the line is taken.

@@ -1,7 +1,7 @@
 ghost use Rattle.std.specs.Prelude.{◌≡◌, ◌≤◌, ◌<◌, IfErr, IfSome, OnSome};
 ghost use Rattle.std.specs.Iterator.{at_most};
 ghost use Rattle.no_std_io2_base.specs.Errors.{IsFault};
-ghost use Rattle.no_std_io2_base.specs.Read.{bytes_reader, NextByte, NextReads};
+ghost use Rattle.no_std_io2_base.specs.Read.{bytes_reader, NextLaw};
 
 use super::read::Read;
 use crate::error::Result;
@@ -39,16 +39,13 @@ where
     type Item = Result<u8>;
 
     ghost next_gives = { λ s r t.
-        (R.tells (bytes_reader s) → R.tells (bytes_reader t)
-        × NextByte (R.events (bytes_reader s)) r (R.events (bytes_reader t)))
-        × NextReads R.may (bytes_reader s) r (bytes_reader t)
+        NextLaw R.Read (bytes_reader s) r (bytes_reader t)
         × IfSome r (λ item. IfErr item IsFault)
         × (R.turns (bytes_reader t) ≤ R.turns (bytes_reader s))
         × OnSome r (R.turns (bytes_reader t) < R.turns (bytes_reader s)) };
 
     ghost remaining = { λ s. at_most (R.turns (bytes_reader s)) };
 
-    #[tactic(auto, using(crate::proofs::NextByteLemmas::retried_none))]
     fn next(&mut self) -> Option<Result<u8>> {
         let mut one = [0u8; 1];
         'reads: loop {

@@ -1,11 +1,11 @@
-ghost use Rattle.std.specs.Prelude.{◌≡◌, ◌≤◌, true, false, [], length, OnOk};
+ghost use Rattle.std.specs.Prelude.{◌≡◌, ◌≤◌, ◌+◌, true, false, length, OnOk};
 ghost use types.Logic.{sem};
 ghost use Rattle.std.specs.Borrow.{LendsBoth};
 ghost use Rattle.no_std_io2_base.specs.contracts.traits.chain.Chain.{the_row as chain-row};
 ghost use Rattle.no_std_io2_base.specs.Chain.{chain_first, chain_second, chain_is_done, chain_with_readers};
-ghost use Rattle.no_std_io2_base.specs.Chain.{chain_tells, chain_events, chain_turns, chain_held, ChainMay};
+ghost use Rattle.no_std_io2_base.specs.Chain.{chain_events, chain_held, ChainMay};
 ghost use Rattle.no_std_io2_base.specs.BufRead.{ConsumeLaw};
-ghost use Rattle.no_std_io2_base.specs.Read.{ReadToEndLaw};
+ghost use Rattle.no_std_io2_base.specs.Read.{tells, ReadToEndLaw};
 
 use super::buf_read::BufRead;
 use super::read::Read;
@@ -90,22 +90,12 @@ impl<T, U> Chain<T, U> {
 }
 
 // A chain tells no store.
-impl<T: Read, U: Read> Stored for Chain<T, U> {
-    ghost has_store = { λ _. ⊥ };
-
-    ghost content = { λ _. [] };
-
-    ghost position = { λ _. 0 };
-}
+impl<T: Read, U: Read> Stored for Chain<T, U> {}
 
 impl<T: Read, U: Read> Read for Chain<T, U> {
-    ghost tells = { chain_tells T.tells U.tells };
+    ghost turns = { λ c. T.turns (chain_first c) + U.turns (chain_second c) };
 
-    ghost events = { chain_events T.events U.events };
-
-    ghost turns = { chain_turns T.turns U.turns };
-
-    ghost may_take_none = { λ _. ⊥ };
+    ghost events = { chain_events (tells T.Read) (tells U.Read) };
 
     ghost may = { ChainMay T.Read U.Read };
 
@@ -140,18 +130,11 @@ impl<T: Read, U: Read> Read for Chain<T, U> {
         rest_to_end(&mut self.second, buf)?;
         Ok(buf.len() - start)
     }
-
-    ghost filling_tells = { λ c h. absurd h };
-
-    ghost store_tells = { λ c h. absurd h };
-
-    ghost store_fits = { λ c h. absurd h };
 }
 
 impl<T: BufRead, U: BufRead> BufRead for Chain<T, U> {
     ghost held = { chain_held T.held U.held };
 
-    #[tactic(auto, using(crate::proofs::FillBufHeld::begins_append))]
     fn fill_buf(&mut self) -> Result<&[u8]> {
         if self.done_first {
             return self.second.fill_buf();

@@ -1,9 +1,8 @@
 // [`Lines`], the iterator over lines of text.
-ghost use Rattle.std.specs.Prelude.{◌≡◌, ◌≤◌, ◌<◌, true, false, None, IfSome, IfErr, OnSome, string_bytes};
+ghost use Rattle.std.specs.Prelude.{◌≡◌, true, false, None, string_bytes};
 ghost use Rattle.std.specs.Iterator.{at_most};
-ghost use Rattle.no_std_io2_base.specs.Errors.{IsFault};
-ghost use Rattle.no_std_io2_base.specs.Pieces.{newline, line_text, lines_reader, lines_is_ended, RefusesLine};
-ghost use Rattle.no_std_io2_base.specs.Pieces.{YieldsPiece, NextMade, ends_at, items_left};
+ghost use Rattle.no_std_io2_base.specs.Pieces.{newline, line_text, lines_reader, lines_is_ended, RefusesLine, ends_at, items_left};
+ghost use Rattle.no_std_io2_base.specs.BufRead.{NextPieceLaw};
 
 use super::buf_read::BufRead;
 use super::pieces::{text_of, trim_line};
@@ -37,14 +36,8 @@ impl<R> Lines<R> {
 }
 
 // Reads the next line, and drops its newline. `None` means the end.
-#[tactic(auto, using(crate::proofs::PieceLoop::whole_made))]
 fn next_line<R: BufRead>(reader: &mut R, alloc: Global) -> Option<Result<String>>
-    ensures told { R.tells reader.old → R.tells reader.new
-        × YieldsPiece string_bytes line_text RefusesLine newline (R.events reader.old) result (R.events reader.new) }
-    ensures calls { NextMade R.may reader.old string_bytes line_text RefusesLine newline result reader.new }
-    ensures never_interrupted { IfSome result (λ item. IfErr item IsFault) }
-    ensures turns_never_rise { R.turns reader.new ≤ R.turns reader.old }
-    ensures spends_turn { ends_at result ≡ false → OnSome result (R.turns reader.new < R.turns reader.old) }
+    ensures law { NextPieceLaw ⟦<R as BufRead>⟧ reader.old string_bytes line_text RefusesLine newline result reader.new }
 {
     let mut line = Vec::new(alloc);
     match reader.read_until(b'\n', &mut line) {
@@ -66,16 +59,11 @@ where
     ghost next_gives = { λ s r t.
         (lines_is_ended s ≡ true → (r ≡ None) × (t ≡ s))
         × (lines_is_ended s ≡ false → (lines_is_ended t ≡ ends_at r)
-        × (R.tells (lines_reader s) → R.tells (lines_reader t)
-        × YieldsPiece string_bytes line_text RefusesLine newline
-        (R.events (lines_reader s)) r (R.events (lines_reader t)))
-        × NextMade R.may (lines_reader s) string_bytes line_text RefusesLine newline r (lines_reader t))
-        × IfSome r (λ item. IfErr item IsFault)
-        × OnSome r (items_left (lines_is_ended t) (R.turns (lines_reader t))
-        < items_left (lines_is_ended s) (R.turns (lines_reader s))) };
+        × NextPieceLaw ⟦<R as BufRead>⟧ (lines_reader s) string_bytes line_text RefusesLine newline r (lines_reader t)) };
 
     ghost remaining = { λ s. at_most (items_left (lines_is_ended s) (R.turns (lines_reader s))) };
 
+    #[tactic(auto, using(crate::proofs::GivenPieces::next_turns))]
     fn next(&mut self) -> Option<Result<String>> {
         if self.is_ended {
             return None;

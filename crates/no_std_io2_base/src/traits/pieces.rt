@@ -1,12 +1,12 @@
 // The parts of which the calls that read pieces are made.
-ghost use Rattle.std.specs.Prelude.{◌≡◌, ◌≢◌, ◌<◌, ◌≤◌, ◌+◌, ◌⊎◌, ℕ, [], false, length};
-ghost use Rattle.std.specs.Prelude.{OnOk, IfErr, IfOk, IsOk, IsUtf8};
-ghost use Rattle.std.specs.Prelude.{string_bytes, string_len, string_capacity};
+ghost use Rattle.std.specs.Prelude.{◌≡◌, ◌≢◌, ◌<◌, ◌≤◌, ◌+◌, [], true, false, length, IfErr, IfOk, IsErrAnd, IsUtf8};
+ghost use Rattle.std.specs.Prelude.{string_bytes, string_len, string_capacity, vec_capacity};
 ghost use Rattle.std.specs.Bool.{OnTrue, OnFalse};
 ghost use Rattle.std.specs.List.{AllWithin};
 ghost use Rattle.no_std_io2_base.specs.Pieces.{FindsPiece, ends_in, without, line_text, IsInvalidText, AnswersLine, Follows};
-ghost use Rattle.no_std_io2_base.specs.Errors.{IsFault};
-ghost use Rattle.no_std_io2_base.specs.Write.{IsFront};
+ghost use Rattle.no_std_io2_base.specs.BufRead.{text_room};
+ghost use Rattle.no_std_io2_base.specs.Errors.{error_kind};
+ghost use Rattle.no_std_io2_base.specs.declared.error.ErrorKind.TheVariants.{OutOfMemory};
 
 use crate::error::{Error, ErrorKind, Result};
 use std::alloc::Global;
@@ -96,18 +96,13 @@ pub(super) fn text_of(bytes: Vec<u8>) -> Result<String>
 fn append_line(buf: &mut String, line: &[u8], read: Result<usize>) -> Result<usize>
     ensures answers { AnswersLine line.now read (string_len buf.old) (string_capacity buf.old) result
         (string_bytes buf.old) (string_bytes buf.new) }
-    ensures appends { IsFront (string_bytes buf.old) (string_bytes buf.new) }
-    ensures read { IsOk result → result ≡ read }
-    ensures count { OnOk result (string_len buf.new ≡ string_len buf.old + length line.now) }
-    ensures fault { IfErr read IsFault → IfErr result IsFault }
+    ensures capacity { string_capacity buf.old ≤ string_capacity buf.new }
 {
-    if let Err(e) = &read
-        && e.kind() == ErrorKind::OutOfMemory
-    {
+    if is_out_of_memory(&read) {
         return read;
     }
     let Ok(text) = std::str::from_utf8(line) else {
-        return Err(read.err().unwrap_or_else(invalid_text));
+        return read.and(Err(invalid_text()));
     };
     buf.push_str(text)?;
     read
@@ -119,6 +114,7 @@ pub fn append_text(buf: &mut String, line: &[u8]) -> bool
     ensures appended { OnTrue result (Follows line.now (string_bytes buf.old) (string_bytes buf.new)
         × (string_len buf.new ≡ string_len buf.old + length line.now)) }
     ensures same { OnFalse result (buf.new ≡ buf.old) }
+    ensures capacity { string_capacity buf.old ≤ string_capacity buf.new }
 {
     if line.len() > buf.capacity() - buf.len() {
         return false;
@@ -138,7 +134,7 @@ pub fn take_memory(alloc: Global, buf: &mut String) -> Vec<u8>
     ensures items { result.items ≡ [] }
     ensures bytes { string_bytes buf.new ≡ string_bytes buf.old }
     ensures len { string_len buf.new ≡ string_len buf.old }
-    ensures capacity { (string_bytes buf.old ≡ []) ⊎ (string_capacity buf.new ≡ string_capacity buf.old) }
+    ensures capacity { text_room buf.new result ≡ string_capacity buf.old }
 {
     if buf.is_empty() {
         return mem::replace(buf, String::new(alloc)).into_bytes();
@@ -147,36 +143,51 @@ pub fn take_memory(alloc: Global, buf: &mut String) -> Vec<u8>
 }
 
 /// Appends a line's bytes to a string if they are UTF-8, and returns the result of their read. If the
-/// string is empty, the line becomes the string, without a copy and without an allocation. For a
-/// reader with a `read_line` of its own.
+/// string is empty, the line becomes the string, without a copy and without an allocation; if it is
+/// refused, the string gets the line's memory. For a reader with a `read_line` of its own.
 ///
 /// # Errors
 /// Returns the read's error if the read failed, `InvalidData` if the bytes are not UTF-8, and
 /// `OutOfMemory` if the string could not grow. The string is unchanged if the bytes are not UTF-8,
 /// and after every `OutOfMemory`, also the read's.
-pub fn put_line(buf: &mut String, line: Vec<u8>, read: Result<usize>) -> Result<usize>
-    ensures answers { (capacity : ℕ) → (string_bytes buf.old ≡ []) ⊎ (string_capacity buf.old ≡ capacity)
-        → AnswersLine line.items read (string_len buf.old) capacity result (string_bytes buf.old) (string_bytes buf.new) }
-    ensures appends { IsFront (string_bytes buf.old) (string_bytes buf.new) }
-    ensures read { IsOk result → result ≡ read }
-    ensures count { OnOk result (string_len buf.new ≡ string_len buf.old + length line.items) }
-    ensures fault { IfErr read IsFault → IfErr result IsFault }
+pub fn put_line(buf: &mut String, mut line: Vec<u8>, read: Result<usize>) -> Result<usize>
+    ensures answers { AnswersLine line.items read (string_len buf.old) (text_room buf.old line) result
+        (string_bytes buf.old) (string_bytes buf.new) }
+    ensures capacity { text_room buf.old line ≤ string_capacity buf.new }
 {
-    if let Err(e) = &read
-        && e.kind() == ErrorKind::OutOfMemory
-    {
-        return read;
-    }
     if buf.len() > 0 {
         return append_line(buf, &line, read);
+    }
+    if is_out_of_memory(&read) {
+        line.clear();
     }
     match String::from_utf8(line) {
         Ok(text) => {
             *buf = text;
             read
         }
-        Err(refused) => append_line(buf, refused.as_bytes(), read),
+        Err(not_text) => {
+            *buf = empty_text(not_text.into_bytes());
+            read.and(Err(invalid_text()))
+        }
     }
+}
+
+// Returns an empty string, with the memory of these bytes.
+fn empty_text(mut bytes: Vec<u8>) -> String
+    ensures bytes { string_bytes result ≡ [] }
+    ensures capacity { string_capacity result ≡ vec_capacity bytes }
+{
+    bytes.clear();
+    String::from_utf8(bytes).unwrap()
+}
+
+// Returns whether memory was refused to the read.
+fn is_out_of_memory(read: &Result<usize>) -> bool
+    ensures memory { result ≡ true → IsErrAnd read.now (λ e. error_kind e ≡ OutOfMemory) }
+    ensures other { result ≡ false → IfErr read.now (λ e. error_kind e ≢ OutOfMemory) }
+{
+    matches!(read, Err(e) if e.kind() == ErrorKind::OutOfMemory)
 }
 
 // The error of bytes that are not UTF-8.

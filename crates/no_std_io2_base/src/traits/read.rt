@@ -1,8 +1,10 @@
-ghost use Rattle.std.specs.Prelude.{◌≡◌, ℕ, false, List, ◌++◌, drop, ◌<◌, ◌^◌, length};
-ghost use Rattle.no_std_io2_base.specs.Chain.{chain_first, chain_second, chain_is_done, chain_tells, chain_events};
-ghost use Rattle.no_std_io2_base.specs.Read.{Event, cut, bytes, events_of, ReadLaw, ReadExactLaw, ReadToEndLaw, ReadCall, bytes_reader};
+ghost use Rattle.std.specs.Prelude.{◌≡◌, ℕ, false, List, Option, None};
+ghost use Rattle.no_std_io2_base.specs.Chain.{chain_first, chain_second, chain_is_done, chain_events, both_to_come};
+ghost use Rattle.no_std_io2_base.specs.Events.{Event};
+ghost use Rattle.no_std_io2_base.specs.Takes.{to_come};
+ghost use Rattle.no_std_io2_base.specs.Read.{tells, ReadLaw, ReadExactLaw, ReadToEndLaw, ReadCall, bytes_reader};
 ghost use Rattle.no_std_io2_base.specs.ReadToString.{ReadToStringLaw};
-ghost use Rattle.no_std_io2_base.specs.Take.{take_inner, take_limit, take_events};
+ghost use Rattle.no_std_io2_base.specs.Take.{take_inner, take_limit, take_events, cut_to_come};
 
 use super::bytes::Bytes;
 use super::chain::Chain;
@@ -28,20 +30,12 @@ use std::alloc::{Allocator, Global};
 /// assert!(rt; r.read(&mut buf)? == 0); // the end
 /// ```
 pub trait Read: Stored {
-    // Whether the reader tells the events to come, and these events.
-    ghost tells: { Self → Type 0 };
-
-    ghost events: { Self → List Event };
-
     // A number that no call raises. Each call that gives bytes or returns an error lowers it.
     ghost turns: { Self → ℕ };
 
-    // Only bytes are to come, no errors, and each read gives as many of them as fit.
-    ghost is_filling: { Self → Type 0 } = { λ _. ⊥ };
-
-    // Whether a `read_exact` may take nothing if too few bytes are left. If this is `⊥`, it takes
-    // all of them.
-    ghost may_take_none: { Self → Type 0 } = { λ _. Unit {0} };
+    // The events to come, if the reader tells them. If it tells a store, they are the bytes from the
+    // position on, and this member is not asked.
+    ghost events: { Self → Option (List Event) } = { λ _. None };
 
     // What one call with its result may do to the reader. By default it may do anything.
     ghost may: { Self → ReadCall → Self → Type 0 } = { λ _ _ _. Unit {0} };
@@ -190,8 +184,8 @@ pub trait Read: Stored {
         ensures first { chain_first result ≡ self }
         ensures second { chain_second result ≡ next }
         ensures fresh { chain_is_done result ≡ false }
-        ensures tells { tells self → R.tells next → chain_tells tells R.tells result }
-        ensures events { chain_events events R.events result ≡ events self ++ R.events next }
+        ensures events { chain_events (tells ⟦<Self as Read>⟧) (tells R.Read) result
+            ≡ both_to_come (to_come (tells ⟦<Self as Read>⟧ self)) (to_come (tells R.Read next)) }
     {
         Chain::new(self, next)
     }
@@ -209,17 +203,8 @@ pub trait Read: Stored {
         Self: Sized,
         ensures inner { take_inner result ≡ self }
         ensures limit { take_limit result ≡ limit }
-        ensures events { take_events events result ≡ cut limit (events self) }
+        ensures events { take_events (tells ⟦<Self as Read>⟧) result ≡ cut_to_come limit (to_come (tells ⟦<Self as Read>⟧ self)) }
     {
         Take::new(self, limit)
     }
-
-    // A filling reader tells its events, and they are only bytes.
-    ghost filling_tells: { (x : Self) → is_filling x → tells x × (events x ≡ events_of (bytes (events x))) };
-
-    // If a store is told, the events are the bytes of its content from the position on.
-    ghost store_tells: { (x : Self) → Self.has_store x → tells x
-        × (events x ≡ events_of (drop (Self.position x) (Self.content x))) };
-
-    ghost store_fits: { (x : Self) → Self.has_store x → (length (Self.content x) < 2 ^ 64) × (Self.position x < 2 ^ 64) };
 }

@@ -1,5 +1,3 @@
-ghost use Rattle.std.specs.Prelude.{◌<◌, ◌^◌, length};
-
 use super::stored::Stored;
 use crate::error::Result;
 
@@ -24,8 +22,7 @@ pub enum SeekFrom {
 
 /// A stream with a position that can be moved. Follows Rust's `std::io::Seek`.
 pub trait Seek: Stored {
-    ghost use Rattle.no_std_io2_base.specs.SeekRelative.{SeekRelativeLaw};
-    ghost use Rattle.no_std_io2_base.specs.Seek.{SeekCall, SeekLaw, StreamPositionLaw, RewindLaw, StreamLenLaw};
+    ghost use Rattle.no_std_io2_base.specs.Seek.{SeekCall, SeekLaw, StreamPositionLaw, RewindLaw, StreamLenLaw, SeekRelativeLaw};
 
     // What one call with its result may do to the stream. By default it may do anything.
     ghost may: { Self → SeekCall → Self → Type 0 } = { λ _ _ _. Unit {0} };
@@ -100,15 +97,10 @@ pub trait Seek: Stored {
     /// assert!(rt; r.position() == 3);
     /// assert!(rt; r.seek_relative(-4).is_err()); // below 0: it stays
     /// ```
-    final fn seek_relative(&mut self, offset: i64) -> Result<()>
-    where
-        Self: Sized,
+    fn seek_relative(&mut self, offset: i64) -> Result<()>
         ensures law { SeekRelativeLaw ⟦<Self as Seek>⟧ self.old offset result self.new }
     {
         self.seek(SeekFrom::Current(offset))?;
         Ok(())
     }
-
-    // The length and the position of a told store fit the numbers that the calls return.
-    ghost seek_fits: { (x : Self) → Self.has_store x → (length (Self.content x) < 2 ^ 64) × (Self.position x < 2 ^ 64) };
 }

@@ -1,9 +1,8 @@
 // [`Split`], the iterator over pieces.
-ghost use Rattle.std.specs.Prelude.{◌≡◌, ◌≤◌, ◌<◌, true, false, None, IfSome, IfErr, OnSome, vec_items};
+ghost use Rattle.std.specs.Prelude.{◌≡◌, true, false, None, vec_items};
 ghost use Rattle.std.specs.Iterator.{at_most};
-ghost use Rattle.no_std_io2_base.specs.Errors.{IsFault};
-ghost use Rattle.no_std_io2_base.specs.Pieces.{without, split_reader, split_delim, split_is_ended};
-ghost use Rattle.no_std_io2_base.specs.Pieces.{YieldsPiece, NextMade, ends_at, items_left};
+ghost use Rattle.no_std_io2_base.specs.Pieces.{without, split_reader, split_delim, split_is_ended, ends_at, items_left};
+ghost use Rattle.no_std_io2_base.specs.BufRead.{NextPieceLaw};
 
 use super::buf_read::BufRead;
 use super::pieces::drop_last;
@@ -40,14 +39,8 @@ impl<R> Split<R> {
 }
 
 // Reads the next piece, and drops its delimiter. `None` means the end.
-#[tactic(auto, using(crate::proofs::PieceLoop::whole_made))]
 fn next_piece<R: BufRead>(reader: &mut R, alloc: Global, delim: u8) -> Option<Result<Vec<u8>>>
-    ensures told { R.tells reader.old → R.tells reader.new
-        × YieldsPiece vec_items (without delim) (λ _ _. ⊥) delim (R.events reader.old) result (R.events reader.new) }
-    ensures calls { NextMade R.may reader.old vec_items (without delim) (λ _ _. ⊥) delim result reader.new }
-    ensures never_interrupted { IfSome result (λ item. IfErr item IsFault) }
-    ensures turns_never_rise { R.turns reader.new ≤ R.turns reader.old }
-    ensures spends_turn { ends_at result ≡ false → OnSome result (R.turns reader.new < R.turns reader.old) }
+    ensures law { NextPieceLaw ⟦<R as BufRead>⟧ reader.old vec_items (without delim) (λ _ _. ⊥) delim result reader.new }
 {
     let mut piece = Vec::new(alloc);
     match reader.read_until(delim, &mut piece) {
@@ -69,17 +62,12 @@ where
     ghost next_gives = { λ s r t.
         (split_is_ended s ≡ true → (r ≡ None) × (t ≡ s))
         × (split_is_ended s ≡ false → (split_is_ended t ≡ ends_at r)
-        × (R.tells (split_reader s) → R.tells (split_reader t)
-        × YieldsPiece vec_items (without (split_delim s)) (λ _ _. ⊥) (split_delim s)
-        (R.events (split_reader s)) r (R.events (split_reader t)))
-        × NextMade R.may (split_reader s) vec_items (without (split_delim s)) (λ _ _. ⊥) (split_delim s) r (split_reader t))
-        × (split_delim t ≡ split_delim s)
-        × IfSome r (λ item. IfErr item IsFault)
-        × OnSome r (items_left (split_is_ended t) (R.turns (split_reader t))
-        < items_left (split_is_ended s) (R.turns (split_reader s))) };
+        × NextPieceLaw ⟦<R as BufRead>⟧ (split_reader s) vec_items (without (split_delim s)) (λ _ _. ⊥) (split_delim s) r (split_reader t))
+        × (split_delim t ≡ split_delim s) };
 
     ghost remaining = { λ s. at_most (items_left (split_is_ended s) (R.turns (split_reader s))) };
 
+    #[tactic(auto, using(crate::proofs::GivenPieces::next_turns))]
     fn next(&mut self) -> Option<Result<Vec<u8>>> {
         if self.is_ended {
             return None;

@@ -1,10 +1,10 @@
-ghost use Rattle.std.specs.Prelude.{◌≡◌, ◌≤◌, min, length, [], Some, IfErr, IsOkAnd, vec_len, vec_capacity};
+ghost use Rattle.std.specs.Prelude.{◌≡◌, ◌≤◌, ◌<◌, ◌+◌, min, length, [], Ok, IsOkAnd, vec_len, vec_capacity};
 ghost use types.Logic.{sem};
 ghost use Rattle.std.specs.Borrow.{Lends};
 ghost use Rattle.no_std_io2_base.specs.contracts.traits.take.Take.{the_row as take-row};
 ghost use Rattle.no_std_io2_base.specs.BufRead.{FillBufLaw, AfterLoan, ConsumeLaw, Rests};
 ghost use Rattle.no_std_io2_base.specs.Take.{take_with_inner, take_limit, take_inner, take_events, take_held, TakeMay};
-ghost use Rattle.no_std_io2_base.specs.Read.{cut_alone, first_fault, least_room, HasRoom, ReadToEndLaw};
+ghost use Rattle.no_std_io2_base.specs.Read.{tells, least_room, ToEndLaw, ReadToEndLaw};
 
 use super::buf_read::BufRead;
 use super::read::Read;
@@ -97,24 +97,12 @@ fn min_with_limit(n: usize, limit: u64) -> usize
 }
 
 // A `Take` tells no store.
-impl<T: Read> Stored for Take<T> {
-    ghost has_store = { λ _. ⊥ };
-
-    ghost content = { λ _. [] };
-
-    ghost position = { λ _. 0 };
-}
+impl<T: Read> Stored for Take<T> {}
 
 impl<T: Read> Read for Take<T> {
-    ghost tells = { λ t. T.tells (take_inner t) };
-
-    ghost events = { take_events T.events };
-
     ghost turns = { λ t. T.turns (take_inner t) };
 
-    ghost is_filling = { λ t. T.is_filling (take_inner t) };
-
-    ghost may_take_none = { λ _. ⊥ };
+    ghost events = { take_events (tells T.Read) };
 
     ghost may = { TakeMay T.Read };
 
@@ -139,10 +127,12 @@ impl<T: Read> Read for Take<T> {
     fn read_to_end<A: Allocator>(&mut self, buf: &mut Vec<u8, A>) -> Result<usize>
         ensures law { ReadToEndLaw ⟦<Self as Read>⟧ self.old buf.old result buf.new self.new }
 
-        // If the vector has room for the bytes up to the limit, no allocation fails.
-        ensures small_room { T.tells (take_inner self.old)
-            → HasRoom (min (take_limit self.old) least_room) (take_events T.events self.old) (vec_len buf.old) (vec_capacity buf.old)
-            → IfErr result (λ e. first_fault (take_events T.events self.old) ≡ Some e) }
+        // It needs no more room than for the bytes up to the limit.
+        ensures small_room { ToEndLaw (λ n. vec_capacity buf.old < vec_len buf.old + min (take_limit self.old) (n + least_room))
+            ⟦<Self as Read>⟧ self.old buf.old result buf.new self.new }
+
+        // At limit 0 it returns `Ok(0)`, over every reader.
+        ensures at_limit { take_limit self.old ≡ 0 → result ≡ Ok 0 }
     {
         let start = buf.len();
         let mut filled = start;
@@ -166,19 +156,11 @@ impl<T: Read> Read for Take<T> {
         buf.truncate(filled);
         Ok(filled - start)
     }
-
-    ghost filling_tells = { λ t h. let inner = T.filling_tells (take_inner t) h in
-        (inner.0, cut_alone (take_limit t) _ inner.1) };
-
-    ghost store_tells = { λ t h. absurd h };
-
-    ghost store_fits = { λ t h. absurd h };
 }
 
 impl<T: BufRead> BufRead for Take<T> {
     ghost held = { take_held T.held };
 
-    #[tactic(auto, using(crate::proofs::FillBufHeld::begins_cut))]
     fn fill_buf(&mut self) -> Result<&[u8]>
         ensures law { FillBufLaw ⟦<Self as BufRead>⟧ self.old result }
         // At limit 0 it lends nothing.

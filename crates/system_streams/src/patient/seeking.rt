@@ -32,6 +32,4 @@ impl<D: SystemSeek> Seek for Patient<D> {
             }
         }
     }
-
-    ghost seek_fits = { λ p h. absurd h };
 }

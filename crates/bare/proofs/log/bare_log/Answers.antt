@@ -1,6 +1,6 @@
 use Rattle.std.proofs.lemmas.Grind.{common_steps}
 use Rattle.std.proofs.Common.{◌≡◌, length, ◌++◌, ap, subst, inl, arith}
-use Rattle.no_std_io2.specs.Pieces.{Lacks, newline}
+use Rattle.no_std_io2.specs.Pieces.{newline}
 use Rattle.no_std_io2.proofs.LineLemmas.{contains_lacks}
 use Rattle.bare.specs.Queue.{waiting}
 use Rattle.bare.specs.Log.{Resumes, line}

@@ -1,61 +1,37 @@
-use Rattle.std.proofs.Common.{[], sym, ◌∙◌, subst, inl, inr}
+use Rattle.std.proofs.Common.{sym, ◌∙◌}
 use Rattle.std.proofs.lemmas.Result.{err_from_is_err_and}
-use Rattle.no_std_io2.specs.Passing.{TakesBytes}
-use Rattle.no_std_io2.proofs.EventLemmas.{TakesBytes-none, TakesBytes-still, TakesBytes-interruption, none_taken, error_taken, is_empty, not_empty}
-use Rattle.examples.specs.Lengths.{none}
-use Rattle.examples.proofs.RecordLemmas.{record_more}
+use Rattle.no_std_io2.proofs.WriteExits.{is_empty, not_empty}
+use Rattle.no_std_io2.proofs.PieceLoop.{filled_law}
+use Rattle.examples.proofs.RecordLemmas.{records_none, records_waited, records_end, records_fault, records_more, records_cut}
 use Rattle.examples.proofs.lengths.pass_records.Goals as goal
 
 pub records-init : goal.records-init
-records-init g c = record { told = λ t. (t, ([], none, TakesBytes-none _)) }
+records-init g c = records_none _ _
 
-pub returns-then-is_empty-clause-told : goal.returns-then-is_empty-clause-told
-returns-then-is_empty-clause-told g c = λ t.
-    let run = c.records.invariant.told t in
-    let loan = c.fill_buf.follows.holds-at-none.told run.0 in
-    let same = none_taken c.in-Ok.lent c.in-Ok.is loan.1 in
-    let end = c.in-Ok.ensures.law.end run.0 (is_empty _ _ c.is_empty.ensures c.if-is_empty.true) in
-    let passes = subst (λ l. TakesBytes (g.B.Read.events c.args.r.now) run.1.0 l) (sym same) run.1.2 in
-    (loan.0, (run.1.0, run.1.1, passes, same ∙ end))
+pub returns-then-is_empty : goal.returns-then-is_empty
+returns-then-is_empty g c =
+    let filled = filled_law c.in-Ok.is c.fill_buf.ensures.law c.fill_buf.follows.holds-at-none in
+    records_end c.records.invariant (rw (is_empty _ _ c.is_empty.ensures c.if-is_empty.true) at filled)
 
-pub returns-in_err-skip-in-Ok-clause-told : goal.returns-in_err-skip-in-Ok-clause-told
-returns-in_err-skip-in-Ok-clause-told g c = λ t.
+pub returns-in_err-skip-in-Ok : goal.returns-in_err-skip-in-Ok
+returns-in_err-skip-in-Ok g c =
     let p = err_from_is_err_and c.from_residual.result c.from_residual.ensures.1 in
-    let run = c.records.invariant.told t in
-    let loan = c.fill_buf.follows.holds-at-none.told run.0 in
-    let same = none_taken c.in-Ok.lent c.in-Ok.is loan.1 in
-    let passes = subst (λ l. TakesBytes (g.B.Read.events c.args.r.now) run.1.0 l) (sym same) run.1.2 in
-    let said = c.in_err-skip-in-Ok.ensures.told loan.0 in
-    (said.0, rw (p.1, p.2) (run.1.0, _, run.1.1, passes, inr (_, _, said.1)))
+    let filled = filled_law c.in-Ok.is c.fill_buf.ensures.law c.fill_buf.follows.holds-at-none in
+    let some = not_empty _ _ c.is_empty.ensures c.if-is_empty.false in
+    rw (p.1, p.2) (records_cut c.records.invariant filled some c.from-left.ensures c.consume.ensures.law c.in_err-skip-in-Ok.ensures)
 
-pub returns-in-Err-2-clause-told : goal.returns-in-Err-2-clause-told
-returns-in-Err-2-clause-told g c = λ t.
-    let run = c.records.invariant.told t in
-    let loan = c.fill_buf.follows.holds-at-none.told run.0 in
-    let fault = sym c.is_interrupted.ensures ∙ c.if-is_interrupted.false in
-    (loan.0, (run.1.0, _, run.1.1, run.1.2, inl (error_taken c.in-Err.is loan.1, fault)))
+pub returns-in-Err-2 : goal.returns-in-Err-2
+returns-in-Err-2 g c =
+    let filled = filled_law c.in-Err.is c.fill_buf.ensures.law c.fill_buf.follows.holds-at-none in
+    records_fault c.records.invariant filled (sym c.is_interrupted.ensures ∙ c.if-is_interrupted.false)
 
 pub records-preserved-in-Continue-1 : goal.records-preserved-in-Continue-1
-records-preserved-in-Continue-1 g c = record {
-  told = λ t.
-      let run = c.records.invariant.told t in
-      let loan = c.fill_buf.follows.holds-at-none.told run.0 in
-      let same = none_taken c.in-Ok.lent c.in-Ok.is loan.1 in
-      let front = c.in-Ok.ensures.law.front run.0 in
-      let passes = subst (λ l. TakesBytes (g.B.Read.events c.args.r.now) run.1.0 l) (sym same) run.1.2 in
-      let some = not_empty _ _ c.is_empty.ensures c.if-is_empty.false in
-      let said = c.in_ok-skip-in-Ok.ensures.told loan.0 in (
-        said.0,
-        record_more c.in-Ok.lent.now front.rest run.1.1 passes some (same ∙ front.is) c.from.ensures said.1
-            c.in_ok-skip-in-Ok.ensures.done,
-      );
-}
+records-preserved-in-Continue-1 g c =
+    let filled = filled_law c.in-Ok.is c.fill_buf.ensures.law c.fill_buf.follows.holds-at-none in
+    let some = not_empty _ _ c.is_empty.ensures c.if-is_empty.false in
+    records_more c.records.invariant filled some c.from-left.ensures c.consume.ensures.law c.in_ok-skip-in-Ok.ensures
 
 pub records-preserved : goal.records-preserved
-records-preserved g c = record {
-  told = λ t.
-      let run = c.records.invariant.told t in
-      let loan = c.fill_buf.follows.holds-at-none.told run.0 in
-      let again = sym c.is_interrupted.ensures ∙ c.if-is_interrupted.true in
-      (loan.0, (run.1.0, run.1.1, TakesBytes-still run.1.2 (TakesBytes-interruption (error_taken c.in-Err.is loan.1) again)));
-}
+records-preserved g c =
+    let filled = filled_law c.in-Err.is c.fill_buf.ensures.law c.fill_buf.follows.holds-at-none in
+    records_waited c.records.invariant filled (sym c.is_interrupted.ensures ∙ c.if-is_interrupted.true)

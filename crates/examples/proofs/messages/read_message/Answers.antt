@@ -1,8 +1,10 @@
 use Rattle.std.proofs.Common.{◌++◌, length, take, drop, sym, ap, ◌∙◌, subst}
 use Rattle.std.proofs.Math.Seq.{take-append_seam}
 use Rattle.std.specs.Int.{w16, to_be_bytes}
-use Rattle.no_std_io2.specs.Passing.{TakesBytes}
-use Rattle.no_std_io2.proofs.EventLemmas.{TakesBytes-then, TakesBytes-fills}
+use Rattle.no_std_io2.specs.Takes.{TakesBytes}
+use Rattle.no_std_io2.specs.Read.{tells}
+use Rattle.no_std_io2.proofs.Readers.{reader}
+use Rattle.no_std_io2.proofs.TakesLemmas.{TakesBytes-then, TakesBytes-fills}
 use Rattle.examples.specs.Messages.{message}
 use Rattle.examples.proofs.messages.read_message.Goals as goal
 
@@ -13,12 +15,8 @@ returns g c =
     let items = ap (λ m. take m (buf ++ drop (length buf) c.in_ok-payload.payload.items)) (sym room) ∙ take-append_seam buf _ in
     let len = room ∙ c.in_ok-payload.ensures.len ∙ c.from.ensures in
     let whole = ap (λ l. l ++ buf) (sym c.length_of-len.ensures) ∙ ap (λ n. to_be_bytes w16 n ++ buf) (sym len) ∙ ap message (sym items) in
+    let R = reader g.R.Stored g.R.Read in
     record {
-      told = λ t.
-          let one = c.in_ok-read_exact.ensures.law.told t in
-          let two = c.in_ok-read_exact-2.ensures.law.told one.0 in (
-            two.0,
-            subst (λ l. TakesBytes (g.R.Read.events c.args.r.now) l (g.R.Read.events c.read_exact-2.new.self)) whole
-                (TakesBytes-then (TakesBytes-fills one.1) (TakesBytes-fills two.1)),
-          );
+      takes = subst (λ l. TakesBytes (tells R c.args.r.now) l (tells R c.read_exact-2.new.self)) whole
+          (TakesBytes-then (TakesBytes-fills c.in_ok-read_exact.ensures.law) (TakesBytes-fills c.in_ok-read_exact-2.ensures.law));
     }

@@ -2,7 +2,9 @@ use Rattle.std.proofs.lemmas.Grind.{common_steps}
 use Rattle.std.proofs.Common.{Bool, true, false, Ok, Err, if◌then◌else◌, ◌≡◌, get_or, arith, refl, ◌∙◌}
 use Rattle.io_bench.specs.declared.asks.Ask.TheVariants.{Read}
 use Rattle.no_std_io2.proofs.Readers.{reader}
-use Rattle.io_bench.proofs.AskLemmas.{fits_at, came_more, came_all, came_front, came_steps, came_bound}
+use Rattle.io_bench.proofs.AskLemmas.{fits_at, came_more, came_all, came_takes}
+use Rattle.no_std_io2.proofs.BufReaderCalls.{buf_lender}
+use Rattle.io_bench.proofs.AskSteps.{run_went, few_reads}
 use mir.Val.{bool_byte}
 use Rattle.io_bench.proofs.asks.run_reads.Goals as goal
 
@@ -25,8 +27,8 @@ asks-preserved g c =
       long = omega (arith, call.len, before.long);
       at_end = grind (arith, before.at_end, ends);
       failed = omega (arith, before.failed);
-      came = came_more (reader g.R.Stored g.R.Read) c.args.asks.now c.asks.ask-index (Read 0) (Ok c.in-Ok.is_end) _ _ _ _ _ (omega arith)
-          before.came call.answered (omega (arith, ends)) (omega arith);
+      came = came_more (buf_lender (reader g.R.Stored g.R.Read)) c.args.asks.now c.asks.ask-index (Read 0) (Ok c.in-Ok.is_end) _ _ _ _ _
+          (omega arith) before.came call.answered (omega (arith, ends)) (omega arith);
     }
 
 pub asks-preserved-in_default : goal.asks-preserved-in_default
@@ -37,18 +39,18 @@ asks-preserved-in_default g c =
       long = omega (arith, call.len, before.long);
       at_end = omega (arith, before.at_end);
       failed = omega (arith, before.failed);
-      came = came_more (reader g.R.Stored g.R.Read) c.args.asks.now c.asks.ask-index (Read 0) (Err c.in_default.field-0) _ _ _ _ _
-          (omega arith) before.came call.answered (omega arith) (omega arith);
+      came = came_more (buf_lender (reader g.R.Stored g.R.Read)) c.args.asks.now c.asks.ask-index (Read 0) (Err c.in_default.field-0)
+          _ _ _ _ _ (omega arith) before.came call.answered (omega arith) (omega arith);
     }
 
 pub returns : goal.returns
 returns g c =
     let R = reader g.R.Stored g.R.Read in
-    let came = c.asks.invariant.came in
-    let all = came_all R c.args.asks.now c.asks.ask-index _ _ _ _ (omega arith) came in
+    let all = came_all (buf_lender R) c.args.asks.now c.asks.ask-index _ _ _ _ (omega arith) c.asks.invariant.came in
+    let start = c.args.r.now in
     record {
       came_to = all;
-      told = came_front R _ _ _ _ _ came;
-      steps = came_steps R _ _ _ _ _ all;
-      bound = came_bound R _ _ _ _ _ came;
+      takes = came_takes (buf_lender R) _ _ _ _ _ all;
+      steps = λ fills. let went = run_went R fills start _ _ _ _ all in (went.0, went.1);
+      bound = λ fills cost meter. few_reads R fills start _ c.asks.r (run_went R fills start _ _ _ _ all).2 cost meter;
     }

@@ -2,6 +2,7 @@
 use Rattle.std.proofs.Common.{◌≡◌, ◌≤◌, length, take}
 use Rattle.no_std_io2.proofs.Readers.{reader}
 use Rattle.io_bench.specs.Asks.{CameTo}
+use Rattle.no_std_io2.proofs.BufReaderCalls.{buf_lender}
 use Rattle.io_bench.proofs.asks.run_reads.Given as goal
 
 abbrev pub invariant-asks : goal.invariant-asks
@@ -9,5 +10,5 @@ invariant-asks g l = record {
   long : length l.buf ≡ length l.initial.buf;
   at_end : l.totals.at_end ≤ l.ask-index;
   failed : l.totals.failed ≤ l.ask-index;
-  came : CameTo (reader g.R.Stored g.R.Read) (take l.ask-index l.asks) l.initial.r l.totals.at_end l.totals.failed l.r;
+  came : CameTo (buf_lender (reader g.R.Stored g.R.Read)) (take l.ask-index l.asks) l.initial.r l.totals.at_end l.totals.failed l.r;
 }

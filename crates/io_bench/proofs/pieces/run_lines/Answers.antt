@@ -1,8 +1,9 @@
-use Rattle.std.proofs.Common.{◌≡◌, ◌∙◌, ap, refl, map, string_bytes, Global, [], ◌∷◌, ◌++◌, Some, Ok}
-use Rattle.no_std_io2.specs.Pieces.{line_text, RefusesLine, ends_at}
-use Rattle.no_std_io2.specs.Appended.{appended}
+use Rattle.std.proofs.Common.{◌≡◌, ◌∙◌, ap, refl, string_bytes, Global, [], ◌∷◌, ◌++◌, Some, Ok, Err}
+use Rattle.no_std_io2.specs.Pieces.{newline, line_text, RefusesLine, ends_at}
 use Rattle.no_std_io2.proofs.AppendedLemmas.{appended-more}
-use Rattle.io_bench.proofs.PieceRunLemmas.{one_gathered, all_gathered, gathered_to, shown-one, yields_at}
+use Rattle.no_std_io2.proofs.GivenPieces.{next_item, next_none, next_error, next_fault}
+use Rattle.io_bench.proofs.PieceRunLemmas.{one_gathered, all_gathered, gathered_to, shown-one, shown-same}
+use Rattle.io_bench.proofs.PieceRunLemmas.{law_at, if_told, not_ended, fewer_left, refused_fault}
 use Rattle.io_bench.proofs.pieces.run_lines.Goals as goal
 
 pub items-preserved : goal.items-preserved
@@ -11,33 +12,48 @@ items-preserved g c =
     let item = c.in-Some-Ok.item in
     let is : c.next.result ≡ Some (Ok item) = c.in-Some-Ok.is ∙ ap Some c.in-Some-Ok.field-0-is in
     let pushed = c.push_reserved.ensures.items ∙ ap (λ l. l ++ item ∷ []) c.make_room.ensures.items in
-    let next = c.next.ensures.steps in
     record {
       appends = appended-more _ _ before.appends pushed;
-      told = λ fresh t.
-          let so_far = before.told fresh t in
-          let step = next.1 so_far.0 in
-          let told = step.1 so_far.1 in (
-            step.0 ∙ ap ends_at is,
-            told.0,
-            one_gathered string_bytes line_text RefusesLine 10 _ _ _ _ item _ (shown-one string_bytes _ _ before.appends pushed) so_far.2
-                (yields_at string_bytes (λ _. line_text) RefusesLine 10 10 _ _ _ _ refl is told.1),
+      told = λ fresh.
+          let so_far = before.told fresh in
+          let next = c.next.ensures.steps.1 so_far.0 in (
+            next.0 ∙ ap ends_at is,
+            λ E told.
+                let (mid, still, gathered) = so_far.1 E told in
+                let (after, left, (piece, trimmed, gives)) = next_item still (law_at (λ _. line_text) refl is next.1) in
+                let shown = shown-one string_bytes _ _ before.appends pushed in
+                (after, left, one_gathered line_text newline piece shown gathered trimmed gives),
           );
     }
 
+pub items-smaller : goal.items-smaller
+items-smaller g c =
+    let is : c.next.result ≡ Some (Ok c.in-Some-Ok.item) = c.in-Some-Ok.is ∙ ap Some c.in-Some-Ok.field-0-is in
+    let going = not_ended _ c.next.ensures.steps.0 is in
+    let next = c.next.ensures.steps.1 going in
+    fewer_left _ _ going (next.0 ∙ ap ends_at is) (law_at (λ _. line_text) refl is next.1)
+
 pub returns-in-None-clause-told : goal.returns-in-None-clause-told
-returns-in-None-clause-told g c = λ fresh t.
-    let so_far = c.items.invariant.told fresh t in
-    let told = (c.next.ensures.steps.1 so_far.0).1 so_far.1 in
-    all_gathered (string_bytes {Z = Global}) line_text RefusesLine 10 _ _ _ _ _
-    (ap (λ l. map string_bytes (appended c.args.items.now.items l)) c.make_room.ensures.items) so_far.2
-    (yields_at string_bytes (λ _. line_text) RefusesLine 10 10 _ _ _ _ refl c.in-None.is told.1)
+returns-in-None-clause-told g c = λ fresh.
+    let so_far = c.items.invariant.told fresh in
+    let next = c.next.ensures.steps.1 so_far.0 in
+    if_told _ (λ E told.
+    let (mid, still, gathered) = so_far.1 E told in
+    all_gathered line_text newline (shown-same (string_bytes {Z = Global}) _ c.make_room.ensures.items) gathered
+    (next_none still (law_at (λ _. line_text) refl c.in-None.is next.1)))
 
 pub returns-in-Some-Err-clause-told : goal.returns-in-Some-Err-clause-told
-returns-in-Some-Err-clause-told g c = λ fresh t.
-    let so_far = c.items.invariant.told fresh t in
-    let told = (c.next.ensures.steps.1 so_far.0).1 so_far.1 in
-    let e = c.in-Some-Err.e in
-    gathered_to (Unit {0}) (string_bytes {Z = Global}) line_text RefusesLine _ 10 _ _ _ _ e _
-    (ap (λ l. map string_bytes (appended c.args.items.now.items l)) c.make_room.ensures.items) so_far.2
-    (yields_at string_bytes (λ _. line_text) RefusesLine 10 10 _ _ _ _ refl (c.in-Some-Err.is ∙ ap Some c.in-Some-Err.field-0-is) told.1)
+returns-in-Some-Err-clause-told g c = λ fresh.
+    let so_far = c.items.invariant.told fresh in
+    let next = c.next.ensures.steps.1 so_far.0 in
+    let is : c.next.result ≡ Some (Err c.in-Some-Err.e) = c.in-Some-Err.is ∙ ap Some c.in-Some-Err.field-0-is in
+    if_told _ (λ E told.
+    let (mid, still, gathered) = so_far.1 E told in
+    gathered_to (Unit {0}) line_text RefusesLine _ newline (shown-same (string_bytes {Z = Global}) _ c.make_room.ensures.items) gathered
+    (next_error still (law_at (λ _. line_text) refl is next.1)))
+
+pub returns-in-Some-Err-clause-never_interrupted : goal.returns-in-Some-Err-clause-never_interrupted
+returns-in-Some-Err-clause-never_interrupted g c =
+    let is : c.next.result ≡ Some (Err c.in-Some-Err.e) = c.in-Some-Err.is ∙ ap Some c.in-Some-Err.field-0-is in
+    let next = c.next.ensures.steps.1 (not_ended _ c.next.ensures.steps.0 is) in
+    next_fault (Some (Err c.in-Some-Err.e)) refused_fault (law_at (λ _. line_text) refl is next.1)

@@ -1,8 +1,9 @@
-use Rattle.std.proofs.Common.{◌≡◌, ◌∙◌, ap, map, vec_items, Global, [], ◌∷◌, ◌++◌, Some, Ok}
+use Rattle.std.proofs.Common.{◌≡◌, ◌∙◌, ap, refl, vec_items, Global, [], ◌∷◌, ◌++◌, Some, Ok, Err}
 use Rattle.no_std_io2.specs.Pieces.{without, split_delim, ends_at}
-use Rattle.no_std_io2.specs.Appended.{appended}
 use Rattle.no_std_io2.proofs.AppendedLemmas.{appended-more}
-use Rattle.io_bench.proofs.PieceRunLemmas.{one_gathered, all_gathered, gathered_to, shown-one, yields_at}
+use Rattle.no_std_io2.proofs.GivenPieces.{next_item, next_none, next_error, next_fault}
+use Rattle.io_bench.proofs.PieceRunLemmas.{one_gathered, all_gathered, gathered_to, shown-one, shown-same}
+use Rattle.io_bench.proofs.PieceRunLemmas.{law_at, if_told, not_ended, fewer_left}
 use Rattle.io_bench.proofs.pieces.run_split.Goals as goal
 
 pub items-preserved : goal.items-preserved
@@ -12,36 +13,50 @@ items-preserved g c =
     let item = c.in-Some-Ok.item in
     let is : c.next.result ≡ Some (Ok item) = c.in-Some-Ok.is ∙ ap Some c.in-Some-Ok.field-0-is in
     let pushed = c.push_reserved.ensures.items ∙ ap (λ l. l ++ item ∷ []) c.make_room.ensures.items in
-    let next = c.next.ensures.steps in
     record {
       appends = appended-more _ _ before.appends pushed;
-      told = λ fresh t.
-          let so_far = before.told fresh t in
-          let step = next.1 so_far.0 in
-          let told = step.1 so_far.2 in (
-            step.0 ∙ ap ends_at is,
-            next.2 ∙ so_far.1,
-            told.0,
-            one_gathered vec_items (without d) (λ _ _. ⊥) d _ _ _ _ item _ (shown-one vec_items _ _ before.appends pushed) so_far.3
-                (yields_at vec_items without (λ _ _. ⊥) _ d _ _ _ _ so_far.1 is told.1),
+      told = λ fresh.
+          let so_far = before.told fresh in
+          let next = c.next.ensures.steps.1 so_far.0 in (
+            next.0 ∙ ap ends_at is,
+            c.next.ensures.steps.2 ∙ so_far.1,
+            λ E told.
+                let (mid, still, gathered) = so_far.2 E told in
+                let (after, left, (piece, trimmed, gives)) = next_item still (law_at without so_far.1 is next.1) in
+                (after, left, one_gathered (without d) d piece (shown-one vec_items _ _ before.appends pushed) gathered trimmed gives),
           );
     }
 
+pub items-smaller : goal.items-smaller
+items-smaller g c =
+    let is : c.next.result ≡ Some (Ok c.in-Some-Ok.item) = c.in-Some-Ok.is ∙ ap Some c.in-Some-Ok.field-0-is in
+    let going = not_ended _ c.next.ensures.steps.0 is in
+    let next = c.next.ensures.steps.1 going in
+    fewer_left _ _ going (next.0 ∙ ap ends_at is) (law_at without refl is next.1)
+
 pub returns-in-None-clause-told : goal.returns-in-None-clause-told
-returns-in-None-clause-told g c = λ fresh t.
+returns-in-None-clause-told g c = λ fresh.
     let d = split_delim c.args.split in
-    let so_far = c.items.invariant.told fresh t in
-    let told = (c.next.ensures.steps.1 so_far.0).1 so_far.2 in
-    all_gathered (vec_items {Z = Global}) (without d) (λ _ _. ⊥) d _ _ _ _ _
-    (ap (λ l. map vec_items (appended c.args.items.now.items l)) c.make_room.ensures.items) so_far.3
-    (yields_at vec_items without (λ _ _. ⊥) _ d _ _ _ _ so_far.1 c.in-None.is told.1)
+    let so_far = c.items.invariant.told fresh in
+    let next = c.next.ensures.steps.1 so_far.0 in
+    if_told _ (λ E told.
+    let (mid, still, gathered) = so_far.2 E told in
+    all_gathered (without d) d (shown-same (vec_items {Z = Global}) _ c.make_room.ensures.items) gathered
+    (next_none still (law_at without so_far.1 c.in-None.is next.1)))
 
 pub returns-in-Some-Err-clause-told : goal.returns-in-Some-Err-clause-told
-returns-in-Some-Err-clause-told g c = λ fresh t.
+returns-in-Some-Err-clause-told g c = λ fresh.
     let d = split_delim c.args.split in
-    let so_far = c.items.invariant.told fresh t in
-    let told = (c.next.ensures.steps.1 so_far.0).1 so_far.2 in
-    let e = c.in-Some-Err.e in
-    gathered_to (Unit {0}) (vec_items {Z = Global}) (without d) (λ _ _. ⊥) _ d _ _ _ _ e _
-    (ap (λ l. map vec_items (appended c.args.items.now.items l)) c.make_room.ensures.items) so_far.3
-    (yields_at vec_items without (λ _ _. ⊥) _ d _ _ _ _ so_far.1 (c.in-Some-Err.is ∙ ap Some c.in-Some-Err.field-0-is) told.1)
+    let so_far = c.items.invariant.told fresh in
+    let next = c.next.ensures.steps.1 so_far.0 in
+    let is : c.next.result ≡ Some (Err c.in-Some-Err.e) = c.in-Some-Err.is ∙ ap Some c.in-Some-Err.field-0-is in
+    if_told _ (λ E told.
+    let (mid, still, gathered) = so_far.2 E told in
+    gathered_to (Unit {0}) (without d) (λ _ _. ⊥) _ d (shown-same (vec_items {Z = Global}) _ c.make_room.ensures.items) gathered
+    (next_error still (law_at without so_far.1 is next.1)))
+
+pub returns-in-Some-Err-clause-never_interrupted : goal.returns-in-Some-Err-clause-never_interrupted
+returns-in-Some-Err-clause-never_interrupted g c =
+    let is : c.next.result ≡ Some (Err c.in-Some-Err.e) = c.in-Some-Err.is ∙ ap Some c.in-Some-Err.field-0-is in
+    let next = c.next.ensures.steps.1 (not_ended _ c.next.ensures.steps.0 is) in
+    next_fault (Some (Err c.in-Some-Err.e)) (λ piece e refused. absurd refused) (law_at without refl is next.1)

@@ -1,11 +1,14 @@
 use Rattle.std.proofs.Common.{arith}
 use Rattle.no_std_io2.proofs.Readers.{reader}
+use Rattle.no_std_io2.proofs.TakesLemmas.{made_may}
 use Rattle.io_bench.proofs.CountLemmas.{exact_counts}
 use Rattle.io_bench.proofs.pins.tally_fills.Goals as goal
 
 pub returns : goal.returns
 returns g c =
-    let counted = exact_counts (reader g.T.Stored g.T.Read) c.read_exact.result _ _ c.read_exact.ensures.law.calls in
+    let calls = c.read_exact.ensures.law.calls in
+    let counted = exact_counts (reader g.T.Stored g.T.Read) calls.calls _ c.read_exact.result _ _ calls.are
+    (made_may _ calls.calls _ _ calls.made) in
     record {
       counts = record { least = omega (arith, counted.least, c.read_exact.auto.buf); most = counted.most };
       writes = counted.writes;

@@ -1,7 +1,7 @@
-use Rattle.std.proofs.Common.{Contains, refl, le_refl, inl, inr, rules, arith}
+use Rattle.std.proofs.Common.{Contains, refl, le_refl, inl, inr, arith}
 use Rattle.std.proofs.lemmas.Grind.{common_steps}
 use Rattle.std.proofs.lemmas.Result.{err_from_is_err_and}
-use Rattle.no_std_io2.specs.Pieces.{Lacks, newline}
+use Rattle.no_std_io2.specs.Pieces.{newline}
 use Rattle.no_std_io2.proofs.LineLemmas.{contains_lacks}
 use Rattle.line_log.proofs.LogLemmas.{log_stops, log_goes}
 use Rattle.line_log.proofs.LineLog.log_bytes.Goals as goal

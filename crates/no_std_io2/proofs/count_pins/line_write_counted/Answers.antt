@@ -6,5 +6,6 @@ use Rattle.no_std_io2.proofs.count_pins.line_write_counted.Goals as goal
 pub returns : goal.returns
 returns g c = λ cost meter takes.
     let t = c.write.ensures.calls in
-    few_cost g.W.Write cost meter (line_inner {S = g.row.S}) line_buffer (LineWriteCalls g.row.S c.args.x.now) c.args.w.now c.write.new.self t
+    few_cost g.W.Write cost meter (line_inner {S = g.row.S}) line_buffer
+    (LineWriteCalls g.row.S c.args.x.now) c.args.w.now c.write.new.self t
     (line_write_keeps g.W.Write g.row.S t.2 (line_inner c.args.w.now) (line_inner c.write.new.self) t.1 takes).2

@@ -1,10 +1,11 @@
 // `fill_to`, which reads until enough bytes are held.
-ghost use Rattle.std.specs.Prelude.{◌≤◌};
+ghost use Rattle.std.specs.Prelude.{◌≡◌, ◌≤◌};
+ghost use Rattle.no_std_io2_base.specs.Takes.{KeepsContent};
 ghost use Rattle.no_std_io2.specs.FillTo.{FillsTo};
 
 use super::BufReader;
 use no_std_io2_base::error::Result;
-use no_std_io2_base::traits::Read;
+use no_std_io2_base::traits::{Read, Stored};
 
 impl<R: Read, const S: usize> BufReader<R, S> {
     /// Reads until `n` bytes are held, which is at most `S`, and returns `true`. Returns `false` if the end comes
@@ -26,6 +27,10 @@ impl<R: Read, const S: usize> BufReader<R, S> {
     pub fn fill_to(&mut self, n: usize) -> Result<bool>
         requires { n ≤ S }
         ensures fills { FillsTo R.Read n self.old result self.new }
+        // Seen from outside, a told store does not change, and turns do not rise.
+        ensures store { KeepsContent (⟦<BufReader<R, S> as Stored>⟧.store self.old) (λ len was now. now ≡ was)
+            (⟦<BufReader<R, S> as Stored>⟧.store self.new) }
+        ensures turns { ⟦<BufReader<R, S> as Read>⟧.turns self.new ≤ ⟦<BufReader<R, S> as Read>⟧.turns self.old }
     {
         'reads: while self.buffer.len() < n {
             match self.buffer.read_on(&mut self.inner) {

@@ -1,15 +1,11 @@
 // The `impl` of `BufRead` for `BufReader`.
-ghost use Rattle.std.specs.Prelude.{◌≡◌, ◌+◌, ◌-◌, ◌<◌, ◌≤◌, [], ◌++◌, length, take, drop, Some, IfSome, IfNone};
-ghost use Rattle.std.specs.Prelude.{ℕ, List, Result, IsOk, OnOk, OnErr, vec_len};
+ghost use Rattle.std.specs.Prelude.{◌≡◌, ◌+◌, ◌≤◌, ◌++◌, length, take, IfSome, IfNone, List, ℕ};
 ghost use Rattle.std.specs.Prelude.{string_bytes, string_len, string_capacity};
-ghost use Rattle.no_std_io2.specs.Buffer.{IsSuffix};
 ghost use Rattle.std.specs.Borrow.{sem};
 ghost use Rattle.no_std_io2_base.specs.BufRead.{FillBufLaw, AfterLoan, ConsumeLaw, ReadUntilLaw, ReadLineLaw, Rests};
-ghost use Rattle.no_std_io2_base.specs.declared.error.Error.{Error};
-ghost use Rattle.no_std_io2_base.specs.Pieces.{AnswersLine, EndsPiece, Follows};
+ghost use Rattle.no_std_io2_base.specs.Pieces.{EndsPiece, Follows, newline};
 ghost use Rattle.no_std_io2.specs.contracts.buffered.buf_reader.BufReader.{the_row as reader-row};
-ghost use Rattle.no_std_io2.specs.BufReader.{reader_held, reader_behind, reader_inner, StaysSound};
-ghost use Rattle.no_std_io2.specs.BufReader.{TakesHeld, TakesHeldLine, filled_length};
+ghost use Rattle.no_std_io2.specs.BufReader.{reader_held, TakesHeld, TakesHeldLine};
 
 use super::BufReader;
 use super::pieces::find_piece;
@@ -24,13 +20,11 @@ impl<R: Read, const S: usize> BufReader<R, S> {
     #[inline(always)]
     fn take_line(&mut self, buf: &mut String) -> Option<usize>
         ensures line { IfSome result (λ n. (n ≤ length (reader_held self.old))
-            × EndsPiece 10 (take n (reader_held self.old))) }
+            × EndsPiece newline (take n (reader_held self.old))) }
         ensures text { IfSome result (λ n. Follows (take n (reader_held self.old)) (string_bytes buf.old) (string_bytes buf.new)
             × (string_len buf.new ≡ string_len buf.old + n)) }
+        ensures capacity { string_capacity buf.old ≤ string_capacity buf.new }
         ensures law { IfSome result (λ n. ConsumeLaw ⟦<BufReader<R, S> as BufRead>⟧ self.old n self.new) }
-        ensures behind { IfSome result (λ n. reader_behind self.new ≡ reader_behind self.old ++ take n (reader_held self.old)) }
-        ensures inner { IfSome result (λ _. reader_inner self.new ≡ reader_inner self.old) }
-        ensures sound { StaysSound R.has_store R.position R.content self.old self.new }
         ensures none { IfNone result ((self.new ≡ self.old) × (buf.new ≡ buf.old)) }
     {
         let held = self.buffer();
@@ -46,33 +40,21 @@ impl<R: Read, const S: usize> BufReader<R, S> {
 impl<R: Read, const S: usize> BufRead for BufReader<R, S> {
     ghost held = { reader_held };
 
-    #[tactic(auto, using(crate::proofs::BufReaderSound::begins_held))]
     fn fill_buf(&mut self) -> Result<&[u8]>
         ensures law { FillBufLaw ⟦<Self as BufRead>⟧ self.old result }
-
-        // The law of the trait; and the bytes behind stay, or are dropped if nothing was held.
-        ensures* after_borrow { sem 𝓛 (Rests (reader-row R.row S.row) self.entry (λ new. record {
-          law : AfterLoan ⟦<Self as BufRead>⟧ self.old result new;
-          behind : reader_held self.old ≡ [] → reader_behind new ≡ [];
-          fills : R.is_filling (reader_inner self.old) → R.is_filling (reader_inner new)
-              × IsOk result × (length (reader_held new) ≡ filled_length S (length (reader_held self.old)) (length (R.events (reader_inner self.old))));
-          sound : StaysSound R.has_store R.position R.content self.old new;
-        })) }
+        ensures* after_borrow { sem 𝓛 (Rests (reader-row R.row S.row) self.entry
+            (λ new. AfterLoan ⟦<Self as BufRead>⟧ self.old result new)) }
     {
-        if self.buffer.len() == 0 {
-            self.read_ahead()?;
+        if self.buffer.len() > 0 {
+            return Ok(self.buffer.as_slice());
         }
-        Ok(self.buffer())
+        self.buffer.fill(&mut self.inner)?;
+        Ok(self.buffer.as_slice())
     }
 
     fn consume(&mut self, amount: usize)
         requires { amount ≤ length (reader_held self.old) }
         ensures law { ConsumeLaw ⟦<Self as BufRead>⟧ self.old amount self.new }
-
-        // It drops only held bytes.
-        ensures inner { reader_inner self.new ≡ reader_inner self.old }
-        ensures behind { reader_behind self.new ≡ reader_behind self.old ++ take amount (reader_held self.old) }
-        ensures sound { StaysSound R.has_store R.position R.content self.old self.new }
     {
         self.buffer.consume(amount);
     }
@@ -84,11 +66,6 @@ impl<R: Read, const S: usize> BufRead for BufReader<R, S> {
         // If a whole piece is held, it takes only held bytes.
         ensures held { (piece rest : List ℕ) → reader_held self.old ≡ piece ++ rest → EndsPiece delim piece
             → TakesHeld piece rest self.old buf.old.items result buf.new.items self.new }
-
-        // The bytes behind afterwards are a suffix of those behind before, followed by the appended
-        // ones.
-        ensures behind { IsSuffix (reader_behind self.old ++ drop (vec_len buf.old) buf.new.items) (reader_behind self.new) }
-        ensures sound { StaysSound R.has_store R.position R.content self.old self.new }
     {
         let start = buf.len();
         'pieces: loop {
@@ -113,17 +90,8 @@ impl<R: Read, const S: usize> BufRead for BufReader<R, S> {
         ensures law { ReadLineLaw ⟦<Self as BufRead>⟧ self.old buf.old result buf.new self.new }
 
         // If a whole line is held, it takes only held bytes.
-        ensures held { (line rest : List ℕ) → reader_held self.old ≡ line ++ rest → EndsPiece 10 line
+        ensures held { (line rest : List ℕ) → reader_held self.old ≡ line ++ rest → EndsPiece newline line
             → TakesHeldLine line rest self.old (string_bytes buf.old) result (string_bytes buf.new) self.new }
-
-        // The bytes behind afterwards are a suffix of those behind before, followed by the line; also if the line was
-        // lost.
-        ensures behind { OnOk result (IsSuffix (reader_behind self.old ++ drop (string_len buf.old) (string_bytes buf.new))
-            (reader_behind self.new)) }
-        ensures lost { OnErr result ((line : List ℕ) × (read : Result ℕ Error) × AnswersLine line read (string_len buf.old)
-            (string_capacity buf.old) result (string_bytes buf.old) (string_bytes buf.new)
-            × IsSuffix (reader_behind self.old ++ line) (reader_behind self.new)) }
-        ensures sound { StaysSound R.has_store R.position R.content self.old self.new }
     {
         match self.take_line(buf) {
             Some(len) => Ok(len),

@@ -1,6 +1,6 @@
 ghost use Rattle.std.specs.Prelude.{◌≡◌, []};
 ghost use Rattle.no_std_io2_base.specs.Seek.{SeekLaw};
-ghost use Rattle.no_std_io2.specs.BufWriter.{writer_inner, writer_buffer, SendsFirst, SeeksAfterSending, WriterMaySeek};
+ghost use Rattle.no_std_io2.specs.BufWriter.{writer_inner, writer_buffer, store_unheld, SendsFirst, SeeksAfterSending, WriterMaySeek};
 
 use super::BufWriter;
 use no_std_io2_base::error::Result;
@@ -8,16 +8,14 @@ use no_std_io2_base::traits::{Seek, SeekFrom, Stored, Write};
 
 /// Tells the inner writer's store if the buffer is empty.
 impl<W: Write + Stored + Drop, const S: usize> Stored for BufWriter<W, S> {
-    ghost has_store = { λ w. (writer_buffer w ≡ []) × W.has_store (writer_inner w) };
-
-    ghost content = { λ w. W.content (writer_inner w) };
-
-    ghost position = { λ w. W.position (writer_inner w) };
+    ghost store = { λ w. store_unheld (writer_buffer w) (W.store (writer_inner w)) };
 }
 
 /// Sends the held bytes before a seek. The other calls of `Seek` have the trait's bodies, so their first seek sends the
 /// held bytes. Follows `std::io::Seek for BufWriter`.
 impl<W: Write + Seek + Drop, const S: usize> Seek for BufWriter<W, S> {
+    ghost may = { WriterMaySeek W.Write W.Seek };
+
     /// Sends the held bytes, then seeks the inner writer.
     ///
     /// # Errors
@@ -34,8 +32,4 @@ impl<W: Write + Seek + Drop, const S: usize> Seek for BufWriter<W, S> {
         self.core.send()?;
         self.core.get_mut().seek(pos)
     }
-
-    ghost may = { WriterMaySeek W.Write W.Seek };
-
-    ghost seek_fits = { λ w h. W.seek_fits (writer_inner w) h.1 };
 }

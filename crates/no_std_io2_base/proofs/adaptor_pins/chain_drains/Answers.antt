@@ -1,5 +1,5 @@
 use Rattle.no_std_io2_base.proofs.ReadsAdd.{to_end_adds}
-use Rattle.no_std_io2_base.proofs.ChainReads.{chain_each}
+use Rattle.no_std_io2_base.proofs.ChainTurns.{chain_each}
 use Rattle.no_std_io2_base.proofs.Readers.{reader}
 use Rattle.no_std_io2_base.proofs.adaptor_pins.chain_drains.Goals as goal
 

@@ -1,8 +1,12 @@
-use Rattle.no_std_io2_base.proofs.ReadsAdd.{piece_adds}
-use Rattle.no_std_io2_base.proofs.ChainReads.{chain_each}
-use Rattle.no_std_io2_base.proofs.Readers.{reader}
+use Rattle.no_std_io2_base.proofs.ReadsAdd.{each_of, piece_adds}
+use Rattle.no_std_io2_base.proofs.ChainTurns.{chain_each}
+use Rattle.no_std_io2_base.proofs.ChainLends.{chain_lender}
+use Rattle.no_std_io2_base.proofs.TakesLemmas.{lend_law}
+use Rattle.no_std_io2_base.proofs.Readers.{reader, lends}
 use Rattle.no_std_io2_base.proofs.adaptor_pins.chain_pieces.Goals as goal
 
 pub returns : goal.returns
 returns g c =
-    piece_adds (chain_each (reader g.T.Stored g.T.Read) (reader g.U.Stored g.U.Read)) c.read_until.result _ _ c.read_until.ensures.law.calls
+    let chain = chain_lender (lends g.T.Stored g.T.Read g.T.BufRead) (lends g.U.Stored g.U.Read g.U.BufRead) in
+    let each = chain_each (reader g.T.Stored g.T.Read) (reader g.U.Stored g.U.Read) in
+    piece_adds (each_of (lend_law chain) each) c.read_until.result _ _ c.read_until.ensures.law.calls

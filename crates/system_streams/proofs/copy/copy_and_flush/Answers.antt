@@ -1,11 +1,14 @@
 use Rattle.std.proofs.lemmas.Result.{err_from_is_err_and}
-use Rattle.system_streams.proofs.CopyLemmas.{copies_err, flushed_behind}
+use Rattle.system_streams.proofs.CopyLemmas.{copies_all, copies_err, flushed_behind}
 use Rattle.system_streams.proofs.copy.copy_and_flush.Goals as goal
 
 pub returns-in_err-count-clause-err : goal.returns-in_err-count-clause-err
-returns-in_err-count-clause-err g c = λ t.
+returns-in_err-count-clause-err g c =
     let p = err_from_is_err_and c.from_residual.result c.from_residual.ensures.1 in
-    rw (p.1, p.2) (copies_err (c.in_err-count.ensures.told t).1)
+    rw (p.1, p.2) (copies_err c.in_err-count.ensures)
+
+pub returns-clause-all : goal.returns-clause-all
+returns-clause-all g c = copies_all c.in_ok-count.ensures c.in_ok-flush.ensures.law.moves
 
 pub returns-clause-calls : goal.returns-clause-calls
 returns-clause-calls g c = flushed_behind c.in_ok-count.ensures.calls c.in_ok-flush.ensures.law

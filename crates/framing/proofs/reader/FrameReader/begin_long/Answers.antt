@@ -1,9 +1,9 @@
-use Rattle.std.proofs.Common.{◌<◌, [], ap, sym, ◌∙◌, ◌++◌, subst, arith, rules}
-use Rattle.no_std_io2.specs.Read.{events_of}
-use Rattle.no_std_io2.specs.BufReader.{reader_held, reader_inner}
+use Rattle.std.proofs.Common.{◌<◌, [], ◌∙◌, sym, subst, arith, take, length-take, rules}
+use Rattle.no_std_io2.specs.BufReader.{reader_held}
+use Rattle.no_std_io2.proofs.EventLemmas.{length-events_of}
 use Rattle.framing.specs.Frames.{HasHeader}
 use Rattle.framing.specs.Taking.{seen_bytes}
-use Rattle.framing.proofs.TakingLemmas.{seen_between, events_between, seen_header, one_length, begins_long}
+use Rattle.framing.proofs.SeenLemmas.{seen_between, seen_header, one_length, begins_long}
 use Rattle.framing.proofs.reader.FrameReader.begin_long.Goals as goal
 
 pub consume-requires : goal.consume-requires
@@ -11,17 +11,29 @@ consume-requires g c =
     let r = c.args.self.now in
     (search rules, (subst (HasHeader c.args.len) (seen_between r [] c.if-self-eq0.true) (c.requires.header [])).0)
 
-pub returns-then-self-eq0-clause-events : goal.returns-then-self-eq0-clause-events
-returns-then-self-eq0-clause-events g c = λ room.
+pub returns-then-self-eq0-clause-seen : goal.returns-then-self-eq0-clause-seen
+returns-then-self-eq0-clause-seen g c = λ room.
     let r = c.args.self.now in
     let header = subst (HasHeader c.args.len) (seen_between r room c.if-self-eq0.true) (c.requires.header room) in
-    let after = g.R.Read.events (reader_inner r.inner) in
-    rw c.consume.ensures.inner
-    (begins_long c.args.len (reader_held r.inner) _ room after c.requires.some header c.consume.ensures.law.held
-    ∙ sym (events_between r room g.R.Read.events c.if-self-eq0.true))
+    let some : 0 < c.args.len = omega (arith, c.requires.long c.if-self-eq0.true, r.header_fits) in
+    begins_long c.args.len (reader_held r.inner) (reader_held c.consume.new.self) room some header c.consume.ensures.law.held
+    ∙ sym (seen_between r room c.if-self-eq0.true)
+
+pub returns-then-self-eq0-clause-turns_never_rise : goal.returns-then-self-eq0-clause-turns_never_rise
+returns-then-self-eq0-clause-turns_never_rise g c =
+    let r = c.args.self.now in
+    let held = reader_held r.inner in
+    let header = subst (HasHeader c.args.len) (seen_between r [] c.if-self-eq0.true) (c.requires.header []) in
+    omega (arith, c.consume.ensures.law.takes.turns, length-events_of (take 4 held), length-take 4 held, header.0)
 
 pub returns-else-self-eq0-clause-len : goal.returns-else-self-eq0-clause-len
 returns-else-self-eq0-clause-len g c =
     let r = c.args.self.now in
     let some : 0 < r.len = omega (arith, c.if-self-eq0.false) in
     one_length r.len c.args.len (seen_bytes r []) (seen_header r [] some) (c.requires.header [])
+
+pub returns-else-self-eq0-clause-long : goal.returns-else-self-eq0-clause-long
+returns-else-self-eq0-clause-long g c =
+    let r = c.args.self.now in
+    let some : 0 < r.len = omega (arith, c.if-self-eq0.false) in
+    omega (arith, r.is_long some, one_length r.len c.args.len (seen_bytes r []) (seen_header r [] some) (c.requires.header []))

@@ -1,74 +1,103 @@
-use Rattle.std.proofs.Common.{◌<◌, [], length, refl, sym, ap, ◌∙◌, subst, arith, rules}
+use Rattle.std.proofs.Common.{◌≡◌, ◌<◌, ◌≤◌, [], Ok, Err, true, false, length, sym, ap, ◌∙◌, inl, arith, rules}
 use Rattle.std.proofs.lemmas.Result.{err_from_is_err_and}
-use Rattle.framing.specs.Frames.{HasHeader}
-use Rattle.framing.specs.Taking.{Drops, reads_from, seen_bytes, frame_events}
-use Rattle.framing.proofs.TakingLemmas.{seen_between, seen_header, one_length, sees_none, sees_long, takes_after}
+use Rattle.no_std_io2.proofs.Readers.{reader}
+use Rattle.no_std_io2.proofs.EventLemmas.{not_empty, is_empty}
+use Rattle.framing.specs.Taking.{seen_bytes}
+use Rattle.framing.proofs.SeenLemmas.{seen_between, not_inside}
+use Rattle.framing.proofs.TakingLemmas.{sees_header, sees_both, takes_fault, takes_none_left, takes_end, takes_refused, takes_given}
+use Rattle.framing.proofs.TakingLemmas.{header_after, part_of}
 use Rattle.framing.proofs.reader.FrameReader.take_next.Goals as goal
-use Rattle.framing.proofs.reader.FrameReader.take_next.Goals.{else-self-eq0-via-then-self-eq0+else-len, else-self-eq0-via-else-self-eq0}
 
-pub returns-in_err-len-clause-told : goal.returns-in_err-len-clause-told
-returns-in_err-len-clause-told g c = λ t.
+pub returns-in_err-see_header-clause-takes : goal.returns-in_err-see_header-clause-takes
+returns-in_err-see_header-clause-takes g c =
+    let R = reader g.R.Stored g.R.Read in
     let p = err_from_is_err_and c.from_residual.result c.from_residual.ensures.1 in
-    let said = c.in_err-len.ensures.told c.args.room.now t in
-    rw (p.1, p.2) (said.0, sees_none (length c.args.room.now) c.args.room.now c.in_err-len.field-0.0 said.1)
-
-pub returns-in_default-clause-told : goal.returns-in_default-clause-told
-returns-in_default-clause-told g c = λ t.
-    let said = (rw c.in_default.is at c.in_ok-len.ensures.told) c.args.room.now t in
-    (said.0, ([], said.1.0, (refl, said.1.1)))
-
-pub returns-then-len-room-clause-told : goal.returns-then-len-room-clause-told
-returns-then-len-room-clause-told g c = λ t.
     let room = c.args.room.now in
-    let said = (rw c.in-Some.is at c.in_ok-len.ensures.told) room t in
-    let header = (rw c.in-Some.is at c.in_ok-len.ensures.length).1 room in (
-      said.0,
-      sees_long g.R.Read.events c.next_len.new.self room c.in-Some.len (length room) c.new.result header
-          (omega (arith, c.if-len-room.true)) (c.new.ensures.kind, c.new.ensures.text) said.1,
-    )
+    let sees = c.in_err-see_header.ensures.sees room in
+    let e = c.in_err-see_header.field-0.0 in
+    rw (p.1, p.2) (takes_fault e (sees_header R (length room) {reply = Err e} sees) (inl sees.enough))
 
-pub next_short-requires : goal.next_short-requires
-next_short-requires g c =
-    let r = c.next_len.new.self in
-    let known = rw c.in-Some.is at c.in_ok-len.ensures.length in (
+pub returns-then-is_empty-clause-takes : goal.returns-then-is_empty-clause-takes
+returns-then-is_empty-clause-takes g c =
+    let R = reader g.R.Stored g.R.Read in
+    let room = c.args.room.now in
+    let r = c.see_header.new.self in
+    let sees = (rw c.if-not-branch.true at c.in_ok-see_header.ensures.sees) room in
+    let none : seen_bytes r room ≡ [] =
+    seen_between r room (not_inside r room sees.enough) ∙ sym c.buffer.ensures.value ∙ is_empty _ _ c.is_empty.ensures c.if-is_empty.true in
+    takes_none_left (sees_header R (length room) sees) none
+
+pub returns-then-not-branch-clause-takes : goal.returns-then-not-branch-clause-takes
+returns-then-not-branch-clause-takes g c =
+    let R = reader g.R.Stored g.R.Read in
+    let room = c.args.room.now in
+    let r = c.see_header.new.self in
+    let sees = (rw c.if-not-branch.true at c.in_ok-see_header.ensures.sees) room in
+    let held = seen_between r room (not_inside r room sees.enough) ∙ sym c.buffer.ensures.value in
+    let some : 0 < length (seen_bytes r room) =
+    omega (arith, ap length held, not_empty _ _ c.is_empty.ensures c.if-is_empty.false) in
+    takes_end _ (sees_header R (length room) sees) some (inl sees.enough) c.ended_inside.ensures
+
+pub next_len-len-requires : goal.next_len-len-requires
+next_len-len-requires g c =
+    let sees = rw c.if-not-branch.false at c.in_ok-see_header.ensures.sees in
+    (search rules, λ room. (sees room).enough)
+
+pub returns-then-len-room-clause-takes : goal.returns-then-len-room-clause-takes
+returns-then-len-room-clause-takes g c =
+    let R = reader g.R.Stored g.R.Read in
+    let room = c.args.room.now in
+    let sees = (rw c.if-not-branch.false at c.in_ok-see_header.ensures.sees) room in
+    takes_refused _ c.next_len-len.result (sees_header R (length room) sees) (c.next_len-len.ensures.header room)
+    (omega (arith, c.if-len-room.true)) c.no_room.ensures
+
+pub returns-in_err-see_frame-clause-takes : goal.returns-in_err-see_frame-clause-takes
+returns-in_err-see_frame-clause-takes g c =
+    let R = reader g.R.Stored g.R.Read in
+    let p = err_from_is_err_and c.from_residual-in_err-see_frame.result c.from_residual-in_err-see_frame.ensures.1 in
+    let room = c.args.room.now in
+    let len = c.next_len-len.result in
+    let header = (rw c.if-not-branch.false at c.in_ok-see_header.ensures.sees) room in
+    let has = c.next_len-len.ensures.header room in
+    let rest = c.in_err-see_frame.ensures.sees in
+    let e = c.in_err-see_frame.field-0.0 in
+    let part = part_of len _
+    (header_after c.see_header.new.self c.see_frame.new.self room c.see_frame.new.room {reply = Err e} len has rest) rest.enough in
+    rw (p.1, p.2) (takes_fault e (sees_both R (length room) len (Err e) header has (omega (arith, c.if-len-room.false)) rest) part)
+
+pub returns-then-not-branch-2-clause-takes : goal.returns-then-not-branch-2-clause-takes
+returns-then-not-branch-2-clause-takes g c =
+    let R = reader g.R.Stored g.R.Read in
+    let room = c.args.room.now in
+    let len = c.next_len-len.result in
+    let header = (rw c.if-not-branch.false at c.in_ok-see_header.ensures.sees) room in
+    let has = c.next_len-len.ensures.header room in
+    let rest = rw c.if-not-branch-2.true at c.in_ok-see_frame.ensures.sees in
+    let after = header_after c.see_header.new.self c.see_frame.new.self room c.see_frame.new.room len has rest in
+    takes_end _ (sees_both R (length room) len (Ok false) header has (omega (arith, c.if-len-room.false)) rest) (omega (arith, after.0))
+    (part_of len _ after rest.enough) c.ended_inside-then-not-branch-2.ensures
+
+pub give_seen-requires : goal.give_seen-requires
+give_seen-requires g c =
+    let room = c.args.room.now in
+    let len = c.next_len-len.result in
+    let has = c.next_len-len.ensures.header room in
+    let rest = rw c.if-not-branch-2.false at c.in_ok-see_frame.ensures.sees in (
       search rules,
       (
-        c.if-self-eq0.true,
-        (
-          subst (HasHeader c.in-Some.len) (seen_between r [] c.if-self-eq0.true) (known.1 []),
-          (omega (arith, c.if-len.true, r.header_fits), (known.0, omega (arith, c.if-len-room.false))),
-        ),
+        header_after c.see_header.new.self c.see_frame.new.self room c.see_frame.new.room len has rest,
+        (rest.enough, (c.in_ok-see_frame.ensures.full c.if-not-branch-2.false, omega (arith, c.if-len-room.false, c.see_frame.auto.room))),
       ),
     )
 
-pub returns-then-len-clause-told : goal.returns-then-len-clause-told
-returns-then-len-clause-told g c = λ t.
-    let said = (rw c.in-Some.is at c.in_ok-len.ensures.told) c.args.room.now t in
-    let takes = c.next_short.ensures.told said.0 in
-    (takes.0, takes_after _ c.next_short.result c.next_short.new.room _ said.1 takes.1)
-
-pub begin_long-requires : goal.begin_long-requires
-begin_long-requires g c =
-    let r = c.next_len.new.self in
-    let known = rw c.in-Some.is at c.in_ok-len.ensures.length in
-    let some : 0 < c.in-Some.len = elim c.else-self-eq0.branch [
-      | else-self-eq0-via-then-self-eq0+else-len w ↦ omega (arith, w.if-len.false)
-      | else-self-eq0-via-else-self-eq0 w ↦
-          let more : 0 < r.len = omega (arith, w.if-self-eq0.false) in
-          omega (arith, more, one_length r.len c.in-Some.len (seen_bytes r []) (seen_header r [] more) (known.1 []))
-    ] in
-    (search rules, (known.0, (some, known.1)))
-
-pub next_long-requires : goal.next_long-requires
-next_long-requires g c = (
-  search rules,
-  (c.begin_long.ensures.some, omega (arith, c.begin_long.ensures.len, c.if-len-room.false)),
-)
-
-pub returns-clause-told : goal.returns-clause-told
-returns-clause-told g c = λ t.
-    let said = (rw c.in-Some.is at c.in_ok-len.ensures.told) c.args.room.now t in
-    let still = subst g.R.Read.tells (sym c.begin_long.ensures.inner) said.0 in
-    let dropped = subst (Drops (frame_events g.R.Read.events c.args.self.now c.args.room.now)) (sym (c.begin_long.ensures.events c.args.room.now)) said.1 in
-    let takes = c.next_long.ensures.told still in
-    (takes.0, takes_after _ c.next_long.result c.next_long.new.room _ dropped takes.1)
+pub returns-clause-takes : goal.returns-clause-takes
+returns-clause-takes g c =
+    let R = reader g.R.Stored g.R.Read in
+    let room = c.args.room.now in
+    let len = c.next_len-len.result in
+    let header = (rw c.if-not-branch.false at c.in_ok-see_header.ensures.sees) room in
+    let rest = rw c.if-not-branch-2.false at c.in_ok-see_frame.ensures.sees in
+    let fits : len ≤ length room = omega (arith, c.if-len-room.false) in
+    takes_given len (sees_both R (length room) len (Ok true) header (c.next_len-len.ensures.header room) fits rest)
+    c.give_seen.ensures.inner
+    c.give_seen.ensures.gives fits c.next_len-len.ensures.small

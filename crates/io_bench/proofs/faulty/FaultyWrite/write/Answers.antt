@@ -1,6 +1,7 @@
 use Rattle.std.proofs.lemmas.Grind.{common_steps}
 use Rattle.std.proofs.Common.{arith}
-use Rattle.io_bench.proofs.ActLemmas.{faulty_steady, moves_past, moves_spent, moves_zero, moves_through, taken_of_front, behind, behind_take}
+use Rattle.io_bench.proofs.ActLemmas.{faulty_steady, moves_past, moves_spent, moves_zero, moves_through, taken_of_front, behind}
+use Rattle.io_bench.proofs.ActLemmas.{behind_take}
 use Rattle.io_bench.proofs.faulty.FaultyWrite.write.Goals as goal
 
 pub returns-in-None : goal.returns-in-None

@@ -1,7 +1,11 @@
-use Rattle.std.proofs.lemmas.Grind.{common_steps}
-use Rattle.std.proofs.Common.{arith, length-drop}
-use Rattle.io_bench.proofs.FeedLemmas.{feed_reads, leading-le}
+use Rattle.io_bench.proofs.FeedLemmas.{feed_reads}
 use Rattle.io_bench.proofs.feed.FeedRead.read.Goals as goal
 
-pub returns-in-None-clause-law : goal.returns-in-None-clause-law
-returns-in-None-clause-law c = grind (arith, common_steps, feed_reads, length-drop, leading-le)
+pub returns-in-None : goal.returns-in-None
+returns-in-None c =
+    let gave = c.give.ensures in
+    record {
+      law = feed_reads c.args.self.now c.take_failure.new.self c.give.new.self c.give.result c.args.buf.now c.give.new.buf c.give.auto.buf
+          c.if-is_empty.ensures c.in-None.ensures.kind c.in-None.ensures.left c.take_failure.ensures.piece gave.count gave.bytes gave.left
+          gave.piece;
+    }

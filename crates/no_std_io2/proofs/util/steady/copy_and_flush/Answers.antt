@@ -1,16 +1,29 @@
-use Rattle.std.proofs.lemmas.Grind.{common_steps}
-use Rattle.std.proofs.Common.{arith}
-use Rattle.std.proofs.Common.{append-nil}
+use Rattle.std.proofs.Common.{◌++◌, ◌∙◌, ap}
+use Rattle.no_std_io2_base.specs.Events.{bytes}
 use Rattle.no_std_io2_base.proofs.MovesLemmas.{Moves-steady}
-use Rattle.no_std_io2.proofs.CopyLemmas.{copies_steadily, stays_steady, flushed}
+use Rattle.no_std_io2.specs.Copy.{counted}
+use Rattle.no_std_io2.proofs.CopyLemmas.{took_all, copies_steadily, stays_steady, flushed}
 use Rattle.no_std_io2.proofs.util.steady.copy_and_flush.Goals as goal
 
 pub returns : goal.returns
-returns g c = grind (arith, common_steps, append-nil, stays_steady, flushed)
+returns g c = λ some E told none steady.
+    let copied = c.in_ok-n.ensures in
+    let (no_fault, end, count, moves) = copied.ends in
+    let all = took_all copied.takes told (end some) in
+    let flush = c.in_ok-flush.ensures.law in
+    let old = g.W.Write.told c.args.writer.now in (
+      count ∙ ap (λ P. counted (bytes P)) all.0,
+      all.1,
+      stays_steady (stays_steady steady moves) flush.moves,
+      flush.empty,
+      flushed old moves flush.moves flush.empty ∙ ap (λ P. old.out ++ old.held ++ bytes P) all.0,
+    )
 
 pub returns-in_err-n : goal.returns-in_err-n
-returns-in_err-n g c = λ some t whole steady.
-    absurd (copies_steadily g.row.S c.in_err-n.field-0.0 (c.in_err-n.ensures.told t).1 whole steady)
+returns-in_err-n g c = λ some E told none steady.
+    let copied = c.in_err-n.ensures in
+    absurd (copies_steadily g.row.S c.in_err-n.field-0.0 copied.takes told none copied.ends steady)
 
 pub returns-in_err-flush : goal.returns-in_err-flush
-returns-in_err-flush g c = grind (arith, common_steps, Moves-steady, stays_steady)
+returns-in_err-flush g c = λ some E told none steady.
+    absurd (Moves-steady (stays_steady steady c.in_ok-n.ensures.ends.3) c.in_err-flush.ensures.law.moves)

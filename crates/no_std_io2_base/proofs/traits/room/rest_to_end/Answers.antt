@@ -3,6 +3,7 @@ use Rattle.std.proofs.Common.{Ok, Err, arith, refl, sym, ◌∙◌, le_refl}
 use Rattle.std.proofs.lemmas.Result.{err_from_is_err_and}
 use Rattle.no_std_io2_base.proofs.ReadToEndLoop.{wrote, to_end_none, to_end_read, to_end_interruption, to_end_done, to_end_fault}
 use Rattle.no_std_io2_base.proofs.ReadToEndLoop.{to_end_then}
+use Rattle.no_std_io2_base.proofs.TakesLemmas.{read_spends}
 use Rattle.no_std_io2_base.proofs.traits.room.rest_to_end.Goals as goal
 
 pub reads-init : goal.reads-init
@@ -18,7 +19,7 @@ returns-in-Ok-eq0 g c =
     let w = wrote room.within c.open_room.new.buf.ok.0 c.deref_mut.ensures.value c.read.auto.buf room.front
     c.in_ok-open_room.ensures.room in
     record {
-      law = to_end_done c.reads.invariant g.met.R.Read.store_tells c.read.ensures.law c.in-Ok-eq0.is c.in-Ok-eq0.field-0-test w.some
+      law = to_end_done c.reads.invariant c.read.ensures.law c.in-Ok-eq0.is c.in-Ok-eq0.field-0-test w.some
           (c.truncate.ensures.items ∙ w.kept) (omega (arith, room.grows, c.truncate.ensures.capacity)) c.len-start.ensures;
     }
 
@@ -28,7 +29,7 @@ returns-in-Err-2 g c =
     let w = wrote room.within c.open_room.new.buf.ok.0 c.deref_mut.ensures.value c.read.auto.buf room.front
     c.in_ok-open_room.ensures.room in
     record {
-      law = to_end_fault c.reads.invariant g.met.R.Read.store_tells c.in-Err.ensures.law
+      law = to_end_fault c.reads.invariant c.in-Err.ensures.law
           (sym c.is_interrupted.ensures ∙ c.if-is_interrupted.false) w.some (c.truncate-in-Err-2.ensures.items ∙ w.kept)
           (omega (arith, room.grows, c.truncate-in-Err-2.ensures.capacity));
     }
@@ -38,14 +39,14 @@ reads-preserved-in-Ok g c =
     let room = c.open_room.ensures in
     let w = wrote room.within c.open_room.new.buf.ok.0 c.deref_mut.ensures.value c.read.auto.buf room.front
     c.in_ok-open_room.ensures.room in
-    to_end_read c.reads.invariant g.met.R.Read.store_tells c.in-Ok.ensures.law c.in-Ok.n-test.1 w room.grows
+    to_end_read c.reads.invariant c.in-Ok.ensures.law c.in-Ok.n-test.1 w room.grows
 
 pub reads-preserved : goal.reads-preserved
 reads-preserved g c =
     let room = c.open_room.ensures in
     let w = wrote room.within c.open_room.new.buf.ok.0 c.deref_mut.ensures.value c.read.auto.buf room.front
     c.in_ok-open_room.ensures.room in
-    to_end_interruption c.reads.invariant g.met.R.Read.store_tells c.in-Err.ensures.law
+    to_end_interruption c.reads.invariant c.in-Err.ensures.law
     (sym c.is_interrupted.ensures ∙ c.if-is_interrupted.true) w room.grows
 
 pub returns-in_err-read_to_end : goal.returns-in_err-read_to_end
@@ -61,5 +62,8 @@ returns g c =
     let last = c.in_ok-read_to_end.ensures.law in
     record {
       law = to_end_then c.reads.invariant (Ok _) _ (omega (arith, c.reads-test.false, c.capacity.ensures, c.reads.buf.ok.1)) last
-          (omega (arith, last.count, c.reads.invariant.grows, c.reads.invariant.within));
+          (omega arith);
     }
+
+pub reads-smaller-in-Ok : goal.reads-smaller-in-Ok
+reads-smaller-in-Ok g c = read_spends c.in-Ok.ensures.law c.in-Ok.n-test.1

@@ -1,22 +1,10 @@
--- The call of the inner reader; of the calls nothing is said.
-use Rattle.no_std_io2.proofs.ReadCalls.{to_end_own}
+-- What the call did to the inner reader, it did to this one; of the calls nothing more is said.
+use Rattle.std.proofs.Common.{refl}
+use Rattle.no_std_io2.proofs.Forwards.{to_end_through}
 use Rattle.rows_play.proofs.noted.NotedRead.read_to_end.Goals as goal
 
 pub returns : goal.returns
-returns g c =
-    let read = c.read_to_end.ensures.law in
-    record {
-      law = record {
-        told = read.told;
-        appends = read.appends;
-        count = read.count;
-        capacity = read.capacity;
-        room = read.room;
-        never_interrupted = read.never_interrupted;
-        turns_never_rise = read.turns_never_rise;
-        spends_turn = read.spends_turn;
-        filling = read.filling;
-        store = read.store;
-        calls = to_end_own c.args.buf.now read.appends tt;
-      };
-    }
+returns g c = record {
+  law = to_end_through (λ v. record c.args.self.now { inner = v }) (record { told = λ x. refl; may = λ x y call may. tt })
+      c.read_to_end.ensures.law;
+}

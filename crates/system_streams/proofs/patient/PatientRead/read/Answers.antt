@@ -1,50 +1,27 @@
+-- With some room and more than one turn, it is one read of the device.
 use Rattle.std.proofs.Common.{◌<◌, length, arith, rules, Ok, Err}
-use Rattle.no_std_io2.proofs.EventLemmas.{not_empty}
+use Rattle.no_std_io2.proofs.WriteExits.{not_empty}
 use Rattle.system_streams.specs.Patient.{patient_turns}
-use Rattle.system_streams.proofs.LoopLemmas.{asks_device}
+use Rattle.system_streams.proofs.LoopLemmas.{asks_once}
 use Rattle.system_streams.proofs.patient.PatientRead.read.Goals as goal
 
 pub returns-in-Ok-eq0-clause-law : goal.returns-in-Ok-eq0-clause-law
 returns-in-Ok-eq0-clause-law g c =
     let some : 0 < length c.ask_read.new.buf = omega (arith, not_empty _ _ c.is_empty.ensures c.if-is_empty.false, c.ask_read.auto.buf) in
     let more : 1 < patient_turns c.args.self.now = omega (arith, c.if-self-eq0.false, c.if-self-eq1.false) in
-    record {
-      bound = search rules;
-      told = λ t. absurd t;
-      turns_never_rise = search rules;
-      spends_turn = search rules;
-      fills = λ f. absurd f;
-      store = λ s. absurd s;
-      call = asks_device g.D.SystemRead (Ok 0) some more c.ask_read.ensures.may (search rules) (search rules) (search rules)
-          (search rules);
-    }
+    asks_once g.D.SystemRead (Ok 0) some more c.ask_read.ensures.may (search rules) (search rules) (search rules) (search rules)
+    (search rules) (search rules)
 
 pub returns-in-Ok-clause-law : goal.returns-in-Ok-clause-law
 returns-in-Ok-clause-law g c =
     let some : 0 < length c.ask_read.new.buf = omega (arith, not_empty _ _ c.is_empty.ensures c.if-is_empty.false, c.ask_read.auto.buf) in
     let more : 1 < patient_turns c.args.self.now = omega (arith, c.if-self-eq0.false, c.if-self-eq1.false) in
-    record {
-      bound = search rules;
-      told = λ t. absurd t;
-      turns_never_rise = search rules;
-      spends_turn = search rules;
-      fills = λ f. absurd f;
-      store = λ s. absurd s;
-      call = asks_device g.D.SystemRead (Ok c.in-Ok.n) some more c.ask_read.ensures.may (search rules) (search rules) (search rules)
-          (search rules);
-    }
+    asks_once g.D.SystemRead (Ok c.in-Ok.n) some more c.ask_read.ensures.may (search rules) (search rules) (search rules) (search rules)
+    (search rules) (search rules)
 
 pub returns-in-Err-clause-law : goal.returns-in-Err-clause-law
 returns-in-Err-clause-law g c =
     let some : 0 < length c.ask_read.new.buf = omega (arith, not_empty _ _ c.is_empty.ensures c.if-is_empty.false, c.ask_read.auto.buf) in
     let more : 1 < patient_turns c.args.self.now = omega (arith, c.if-self-eq0.false, c.if-self-eq1.false) in
-    record {
-      bound = search rules;
-      told = λ t. absurd t;
-      turns_never_rise = search rules;
-      spends_turn = search rules;
-      fills = λ f. absurd f;
-      store = λ s. absurd s;
-      call = asks_device g.D.SystemRead (Err c.device_error.result) some more c.ask_read.ensures.may (search rules) (search rules) (search rules)
-          (search rules);
-    }
+    asks_once g.D.SystemRead (Err c.device_error.result) some more c.ask_read.ensures.may (search rules) (search rules) (search rules)
+    (search rules) (search rules) (search rules)

@@ -1,11 +1,14 @@
-use Rattle.std.proofs.Common.{◌≡◌, ℕ, ◌∙◌, ap, sym, subst, refl, vec_items, Global, true, false, not, [], ◌∷◌, ◌++◌, Some, Ok, arith}
+use Rattle.std.proofs.Common.{◌≡◌, ◌∙◌, ap, sym, subst, refl, true, false, not, [], ◌∷◌, ◌++◌, Some, Ok, arith}
 use Rattle.std.specs.Prelude.{is_some}
 use Rattle.std.proofs.lemmas.Result.{err_from_is_err_and}
-use Rattle.no_std_io2.specs.Pieces.{without, split_reader, split_delim, ends_at}
-use Rattle.io_bench.proofs.PieceRunLemmas.{none_gathered, one_gathered, all_gathered, yields_at}
 use Rattle.std.specs.Option.{IfSome}
+use Rattle.no_std_io2.specs.Read.{tells}
+use Rattle.no_std_io2.specs.Pieces.{without, split_reader, split_delim, ends_at}
+use Rattle.no_std_io2.proofs.Readers.{reader}
+use Rattle.no_std_io2.proofs.GivenPieces.{next_item, next_none, next_error}
+use Rattle.io_bench.proofs.PieceRunLemmas.{none_gathered, one_gathered, all_gathered, law_at, if_told}
 use Rattle.tower_play.specs.Reading.{Adds, AddsAll, IsBadLine, IsFirstBad}
-use Rattle.tower_play.proofs.ReadLemmas.{adds_more, count_more, first_more, first_here, stopped, is_none}
+use Rattle.tower_play.proofs.ReadLemmas.{adds_more, count_more, first_more, first_here, stopped, if_stopped, is_none}
 use Rattle.tower_play.proofs.script.Script.read.Goals as goal
 use Rattle.tower_play.proofs.script.Script.read.Goals.{then-is_none+in_ok-add_line+then-not-branch, else-is_none}
 use Rattle.tower_play.proofs.script.Script.read.Goals.{else-is_none-via-then-is_none+in_ok-add_line+else-not-branch}
@@ -14,19 +17,16 @@ use Rattle.tower_play.proofs.script.Script.read.Goals.{else-is_none-via-else-is_
 pub lines-init : goal.lines-init
 lines-init g c =
     let e = c.into_iter-line-iterator.ensures.into_iter_gives in
-    let R = g.R.Read in
     let d = split_delim c.args.lines in
-    let E = R.events (split_reader c.args.lines) in
     record {
       number = tt;
-      told = λ fresh t.
+      read = λ fresh.
           rw e (
             fresh,
             refl,
-            t,
             record {
               lines = [];
-              gathered = none_gathered (without d) d E;
+              gathered = none_gathered (without d) d (tells (reader g.R.Stored g.R.Read) (split_reader c.args.lines));
               start = _;
               fresh = record { acts = c.new.ensures.items; steps = c.new-2.ensures.items; texts = c.new-3.ensures.items };
               adds = λ _. refl;
@@ -38,33 +38,27 @@ lines-init g c =
 
 pub lines-preserved : goal.lines-preserved
 lines-preserved g c =
-    let R = g.R.Read in
     let d = split_delim c.args.lines in
-    let E = R.events (split_reader c.args.lines) in
     let item = c.in_ok-line.line in
     let is : c.next.result ≡ Some (Ok item) = c.in-Some.is ∙ ap Some c.in_ok-line.was in
-    let next = c.next.ensures.steps in
     record {
       number =
           elim c.if-is_none.branch [
             | then-is_none+in_ok-add_line+then-not-branch w ↦ rw w.bad-is (omega (arith, c.saturating_add-number.ensures))
             | else-is_none w ↦ rw w.bad-is c.lines.invariant.number
           ];
-      told = λ fresh t.
-          let so_far = c.lines.invariant.told fresh t in
-          let step = next.1 so_far.0 in
-          let told = step.1 so_far.2 in
-          let so = so_far.3 in (
-            step.0 ∙ ap ends_at is,
-            next.2 ∙ so_far.1,
-            told.0,
+      read = λ fresh.
+          let so_far = c.lines.invariant.read fresh in
+          let so = so_far.2 in
+          let next = c.next.ensures.steps.1 so_far.0 in (
+            next.0 ∙ ap ends_at is,
+            c.next.ensures.steps.2 ∙ so_far.1,
             record {
               lines = so.lines ++ item.items ∷ [];
-              gathered =
-                  one_gathered (vec_items {X = ℕ} {Z = Global}) (without d) (λ _ _. ⊥) d E so.lines (so.lines ++ item.items ∷ [])
-                  (R.events (split_reader c.lines.line-iterator)) item (R.events (split_reader c.next.new.self)) refl so.gathered
-                  (yields_at (vec_items {X = ℕ} {Z = Global}) without (λ _ _. ⊥) (split_delim c.lines.line-iterator) d
-                  (R.events (split_reader c.lines.line-iterator)) _ _ (R.events (split_reader c.next.new.self)) so_far.1 is told.1);
+              gathered = λ E told.
+                  let (mid, still, gathered) = so.gathered E told in
+                  let (after, left, (piece, trimmed, gives)) = next_item still (law_at without so_far.1 is next.1) in
+                  (after, left, one_gathered (without d) d piece refl gathered trimmed gives);
               start = so.start;
               fresh = so.fresh;
               adds = λ none.
@@ -102,50 +96,42 @@ lines-preserved g c =
     }
 
 pub returns-in-None-bad-clause-read : goal.returns-in-None-bad-clause-read
-returns-in-None-bad-clause-read g c = λ fresh t.
-    let R = g.R.Read in
+returns-in-None-bad-clause-read g c = λ fresh.
     let d = split_delim c.args.lines in
-    let E = R.events (split_reader c.args.lines) in
-    let so_far = c.lines.invariant.told fresh t in
-    let so = so_far.3 in
-    let told = (c.next.ensures.steps.1 so_far.0).1 so_far.2 in
+    let so_far = c.lines.invariant.read fresh in
+    let so = so_far.2 in
+    let next = c.next.ensures.steps.1 so_far.0 in
+    if_told _ (λ E told.
+    let (mid, still, gathered) = so.gathered E told in
     record {
       lines = so.lines;
-      all =
-          all_gathered (vec_items {X = ℕ} {Z = Global}) (without d) (λ _ _. ⊥) d E so.lines so.lines
-          (R.events (split_reader c.lines.line-iterator)) (R.events (split_reader c.next.new.self)) refl so.gathered
-          (yields_at (vec_items {X = ℕ} {Z = Global}) without (λ _ _. ⊥) (split_delim c.lines.line-iterator) d
-          (R.events (split_reader c.lines.line-iterator)) _ _ (R.events (split_reader c.next.new.self)) so_far.1 c.in-None.is told.1);
+      all = all_gathered (without d) d refl gathered (next_none still (law_at without so_far.1 c.in-None.is next.1));
       start = so.start;
       fresh = so.fresh;
       adds = so.adds c.in-None-bad.is;
-    }
+    })
 
 pub returns-in-Some-bad-clause-first : goal.returns-in-Some-bad-clause-first
-returns-in-Some-bad-clause-first g c = λ fresh t.
-    let R = g.R.Read in
+returns-in-Some-bad-clause-first g c = λ fresh.
     let d = split_delim c.args.lines in
-    let so_far = c.lines.invariant.told fresh t in
-    let so = so_far.3 in
-    let told = (c.next.ensures.steps.1 so_far.0).1 so_far.2 in
+    let so_far = c.lines.invariant.read fresh in
+    let so = so_far.2 in
+    let next = c.next.ensures.steps.1 so_far.0 in
+    if_told _ (λ E told.
+    let (mid, still, gathered) = so.gathered E told in
     record {
       lines = so.lines;
-      all =
-          all_gathered (vec_items {X = ℕ} {Z = Global}) (without d) (λ _ _. ⊥) d (R.events (split_reader c.args.lines)) so.lines
-          so.lines (R.events (split_reader c.lines.line-iterator)) (R.events (split_reader c.next.new.self)) refl so.gathered
-          (yields_at (vec_items {X = ℕ} {Z = Global}) without (λ _ _. ⊥) (split_delim c.lines.line-iterator) d
-          (R.events (split_reader c.lines.line-iterator)) _ _ (R.events (split_reader c.next.new.self)) so_far.1 c.in-None.is told.1);
+      all = all_gathered (without d) d refl gathered (next_none still (law_at without so_far.1 c.in-None.is next.1));
       first = subst (λ b. IfSome b (IsFirstBad so.lines)) c.in-Some-bad.is so.first;
-    }
+    })
 
 pub returns-in_err-line-clause-stops : goal.returns-in_err-line-clause-stops
-returns-in_err-line-clause-stops g c = λ fresh t.
-    let R = g.R.Read in
-    let so_far = c.lines.invariant.told fresh t in
-    let told = (c.next.ensures.steps.1 so_far.0).1 so_far.2 in
-    let no_line =
-    yields_at (vec_items {X = ℕ} {Z = Global}) without (λ _ _. ⊥) (split_delim c.lines.line-iterator) (split_delim c.args.lines)
-    (R.events (split_reader c.lines.line-iterator)) _ _ (R.events (split_reader c.next.new.self)) so_far.1
-    (c.in-Some.is ∙ ap Some c.in_err-line.was) told.1 in
+returns-in_err-line-clause-stops g c = λ fresh.
+    let so_far = c.lines.invariant.read fresh in
+    let next = c.next.ensures.steps.1 so_far.0 in
+    let is = c.in-Some.is ∙ ap Some c.in_err-line.was in
     let p = err_from_is_err_and c.from_residual.result c.from_residual.ensures.1 in
-    rw (p.1, p.2) (stopped so_far.3.gathered no_line)
+    rw (p.1, p.2)
+    (if_stopped _ (λ E told.
+    let (mid, still, gathered) = so_far.2.gathered E told in
+    stopped gathered (next_error still (law_at without so_far.1 is next.1))))

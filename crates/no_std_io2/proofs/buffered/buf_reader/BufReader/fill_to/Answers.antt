@@ -1,39 +1,50 @@
+-- Reads until enough bytes are held: after each read, and at the three ends.
 use Rattle.std.proofs.Common.{sym, ◌∙◌, arith}
-use Rattle.no_std_io2_base.proofs.Readers.{reader}
-use Rattle.no_std_io2.proofs.FillToLemmas.{filled_none, filled_more, filled_again, fills_fault, fills_end, fills_enough}
+use Rattle.no_std_io2.specs.BufReader.{reader_behind}
+use Rattle.no_std_io2.proofs.FillToLemmas.{filled_none, filled_more, filled_again, fills_fault, fills_end, fills_enough, none_behind}
+use Rattle.no_std_io2.proofs.FillToLemmas.{fills_store, fills_turns, spends_more, spends_again}
 use Rattle.no_std_io2.proofs.buffered.buf_reader.BufReader.fill_to.Goals as goal
 
 pub reads-init : goal.reads-init
-reads-init g c = filled_none (reader g.R.Stored g.R.Read) c.args.self.now
+reads-init g c = filled_none c.args.self.now
 
 pub reads-preserved-in-Ok : goal.reads-preserved-in-Ok
 reads-preserved-in-Ok g c =
     let read = c.in-Ok.ensures in
-    filled_more (reader g.R.Stored g.R.Read) g.met.R.Read.store_tells c.reads.invariant _ (omega arith) c.requires read.read read.behind c.in-Ok.field-0-test.1
+    filled_more c.reads.invariant (omega arith) c.requires read.read read.behind c.in-Ok.field-0-test.1
 
 pub reads-preserved : goal.reads-preserved
 reads-preserved g c =
     let read = c.in-Err.ensures in
-    filled_again (reader g.R.Stored g.R.Read) g.met.R.Read.store_tells c.reads.invariant _ (omega arith) c.requires read.read read.behind
+    filled_again c.reads.invariant (omega arith) c.requires read.read read.behind
     (sym c.is_interrupted.ensures ∙ c.if-is_interrupted.true)
+
+pub reads-smaller-in-Ok : goal.reads-smaller-in-Ok
+reads-smaller-in-Ok g c = spends_more c.in-Ok.ensures.read c.in-Ok.field-0-test.1
+
+pub reads-smaller : goal.reads-smaller
+reads-smaller g c = spends_again c.in-Err.ensures.read
 
 pub returns-in-Err-2 : goal.returns-in-Err-2
 returns-in-Err-2 g c =
     let read = c.in-Err.ensures in
-    record {
-      fills = fills_fault (reader g.R.Stored g.R.Read) g.met.R.Read.store_tells c.reads.invariant _ (omega arith) c.requires read.read read.behind
-          (sym c.is_interrupted.ensures ∙ c.if-is_interrupted.false);
-    }
+    let fills = fills_fault c.reads.invariant (omega arith) c.requires read.read
+    (sym c.is_interrupted.ensures ∙ c.if-is_interrupted.false) in
+    let behind = none_behind (reader_behind c.args.self.now) read.behind in
+    record { fills = fills; store = fills_store fills _ behind; turns = fills_turns fills }
 
 pub returns-in-Ok-eq0 : goal.returns-in-Ok-eq0
 returns-in-Ok-eq0 g c =
     let read = c.read_on.ensures in
-    record {
-      fills = fills_end (reader g.R.Stored g.R.Read) g.met.R.Read.store_tells c.reads.invariant _ (omega arith) c.requires read.read
-          read.behind c.in-Ok-eq0.is (omega arith);
-    }
+    let fills = fills_end c.reads.invariant (omega arith) c.requires read.read c.in-Ok-eq0.is (omega arith) in
+    let behind = none_behind (reader_behind c.args.self.now) read.behind in
+    record { fills = fills; store = fills_store fills _ behind; turns = fills_turns fills }
 
 pub returns : goal.returns
-returns g c = record {
-  fills = fills_enough (reader g.R.Stored g.R.Read) g.met.R.Read.store_tells c.reads.invariant (omega (arith, c.reads-test.false));
-}
+returns g c =
+    let fills = fills_enough c.reads.invariant (omega (arith, c.reads-test.false)) in
+    record {
+      fills = fills;
+      store = fills_store fills c.reads.invariant.front c.reads.invariant.behind;
+      turns = fills_turns fills;
+    }

@@ -1,5 +1,6 @@
 -- There is room for the record, which is then held; or no room could be made.
-use Rattle.std.proofs.Common.{◌≡◌, ℕ, ◌+◌, ◌<◌, List, [], ◌∷◌, ◌++◌, length, Ok, Err, refl, sym, ap, subst, ◌∙◌, arith, append_assoc, length-append}
+use Rattle.std.proofs.Common.{◌≡◌, ℕ, ◌+◌, ◌<◌, List, [], ◌∷◌, ◌++◌, length, Ok, Err, refl, sym, ap, subst, ◌∙◌, arith, append_assoc}
+use Rattle.std.proofs.Common.{length-append}
 use Rattle.std.proofs.lemmas.Result.{err_from_is_err_and}
 use Rattle.no_std_io2_base.specs.declared.error.Error.{Error}
 use Rattle.no_std_io2_base.specs.Writers.{Writer}
@@ -48,7 +49,8 @@ returns-in_err-make_room g c =
 pub returns : goal.returns
 returns g c =
     let made = c.in_ok-make_room.ensures in record {
-      puts = room g.W.Write c.args.head.now c.args.tail.now refl c.make_room.new.self (record { core = c.hold-2.new.self }) c.requires made.calls made.moves
+      puts = room g.W.Write c.args.head.now c.args.tail.now refl c.make_room.new.self
+          (record { core = c.hold-2.new.self }) c.requires made.calls made.moves
           (c.hold-2.ensures.same ∙ c.hold.ensures.same)
           (c.hold-2.ensures.buffer ∙ ap (λ l. l ++ c.args.tail.now) c.hold.ensures.buffer);
     }

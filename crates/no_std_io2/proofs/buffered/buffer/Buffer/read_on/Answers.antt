@@ -1,10 +1,12 @@
 -- The bytes that were read lie behind the held bytes, which are at the front.
-use Rattle.std.proofs.Common.{◌≡◌, ℕ, ◌+◌, ◌-◌, ◌≤◌, List, ◌++◌, length, take, drop, slice_range, refl, sym, ap, subst, ◌∙◌, arith}
-use Rattle.std.proofs.Common.{length-take, length-drop}
+use Rattle.std.proofs.Common.{◌≡◌, ℕ, ◌+◌, ◌-◌, ◌≤◌, List, ◌++◌, Ok, Err, length, take, drop, slice_range, refl, sym, ap, subst, ◌∙◌, arith}
+use Rattle.std.proofs.Common.{length-take, length-drop, length-take-le}
 use Rattle.std.proofs.lemmas.Result.{err_from_is_err_and}
 use borrow.Rule.Slice.PartMut.{put_mid}
+use Rattle.no_std_io2_base.specs.Read.{GaveLaw}
 use Rattle.no_std_io2_base.proofs.ReadParts.{take-put_mid}
-use Rattle.no_std_io2.proofs.BufReaderTurns.{held_read}
+use Rattle.no_std_io2_base.proofs.Readers.{reader}
+use Rattle.no_std_io2_base.proofs.TakesLemmas.{read_law}
 use Rattle.no_std_io2.proofs.buffered.buffer.Buffer.read_on.Goals as goal
 
 -- the bytes from the front to the end, after n bytes were put behind it
@@ -12,11 +14,14 @@ held_on : (xs ys : List ℕ) (start end n k : ℕ) → start ≡ 0 → end ≤ l
     → slice_range (put_mid end k xs ys) start (end + n) ≡ slice_range xs start end ++ take n ys
 held_on xs ys start end n k zero within fits =
     subst (λ s. slice_range (put_mid end k xs ys) s (end + n) ≡ slice_range xs s end ++ take n ys) (sym zero)
-    (held_read (end + n) (put_mid end k xs ys) ∙ take-put_mid end k n xs ys within fits ∙ ap (λ l. l ++ take n ys) (sym (held_read end xs)))
+    (front (end + n) (put_mid end k xs ys) ∙ take-put_mid end k n xs ys within fits ∙ ap (λ l. l ++ take n ys) (sym (front end xs)))
+  where
+    front : (m : ℕ) (l : List ℕ) → take (m - 0) l ≡ take m l
+    front m l = let same : m - 0 ≡ m = omega arith in ap (λ k. take k l) same
 
 -- the room behind them
 room_on : (xs ys : List ℕ) (start end size : ℕ) → start ≡ 0 → end ≤ size → length xs ≡ size
-    → length ys ≡ length (take (length xs - end) (drop end xs)) → length (slice_range xs start end) + length ys ≡ size
+    → length ys ≡ length (take (length xs - end) (drop end xs)) → length ys ≡ size - length (slice_range xs start end)
 room_on xs ys start end size zero within long room = omega (
   arith,
   zero,
@@ -39,14 +44,12 @@ returns-in_err-n-clause-read g c =
     (omega (arith, long, was.in_range)) (omega arith) in
     let end : was.end ≡ was.end + 0 = omega arith in
     rw (p.1, p.2) (record {
-      buf = take (length was.bytes - was.end) (drop was.end was.bytes);
-      buf' = c.read.new.buf;
-      law = c.in_err-n.ensures.law;
-      room = (
-        ap (λ l. length l + length c.read.new.buf) (sym first.same)
-            ∙ room_on was.bytes c.read.new.buf was.start was.end g.row.S first.start was.in_range long c.read.auto.buf,
-        sym c.read.auto.buf,
-      );
+      answer = Err c.in_err-n.field-0.0;
+      read = subst (λ k. GaveLaw (reader g.R.Stored g.R.Read) c.args.from.now k (Err c.in_err-n.field-0.0) c.read.new.self)
+          (room_on was.bytes c.read.new.buf was.start was.end g.row.S first.start was.in_range long c.read.auto.buf
+          ∙ ap (λ l. g.row.S - length l) first.same)
+          (read_law (Err _) c.in_err-n.ensures.law);
+      number = refl;
       holds = ap (slice_range (put_mid was.end (length was.bytes - was.end) was.bytes c.read.new.buf) was.start) end ∙ on
           ∙ ap (λ l. l ++ take 0 c.read.new.buf) first.same;
     })
@@ -56,17 +59,16 @@ returns-clause-read g c =
     let was = c.move_to_front.new.self in
     let first = c.move_to_front.ensures in
     let law = c.in_ok-n.ensures.law in
+    let n = c.in_ok-n.n in
     let long : length was.bytes ≡ g.row.S = omega arith in
-    let on = held_on was.bytes c.read.new.buf was.start was.end c.in_ok-n.n (length was.bytes - was.end) first.start
+    let on = held_on was.bytes c.read.new.buf was.start was.end n (length was.bytes - was.end) first.start
     (omega (arith, long, was.in_range)) law.bound in
     record {
-      buf = take (length was.bytes - was.end) (drop was.end was.bytes);
-      buf' = c.read.new.buf;
-      law = law;
-      room = (
-        ap (λ l. length l + length c.read.new.buf) (sym first.same)
-            ∙ room_on was.bytes c.read.new.buf was.start was.end g.row.S first.start was.in_range long c.read.auto.buf,
-        sym c.read.auto.buf,
-      );
-      holds = on ∙ ap (λ l. l ++ take c.in_ok-n.n c.read.new.buf) first.same;
+      answer = Ok (take n c.read.new.buf);
+      read = subst (λ k. GaveLaw (reader g.R.Stored g.R.Read) c.args.from.now k (Ok (take n c.read.new.buf)) c.read.new.self)
+          (room_on was.bytes c.read.new.buf was.start was.end g.row.S first.start was.in_range long c.read.auto.buf
+          ∙ ap (λ l. g.row.S - length l) first.same)
+          (read_law (Ok n) law);
+      number = ap Ok (sym (length-take-le n c.read.new.buf law.bound));
+      holds = on ∙ ap (λ l. l ++ take n c.read.new.buf) first.same;
     }

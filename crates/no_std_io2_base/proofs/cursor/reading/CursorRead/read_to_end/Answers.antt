@@ -1,64 +1,50 @@
 -- The appended bytes are a front of those that the cursor had left, and its position is right after them.
-use Rattle.std.proofs.Common.{◌+◌, ◌<◌, length, vec_len, vec_capacity, refl, sym, ap, subst, arith}
+use Rattle.std.proofs.Common.{◌≡◌, ◌+◌, ◌-◌, ◌++◌, Ok, Err, arith, ap, sym, ◌∙◌, length, length-append, drop}
 use Rattle.std.proofs.lemmas.Result.{err_from_is_err_and}
-use Rattle.no_std_io2_base.proofs.ReadCalls.{to_end_own}
-use Rattle.no_std_io2_base.proofs.PieceLemmas.{memory_fault}
-use Rattle.no_std_io2_base.proofs.SliceReads.{moved_whole, moved_part, never_refused, left_behind, place_behind}
-use Rattle.no_std_io2_base.proofs.SliceReads.{front_stays, longer_by, fewer_behind, fewer_left}
+use Rattle.no_std_io2_base.specs.Cursor.{cursor_left}
+use Rattle.no_std_io2_base.proofs.StoreLemmas.{takes_at, told_at, behind_at}
+use Rattle.no_std_io2_base.proofs.InMemoryReads.{to_end_part}
 use Rattle.no_std_io2_base.proofs.cursor.reading.CursorRead.read_to_end.Goals as goal
 
 pub returns-in_err-answer : goal.returns-in_err-answer
 returns-in_err-answer g c =
     let p = err_from_is_err_and c.from_residual.result c.from_residual.ensures.1 in
-    let content = g.T.AsSlice.slice c.args.self.now.inner in
-    let start = c.args.self.now.pos in
-    let left = c.left-rest.ensures.left in
+    let here = c.args.self.now in
+    let content = g.T.AsSlice.slice here.inner in
     let said = c.in_err-answer.ensures in
-    let behind = left_behind content start _ left said.moved in
+    let part = said.moved.0 in
+    let left = sym c.left-rest.ensures.left ∙ said.moved.1 in
+    let rest = c.append_rest-answer.new.rest.now in
+    let now = here.pos + (length c.left-rest.result.now - length rest) in
+    let moved : now ≡ here.pos + length part = omega (arith, ap length said.moved.1, length-append part rest) in
+    let behind = behind_at content here.pos now part rest left moved in
+    let split : drop here.pos content ≡ part ++ drop now content = left ∙ ap (λ l. part ++ l) (sym behind) in
     rw (p.1, p.2) (record {
-      law = record {
-        told = λ _. rw (behind, sym left) (tt, moved_part _ said.moved said.refused);
-        appends = front_stays said.moved c.args.buf.now.ok.0;
-        count = tt;
-        capacity = said.grows;
-        room = λ _ enough. absurd (never_refused _ _ enough (subst
-            (λ l. vec_capacity c.args.buf.now < vec_len c.args.buf.now + length l + 32) left said.full));
-        never_interrupted = memory_fault _ said.refused;
-        turns_never_rise = fewer_behind start _ content;
-        spends_turn = λ more.
-            let spent = fewer_left _ said.moved c.args.buf.now.ok.0 c.append_rest-answer.new.buf.ok.0 more in
-            omega (arith, spent, ap length behind, ap length left);
-        filling = λ h. h;
-        store = λ h.
-            let place = place_behind content start _ h.0 h.1 left said.moved in
-            ((h.0, place.0), refl, place.1);
-        calls = to_end_own c.args.buf.now (front_stays said.moved c.args.buf.now.ok.0) tt;
-      };
+      law = to_end_part {left = cursor_left g.T.AsSlice.slice} (record {
+        split = split;
+        takes = takes_at content here.pos now part split moved;
+        told = told_at content now;
+      }) (Err _) said.moved.2 tt (said.refused, said.full) said.grows (split, tt);
     })
 
 pub returns : goal.returns
 returns g c =
-    let content = g.T.AsSlice.slice c.args.self.now.inner in
-    let start = c.args.self.now.pos in
-    let left = c.left-rest.ensures.left in
+    let here = c.args.self.now in
+    let content = g.T.AsSlice.slice here.inner in
     let said = c.in_ok-answer.ensures in
-    let behind = left_behind content start _ left said.moved in
+    let part = said.moved.0 in
+    let left = sym c.left-rest.ensures.left ∙ said.moved.1 in
+    let rest = c.append_rest-answer.new.rest.now in
+    let now = here.pos + (length c.left-rest.result.now - length rest) in
+    let whole = ap length said.moved.1 ∙ length-append part rest in
+    let moved : now ≡ here.pos + length part = omega (arith, whole) in
+    let behind = behind_at content here.pos now part rest left moved in
+    let split : drop here.pos content ≡ part ++ drop now content = left ∙ ap (λ l. part ++ l) (sym behind) in
+    let none = behind ∙ said.done in
     record {
-      law = record {
-        told = λ _. rw (behind, sym left) (tt, moved_whole _ said.moved said.done);
-        appends = front_stays said.moved c.args.buf.now.ok.0;
-        count = longer_by _ said.moved said.done c.args.buf.now.ok.0 c.append_rest-answer.new.buf.ok.0;
-        capacity = said.grows;
-        room = λ _ enough. tt;
-        never_interrupted = tt;
-        turns_never_rise = fewer_behind start _ content;
-        spends_turn = λ more.
-            let spent = fewer_left _ said.moved c.args.buf.now.ok.0 c.append_rest-answer.new.buf.ok.0 more in
-            omega (arith, spent, ap length behind, ap length left);
-        filling = λ h. h;
-        store = λ h.
-            let place = place_behind content start _ h.0 h.1 left said.moved in
-            ((h.0, place.0), refl, place.1);
-        calls = to_end_own c.args.buf.now (front_stays said.moved c.args.buf.now.ok.0) tt;
-      };
+      law = to_end_part {left = cursor_left g.T.AsSlice.slice} (record {
+        split = split;
+        takes = takes_at content here.pos now part split moved;
+        told = told_at content now;
+      }) (Ok _) said.moved.2 (omega (arith, whole, ap length said.done), none) tt said.grows (split, none);
     }

@@ -9,13 +9,9 @@ returns g c =
         refl,
         λ _. tt,
         record {
-          lends = search rules;
-          told = search rules;
-          turns_never_rise = search rules;
-          spends_turn = search rules;
+          lends = after.lends;
+          takes = search rules;
           unchanged = λ some. ap (λ v. record c.args.self.now { value = v }) (after.unchanged (search rules) ∙ c.as_mut.ensures.value);
-          filling = search rules;
-          store = search rules;
           call = search rules;
         },
       ),

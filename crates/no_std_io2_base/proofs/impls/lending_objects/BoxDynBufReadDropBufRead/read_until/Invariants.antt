@@ -1,13 +1,13 @@
 -- As the trait's: it ends with its reader's turns.
-use Rattle.no_std_io2_base.proofs.Readers.{box_reader, holds_alone, lends_as}
+use Rattle.no_std_io2_base.proofs.Readers.{lends}
+use Rattle.no_std_io2_base.proofs.BoxedObjects.{box_lender}
 use Rattle.no_std_io2_base.proofs.PieceLoop.{UntilSoFar}
 use Rattle.no_std_io2_base.proofs.impls.lending_objects.BoxDynBufReadDropBufRead.read_until.Given as goal
 
 abbrev pub invariant-pieces : goal.invariant-pieces
 invariant-pieces g l =
     let o = goal.BufRead-dyn g in
-    UntilSoFar (lends_as (box_reader (λ p. (o p).Read)) (holds_alone (λ b. (o (b.vtable, b.value)).BufRead.held b.value)))
-    l.delim l.fn.self l.fn.buf l.buf l.self
+    UntilSoFar (box_lender (λ p. lends (o p).Stored (o p).Read (o p).BufRead)) l.delim l.fn.self l.fn.buf l.buf l.self
 
 abbrev pub decreases-pieces : goal.decreases-pieces
 decreases-pieces g l = (goal.BufRead-dyn g (l.self.vtable, l.self.value)).Read.turns l.self.value

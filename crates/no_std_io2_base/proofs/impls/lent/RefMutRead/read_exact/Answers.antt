@@ -1,12 +1,11 @@
 -- What the call did to the target, it did to the reference.
-use Rattle.std.proofs.Common.{ap, rules}
-use Rattle.std.specs.Borrow.{MutBor}
-use Rattle.no_std_io2_base.proofs.ReadCalls.{exact_map}
+use Rattle.std.proofs.Common.{refl}
+use Rattle.no_std_io2_base.proofs.Forwards.{exact_through}
 use Rattle.no_std_io2_base.proofs.impls.lent.RefMutRead.read_exact.Goals as goal
 
 pub returns : goal.returns
 returns g c =
-    let put = λ (v : g.row.T.Denot). record c.args.self.now { now = v } in
-    let calls = exact_map {may' = λ (a : MutBor g.row.T.Denot) call b. g.T.Read.may a.now call b.now} put (λ a b call made. made)
-    c.read_exact.ensures.law.calls in
-    record { law = search (rules, ap put, calls) }
+    record {
+      law = exact_through (λ v. record c.args.self.now { now = v })
+          (record { told = λ x. refl; may = λ x y call may. may }) c.read_exact.ensures.law;
+    }

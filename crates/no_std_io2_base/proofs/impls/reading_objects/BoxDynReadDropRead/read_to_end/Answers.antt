@@ -2,6 +2,7 @@ use Rattle.std.proofs.Common.{sym, arith, ◌∙◌}
 use Rattle.std.proofs.lemmas.Result.{err_from_is_err_and}
 use Rattle.no_std_io2_base.proofs.ReadToEndLoop.{wrote, to_end_none, to_end_no_room, to_end_refused, to_end_read}
 use Rattle.no_std_io2_base.proofs.ReadToEndLoop.{to_end_interruption, to_end_done, to_end_fault}
+use Rattle.no_std_io2_base.proofs.TakesLemmas.{read_spends}
 use Rattle.no_std_io2_base.proofs.impls.reading_objects.BoxDynReadDropRead.read_to_end.Goals as goal
 
 pub returns-in_err-reserve_room : goal.returns-in_err-reserve_room
@@ -9,7 +10,7 @@ returns-in_err-reserve_room g c =
     let p = err_from_is_err_and c.from_residual.result c.from_residual.ensures.1 in
     let room = c.reserve_room.ensures in
     let refused = c.in_err-reserve_room.ensures in
-    rw (p.1, p.2) (record { law = to_end_no_room refused.refused room.items room.len room.grows refused.full })
+    rw (p.1, p.2) (record { law = to_end_no_room refused.refused room.items room.grows (omega (arith, refused.full)) })
 
 pub reads-init : goal.reads-init
 reads-init g c =
@@ -21,7 +22,10 @@ returns-in_err-open_room g c =
     let room = c.open_room.ensures in
     let refused = c.in_err-open_room.ensures in
     rw (p.1, p.2)
-    (record { law = to_end_refused c.reads.invariant refused.refused refused.full.1 room.front room.grows refused.full.0 })
+    (record {
+      law = to_end_refused c.reads.invariant refused.refused refused.full.1 room.front room.grows
+          (λ n is. omega (arith, is, refused.full.0, c.reads.invariant.capacity));
+    })
 
 pub returns-in-Ok-eq0 : goal.returns-in-Ok-eq0
 returns-in-Ok-eq0 g c =
@@ -29,7 +33,7 @@ returns-in-Ok-eq0 g c =
     let w = wrote room.within c.open_room.new.buf.ok.0 c.deref_mut.ensures.value c.read.auto.buf room.front
     c.in_ok-open_room.ensures.room in
     record {
-      law = to_end_done c.reads.invariant (λ x told. absurd told) c.read.ensures.law c.in-Ok-eq0.is c.in-Ok-eq0.field-0-test w.some
+      law = to_end_done c.reads.invariant c.read.ensures.law c.in-Ok-eq0.is c.in-Ok-eq0.field-0-test w.some
           (c.truncate.ensures.items ∙ w.kept) (omega (arith, room.grows, c.truncate.ensures.capacity)) c.len-start.ensures;
     }
 
@@ -39,7 +43,7 @@ returns-in-Err-2 g c =
     let w = wrote room.within c.open_room.new.buf.ok.0 c.deref_mut.ensures.value c.read.auto.buf room.front
     c.in_ok-open_room.ensures.room in
     record {
-      law = to_end_fault c.reads.invariant (λ x told. absurd told) c.in-Err.ensures.law
+      law = to_end_fault c.reads.invariant c.in-Err.ensures.law
           (sym c.is_interrupted.ensures ∙ c.if-is_interrupted.false) w.some (c.truncate-in-Err-2.ensures.items ∙ w.kept)
           (omega (arith, room.grows, c.truncate-in-Err-2.ensures.capacity));
     }
@@ -49,13 +53,16 @@ reads-preserved-in-Ok g c =
     let room = c.open_room.ensures in
     let w = wrote room.within c.open_room.new.buf.ok.0 c.deref_mut.ensures.value c.read.auto.buf room.front
     c.in_ok-open_room.ensures.room in
-    to_end_read c.reads.invariant (λ x told. absurd told) c.in-Ok.ensures.law c.in-Ok.n-test.1 w room.grows
+    to_end_read c.reads.invariant c.in-Ok.ensures.law c.in-Ok.n-test.1 w room.grows
 
 pub reads-preserved : goal.reads-preserved
 reads-preserved g c =
     let room = c.open_room.ensures in
     let w = wrote room.within c.open_room.new.buf.ok.0 c.deref_mut.ensures.value c.read.auto.buf room.front
     c.in_ok-open_room.ensures.room in
-    to_end_interruption c.reads.invariant (λ x told. absurd told) c.in-Err.ensures.law
+    to_end_interruption c.reads.invariant c.in-Err.ensures.law
     (sym c.is_interrupted.ensures ∙ c.if-is_interrupted.true) w
     room.grows
+
+pub reads-smaller-in-Ok : goal.reads-smaller-in-Ok
+reads-smaller-in-Ok g c = read_spends c.in-Ok.ensures.law c.in-Ok.n-test.1

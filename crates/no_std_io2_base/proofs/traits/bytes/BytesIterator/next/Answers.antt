@@ -1,39 +1,40 @@
-use Rattle.std.proofs.Common.{◌≡◌, rules, ap, refl, None, Some, Ok, Err, arith, ◌∙◌, length, take, take-suc}
-use Rattle.no_std_io2_base.specs.Read.{gave}
-use Rattle.no_std_io2_base.proofs.NextByteLemmas.{passed_interruption, retried_more, next_reads}
+use Rattle.std.proofs.Common.{◌≡◌, arith, refl, sym, ap, ◌∙◌, length, take, take-suc}
+use Rattle.no_std_io2_base.proofs.NextByteLemmas.{next_end, next_byte, next_fault}
+use Rattle.no_std_io2_base.proofs.ReadLoop.{reads_none, reads_again}
+use Rattle.no_std_io2_base.proofs.TakesLemmas.{takes_turns, read_spends}
 use Rattle.no_std_io2_base.proofs.traits.bytes.BytesIterator.next.Goals as goal
+
+pub reads-init : goal.reads-init
+reads-init g c = record { long = refl; reads = reads_none _ }
 
 pub reads-preserved : goal.reads-preserved
 reads-preserved g c =
-    let read = c.in-Err.ensures.law in
-    record {
-      long = search rules;
-      turns = search rules;
-      told = λ t.
-          let before = c.reads.invariant.told t in
-          let now = read.told before.0 in
-          (now.0, passed_interruption before.1 now.1 (search rules));
-      reads = retried_more g.R.Read.may c.reads.invariant.reads read.call (search rules) (search rules);
-    }
+    let before = c.reads.invariant in
+    let long = c.read.auto.buf ∙ before.long in
+    let interrupted = sym c.is_interrupted.ensures ∙ c.if-is_interrupted.true in
+    record { long = long; reads = reads_again before.reads c.in-Err.ensures.law interrupted long }
 
--- the calls of each end
 pub returns-in-Ok-eq0-clause-steps : goal.returns-in-Ok-eq0-clause-steps
 returns-in-Ok-eq0-clause-steps g c =
-    let read = c.read.ensures.law in
-    let last = ap (λ r. gave r c.read.new.buf) c.in-Ok-eq0.is ∙ ap (λ n. gave (Ok n) c.read.new.buf) c.in-Ok-eq0.field-0-test in
-    (search rules, next_reads g.R.Read.may None c.reads.invariant.reads read.call (search rules) last, tt, search rules, tt)
+    let before = c.reads.invariant in
+    let law = next_end before.reads c.read.ensures.law c.in-Ok-eq0.is c.in-Ok-eq0.field-0-test (c.read.auto.buf ∙ before.long) in
+    (law, tt, takes_turns law.takes, tt)
 
 pub returns-in-Ok-clause-steps : goal.returns-in-Ok-clause-steps
 returns-in-Ok-clause-steps g c =
+    let before = c.reads.invariant in
     let buf = c.read.new.buf in
     let read = c.in-Ok.ensures.law in
-    let room : length buf ≡ 1 = search rules in
-    let one : c.in-Ok.field-0 ≡ 1 = omega (arith, room, read.bound, c.in-Ok.field-0-test.1) in
-    let last = ap (λ n. Ok (take n buf)) one ∙ ap Ok (take-suc buf 0 0 (omega (arith, room))) in
-    let reads = next_reads g.R.Read.may (Some (Ok _)) c.reads.invariant.reads read.call room last in
-    (search rules, reads, tt, search rules, search rules)
+    let long : length buf ≡ 1 = c.read.auto.buf ∙ before.long in
+    let one : c.in-Ok.field-0 ≡ 1 = omega (arith, long, read.bound, c.in-Ok.field-0-test.1) in
+    let law = next_byte before.reads read (ap (λ n. take n buf) one ∙ take-suc buf 0 0 (omega (arith, long))) long in
+    let spent = read_spends read c.in-Ok.field-0-test.1 in
+    (law, tt, takes_turns law.takes, omega (arith, spent, takes_turns before.reads.takes))
 
 pub returns-in-Err-2-clause-steps : goal.returns-in-Err-2-clause-steps
 returns-in-Err-2-clause-steps g c =
-    let reads = next_reads g.R.Read.may (Some (Err _)) c.reads.invariant.reads c.in-Err.ensures.law.call (search rules) refl in
-    (search rules, reads, search rules, search rules, search rules)
+    let before = c.reads.invariant in
+    let read = c.in-Err.ensures.law in
+    let fault = sym c.is_interrupted.ensures ∙ c.if-is_interrupted.false in
+    let law = next_fault before.reads read fault (c.read.auto.buf ∙ before.long) in
+    (law, fault, takes_turns law.takes, omega (arith, read.takes.turns, takes_turns before.reads.takes))

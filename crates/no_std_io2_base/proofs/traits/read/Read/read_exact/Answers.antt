@@ -7,7 +7,7 @@ reads-init g c = exact_none
 
 pub returns-in-Ok-eq0 : goal.returns-in-Ok-eq0
 returns-in-Ok-eq0 g c = record {
-  law = exact_end c.reads.invariant g.met.Self.Read.store_tells c.reads-test.true c.read.auto.buf c.read.ensures.law
+  law = exact_end c.reads.invariant c.reads-test.true _ c.read.auto.buf c.read.ensures.law
       c.in-Ok-eq0.is c.in-Ok-eq0.field-0-test (search rules);
 }
 
@@ -16,15 +16,15 @@ returns g c = record { law = exact_all c.reads.invariant c.reads-test.false }
 
 pub reads-preserved-in-Ok : goal.reads-preserved-in-Ok
 reads-preserved-in-Ok g c =
-    exact_read c.reads.invariant g.met.Self.Read.store_tells c.reads-test.true c.read.auto.buf c.in-Ok.ensures.law c.in-Ok.n-test.1
+    exact_read c.reads.invariant c.reads-test.true _ c.read.auto.buf c.in-Ok.ensures.law c.in-Ok.n-test.1
 
 pub returns-in-Err-2 : goal.returns-in-Err-2
 returns-in-Err-2 g c = record {
-  law = exact_fault c.reads.invariant g.met.Self.Read.store_tells c.reads-test.true c.read.auto.buf c.in-Err.ensures.law
+  law = exact_fault c.reads.invariant c.reads-test.true _ c.read.auto.buf c.in-Err.ensures.law
       (sym c.is_interrupted.ensures ∙ c.if-is_interrupted.false);
 }
 
 pub reads-preserved : goal.reads-preserved
 reads-preserved g c =
-    exact_interruption c.reads.invariant g.met.Self.Read.store_tells c.reads-test.true c.read.auto.buf c.in-Err.ensures.law
+    exact_interruption c.reads.invariant c.reads-test.true _ c.read.auto.buf c.in-Err.ensures.law
     (sym c.is_interrupted.ensures ∙ c.if-is_interrupted.true)

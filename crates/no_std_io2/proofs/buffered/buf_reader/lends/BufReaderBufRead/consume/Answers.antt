@@ -1,18 +1,20 @@
-use Rattle.std.proofs.Common.{refl, arith}
-use Rattle.no_std_io2_base.proofs.Readers.{reader}
-use Rattle.no_std_io2.proofs.BufReaderBehind.{given}
+use Rattle.std.proofs.Common.{take, refl, sym, take-append-drop, ◌∙◌, ap, ◌++◌}
+use Rattle.no_std_io2.specs.BufReader.{reader_held, reader_behind}
+use Rattle.no_std_io2.proofs.BufferedReads.{takes_held}
+use Rattle.no_std_io2.proofs.BufReaderRoom.{held-le}
 use Rattle.no_std_io2.proofs.buffered.buf_reader.lends.BufReaderBufRead.consume.Goals as goal
 
-pub returns-clause-law : goal.returns-clause-law
-returns-clause-law g c =
+pub returns : goal.returns
+returns g c =
+    let r = c.args.self.now in
+    let held = reader_held r in
+    let n = c.args.amount in
     let is = c.consume.ensures in
-    let gave = given (reader g.R.Stored g.R.Read) c.args.self.now c.consume.new.self c.args.amount c.requires refl is.held is.behind in
     record {
-      held = is.held;
-      told = λ t. (t, gave.told);
-      turns_never_rise = omega (arith, gave.turns);
-      spends_turn = λ some. omega (arith, gave.turns, some);
-      filling = λ no. absurd no;
-      store = λ s. let now = gave.store s in (now.0, refl, now.1);
-      call = (is.held, refl);
+      law = record {
+        held = is.held;
+        takes = takes_held g.row.S (reader_behind r) held _ (take n held) _
+            (sym (take-append-drop n held) ∙ ap (λ l. take n held ++ l) (sym is.held)) is.behind (held-le r);
+        call = (refl, (is.behind, is.held));
+      };
     }

@@ -1,35 +1,86 @@
--- Field by field, since one search for all of them is long.
-use Rattle.std.proofs.Common.{refl, rules}
-use Rattle.no_std_io2.proofs.BufReaderSound.{begins_held}
+-- Held bytes are lent; or a fill failed; or what it gave is lent.
+use Rattle.std.proofs.Common.{◌≡◌, ◌<◌, [], Ok, Err, refl, sym, ap, ◌∙◌, arith, length}
+use Rattle.std.proofs.lemmas.List.{nil_from_length}
+use Rattle.std.proofs.lemmas.Result.{err_from_is_err_and}
+use Rattle.no_std_io2_base.specs.Read.{tells}
+use Rattle.no_std_io2_base.proofs.Readers.{reader}
+use Rattle.no_std_io2_base.proofs.TakesLemmas.{takes_none, stays_at_end}
+use Rattle.no_std_io2.specs.Buffer.{buffer_held, buffer_behind}
+use Rattle.no_std_io2.specs.BufReader.{reader_held, reader_behind}
+use Rattle.no_std_io2.proofs.BufferedReads.{takes_fill, begins_lent, begins_filled, ends_behind}
+use Rattle.no_std_io2.proofs.BufReaderCalls.{lends_held, lends_filled}
 use Rattle.no_std_io2.proofs.buffered.buf_reader.lends.BufReaderBufRead.fill_buf.Goals as goal
 
+pub returns-then-len-gt0 : goal.returns-then-len-gt0
+returns-then-len-gt0 g c =
+    let r = c.args.self.now in
+    let is = c.as_slice.ensures.value in
+    let some : 0 < length (reader_held r) = omega (arith, c.len.ensures.len, c.if-len-gt0.true) in (
+      (refl, λ _. tt, record { lends = sym is; takes = takes_none _; unchanged = λ _. refl; call = lends_held some (ap Ok is) refl }),
+      record {
+        law = record {
+          held = λ _. is;
+          front = begins_lent g.row.S (reader_behind r) (tells (reader g.R.Stored g.R.Read) r.inner) is;
+          end = λ none. absurd (omega (arith, ap length none, ap length is, some));
+        };
+        after_borrow = tt;
+      },
+    )
+
+pub returns-in_err-fill : goal.returns-in_err-fill
+returns-in_err-fill g c =
+    let p = err_from_is_err_and c.from_residual.result c.from_residual.ensures.1 in
+    let r = c.args.self.now in
+    let held = reader_held r in
+    let none : held ≡ [] = nil_from_length held (omega (arith, c.len.ensures.len, c.if-len-gt0.false)) in
+    let fill = c.in_err-fill.ensures in
+    rw (p.1, p.2) (
+      (
+        refl,
+        λ _. tt,
+        record {
+          lends = fill.err;
+          takes = takes_fill g.row.S (reader_behind r) held (Err _) fill.read.takes none fill.behind fill.err
+              (omega (arith, ap length fill.err));
+          unchanged = λ some. absurd (omega (arith, some, ap length none));
+          call = lends_filled (ap length none) fill.read (fill.behind, fill.err);
+        },
+      ),
+      record {
+        law = record { held = λ some. absurd (omega (arith, some, ap length none)); front = tt; end = tt };
+        after_borrow = tt;
+      },
+    )
+
 pub returns : goal.returns
-returns g c = (
-  (
-    refl,
-    λ _. tt,
-    record {
-      law = record {
-        lends = search rules;
-        told = search rules;
-        turns_never_rise = search rules;
-        spends_turn = search rules;
-        unchanged = search rules;
-        filling = search rules;
-        store = search rules;
-        call = search rules;
-      };
-      behind = search rules;
-      fills = search rules;
-      sound = search rules;
-    },
-  ),
-  record {
-    law = record {
-      held = search (rules, begins_held);
-      front = search (rules, begins_held);
-      end = search (rules, begins_held);
-    };
-    after_borrow = tt;
-  },
-)
+returns g c =
+    let r = c.args.self.now in
+    let held = reader_held r in
+    let none : held ≡ [] = nil_from_length held (omega (arith, c.len.ensures.len, c.if-len-gt0.false)) in
+    let mid = buffer_held c.fill.new.self in
+    let fill = c.in_ok-fill.ensures in
+    let is = c.as_slice-2.ensures.value in
+    let inner = tells (reader g.R.Stored g.R.Read) c.fill.new.from in
+    let takes = takes_fill g.row.S (reader_behind r) held (Ok mid) fill.read.takes none fill.behind refl fill.read.bound in (
+      (
+        refl,
+        λ _. tt,
+        record {
+          lends = sym is;
+          takes = takes;
+          unchanged = λ some. absurd (omega (arith, some, ap length none));
+          call = rw is (lends_filled (ap length none) fill.read (fill.behind, refl));
+        },
+      ),
+      record {
+        law = record {
+          held = λ some. absurd (omega (arith, some, ap length none));
+          front = begins_filled c.as_slice-2.result.now takes (begins_lent g.row.S (buffer_behind c.fill.new.self) inner is);
+          end = λ empty.
+              let gone = sym is ∙ empty in
+              stays_at_end takes (ends_behind g.row.S (buffer_behind c.fill.new.self) mid inner gone
+              (fill.read.end (ap Ok gone) r.some_room));
+        };
+        after_borrow = tt;
+      },
+    )

@@ -1,100 +1,85 @@
--- A read, by its ends: past the buffer, a fill that failed, out of the filled buffer, and out of what was held.
+-- A read, by its ends: out of what was held, past the buffer, a fill that failed, and out of the filled buffer.
+use Rattle.std.proofs.Common.{◌≡◌, [], Ok, ◌++◌, length, take, drop, arith, refl, ap, ◌∙◌}
+use Rattle.std.proofs.Math.Seq.{drop-nil}
 use Rattle.std.proofs.lemmas.List.{nil_from_length}
-use Rattle.std.proofs.Common.{◌≡◌, ◌<◌, length, arith, Ok, refl, sym, ◌∙◌}
 use Rattle.std.proofs.lemmas.Result.{err_from_is_err_and}
-use Rattle.no_std_io2.specs.BufReader.{reader_held}
+use Rattle.no_std_io2_base.specs.Read.{tells}
 use Rattle.no_std_io2_base.proofs.Readers.{reader}
-use Rattle.no_std_io2.proofs.BufReaderBehind.{given}
-use Rattle.no_std_io2.proofs.BufReaderCalls.{passes_on}
+use Rattle.no_std_io2_base.proofs.TakesLemmas.{read_law, takes_then}
+use Rattle.no_std_io2.specs.Buffer.{buffer_held, buffer_behind}
+use Rattle.no_std_io2.specs.BufReader.{reader_held, reader_behind}
+use Rattle.no_std_io2.proofs.BufferedReads.{takes_held, takes_direct, takes_fill, ends_behind, end_read}
+use Rattle.no_std_io2.proofs.BufReaderCalls.{split_held, by_held, by_direct, by_filled, by_fault}
 use Rattle.no_std_io2.proofs.buffered.buf_reader.reads.BufReaderRead.read.Goals as goal
 
+-- out of what was held
+pub returns-then-len-gt0 : goal.returns-then-len-gt0
+returns-then-len-gt0 g c =
+    let r = c.args.self.now in
+    let is = c.give.ensures in
+    record {
+      law = by_held c.give.result c.args.buf.now c.give.new.buf c.give.auto.buf (omega (arith, c.len.ensures.len, c.if-len-gt0.true)) refl
+          is.count is.gave is.behind is.held;
+    }
+
+-- past the buffer
+pub returns-then-buf : goal.returns-then-buf
+returns-then-buf g c =
+    let r = c.args.self.now in
+    let held = reader_held r in
+    let none : held ≡ [] = nil_from_length held (omega (arith, c.len.ensures.len, c.if-len-gt0.false)) in
+    let read = c.read.ensures.law in
+    let clear = c.clear.ensures in
+    record {
+      law = record {
+        bound = read.bound;
+        takes = takes_direct g.row.S (reader_behind r) held read.takes none clear.behind clear.held;
+        end = end_read (tells (reader g.R.Stored g.R.Read) c.read.new.self) g.row.S (buffer_behind c.clear.new.self)
+            (buffer_held c.clear.new.self) c.read.new.buf c.read.result clear.held read.end;
+        call = by_direct (ap length none) (omega (arith, c.read.auto.buf)) (read_law c.read.result read) (clear.behind, clear.held);
+      };
+    }
+
 -- the fill failed
-pub returns-in_err-read_ahead-clause-law : goal.returns-in_err-read_ahead-clause-law
-returns-in_err-read_ahead-clause-law g c =
+pub returns-in_err-fill : goal.returns-in_err-fill
+returns-in_err-fill g c =
     let p = err_from_is_err_and c.from_residual.result c.from_residual.ensures.1 in
-    let held = reader_held c.args.self.now in
-    let none : length held ≡ 0 = omega arith in
-    let fill = c.in_err-read_ahead.ensures in
-    let short : length c.args.buf.now < g.row.S = omega arith in
+    let r = c.args.self.now in
+    let held = reader_held r in
+    let none : held ≡ [] = nil_from_length held (omega (arith, c.len.ensures.len, c.if-len-gt0.false)) in
+    let fill = c.in_err-fill.ensures in
     rw (p.1, p.2) (record {
-      bound = tt;
-      told = fill.told;
-      turns_never_rise = fill.no_later;
-      spends_turn = fill.turn;
-      store = λ s. let now = fill.store s in (now.0, now.1, omega (arith, now.2));
-      fills = λ h. absurd h;
-      call = record {
-        held = λ some. absurd (omega (arith, some, none));
-        direct = λ empty long. absurd (omega (arith, short, long));
-        filled = λ empty less. (_, fill.call, (refl, fill.held));
+      law = record {
+        bound = tt;
+        takes = takes_direct g.row.S (reader_behind r) held fill.read.takes none fill.behind fill.err;
+        end = tt;
+        call = by_fault (ap length none) (omega (arith, c.if-buf.false)) fill.read (fill.behind, fill.err);
       };
     })
 
 -- out of the filled buffer
-pub returns-clause-law : goal.returns-clause-law
-returns-clause-law g c =
-    let held = reader_held c.args.self.now in
-    let none : length held ≡ 0 = omega arith in
-    let mid = reader_held c.read_ahead.new.self in
+pub returns : goal.returns
+returns g c =
+    let r = c.args.self.now in
+    let held = reader_held r in
+    let none : held ≡ [] = nil_from_length held (omega (arith, c.len.ensures.len, c.if-len-gt0.false)) in
+    let mid = buffer_held c.fill.new.self in
+    let fill = c.in_ok-fill.ensures in
+    let is = c.give-2.ensures in
     let n = c.give-2.result in
-    let fill = c.in_ok-read_ahead.ensures in
-    let is = c.give-2.ensures in
-    let gave = given (reader g.R.Stored g.R.Read) c.read_ahead.new.self c.give-2.new.self n (omega arith) is.gave is.held is.behind in
-    let short : length c.args.buf.now < g.row.S = omega arith in
+    let shown = c.give-2.new.buf in
     record {
-      bound = omega arith;
-      told = λ t.
-          let now = fill.told t in (
-            now.0,
-            (sym now.1 ∙ gave.told, λ zero some. fill.end t (nil_from_length mid (omega (arith, is.count, zero, some)))),
-          );
-      turns_never_rise = omega (arith, gave.turns, fill.no_later);
-      spends_turn = λ some. omega (arith, gave.turns, fill.no_later, some);
-      store = λ s.
-          let filled = fill.store s in
-          let now = gave.store filled.0 in
-          (now.0, filled.1, omega (arith, now.1, filled.2));
-      fills = λ h. absurd h;
-      call = record {
-        held = λ some. absurd (omega (arith, some, none));
-        direct = λ empty long. absurd (omega (arith, short, long, c.give-2.auto.buf));
-        filled = λ empty less. (
-          Ok mid,
-          fill.call,
-          passes_on n (length c.give-2.new.buf) mid c.give-2.new.buf _ (omega (arith, is.count, c.give-2.auto.buf)) is.gave is.held,
-        );
-      };
-    }
-
-pub returns-clause-sound : goal.returns-clause-sound
-returns-clause-sound g c =
-    let is = c.give-2.ensures in
-    let gave = given (reader g.R.Stored g.R.Read) c.read_ahead.new.self c.give-2.new.self c.give-2.result (omega arith) is.gave is.held
-    is.behind in
-    λ s. gave.sound (c.in_ok-read_ahead.ensures.sound s)
-
--- out of what was held
-pub returns-then-len-gt0-clause-law : goal.returns-then-len-gt0-clause-law
-returns-then-len-gt0-clause-law g c =
-    let is = c.give.ensures in
-    let gave = given (reader g.R.Stored g.R.Read) c.args.self.now c.give.new.self c.give.result (omega arith) is.gave is.held is.behind in
-    let held = length (reader_held c.args.self.now) in
-    let some : 0 < held = omega arith in
-    let n = c.give.result in
-    record {
-      bound = omega arith;
-      told = λ t. (t, (gave.told, λ zero room. absurd (omega (arith, zero, room, is.count, some))));
-      turns_never_rise = omega (arith, gave.turns);
-      spends_turn = λ more. omega (arith, gave.turns, more);
-      store = λ s. let now = gave.store s in (now.0, refl, now.1);
-      fills = λ h. absurd h;
-      call = record {
-        held = λ more. (
-          refl,
-          passes_on n (length c.give.new.buf) (reader_held c.args.self.now) c.give.new.buf _ (omega (arith, is.count, c.give.auto.buf))
-              is.gave is.held,
-        );
-        direct = λ empty long. absurd (omega (arith, empty, some));
-        filled = λ empty less. absurd (omega (arith, empty, some));
+      law = record {
+        bound = omega (arith, is.count, c.give-2.auto.buf);
+        takes = takes_then
+            (takes_fill g.row.S (reader_behind r) held (Ok mid) fill.read.takes none fill.behind refl fill.read.bound)
+            (takes_held g.row.S (buffer_behind c.fill.new.self) mid _ (take n shown) _
+            (split_held n mid shown is.gave is.held) is.behind fill.read.bound);
+        end = λ zero room.
+            let empty : mid ≡ [] = nil_from_length mid (omega (arith, zero, room, is.count, c.give-2.auto.buf)) in
+            ends_behind g.row.S _ _ (tells (reader g.R.Stored g.R.Read) c.fill.new.from) (is.held ∙ ap (drop n) empty ∙ drop-nil n)
+            (fill.read.end (ap Ok empty) (omega (arith, c.if-buf.false)));
+        call = by_filled n (length shown) mid shown (ap length none) (omega (arith, c.if-buf.false, c.give-2.auto.buf)) fill.read
+            (omega (arith, is.count, c.give-2.auto.buf)) is.gave (is.behind ∙ ap (λ l. l ++ take n shown) fill.behind) is.held;
       };
     }

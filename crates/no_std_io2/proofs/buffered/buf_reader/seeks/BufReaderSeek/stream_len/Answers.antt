@@ -1,8 +1,12 @@
 -- The inner reader is measured, and nothing else changes.
-use Rattle.std.proofs.lemmas.Grind.{common_steps}
-use Rattle.std.proofs.Common.{arith}
-use Rattle.no_std_io2_base.proofs.SeekCalls.{len_measured}
+use Rattle.std.proofs.Common.{refl}
+use Rattle.no_std_io2.proofs.BufReaderSeeks.{seeker, measures}
 use Rattle.no_std_io2.proofs.buffered.buf_reader.seeks.BufReaderSeek.stream_len.Goals as goal
 
-pub returns-clause-law : goal.returns-clause-law
-returns-clause-law g c = grind (arith, common_steps, len_measured)
+pub returns : goal.returns
+returns g c =
+    let law = c.stream_len.ensures.law in
+    record {
+      law = measures (seeker g.R.Stored g.R.Seek) c.args.self.now _ c.stream_len.result law (refl, refl);
+      own = (law, (refl, refl));
+    }

@@ -1,10 +1,10 @@
 -- Sending failed, with bytes still held, or nothing is held, and the inner writer was sought.
 use Rattle.std.proofs.lemmas.Result.{err_from_is_err_and}
-use Rattle.no_std_io2.specs.BufWriter.{sender_inner}
+use Rattle.no_std_io2.specs.BufWriter.{sender_inner, writer_inner, writer_buffer}
 use Rattle.no_std_io2_base.proofs.CallsLemmas.{writes_whole}
-use Rattle.no_std_io2.proofs.AnswerLemmas.{ifok_map}
 use Rattle.no_std_io2.proofs.StepLemmas.{no_ok}
-use Rattle.no_std_io2.proofs.SentLemmas.{sent_idle, sends_all, sending_failed, sending_went, failed_left}
+use Rattle.no_std_io2.proofs.SentLemmas.{store_refused, store_sought, position_sought, sent_idle, sends_all, sending_failed, sending_went}
+use Rattle.no_std_io2.proofs.SentLemmas.{failed_left}
 use Rattle.no_std_io2.proofs.buffered.buf_writer.seeking.BufWriterSeek.seek.Goals as goal
 
 pub returns-in_err-send-clause-first : goal.returns-in_err-send-clause-first
@@ -22,13 +22,13 @@ pub returns-clause-sent : goal.returns-clause-sent
 returns-clause-sent g c = λ _. record {
   sent = sender_inner c.send.new.self;
   sends = sends_all c.in_ok-send.ensures.calls;
-  sought = rw c.get_mut.ensures.value at c.seek.ensures.law.call;
-  seeks = rw c.get_mut.ensures.value at c.seek.ensures.law.store;
+  sought = rw c.get_mut.ensures.value at c.seek.ensures.law;
 }
 
 pub returns-in_err-send-clause-law : goal.returns-in_err-send-clause-law
 returns-in_err-send-clause-law g c = record {
-  store = λ s. no_ok (sent_idle c.in_err-send.ensures.calls s.0).1;
+  store = store_refused _ (writer_buffer c.args.self.now) (g.W.Stored.store (writer_inner c.args.self.now)) _
+      (λ none. no_ok (sent_idle c.in_err-send.ensures.calls none).1);
   position = rw (err_from_is_err_and c.from_residual.result c.from_residual.ensures.1).1 tt;
   call = record { first = returns-in_err-send-clause-first g c; sent = returns-in_err-send-clause-sent g c };
 }
@@ -38,10 +38,8 @@ returns-clause-law g c =
     let inner = c.seek.ensures.law in
     let sent = c.in_ok-send.ensures.calls in
     record {
-      store = λ s.
-          let sought = rw (c.get_mut.ensures.value, (sent_idle sent s.0).0) at inner.store in
-          let now = sought s.1 in
-          ((writes_whole sent.2, now.0), now.1, now.2);
-      position = ifok_map c.seek.result (λ n at store. at store.1) inner.position;
+      store = store_sought _ (writer_buffer c.args.self.now) _ (g.W.Stored.store (writer_inner c.args.self.now)) _ (writes_whole sent.2)
+          (λ none. rw (c.get_mut.ensures.value, (sent_idle sent none).0) at inner.store);
+      position = position_sought _ _ c.seek.result inner.position;
       call = record { first = returns-clause-first g c; sent = returns-clause-sent g c };
     }

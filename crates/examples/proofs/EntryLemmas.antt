@@ -1,0 +1,92 @@
+-- An entry of a file with an index, found by two numbers of it.
+use Rattle.std.proofs.Common.{◌≡◌, ℕ, ◌+◌, ◌-◌, ◌*◌, List, length, take, drop, Option, None, Some, Result, Ok, Err, IfSome, IsSomeAnd, OnOk}
+use Rattle.std.proofs.Common.{negsuc, refl, ap, subst, ◌∙◌, arith}
+use Rattle.no_std_io2.specs.declared.io.Error.{Error}
+use Rattle.no_std_io2.specs.declared.io.SeekFrom.TheVariants.{Start, End}
+use Rattle.std.proofs.Common.{◌<◌, ◌^◌, [], Bool, true, false}
+use Rattle.no_std_io2.specs.Takes.{Store, store_by, store_at, fits_u64, fits_by}
+use Rattle.no_std_io2.specs.BufReader.{IsBefore, is_before, step_back, store_if, store_before}
+use Rattle.no_std_io2.proofs.StoreLemmas.{fits_at}
+use Rattle.no_std_io2.proofs.BufferedReads.{before_decides}
+use Rattle.no_std_io2.specs.ReadAt.{ReadsAt}
+use Rattle.examples.specs.Indexed.{u32_at, IsNumberAt, entry_place}
+
+-- the place of the index, the place of the entry, and the entry itself were read, one after another
+pub entry_read : (a b c d : Option Store) (i index slot place found_at : ℕ) (old entry : List ℕ) (reply : Result (Unit {0}) Error)
+    → IfSome a (λ s. IsSomeAnd b (λ t. (t.content ≡ s.content) × IsNumberAt s (End (negsuc 3)) index))
+    → IfSome b (λ s. IsSomeAnd c (λ t. (t.content ≡ s.content) × IsNumberAt s (Start slot) place))
+    → IfSome c (λ s. IsSomeAnd d (λ t. (t.content ≡ s.content) × OnOk reply (ReadsAt s (Start found_at) entry t.position)))
+    → slot ≡ index + 4 * i → found_at ≡ place → length entry ≡ length old
+    → IfSome a (λ s. IsSomeAnd d (λ t. (t.content ≡ s.content)
+    × OnOk reply (entry ≡ take (length old) (drop (entry_place i s.content) s.content))))
+entry_read None b c d i index slot place found_at old entry reply first second third at there_at long = tt
+entry_read (Some a) None c d i index slot place found_at old entry reply first second third at there_at long = absurd first
+entry_read (Some a) (Some b) None d i index slot place found_at old entry reply first second third at there_at long = absurd second
+entry_read (Some a) (Some b) (Some c) None i index slot place found_at old entry reply first second third at there_at long = absurd third
+entry_read (Some a) (Some b) (Some c) (Some d) i index slot place found_at old entry reply first second third at there_at long =
+    (third.0 ∙ same, found reply third.1)
+  where
+    same : c.content ≡ a.content
+    same = second.0 ∙ first.0
+
+    place_is : place ≡ entry_place i a.content
+    place_is =
+        let (p, target, is) = first.1 in
+        let (q, there, reads) = second.1 in
+        let last : p ≡ length a.content - 4 = omega (arith, target.0) in
+        let slot_is : q ≡ u32_at (length a.content - 4) a.content + 4 * i =
+        there ∙ at ∙ ap (λ n. n + 4 * i) (is ∙ ap (λ n. u32_at n a.content) last) in
+        reads ∙ ap (λ n. u32_at n b.content) slot_is
+        ∙ ap (λ l. u32_at (u32_at (length a.content - 4) a.content + 4 * i) l) first.0
+
+    found : (r : Result (Unit {0}) Error) → OnOk r (ReadsAt c (Start found_at) entry d.position)
+        → OnOk r (entry ≡ take (length old) (drop (entry_place i a.content) a.content))
+    found (Ok u) reads =
+        reads.there ∙ ap (λ n. take n (drop reads.place c.content)) long
+        ∙ ap (λ n. take (length old) (drop n c.content)) (reads.target ∙ there_at ∙ place_is)
+        ∙ ap (λ l. take (length old) (drop (entry_place i a.content) l)) same
+    found (Err e) reads = tt
+
+-- a content and a position that fit are the store
+stored_at : (content : List ℕ) (position : ℕ) → length content < 2 ^ 64 → position < 2 ^ 64
+    → IsSomeAnd (store_at content position) (λ s. (s.content ≡ content) × (s.position ≡ position))
+stored_at content position small near = by (fits_u64 content position) (fits_by content position) (fits_at content position small near)
+  where
+    by : (t : Bool) (fits : t ≡ true → (length content < 2 ^ 64) × (position < 2 ^ 64)) → t ≡ true
+        → IsSomeAnd (store_by t content position fits) (λ s. (s.content ≡ content) × (s.position ≡ position))
+    by true fits is = (refl, refl)
+    by false fits is = absurd (let no : ⊥ = cc in no)
+
+-- a new buffer in front of a content tells it
+new_tells : (content behind held : List ℕ) (at : ℕ) → behind ≡ [] → held ≡ [] → at ≡ 0 → length content < 2 ^ 64
+    → IsSomeAnd (store_before behind held (store_at content at)) (λ s. s.content ≡ content)
+new_tells content behind held at none_behind none_held start small =
+    rw (none_behind, none_held, start) (by (store_at content 0) (stored_at content 0 small (omega arith)))
+  where
+    same : (s : Store) (t : Bool) → t ≡ true → s.content ≡ content → IsSomeAnd (store_if t (step_back 0 s)) (λ s. s.content ≡ content)
+    same s true is told = told
+    same s false is told = absurd (let no : ⊥ = cc in no)
+
+    by : (o : Option Store) → IsSomeAnd o (λ s. (s.content ≡ content) × (s.position ≡ 0))
+        → IsSomeAnd (store_before [] [] o) (λ s. s.content ≡ content)
+    by None told = told
+    by (Some s) told =
+        let before : IsBefore [] s = (omega arith, ap (λ n. drop n s.content) (omega arith)) in
+        same s (is_before [] s) ((before_decides [] s).1 before) told.0
+
+-- what was found in it is an entry of the content
+pub entry_found : (content behind held : List ℕ) (at i : ℕ) (later : Option Store) (old entry : List ℕ) (reply : Result (Unit {0}) Error)
+    → behind ≡ [] → held ≡ [] → at ≡ 0 → length content < 2 ^ 64
+    → IfSome (store_before behind held (store_at content at)) (λ s. IsSomeAnd later (λ t. (t.content ≡ s.content)
+    × OnOk reply (entry ≡ take (length old) (drop (entry_place i s.content) s.content))))
+    → OnOk reply (entry ≡ take (length old) (drop (entry_place i content) content))
+entry_found content behind held at i later old entry reply none_behind none_held start small read =
+    by (store_before behind held (store_at content at)) later (new_tells content behind held at none_behind none_held start small) read
+  where
+    by : (o l : Option Store) → IsSomeAnd o (λ s. s.content ≡ content) → IfSome o (λ s. IsSomeAnd l (λ t. (t.content ≡ s.content)
+        × OnOk reply (entry ≡ take (length old) (drop (entry_place i s.content) s.content))))
+        → OnOk reply (entry ≡ take (length old) (drop (entry_place i content) content))
+    by None l told read = absurd told
+    by (Some s) None told read = absurd read
+    by (Some s) (Some t) told read =
+        subst (λ x. OnOk reply (entry ≡ take (length old) (drop (entry_place i x) x))) told read.1

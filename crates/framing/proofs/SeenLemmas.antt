@@ -1,0 +1,242 @@
+-- Which bytes a reader of frames has seen.
+use Rattle.std.proofs.Common.{◌≡◌, ℕ, zero, suc, ◌+◌, ◌-◌, ◌<◌, ◌≤◌, ◌^◌, List, [], ◌∷◌, ◌++◌, Bool, true, false, Result, Ok, Err, length}
+use Rattle.std.proofs.Common.{take, drop}
+use Rattle.std.proofs.Common.{refl, sym, ap, subst, ◌∙◌, ⊎_elim, arith, append_assoc, append-nil, max, if◌then◌else◌}
+use Rattle.std.proofs.Common.{length-append, length-take-le, take-append-drop}
+use Rattle.std.specs.Int.{w32, to_le_bytes, from_le_bytes}
+use Rattle.std.proofs.lemmas.Bool.{cases_lt, le-leb, lt-leb}
+use Rattle.std.proofs.lemmas.Nat.{from_le_bytes-to_le_bytes_4}
+use Rattle.std.proofs.Math.Seq.{take-append_seam, take-add, drop-append_seam}
+use Rattle.std.proofs.lemmas.List.{take-append-le}
+use Rattle.no_std_io2.specs.declared.io.Error.{Error}
+use Rattle.no_std_io2.specs.Events.{bytes}
+use Rattle.no_std_io2.specs.Read.{Reader, tells, ReadCall, ReadCallLaw}
+use Rattle.no_std_io2.specs.Takes.{Takes}
+use Rattle.no_std_io2.specs.Write.{Made}
+use Rattle.no_std_io2.specs.BufReader.{reader_held, AsksExact}
+use Rattle.no_std_io2.specs.FillTo.{FillsTo, FillToCalls, AsksOn, HasTo}
+use Rattle.framing.specs.Frames.{frame, told_length, HasHeader}
+use Rattle.framing.specs.Taking.{begun, seen_bytes, reads_from, part_room, AsksPart, PartReads, SeesTo, FillsRest}
+use Rattle.framing.specs.declared.reader.FrameReader.{FrameReader}
+use Rattle.framing.proofs.PartLemmas.{part_takes, part_map}
+use Rattle.framing.proofs.BelowLemmas.{buffered, IfShort, PartBelow, part_below}
+
+-- the part of a long frame, by its length
+pub begun_none : (n : ℕ) (more : List ℕ) → n ≡ 0 → begun n more ≡ []
+begun_none zero more none = refl
+begun_none (suc n) more none = absurd (omega (arith, none))
+
+pub begun_some : (n : ℕ) (more : List ℕ) → 0 < n → begun n more ≡ to_le_bytes w32 n ++ more
+begun_some zero more some = absurd (omega (arith, some))
+begun_some (suc n) more some = refl
+
+module _ {R : Type 0} {S : ℕ} (r : FrameReader R S) (room : List ℕ) where
+  -- between two frames nothing was read past the buffer
+  pub seen_between : r.len ≡ 0 → seen_bytes r room ≡ reader_held r.inner
+  seen_between none = ap (λ p. p ++ reader_held r.inner) (begun_none r.len (take r.given room) none)
+
+  -- inside a long frame its header was
+  pub seen_inside : 0 < r.len → seen_bytes r room ≡ (to_le_bytes w32 r.len ++ take r.given room) ++ reader_held r.inner
+  seen_inside some = ap (λ p. p ++ reader_held r.inner) (begun_some r.len (take r.given room) some)
+
+-- the header of a frame says the length of its payload
+pub told_header : (len : ℕ) (more : List ℕ) → len < 2 ^ 32 → told_length (to_le_bytes w32 len ++ more) ≡ len
+told_header len more small =
+    ap (from_le_bytes w32) (take-append_seam (to_le_bytes w32 len) more) ∙ from_le_bytes-to_le_bytes_4 len small
+
+has_header : (len : ℕ) (more held : List ℕ) → len < 2 ^ 32 → HasHeader len ((to_le_bytes w32 len ++ more) ++ held)
+has_header len more held small =
+    subst (HasHeader len) (sym (append_assoc (to_le_bytes w32 len) more held)) (
+      omega (arith, length-append (to_le_bytes w32 len) (more ++ held)),
+      told_header len (more ++ held) small,
+      take-append_seam (to_le_bytes w32 len) (more ++ held),
+    )
+
+-- inside a long frame its header was seen
+pub seen_header : {R : Type 0} {S : ℕ} (r : FrameReader R S) (room : List ℕ) → 0 < r.len → HasHeader r.len (seen_bytes r room)
+seen_header r room some =
+    subst (HasHeader r.len) (sym (seen_inside r room some)) (has_header r.len (take r.given room) (reader_held r.inner) r.is_u32)
+
+-- so before four bytes are seen nothing was read past the buffer
+pub not_inside : {R : Type 0} {S : ℕ} (r : FrameReader R S) (room : List ℕ) → length (seen_bytes r room) < 4 → r.len ≡ 0
+not_inside r room short = ⊎_elim
+    (λ some. absurd (omega (arith, (seen_header r room some).0, short)))
+    (λ none. let is : r.len ≡ 0 = omega (arith, none) in is)
+    (cases_lt 0 r.len)
+
+-- a whole header stays where more bytes come behind it
+pub header_stays : (len : ℕ) (held more : List ℕ) → HasHeader len held → HasHeader len (held ++ more)
+header_stays len held more (long, told, is) =
+    let front : take 4 (held ++ more) ≡ take 4 held = take-append-le 4 held more long in
+    (omega (arith, long, length-append held more), ap (from_le_bytes w32) front ∙ told, front ∙ is)
+
+-- one header says one length
+pub one_length : (n m : ℕ) (held : List ℕ) → HasHeader n held → HasHeader m held → n ≡ m
+one_length n m held a b = sym a.1 ∙ b.1
+
+-- of no length nothing is taken
+take_none : (l : List ℕ) → take 0 l ≡ []
+take_none [] = refl
+take_none (x ∷ l) = refl
+
+-- a header was taken from the held bytes
+pub begins_long : (len : ℕ) (held left room : List ℕ) → 0 < len → HasHeader len held → left ≡ drop 4 held
+    → begun len (take 0 room) ++ left ≡ held
+begins_long len held left room some header is =
+    ap (λ l. l ++ left)
+    (begun_some len (take 0 room) some ∙ ap (λ l. to_le_bytes w32 len ++ l) (take_none room) ∙ append-nil (to_le_bytes w32 len)
+    ∙ sym header.2)
+    ∙ ap (λ l. take 4 held ++ l) is ∙ take-append-drop 4 held
+
+-- a frame was taken from the held bytes, and its payload was copied into the room
+pub short_given : (len : ℕ) (held left room : List ℕ) → HasHeader len held → len ≤ length room → take len room ≡ take len (drop 4 held)
+    → left ≡ drop (4 + len) held → held ≡ frame (take len room) ++ left
+short_given len held left room header fits copied is =
+    let size : length (take len room) ≡ len = length-take-le len room fits in
+    let whole : frame (take len room) ≡ take (4 + len) held =
+    ap (λ n. to_le_bytes w32 n ++ take len room) size ∙ ap (λ l. l ++ take len room) (sym header.2)
+    ∙ ap (λ l. take 4 held ++ l) copied ∙ sym (take-add 4 len held) in
+    sym (take-append-drop (4 + len) held) ∙ ap (λ l. l ++ drop (4 + len) held) (sym whole) ∙ ap (λ l. frame (take len room) ++ l) (sym is)
+
+-- the room of a read for a part that fits the buffer, and for one that does not
+room_within : (S size k : ℕ) → size ≤ S → part_room S size k ≡ S - k
+room_within S size k fits = ap (λ b. if b then S - k else max S (size - k)) (le-leb size S fits)
+
+room_past : (S size k : ℕ) → S < size → part_room S size k ≡ max S (size - k)
+room_past S size k long = ap (λ b. if b then S - k else max S (size - k)) (lt-leb size S long)
+
+-- the reads of a `fill_to` are reads for a part that fits the buffer
+fill_reads : (S n : ℕ) (held : List ℕ) (C : List ReadCall) (x : List ℕ) (reply : Result Bool Error) → n ≤ S → FillToCalls S n held C x reply
+    → PartReads (AsksPart S n (length held)) C x reply
+fill_reads S n held C x reply fits calls = part_map C x reply each (by reply calls)
+  where
+    each : (at room : ℕ) → AsksOn S n held at room → AsksPart S n (length held) at room
+    each at room asks = (asks.0, let is : room ≡ S - (length held + at) = omega (arith, asks.1) in is ∙ sym (room_within S n _ fits))
+
+    by : (reply : Result Bool Error) → FillToCalls S n held C x reply → PartReads (AsksOn S n held) C x reply
+    by (Ok true) calls = calls
+    by (Ok false) calls = calls
+    by (Err e) calls = calls
+
+-- two lists that make one behind the same front are one
+same_rest : (front a b : List ℕ) → front ++ a ≡ front ++ b → a ≡ b
+same_rest front a b is = sym (drop-append_seam front a) ∙ ap (drop (length front)) is ∙ drop-append_seam front b
+
+module _ {R : Type 0} {S : ℕ} (I : Reader R) (old new : FrameReader R S) (room room' : List ℕ) where
+  -- bytes that are held were seen
+  pub fills_sees : (n : ℕ) (reply : Result Bool Error) → old.len ≡ 0 → new.len ≡ 0 → n ≤ S → FillsTo I n old.inner reply new.inner
+      → SeesTo I n old room reply new room'
+  fills_sees n reply was is fits fills =
+      let before = seen_between old room was in
+      let after = seen_between new room' is in
+      let given : fills.calls.given ≡ bytes fills.taken =
+      same_rest (reader_held old.inner) fills.calls.given (bytes fills.taken) (sym fills.calls.holds ∙ fills.holds) in
+      record {
+        taken = fills.taken;
+        takes = fills.takes;
+        seen = after ∙ fills.holds ∙ ap (λ l. l ++ bytes fills.taken) (sym before);
+        enough = subst (λ l. HasTo n reply (length l)) (sym after) fills.enough;
+        ends = fills.ends;
+        calls = (
+          fills.calls.calls,
+          fills.calls.made,
+          subst (λ l. PartReads (AsksPart S n (length l)) fills.calls.calls (bytes fills.taken) reply) (sym before)
+              (subst (λ x. PartReads (AsksPart S n (length (reader_held old.inner))) fills.calls.calls x reply) given
+              (fill_reads S n (reader_held old.inner) fills.calls.calls fills.calls.given reply fits fills.calls.are)),
+        );
+      }
+
+  -- so were bytes that were read into the room
+  module _ (is : new.len ≡ old.len) (some : 0 < old.len) (fits : old.len ≤ length room)
+      (size : length room' ≡ length room) (reply : Result Bool Error)
+      (fills : FillsRest (buffered I) old.len old.inner room old.given reply new.inner room' new.given) where
+    below : PartBelow I (old.len - old.given) old.inner fills.given reply new.inner
+    below = part_below I (old.len - old.given) fills.calls.0 fills.given reply old.inner new.inner fills.calls.2 fills.calls.1
+
+    before : seen_bytes old room ≡ (to_le_bytes w32 old.len ++ take old.given room) ++ reader_held old.inner
+    before = seen_inside old room some
+
+    after : seen_bytes new room' ≡ (to_le_bytes w32 old.len ++ take new.given room') ++ reader_held new.inner
+    after = seen_inside new room' (omega (arith, is, some))
+        ∙ ap (λ n. (to_le_bytes w32 n ++ take new.given room') ++ reader_held new.inner) is
+
+    long_before : length (seen_bytes old room) ≡ 4 + old.given + length (reader_held old.inner)
+    long_before =
+        omega (
+          arith,
+          ap length before,
+          length-append (to_le_bytes w32 old.len ++ take old.given room) (reader_held old.inner),
+          length-append (to_le_bytes w32 old.len) (take old.given room),
+          length-take-le old.given room (omega (arith, old.within, fits)),
+        )
+
+    long_after : length (seen_bytes new room') ≡ 4 + new.given + length (reader_held new.inner)
+    long_after = omega (
+      arith,
+      ap length after,
+      length-append (to_le_bytes w32 old.len ++ take new.given room') (reader_held new.inner),
+      length-append (to_le_bytes w32 old.len) (take new.given room'),
+      length-take-le new.given room' (omega (arith, fills.within, fits, size)),
+    )
+
+    seen : seen_bytes new room' ≡ seen_bytes old room ++ below.given
+    seen =
+        let header = to_le_bytes w32 old.len in
+        let front = take old.given room in
+        after ∙ ap (λ l. (header ++ l) ++ reader_held new.inner) fills.filled
+        ∙ ap (λ l. l ++ reader_held new.inner) (sym (append_assoc header front fills.given))
+        ∙ append_assoc (header ++ front) fills.given (reader_held new.inner) ∙ ap (λ l. (header ++ front) ++ l) (sym below.split)
+        ∙ sym (append_assoc (header ++ front) (reader_held old.inner) below.given) ∙ ap (λ l. l ++ below.given) (sym before)
+
+    enough : (r : Result Bool Error) → HasTo old.len r new.given → IfShort r (reader_held new.inner ≡ [])
+        → HasTo (4 + old.len) r (length (seen_bytes new room'))
+    enough (Ok true) has none = omega (arith, long_after, has)
+    enough (Ok false) has none = omega (arith, long_after, has, ap length none)
+    enough (Err e) has none = omega (arith, long_after, has, ap length none)
+
+    asks : (at size : ℕ) → AsksExact S (old.len - old.given) (length (reader_held old.inner)) at size
+        → AsksPart S (4 + old.len) (length (seen_bytes old room)) at size
+    asks at size a =
+        let left : (old.len - old.given) - (length (reader_held old.inner) + at) ≡ (4 + old.len) - (length (seen_bytes old room) + at) =
+        omega (arith, long_before, a.0) in (
+          omega (arith, a.0, long_before),
+          a.1 ∙ ap (λ k. max S k) left
+              ∙ sym (room_past S (4 + old.len) (length (seen_bytes old room) + at) (old.is_long some)),
+        )
+
+    pub rest_sees : SeesTo I (4 + old.len) old room reply new room'
+    rest_sees =
+        let took = part_takes I below.calls below.given (reads_from old) (reads_from new) reply
+        (λ at size a. let some : 0 < size = omega (arith, a.0, a.1) in some) fills.fault below.reads below.made in
+        record {
+          taken = took.0;
+          takes = took.1;
+          seen = seen ∙ ap (λ l. seen_bytes old room ++ l) (sym took.2);
+          enough = enough reply fills.enough below.none;
+          ends = took.3;
+          calls = (
+            below.calls,
+            below.made,
+            subst (λ x. PartReads (AsksPart S (4 + old.len) (length (seen_bytes old room))) below.calls x reply) (sym took.2)
+                (part_map below.calls below.given reply asks below.reads),
+          );
+        }
+
+-- what was seen after the header was taken
+pub sees_from : {R : Type 0} {S : ℕ} {I : Reader R}
+    (len : ℕ) {old mid new : FrameReader R S} {room room' : List ℕ} {reply : Result Bool Error}
+    → mid.len ≡ len → reads_from mid ≡ reads_from old → seen_bytes mid room ≡ seen_bytes old room
+    → SeesTo I (4 + mid.len) mid room reply new room' → SeesTo I (4 + len) old room reply new room'
+sees_from {R} {S} {I} len {old} {mid} {new} {room} {room'} {reply} size same is sees = record {
+  taken = sees.taken;
+  takes = subst (λ w. Takes (tells I w) sees.taken (tells I (reads_from new))) same sees.takes;
+  seen = sees.seen ∙ ap (λ l. l ++ bytes sees.taken) is;
+  enough = subst (λ n. HasTo (4 + n) reply (length (seen_bytes new room'))) size sees.enough;
+  ends = sees.ends;
+  calls = (
+    sees.calls.0,
+    subst (λ w. Made (ReadCallLaw I) w sees.calls.0 (reads_from new)) same sees.calls.1,
+    subst (λ n. PartReads (AsksPart S (4 + n) (length (seen_bytes old room))) sees.calls.0 (bytes sees.taken) reply) size
+        (subst (λ l. PartReads (AsksPart S (4 + mid.len) (length l)) sees.calls.0 (bytes sees.taken) reply) is sees.calls.2),
+  );
+}

@@ -1,0 +1,367 @@
+-- Asks of a buffer in front of a filling reader: no ask fails, each takes its step, and the inner reads are few.
+use Rattle.std.proofs.Common.{◌≡◌, ℕ, ◌+◌, ◌-◌, ◌/◌, ◌<◌, ◌≤◌, ◌&&◌, min, nat_eq, nat_lt, Bool, true, false, if◌then◌else◌}
+use Rattle.std.proofs.Common.{List, [], ◌∷◌, ◌++◌, length, take, drop, Some, IfSome, is_err, add-zero, Result, Ok, Err}
+use Rattle.std.proofs.Common.{refl, sym, ap, ap₂, subst, ◌∙◌}
+use Rattle.std.proofs.Common.{arith, ⊎_elim, inl, inr, append_assoc, append-nil, length-append, length-drop, length-take-le, le_refl}
+use Rattle.std.proofs.Common.{drop_of_length-le, take-append-drop}
+use Rattle.std.proofs.Math.Seq.{drop-append_seam}
+use Rattle.std.proofs.lemmas.List.{nil_from_length}
+use Rattle.std.proofs.lemmas.Bool.{cases_lt}
+use Rattle.std.proofs.lemmas.Bool.Decides.{nat_tests}
+use Rattle.no_std_io2.specs.declared.io.Error.{Error}
+use Rattle.no_std_io2.specs.Events.{Event, fails, events_of, bytes}
+use Rattle.no_std_io2.specs.Takes.{Tells, Takes, AreTaken, to_come, IsAtEnd}
+use Rattle.no_std_io2.specs.Read.{Reader, tells, ReadCall, bytes_given, GaveLaw, ReadCallLaw, Gathers, no_read, and_gave, and_again}
+use Rattle.no_std_io2.specs.Read.{ExactCalls}
+use Rattle.no_std_io2.specs.ReadMeter.{FillsRoom, IsReadMeter}
+use Rattle.no_std_io2.specs.Write.{Made}
+use Rattle.no_std_io2.specs.BufRead.{Lender, as_reader, lender_tells, LendCallLaw, FilledLaw, ConsumeLaw}
+use Rattle.no_std_io2.specs.declared.buffered.buf_reader.BufReader.{BufReader}
+use Rattle.no_std_io2.specs.BufReader.{reader_held, reader_behind, reader_inner, behind_held, PassesOn, ReadsBelow, FillsBelow}
+use Rattle.no_std_io2.proofs.EventLemmas.{bytes-append, bytes-events_of, events_of-append}
+use Rattle.no_std_io2.proofs.CallsLemmas.{made_split}
+use Rattle.no_std_io2.proofs.BufReaderRoom.{some_room, held-le}
+use Rattle.no_std_io2.proofs.BufferedReads.{told_behind}
+use Rattle.no_std_io2.proofs.BufReaderCalls.{buf_lender}
+use Rattle.no_std_io2.proofs.BufReaderCounts.{drawn}
+use Rattle.io_bench.specs.declared.asks.Ask.{Ask}
+use Rattle.io_bench.specs.declared.asks.Ask.TheVariants.{Read, Exact, Fill}
+use Rattle.io_bench.specs.Asks.{read_answer, end_or_error, exact_answer, fill_answer, fill_calls, Answered, met_end, CameTo}
+use Rattle.io_bench.specs.Asks.{left_behind, DropsFront, AskStep, meets_end, Steps}
+use Rattle.io_bench.proofs.ReadsPaid.{ReadsPaid, OneCall, no_read as no_inner_read, one_read, paid_none, paid_held, paid_call, paid_bound}
+
+-- what is taken of bytes to come
+events_taken : {a b : Tells} {P : List Event} (x y : List ℕ) → to_come a ≡ Some (events_of x) → to_come b ≡ Some (events_of y) → Takes a P b
+    → events_of x ≡ P ++ events_of y
+events_taken {b = b} {P} x y from to takes =
+    subst (AreTaken (Some (events_of x)) P) to (subst (λ E. AreTaken E P (to_come b)) from takes.events)
+
+-- are bytes,
+bytes_taken : {a b : Tells} (x y z : List ℕ) → to_come a ≡ Some (events_of x) → to_come b ≡ Some (events_of y) → Takes a (events_of z) b
+    → x ≡ z ++ y
+bytes_taken x y z from to takes = sym (bytes-events_of x) ∙ ap bytes (events_taken x y from to takes)
+    ∙ bytes-append (events_of z) (events_of y) ∙ ap₂ (λ l m. l ++ m) (bytes-events_of z) (bytes-events_of y)
+
+-- and no error
+none_fails : (x y : List ℕ) (e : Error) → events_of x ≡ fails e ∷ events_of y → ⊥
+none_fails [] y e is = cc
+none_fails (b ∷ x) y e is = cc
+
+-- at the end no byte is to come
+none_left : (t : Tells) (x : List ℕ) → to_come t ≡ Some (events_of x) → IsAtEnd t → x ≡ []
+none_left t x from end = sym (bytes-events_of x) ∙ ap bytes (subst (λ E. IfSome E (λ l. l ≡ [])) from end)
+
+-- the held bytes are no more than those that were read
+passes_fits : {R : Type 0} {S : ℕ} (behind : List ℕ) (read : Result (List ℕ) Error) (room : ℕ) (answer : Result (List ℕ) Error)
+    (new : BufReader R S) (x : List ℕ) → PassesOn behind read room answer new → read ≡ Ok x → length (reader_held new) ≤ length x
+passes_fits behind (Ok y) room answer new x passes is =
+    let same : y ≡ x = cc in omega (arith, ap length passes.1.1, length-drop room y, ap length same)
+passes_fits behind (Err e) room answer new x passes is = cc
+
+-- what an ask of at most `most` bytes took of those to come
+drops : (most : ℕ) (x left after : List ℕ) → left ≡ x ++ after → length x ≤ most → (x ≡ [] → 0 < most → after ≡ [])
+    → DropsFront most left after
+drops most x left after split fits end = ⊎_elim
+    (λ few. let none : x ≡ [] = nil_from_length x (omega arith) in
+    let same : left ≡ after = split ∙ ap (λ l. l ++ after) none in ⊎_elim
+    (λ idle. (0, omega arith, omega arith, sym same))
+    (λ some. let over = end none some in (
+      most,
+      omega arith,
+      omega arith,
+      over ∙ sym (drop_of_length-le left (omega (arith, ap length (same ∙ over)))),
+    ))
+    (cases_lt most 1))
+    (λ some. (length x, omega arith, omega arith, sym (drop-append_seam x after) ∙ ap (drop (length x)) (sym split)))
+    (cases_lt (length x) 1)
+
+-- what an ask of so many bytes left
+rest_is : (x left after : List ℕ) {len : ℕ} → left ≡ x ++ after → length x ≡ len → after ≡ drop len left
+rest_is x left after split long = sym (drop-append_seam x after) ∙ ap₂ drop long (sym split)
+
+-- if a read gave no byte, and none are held, none were to come
+read_ends : {S h e h' e' r : ℕ} (k all : ℕ) → 0 < S → OneCall S h e h' e' r → h + e ≡ k + (h' + e') → all ≡ h + e
+    → (nat_eq k 0 && nat_eq h' 0) ≡ nat_lt all 1
+read_ends k all some (no_inner_read held fits same) split is = grind (arith, nat_tests)
+read_ends k all some (one_read t none got kept short) split is = grind (arith, nat_tests)
+
+-- the only call that was made
+made_one : {X A : Type 0} (may : X → A → X → Type 0) {call : A} {C : List A} (a b : X) → C ≡ call ∷ [] → Made may a C b → may a call b
+made_one may {call} a b is made =
+    let one = subst (λ K. Made may a K b) is made in subst (λ x. may a call x) (sym one.2) one.1
+
+-- the last of some calls
+made_last : {X A : Type 0} (may : X → A → X → Type 0) (C : List A) {call : A} (a b : X) → Made may a (C ++ call ∷ []) b
+    → (mid : X) × Made may a C mid × may mid call b
+made_last may C {call} a b made =
+    let parts = made_split may C a (call ∷ []) b made in
+    (parts.0, parts.1, subst (λ x. may parts.0 call x) (sym parts.2.2) parts.2.1)
+
+module _ {R : Type 0} {S : ℕ} (I : Reader R) (fills : FillsRoom I) where
+  -- how many bytes are to come from the inner reader
+  abbrev behind : BufReader R S → ℕ
+  behind r = length (fills.left (reader_inner r))
+
+  -- one call of the buffer, which may make an inner read
+  abbrev Once : BufReader R S → BufReader R S → Type 0
+  Once a b = (r : ℕ) × ((cost : R → ℕ) → IsReadMeter I.may cost → cost (reader_inner b) ≡ cost (reader_inner a) + r)
+      × OneCall S (length (reader_held a)) (behind a) (length (reader_held b)) (behind b) r
+
+  -- it makes none,
+  once_none : (a b : BufReader R S) → 0 < length (reader_held a) → length (reader_held b) ≤ length (reader_held a)
+      → reader_inner b ≡ reader_inner a → Once a b
+  once_none a b some fits same =
+      (0, λ cost meter. omega (arith, ap cost same), no_inner_read some fits (ap (λ r. length (fills.left r)) same))
+
+  -- or one, of which some bytes are held
+  once_reads : (a b : BufReader R S) (room : ℕ) (answer : Result (List ℕ) Error) → length (reader_held a) ≡ 0 → S ≤ room
+      → GaveLaw I (reader_inner a) room answer (reader_inner b)
+      → ((x : List ℕ) → answer ≡ Ok x → length (reader_held b) ≤ length x) → Once a b
+  once_reads a b room answer none wide law kept =
+      let one = drawn fills answer law in (
+        1,
+        λ cost meter. omega (arith, meter _ _ room answer law.call, some_room a),
+        one_read (length one.gave) none (omega (arith, one.rest)) (kept one.gave one.is) (λ few. omega (arith, one.count, one.rest)),
+      )
+
+  once_read : (a b : BufReader R S) (room : ℕ) (answer : Result (List ℕ) Error) → ReadsBelow I a room answer b → Once a b
+  once_read a b room answer read = ⊎_elim
+      (λ none. ⊎_elim
+      (λ few. let one = read.filled (omega arith) few in
+      once_reads a b S one.0 (omega arith) (le_refl S) one.1 (λ x is. passes_fits [] one.0 room answer b x one.2 is))
+      (λ many. let one = read.direct (omega arith) many in
+      once_reads a b room answer (omega arith) many one.0 (λ x is. omega (arith, ap length one.1.1)))
+      (cases_lt room S))
+      (λ some. let held = read.held some in
+      once_none a b some (passes_fits (reader_behind a) (Ok (reader_held a)) room answer b (reader_held a) held.1 refl) held.0)
+      (cases_lt (length (reader_held a)) 1)
+
+  once_fill : (a b : BufReader R S) (answer : Result (List ℕ) Error) → FillsBelow I a answer b → Once a b
+  once_fill a b answer fill = ⊎_elim
+      (λ none. let one = fill.filled (omega arith) in
+      once_reads a b S answer (omega arith) (le_refl S) one.0
+      (λ x is. omega (arith, ap length one.1.1, ap (λ r. length (bytes_given r)) is)))
+      (λ some. let same = (fill.held some).1 in
+      once_none a b some (omega (arith, ap (λ r. length (reader_held r)) same)) (ap reader_inner same))
+      (cases_lt (length (reader_held a)) 1)
+
+module _ {R : Type 0} {S : ℕ} (I : Reader R) (fills : FillsRoom I) (start : BufReader R S) where
+  abbrev L : Lender (BufReader R S)
+  L = buf_lender I
+
+  -- the bytes to come
+  abbrev all : BufReader R S → List ℕ
+  all r = left_behind fills.left r
+
+  told : (r : BufReader R S) → to_come (lender_tells L r) ≡ Some (events_of (all r))
+  told r = told_behind S (reader_behind r) (reader_held r) (tells I (reader_inner r))
+      ∙ ap (behind_held (reader_held r)) (fills.told (reader_inner r))
+      ∙ ap Some (sym (events_of-append (reader_held r) (fills.left (reader_inner r))))
+
+  -- of the bytes to come these were taken
+  took : (a b : BufReader R S) (x : List ℕ) → Takes (lender_tells L a) (events_of x) (lender_tells L b) → all a ≡ x ++ all b
+  took a b x takes = bytes_taken (all a) (all b) x (told a) (told b) takes
+
+  -- no call fails
+  no_error : {T : Type 0} (a b : BufReader R S) (e : Error) → Takes (lender_tells L a) (fails e ∷ []) (lender_tells L b) → T
+  no_error a b e takes = absurd (none_fails (all a) (all b) e (events_taken (all a) (all b) (told a) (told b) takes))
+
+  -- at the end no byte is to come
+  ended : (b : BufReader R S) → IsAtEnd (lender_tells L b) → all b ≡ []
+  ended b end = none_left (lender_tells L b) (all b) (told b) end
+
+  -- the calls so far are paid for, if z asks met the end
+  abbrev pub Paid : ℕ → BufReader R S → Type 0
+  Paid z r = (c : ℕ) × ((cost : R → ℕ) → IsReadMeter I.may cost → cost (reader_inner r) ≡ cost (reader_inner start) + c)
+      × ReadsPaid S (length (all start)) c z (length (reader_held r)) (behind I fills r)
+
+  once_paid : (z z' : ℕ) (a b : BufReader R S) → z ≤ z' → (length (all a) ≡ 0 → z < z') → Once I fills a b → Paid z a → Paid z' b
+  once_paid z z' a b more end once paid = (
+    paid.0 + once.0,
+    λ cost meter. omega (arith, paid.1 cost meter, once.1 cost meter),
+    paid_call more (λ none. end (length-append (reader_held a) (fills.left (reader_inner a)) ∙ none)) once.2 paid.2,
+  )
+
+  kept_paid : (z : ℕ) (a b : BufReader R S) → length (reader_held b) ≤ length (reader_held a) → reader_inner b ≡ reader_inner a → Paid z a
+      → Paid z b
+  kept_paid z a b fits same paid = (
+    paid.0,
+    λ cost meter. omega (arith, paid.1 cost meter, ap cost same),
+    paid_held fits (ap (λ r. length (fills.left r)) same) paid.2,
+  )
+
+  -- one read
+  read_paid : (z z' room : ℕ) (x : List ℕ) (a b : BufReader R S) → z ≤ z' → (length (all a) ≡ 0 → z < z')
+      → GaveLaw (as_reader L) a room (Ok x) b → Paid z a → Paid z' b × (all a ≡ x ++ all b)
+  read_paid z z' room x a b more end law paid =
+      (once_paid z z' a b more end (once_read I fills a b room (Ok x) law.call) paid, took a b x law.takes)
+
+  -- reads that gave some bytes each
+  gathers_paid : {asks : ℕ → ℕ → Type 0} {C : List ReadCall} {x : List ℕ} → Gathers asks C x → (z : ℕ) (a b : BufReader R S)
+      → Made (ReadCallLaw (as_reader L)) a C b → Paid z a → Paid z b × (all a ≡ x ++ all b)
+  gathers_paid no_read z a b made paid = (subst (Paid z) (sym made) paid, ap all (sym made))
+  gathers_paid (and_gave C x y room before asked some) z a b made paid =
+      let parts = made_last (ReadCallLaw (as_reader L)) C a b made in
+      let first = gathers_paid before z a parts.0 parts.1 paid in
+      let gave = took parts.0 b y parts.2.takes in
+      let next = read_paid z z room y parts.0 b (le_refl z)
+      (λ none. absurd (omega (arith, none, some, ap length gave, length-append y (all b)))) parts.2 first.0 in
+      (next.0, first.1 ∙ ap (λ l. x ++ l) gave ∙ sym (append_assoc x y (all b)))
+  gathers_paid (and_again C x room e before asked interrupted) z a b made paid =
+      let parts = made_last (ReadCallLaw (as_reader L)) C a b made in no_error parts.0 b e parts.2.takes
+
+  -- What one ask does.
+  pub record Went (ask : Ask) (z : ℕ) (a : BufReader R S) (answer : Result Bool Error) (b : BufReader R S) : Type 0 where
+    pub is_end : Bool
+    pub is : answer ≡ Ok is_end
+    pub step : AskStep ask (all a) (all b)
+    pub met : is_end ≡ meets_end ask (length (all a))
+    pub paid : Paid (z + (if is_end then 1 else 0)) b
+
+  -- a `read`
+  read_went : (len z : ℕ) (a b : BufReader R S) (reply : Result (List ℕ) Error) (answer : Result Bool Error)
+      → answer ≡ read_answer reply (reader_held b) → GaveLaw (as_reader L) a len reply b → Paid z a → Went (Read len) z a answer b
+  read_went len z a b (Err e) answer is law paid = no_error a b e law.takes
+  read_went len z a b (Ok x) answer is law paid =
+      let gave = took a b x law.takes in
+      let once = once_read I fills a b len (Ok x) law.call in
+      let whole = length-append (reader_held a) (fills.left (reader_inner a)) in
+      let rest = length-append (reader_held b) (fills.left (reader_inner b)) in
+      let met : (nat_eq (length x) 0 && nat_eq (length (reader_held b)) 0) ≡ nat_lt (length (all a)) 1 =
+      read_ends (length x) (length (all a)) (some_room a) once.2 (omega (arith, ap length gave, length-append x (all b), whole, rest))
+      whole in
+      record {
+        is_end = nat_eq (length x) 0 && nat_eq (length (reader_held b)) 0;
+        is = is;
+        step = drops len x (all a) (all b) gave law.bound (λ none some. ended b (law.end (ap Ok none) some));
+        met = met;
+        paid = once_paid z _ a b (omega arith) (λ none. grind (arith, nat_tests, met, none)) once paid;
+      }
+
+  -- a `read_exact`
+  exact_went : (len z : ℕ) (a b : BufReader R S) (reply : Result (Unit {0}) Error) (answer : Result Bool Error) (buf : List ℕ)
+      → length buf ≡ len → answer ≡ exact_answer reply → (C : List ReadCall) → Made (ReadCallLaw (as_reader L)) a C b
+      → ExactCalls C reply buf → Paid z a → Went (Exact len) z a answer b
+  exact_went len z a b (Ok u) answer buf long is C made (inl own) paid =
+      let call = (made_one (ReadCallLaw (as_reader L)) a b own made).0 in
+      let gave : all a ≡ take (length buf) (reader_held a) ++ all b =
+      sym (ap (λ l. l ++ fills.left (reader_inner a)) (take-append-drop (length buf) (reader_held a)))
+      ∙ append_assoc (take (length buf) (reader_held a)) (drop (length buf) (reader_held a)) (fills.left (reader_inner a))
+      ∙ ap₂ (λ l r. take (length buf) (reader_held a) ++ (l ++ fills.left r)) (sym call.1.1.1.1) (sym call.1.0) in
+      let many = length-take-le (length buf) (reader_held a) call.0 in
+      record {
+        is_end = false;
+        is = is;
+        step = rest_is (take (length buf) (reader_held a)) (all a) (all b) gave (many ∙ long);
+        met = grind (arith, nat_tests, long, many, ap length gave, length-append (take (length buf) (reader_held a)) (all b));
+        paid = rw add-zero
+            (kept_paid z a b (omega (arith, ap length call.1.1.1.1, length-drop (length buf) (reader_held a))) call.1.0 paid);
+      }
+  exact_went len z a b (Err e) answer buf long is C made (inl own) paid =
+      let call = (made_one (ReadCallLaw (as_reader L)) a b own made).0 in absurd (let no : ⊥ = cc call.1.1.0 in no)
+  exact_went len z a b (Ok u) answer buf long is C made (inr reads) paid =
+      let gave = gathers_paid reads z a b made paid in
+      record {
+        is_end = false;
+        is = is;
+        step = rest_is buf (all a) (all b) gave.1 long;
+        met = grind (arith, nat_tests, long, ap length gave.1, length-append buf (all b));
+        paid = rw add-zero gave.0;
+      }
+  exact_went len z a b (Err e) answer buf long is C made (inr (x, front, inl end)) paid =
+      let until = end.1 in
+      let parts = made_last (ReadCallLaw (as_reader L)) until.0 a b (subst (λ K. Made (ReadCallLaw (as_reader L)) a K b) until.4 made) in
+      let first = gathers_paid until.2 z a parts.0 parts.1 paid in
+      let last = read_paid z (z + 1) until.1 [] parts.0 b (omega arith) (λ none. omega arith) parts.2 first.0 in
+      let over = ended b (parts.2.end refl until.3.1) in
+      let whole : all a ≡ x = first.1 ∙ ap (λ l. x ++ l) (last.1 ∙ over) ∙ append-nil x in
+      record {
+        is_end = true;
+        is = is ∙ ap (λ k. end_or_error k e) end.0.0;
+        step = over ∙ sym (drop_of_length-le (all a) (omega (arith, ap length whole, until.3, long)));
+        met = grind (arith, nat_tests, ap length whole, until.3, long);
+        paid = last.0;
+      }
+  exact_went len z a b (Err e) answer buf long is C made (inr (x, front, inr fault)) paid =
+      let until = fault.1 in
+      let parts = made_last (ReadCallLaw (as_reader L)) until.0 a b (subst (λ K. Made (ReadCallLaw (as_reader L)) a K b) until.4 made) in
+      no_error parts.0 b e parts.2.takes
+
+  -- a `fill_buf` and a `consume`
+  fill_went : (most z : ℕ) (a b : BufReader R S) (reply : Result (List ℕ) Error) (answer : Result Bool Error) → answer ≡ fill_answer reply
+      → Made (LendCallLaw L) a (fill_calls most reply) b → Paid z a → Went (Fill most) z a answer b
+  fill_went most z a b (Err e) answer is made paid =
+      let law = subst (λ r. FilledLaw L a (Err e) r) (sym made.2) made.1 in no_error a b e law.takes
+  fill_went most z a b (Ok lent) answer is (mid, filled, (last, (within, dropped), same)) paid =
+      let n = min most (length lent) in
+      let still = took a mid [] filled.takes in
+      let law = subst (λ r. ConsumeLaw L mid n r) (sym same) dropped in
+      let gave : all a ≡ take n lent ++ all b =
+      still ∙ took mid b (take n (reader_held mid)) law.takes ∙ ap (λ l. take n l ++ all b) filled.lends in
+      let long = ap length still ∙ length-append (reader_held mid) (fills.left (reader_inner mid)) in
+      let met : nat_eq (length lent) 0 ≡ nat_lt (length (all a)) 1 = ⊎_elim
+      (λ few. let over = ended a (filled.end (ap Ok (nil_from_length lent (omega arith)))) in
+      grind (arith, nat_tests, ap length over))
+      (λ some. grind (arith, nat_tests, long, ap length filled.lends))
+      (cases_lt (length lent) 1) in
+      let many = length-take-le n lent (omega arith) in
+      record {
+        is_end = nat_eq (length lent) 0;
+        is = is;
+        step = drops most (take n lent) (all a) (all b) gave (omega (arith, many)) (λ none some.
+            let over = ended a (filled.end (ap Ok (nil_from_length lent (omega (arith, many, ap length none))))) in
+            nil_from_length (all b) (omega (arith, ap length gave, length-append (take n lent) (all b), ap length over)));
+        met = met;
+        paid = kept_paid _ mid b (omega (arith, ap length law.held, length-drop n (reader_held mid))) law.call.0
+            (once_paid z _ a mid (omega arith) (λ none. grind (arith, nat_tests, met, none))
+            (once_fill I fills a mid (Ok lent) filled.call) paid);
+      }
+
+  -- any ask
+  answered_went : (ask : Ask) (z : ℕ) (a b : BufReader R S) (answer : Result Bool Error) → Answered L ask a answer b → Paid z a
+      → Went ask z a answer b
+  answered_went (Read len) z a b answer (reply, is, law) paid = read_went len z a b reply answer is law paid
+  answered_went (Exact len) z a b answer (reply, is, (buf, buf', long, law)) paid =
+      exact_went len z a b reply answer buf' long is law.calls.calls law.calls.made law.calls.are paid
+  answered_went (Fill most) z a b answer (reply, is, made) paid = fill_went most z a b reply answer is made paid
+
+  -- asks in a row
+  came_went : (asks : List Ask) (z : ℕ) (a b : BufReader R S) (at_end failed : ℕ) → CameTo L asks a at_end failed b → Paid z a
+      → (failed ≡ 0) × Steps asks (all a) (all b) at_end × Paid (z + at_end) b
+  came_went [] z a b at_end failed t paid = (
+    t.2,
+    (ap all t.0, t.1),
+    subst (λ r. Paid (z + at_end) r) (sym t.0) (subst (λ k. Paid k a) (omega (arith, t.1)) paid),
+  )
+  came_went (ask ∷ asks) z a b at_end failed (answer, next, ends, failures, now, later, counted, none) paid =
+      let first = answered_went ask z a next answer now paid in
+      let rest = came_went asks _ next b ends failures later first.paid in
+      let count : at_end ≡ (if first.is_end then 1 else 0) + ends = counted ∙ ap (λ r. (if met_end r then 1 else 0) + ends) first.is in (
+        none ∙ ap₂ (λ r k. (if is_err r then 1 else 0) + k) first.is rest.0,
+        (all next, ends, first.step, rest.1, count ∙ ap (λ t. (if t then 1 else 0) + ends) first.met),
+        subst (λ k. Paid k b) (omega (arith, count)) rest.2,
+      )
+
+  -- before the first ask
+  none_paid : Paid 0 start
+  none_paid = (
+    0,
+    λ cost meter. omega arith,
+    subst (λ n. ReadsPaid S n 0 0 (length (reader_held start)) (behind I fills start))
+        (sym (length-append (reader_held start) (fills.left (reader_inner start)))) (paid_none S _ _),
+  )
+
+  -- from the first ask on
+  pub run_went : (asks : List Ask) (b : BufReader R S) (at_end failed : ℕ) → CameTo L asks start at_end failed b
+      → (failed ≡ 0) × Steps asks (all start) (all b) at_end × Paid at_end b
+  run_went asks b at_end failed came =
+      let went = came_went asks 0 start b at_end failed came none_paid in
+      (went.0, went.1, subst (λ k. Paid k b) (omega arith) went.2)
+
+  -- so the inner reads are few
+  pub few_reads : (z : ℕ) (b : BufReader R S) → Paid z b → (cost : R → ℕ) → IsReadMeter I.may cost
+      → cost (reader_inner b) ≤ cost (reader_inner start) + ((length (all start) - length (all b)) / S + 1 + z)
+  few_reads z b paid cost meter =
+      let bound = paid_bound S (length (all start)) (some_room start) (held-le b) paid.2 in
+      let long = length-append (reader_held b) (fills.left (reader_inner b)) in
+      omega (arith, paid.1 cost meter, subst (λ n. paid.0 ≤ (length (all start) - n) / S + 1 + z) (sym long) bound)

@@ -1,0 +1,157 @@
+-- A read to the end of a `BufReader`: the held bytes are appended, and then those that the inner reader's `read_to_end` appends.
+use Rattle.std.proofs.Common.{◌≡◌, ℕ, ◌+◌, ◌-◌, ◌<◌, ◌≤◌, List, [], ◌++◌, Result, Ok, Err, length, refl, sym, ap, ◌∙◌, arith, inl}
+use Rattle.std.proofs.Common.{inr}
+use Rattle.std.proofs.Common.{append_assoc, length-append, le_trans, le_refl, Vec, vec_len, vec_capacity, OnOk, IfOk, append-nil}
+use Rattle.std.proofs.lemmas.List.{append_cancel_left, append_cancel_right}
+use Rattle.no_std_io2_base.specs.declared.error.Error.{Error}
+use Rattle.no_std_io2_base.specs.Errors.{IsOutOfMemory}
+use Rattle.no_std_io2_base.specs.Cursor.{HasMoved}
+use Rattle.no_std_io2_base.specs.Events.{Event, events_of, bytes}
+use Rattle.no_std_io2_base.specs.Takes.{Takes}
+use Rattle.no_std_io2_base.specs.Read.{Reader, tells, GaveAll, ReadToEndLaw, DrainsOrStops, least_room, ended}
+use Rattle.no_std_io2_base.proofs.EventLemmas.{bytes-append, bytes-events_of, HasNoFault-append, HasNoFault-events_of}
+use Rattle.no_std_io2_base.proofs.ReadCalls.{to_end_by}
+use Rattle.no_std_io2_base.proofs.ReadToEndLoop.{recount}
+use Rattle.no_std_io2_base.proofs.TakesLemmas.{drains_ended}
+use Rattle.no_std_io2.specs.declared.buffered.buf_reader.BufReader.{BufReader}
+use Rattle.no_std_io2.specs.BufReader.{reader_held, reader_behind, reader_inner, HasNoBuffer, ReaderMay}
+use Rattle.no_std_io2.proofs.BufferedReads.{takes_held, takes_through, ends_behind}
+use Rattle.no_std_io2.proofs.BufReaderCalls.{buf_reader}
+use Rattle.no_std_io2.proofs.BufReaderRoom.{held-le}
+
+-- the law, and that it is a call of its own
+abbrev pub ToEndOwn : {R A : Type 0} {S : ℕ} → Reader R → BufReader R S → Vec ℕ A → Result ℕ Error → Vec ℕ A → BufReader R S → Type 0
+ToEndOwn K old buf reply buf' new = ReadToEndLaw (buf_reader K) old buf reply buf' new
+    × ((x : List ℕ) × (buf'.items ≡ buf.items ++ x) × ReaderMay K old (GaveAll x (ended reply)) new)
+
+-- all that was held was appended
+pub moved_all : (held rest old : List ℕ) {mid : List ℕ} → HasMoved held rest old mid → rest ≡ [] → mid ≡ old ++ held
+moved_all held rest old (part, split, shown) none =
+    shown ∙ ap (λ l. old ++ l) (sym (split ∙ ap (λ l. part ++ l) none ∙ append-nil part))
+
+module _ {R A : Type 0} {S : ℕ} {K : Reader R} {old new : BufReader R S} {buf buf' : Vec ℕ A} where
+  -- the inner reader appended the rest
+  pub to_end_through : {mid : Vec ℕ A} (reply : Result ℕ Error) (k : ℕ) → mid.items ≡ buf.items ++ reader_held old
+      → vec_capacity buf ≤ vec_capacity mid → ReadToEndLaw K (reader_inner old) mid reply buf' (reader_inner new) → HasNoBuffer new
+      → OnOk reply (k ≡ vec_len buf' - vec_len buf) → ToEndOwn K old buf (recount reply k) buf' new
+  to_end_through {mid} reply k first grown inner empty is = (
+    record {
+      taken = taken;
+      takes = takes;
+      appends = (shown, counts reply is);
+      ends = ends reply inner.ends;
+      capacity = le_trans grown inner.capacity;
+      calls = to_end_by all (inner.appends.0 ∙ shown_all)
+          (call, (taken, takes, gave, drains_ended _ taken (recount reply k) _ (ends reply inner.ends)));
+    },
+    (all, inner.appends.0 ∙ shown_all, call),
+  )
+    where
+      held : List ℕ
+      held = reader_held old
+
+      taken : List Event
+      taken = events_of held ++ inner.taken
+
+      all : List ℕ
+      all = held ++ bytes inner.taken
+
+      gave : bytes taken ≡ all
+      gave = bytes-append (events_of held) inner.taken ∙ ap (λ l. l ++ bytes inner.taken) (bytes-events_of held)
+
+      shown_all : mid.items ++ bytes inner.taken ≡ buf.items ++ all
+      shown_all = ap (λ l. l ++ bytes inner.taken) first ∙ append_assoc buf.items held (bytes inner.taken)
+
+      shown : buf'.items ≡ buf.items ++ bytes taken
+      shown = inner.appends.0 ∙ shown_all ∙ ap (λ l. buf.items ++ l) (sym gave)
+
+      takes : Takes (tells (buf_reader K) old) taken (tells (buf_reader K) new)
+      takes = takes_through S (reader_behind old) held inner.takes empty.0 empty.1
+
+      long : length (bytes taken) ≡ length held + length (bytes inner.taken)
+      long = ap length gave ∙ length-append held (bytes inner.taken)
+
+      counts : (reply : Result ℕ Error) → OnOk reply (k ≡ vec_len buf' - vec_len buf)
+          → IfOk (recount reply k) (λ n. n ≡ length (bytes taken))
+      counts (Ok n) is = omega (arith, is, ap length shown, length-append buf.items (bytes taken), buf'.ok.0, buf.ok.0)
+      counts (Err e) is = tt
+
+      ends : (reply : Result ℕ Error)
+          → DrainsOrStops (vec_capacity mid < vec_len mid + (length (bytes inner.taken) + least_room)) inner.taken reply
+          (tells K (reader_inner new))
+          → DrainsOrStops (vec_capacity buf < vec_len buf + (length (bytes taken) + least_room)) taken (recount reply k)
+          (tells (buf_reader K) new)
+      ends (Ok n) (none, end) = (
+        HasNoFault-append (events_of held) inner.taken (HasNoFault-events_of held) none,
+        ends_behind S (reader_behind new)
+            (reader_held new) (tells K (reader_inner new)) empty.1 end,
+      )
+      ends (Err e) (inl (Q, is, none, fault)) = inl (
+        events_of held ++ Q,
+        ap (λ l. events_of held ++ l) is ∙ sym (append_assoc (events_of held) Q _),
+        HasNoFault-append (events_of held) Q (HasNoFault-events_of held) none,
+        fault,
+      )
+      ends (Err e) (inr (none, refused, why)) = inr (
+        HasNoFault-append (events_of held) inner.taken (HasNoFault-events_of held) none,
+        refused,
+        omega (arith, why, grown, long, mid.ok.0, buf.ok.0, ap length first, length-append buf.items held),
+      )
+
+      call : ReaderMay K old (GaveAll all (ended (recount reply k))) new
+      call = inr (
+        (
+          reply,
+          same reply,
+          record {
+            calls = inner.calls.calls;
+            given = inner.calls.given;
+            made = inner.calls.made;
+            appended = ap (λ l. held ++ l)
+                (append_cancel_left mid.items (bytes inner.taken) inner.calls.given (sym inner.appends.0 ∙ inner.calls.appended));
+            are = inner.calls.are;
+          },
+        ),
+        empty,
+      )
+        where
+          same : (reply : Result ℕ Error) → ended reply ≡ ended (recount reply k)
+          same (Ok n) = refl
+          same (Err e) = refl
+
+  -- nothing was held: it is just that inner call
+  pub to_end_alone : (reply : Result ℕ Error) → reader_held old ≡ [] → ReadToEndLaw K (reader_inner old) buf reply buf' (reader_inner new)
+      → HasNoBuffer new → ToEndOwn K old buf reply buf' new
+  to_end_alone (Ok n) none inner empty =
+      to_end_through (Ok n) n (sym (append-nil buf.items) ∙ ap (λ l. buf.items ++ l) (sym none)) (le_refl _) inner empty
+      (omega (arith, inner.appends.1, ap length inner.appends.0, length-append buf.items (bytes inner.taken), buf'.ok.0, buf.ok.0))
+  to_end_alone (Err e) none inner empty =
+      to_end_through (Err e) 0 (sym (append-nil buf.items) ∙ ap (λ l. buf.items ++ l) (sym none)) (le_refl _) inner empty tt
+
+  -- the vector had no room for all held bytes, and could not grow: a front of them was appended
+  pub to_end_part : {e : Error} → IsOutOfMemory e → HasMoved (reader_held old) (reader_held new) buf.items buf'.items
+      → reader_behind new ++ reader_held new ≡ reader_behind old ++ reader_held old → reader_inner new ≡ reader_inner old
+      → vec_capacity buf ≤ vec_capacity buf' → vec_capacity buf < vec_len buf' + least_room
+      → ToEndOwn K old buf (Err e) buf' new
+  to_end_part {e} refused (part, split, shown) kept same grown full =
+      let behind : reader_behind new ≡ reader_behind old ++ part =
+      append_cancel_right _ _ (reader_held new)
+      (kept ∙ ap (λ l. reader_behind old ++ l) split ∙ sym (append_assoc (reader_behind old) part (reader_held new))) in
+      let takes : Takes (tells (buf_reader K) old) (events_of part) (tells (buf_reader K) new) =
+      rw same (takes_held S (reader_behind old) (reader_held old) _ part _ split behind (held-le old)) in
+      let call : ReaderMay K old (GaveAll part (Err e)) new = inl (refused, same, (reader_held new, split, (behind, refl))) in
+      let none = HasNoFault-events_of part in (
+        record {
+          taken = events_of part;
+          takes = takes;
+          appends = (shown ∙ ap (λ l. buf.items ++ l) (sym (bytes-events_of part)), tt);
+          ends = inr (
+            none,
+            refused,
+            omega (arith, full, buf'.ok.0, buf.ok.0, ap length shown, length-append buf.items part, ap length (bytes-events_of part)),
+          );
+          capacity = grown;
+          calls = to_end_by part shown (call, (events_of part, takes, bytes-events_of part, inr (none, refused, tt)));
+        },
+        (part, shown, call),
+      )

@@ -1,0 +1,12 @@
+use Rattle.no_std_io2.proofs.BufReaderCounts.{exact_counted}
+use Rattle.no_std_io2.proofs.count_pins.read_exact_counted.Goals as goal
+
+pub returns-clause-reads : goal.returns-clause-reads
+returns-clause-reads g c = λ cost meter fills.
+    (exact_counted fills c.args.r.now c.read_exact.new.self _ c.read_exact.result c.read_exact.new.buf c.read_exact.auto.buf
+    c.read_exact.ensures.leaves).cost cost meter
+
+pub returns-clause-left : goal.returns-clause-left
+returns-clause-left g c = λ fills.
+    (exact_counted fills c.args.r.now c.read_exact.new.self _ c.read_exact.result c.read_exact.new.buf c.read_exact.auto.buf
+    c.read_exact.ensures.leaves).left

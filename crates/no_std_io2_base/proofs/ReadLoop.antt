@@ -1,0 +1,60 @@
+-- What a loop of reads has done so far.
+use Rattle.std.proofs.Common.{◌≡◌, ℕ, List, [], ◌∷◌, ◌++◌, Result, Ok, Err, length, take, refl, arith, length-take-le}
+use Rattle.no_std_io2_base.specs.declared.error.Error.{Error}
+use Rattle.no_std_io2_base.specs.Errors.{IsInterruption}
+use Rattle.no_std_io2_base.specs.Takes.{TakesBytes}
+use Rattle.no_std_io2_base.specs.Read.{Reader, tells, ReadLaw, GaveLaw, ReadCallLaw, ReadCall, Gave, Gathers, no_read, and_gave, and_again}
+use Rattle.no_std_io2_base.specs.Read.{GathersUntil}
+use Rattle.no_std_io2_base.specs.Write.{Made}
+use Rattle.no_std_io2_base.proofs.CallsLemmas.{made_more}
+use Rattle.no_std_io2_base.proofs.ReadExactExits.{some_bytes}
+use Rattle.no_std_io2_base.proofs.TakesLemmas.{takes_none, bytes_more, bytes_still, read_law}
+
+-- the bytes x were taken, by these reads
+pub record ReadsSoFar {S : Type 0} (R : Reader S) (asks : ℕ → ℕ → Type 0) (old : S) (x : List ℕ) (now : S) : Type 0 where
+  pub took : TakesBytes (tells R old) x (tells R now)
+  pub open took use *
+  pub calls : List ReadCall
+  pub made : Made (ReadCallLaw R) old calls now
+  pub gathers : Gathers asks calls x
+
+-- no read yet
+unfoldable pub reads_none : {S : Type 0} {R : Reader S} {asks : ℕ → ℕ → Type 0} (old : S) → ReadsSoFar R asks old [] old
+reads_none {R = R} old = record {
+  took = record { taken = []; takes = takes_none (tells R old); no_fault = tt; are = refl };
+  calls = [];
+  made = refl;
+  gathers = no_read;
+}
+
+module _ {S : Type 0} {R : Reader S} {asks : ℕ → ℕ → Type 0} {old now new : S} {x : List ℕ}
+    (before : ReadsSoFar R asks old x now) where
+  -- a read gave some bytes more
+  unfoldable pub reads_more : {part ys : List ℕ} {n : ℕ} → ReadLaw R now part (Ok n) ys new → (n ≡ 0 → ⊥) → asks (length x) (length ys)
+      → ReadsSoFar R asks old (x ++ take n ys) new
+  reads_more {ys = ys} {n = n} read some into = record {
+    took = bytes_more (take n ys) before.took read.takes;
+    calls = before.calls ++ Gave (length ys) (Ok (take n ys)) ∷ [];
+    made = made_more (ReadCallLaw R) before.calls old before.made (read_law (Ok n) read);
+    gathers = and_gave before.calls x (take n ys) (length ys) before.gathers into
+        (omega (arith, length-take-le n ys read.bound, some_bytes n some));
+  }
+
+  -- a read was interrupted
+  unfoldable pub reads_again : {part ys : List ℕ} {e : Error} → ReadLaw R now part (Err e) ys new → IsInterruption e
+      → asks (length x) (length ys) → ReadsSoFar R asks old x new
+  reads_again {ys = ys} {e = e} read interrupted into = record {
+    took = bytes_still before.took read.takes interrupted;
+    calls = before.calls ++ Gave (length ys) (Err e) ∷ [];
+    made = made_more (ReadCallLaw R) before.calls old before.made (read_law (Err e) read);
+    gathers = and_again before.calls x (length ys) e before.gathers into interrupted;
+  }
+
+  -- a read ended the loop
+  pub reads_until : {answer : Result (List ℕ) Error} {room : ℕ} → GaveLaw R now room answer new → asks (length x) room
+      → (C : List ReadCall) × Made (ReadCallLaw R) old C new × GathersUntil asks C x answer
+  reads_until {answer} {room} law into = (
+    before.calls ++ Gave room answer ∷ [],
+    made_more (ReadCallLaw R) before.calls old before.made law,
+    (before.calls, room, before.gathers, into, refl),
+  )

@@ -1,0 +1,134 @@
+-- At limit 0 a `Take` gives nothing, over every reader.
+use Rattle.std.proofs.Common.{◌≡◌, ℕ, ◌<◌, ◌⊎◌, List, [], ◌∷◌, ◌++◌, Result, Ok, Err, OnOk, IfOk, IfErr, IsUtf8, length, take}
+use Rattle.std.proofs.Common.{refl, sym, ap, subst}
+use Rattle.std.proofs.Common.{◌∙◌, arith, inl, inr, length-take-le, append-nil, Vec, String, string_bytes, string_len, string_capacity}
+use Rattle.std.proofs.lemmas.Str.{IsUtf8-nil}
+use Rattle.no_std_io2_base.specs.declared.error.Error.{Error}
+use Rattle.no_std_io2_base.specs.declared.traits.take.Take.{Take}
+use Rattle.no_std_io2_base.specs.Errors.{IsUnexpectedEnd}
+use Rattle.no_std_io2_base.specs.Events.{Event, bytes, cut}
+use Rattle.no_std_io2_base.specs.Read.{Reader, ReadCall, Gave, GaveExactly, GaveAll, Filled, Consumed, ReadCallLaw, ReadLaw, ReadExactLaw}
+use Rattle.no_std_io2_base.specs.Read.{FillCalls, gave_whole}
+use Rattle.no_std_io2_base.specs.BufRead.{Lender, as_reader, lender_tells, LendCallLaw, ReadUntilLaw, ReadLineLaw, line_room}
+use Rattle.no_std_io2_base.specs.Pieces.{newline, PieceMade, PieceEnds, AnswersLine}
+use Rattle.no_std_io2_base.specs.Take.{take_limit, TakeTakes}
+use Rattle.no_std_io2_base.specs.Write.{Made}
+use Rattle.no_std_io2_base.proofs.CallsLemmas.{made_split}
+use Rattle.no_std_io2_base.proofs.ReadsAdd.{each_of, piece_adds}
+use Rattle.no_std_io2_base.proofs.TakesLemmas.{lend_law, made_lend}
+use Rattle.no_std_io2_base.proofs.TakeLemmas.{take_reader, take_lender}
+use Rattle.no_std_io2_base.proofs.TakeLoops.{take_each, take_exact}
+
+-- nothing is taken
+pub took_nothing : {T : Type 0} {inner : Reader T} {old new : Take T} {P : List Event} → TakeTakes inner old P new → take_limit old ≡ 0
+    → P ≡ []
+took_nothing {P = P} took low = sym took.within ∙ ap (λ k. cut k P) low
+
+module _ {T : Type 0} (inner : Reader T) where
+  -- a call changes nothing
+  still : (a b : Take T) (call : ReadCall) → ReadCallLaw (take_reader inner) a call b → take_limit a ≡ 0 → b ≡ a
+  still a b (Gave room answer) law low = law.call.1.at_limit low
+  still a b (GaveExactly room answer) law low = absurd law.0
+  still a b (GaveAll x answer) law low = absurd law.0
+  still a b (Filled answer) law low = law.0.3.at_limit low
+  still a b (Consumed n) law low = law.0.at_limit low
+
+  stands : (C : List ReadCall) (a b : Take T) → Made (ReadCallLaw (take_reader inner)) a C b → take_limit a ≡ 0 → b ≡ a
+  stands [] a b made low = made
+  stands (call ∷ C) a b made low =
+      let first = still a made.0 call made.1 low in stands C made.0 b made.2 (ap take_limit first ∙ low) ∙ first
+
+  -- so each call is made at limit 0
+  last_call : (C : List ReadCall) (call : ReadCall) (a b : Take T) → Made (ReadCallLaw (take_reader inner)) a (C ++ call ∷ []) b
+      → take_limit a ≡ 0 → (c : Take T) × (d : Take T) × (take_limit c ≡ 0) × ReadCallLaw (take_reader inner) c call d
+  last_call C call a b made low =
+      let parts = made_split (ReadCallLaw (take_reader inner)) C a (call ∷ []) b made in
+      (parts.0, parts.2.0, ap take_limit (stands C a parts.0 parts.1 low) ∙ low, parts.2.1)
+
+  pub read_at_limit : {old new : Take T} {buf buf' : List ℕ} (reply : Result ℕ Error) → ReadLaw (take_reader inner) old buf reply buf' new
+      → take_limit old ≡ 0 → reply ≡ Ok 0
+  read_at_limit {buf' = buf'} (Ok n) law low =
+      let none : take n buf' ≡ [] = let is = law.call.0 low in cc in
+      ap Ok (omega (arith, ap length none, length-take-le n buf' law.bound))
+  read_at_limit (Err e) law low = absurd (let is = law.call.0 low in let no : ⊥ = cc in no)
+
+  -- the reads of a `read_exact` meet the end
+  fill_at_limit : (C : List ReadCall) (buf : List ℕ) (old new : Take T) (e : Error) → Made (ReadCallLaw (take_reader inner)) old C new
+      → FillCalls C (Err e) buf → take_limit old ≡ 0 → IsUnexpectedEnd e
+  fill_at_limit C buf old new e made (x, front, inl end) low = end.0
+  fill_at_limit C buf old new e made (x, front, inr fault) low =
+      let until = fault.1 in
+      let last = last_call until.0 (Gave until.1 (Err e)) old new
+      (subst (λ K. Made (ReadCallLaw (take_reader inner)) old K new) until.4 made) low in
+      absurd (let is = last.3.call.0 last.2 in let no : ⊥ = cc in no)
+
+  pub exact_at_limit : {old new : Take T} {buf buf' : List ℕ} (reply : Result (Unit {0}) Error)
+      → ReadExactLaw (take_reader inner) old buf reply buf' new → take_limit old ≡ 0 → OnOk reply (buf' ≡ []) × IfErr reply IsUnexpectedEnd
+  exact_at_limit (Ok u) law low =
+      let took = take_exact (Ok u) law in (sym took.1 ∙ ap bytes (took_nothing took.2 low), tt)
+  exact_at_limit {old} {new} {buf' = buf'} (Err e) law low = (tt, by law.calls.calls law.calls.made law.calls.are)
+    where
+      by : (C : List ReadCall) → Made (ReadCallLaw (take_reader inner)) old C new
+          → (C ≡ GaveExactly (length buf') (gave_whole (Err e) buf') ∷ []) ⊎ FillCalls C (Err e) buf' → IsUnexpectedEnd e
+      by C made (inl is) = absurd (subst (λ K. Made (ReadCallLaw (take_reader inner)) old K new) is made).1.0
+      by C made (inr calls) = fill_at_limit C buf' old new e made calls low
+
+module _ {T : Type 0} (inner : Lender T) where
+  -- a `fill_buf` at limit 0 lends nothing
+  lends_nothing : (C : List ReadCall) (old new : Take T) (answer : Result (List ℕ) Error)
+      → Made (LendCallLaw (take_lender inner)) old (C ++ Filled answer ∷ []) new → take_limit old ≡ 0 → answer ≡ Ok []
+  lends_nothing C old new answer made low =
+      let last = last_call (as_reader inner) C (Filled answer) old new
+      (made_lend (take_lender inner) (C ++ Filled answer ∷ []) old new made) low in
+      last.3.0.1 last.2
+
+  -- so no piece is taken
+  pub piece_at_limit : {old new : Take T} {d : ℕ} {x : List ℕ} (read : Result ℕ Error)
+      → PieceMade (Unit {0}) (LendCallLaw (take_lender inner)) old d read x new → take_limit old ≡ 0 → IfErr read (λ _. ⊥) × (x ≡ [])
+  piece_at_limit {old} {new} {x = x} (Ok n) m low =
+      let took = piece_adds (each_of (lend_law (take_lender inner)) (take_each {inner = as_reader inner})) (Ok n) old new m in
+      (tt, nothing x (sym took.1 ∙ ap (λ P. length (bytes P)) (took_nothing took.2 low)))
+    where
+      nothing : (x : List ℕ) → length x ≡ 0 → x ≡ []
+      nothing [] none = refl
+      nothing (b ∷ x) none = absurd (omega (arith, none))
+  piece_at_limit {old} {new} (Err e) m low = absurd (elim m.are.2 [
+    | inl fault ↦
+        let is = lends_nothing m.are.0 old new (Err e) (subst (λ K. Made (LendCallLaw (take_lender inner)) old K new) fault.1 m.made) low in
+        let no : ⊥ = cc in no
+    | inr refused ↦
+        let lent = refused.2 in
+        let is = lends_nothing m.are.0 old new (Ok lent)
+        (subst (λ K. Made (LendCallLaw (take_lender inner)) old K new) refused.4 m.made) low in
+        let none : lent ≡ [] = cc in
+        let no : ⊥ = omega (arith, refused.3, ap length none) in no
+  ])
+
+  pub until_at_limit : {A : Type 0} {old new : Take T} {d : ℕ} {buf buf' : Vec ℕ A} (reply : Result ℕ Error)
+      → ReadUntilLaw (take_lender inner) old d buf reply buf' new → take_limit old ≡ 0 → reply ≡ Ok 0
+  until_at_limit (Ok n) law low = ap Ok (law.ends.1 ∙ ap length (piece_at_limit (Ok n) law.calls low).1)
+  until_at_limit (Err e) law low = absurd (piece_at_limit (Err e) law.calls low).0
+
+  -- an empty line is appended, which needs no room
+  pub line_at_limit : {A : Type 0} {old new : Take T} {buf buf' : String A} (reply : Result ℕ Error)
+      → ReadLineLaw (take_lender inner) old buf reply buf' new → take_limit old ≡ 0 → (reply ≡ Ok 0)
+      × (string_bytes buf' ≡ string_bytes buf)
+  line_at_limit {old = old} {buf = buf} {buf'} reply law low =
+      let (ok, none) = piece_at_limit law.read law.calls low in
+      by reply law.read (bytes law.taken) none ok (counts law.read law.ends) law.answers
+    where
+      counts : (read : Result ℕ Error) → PieceEnds (λ n. line_room buf < n) newline (lender_tells (take_lender inner) old) law.taken read
+          → IfOk read (λ n. n ≡ length (bytes law.taken))
+      counts (Ok n) ends = ends.1
+      counts (Err e) ends = tt
+
+      by : (reply read : Result ℕ Error) (line : List ℕ) → line ≡ [] → IfErr read (λ _. ⊥) → IfOk read (λ n. n ≡ length line)
+          → AnswersLine line read (string_len buf) (string_capacity buf) reply (string_bytes buf) (string_bytes buf')
+          → (reply ≡ Ok 0) × (string_bytes buf' ≡ string_bytes buf)
+      by (Ok m) (Ok n) line none ok count answers = (
+        ap Ok (answers.1 ∙ count ∙ ap length none),
+        answers.0.1 ∙ ap (λ l. string_bytes buf ++ l) none ∙ append-nil (string_bytes buf),
+      )
+      by (Err e) (Ok n) line none ok count (same, inl invalid) = absurd (invalid.0 (subst IsUtf8 (sym none) IsUtf8-nil))
+      by (Err e) (Ok n) line none ok count (same, inr room) = absurd (omega (arith, room.1, ap length none, buf.bytes.ok.1))
+      by reply (Err f) line none ok count answers = absurd ok

@@ -1,0 +1,342 @@
+-- What a `Take` takes, its inner reader takes.
+use Rattle.std.proofs.Common.{◌≡◌, ℕ, zero, suc, ◌+◌, ◌-◌, ◌<◌, ◌≤◌, min, List, [], ◌∷◌, ◌++◌, Result, Ok, Err, IfOk, IsOkAnd, IfSome}
+use Rattle.std.proofs.Common.{length, take, drop}
+use Rattle.std.proofs.Common.{refl, sym, ap, subst, ◌∙◌, arith, Option, None, Some, inl, inr, length-append}
+use Rattle.std.proofs.Common.{length-take, length-take-le, length-drop}
+use Rattle.std.proofs.lemmas.Bool.{cases_lt}
+use Rattle.std.proofs.lemmas.List.{take_all, drop-take}
+use Rattle.no_std_io2_base.specs.declared.error.Error.{Error}
+use Rattle.no_std_io2_base.specs.declared.traits.take.Take.{Take}
+use Rattle.no_std_io2_base.specs.Events.{Event, byte, fails, events_of, bytes, cut, BeginsWith}
+use Rattle.no_std_io2_base.specs.Takes.{Takes, to_come, AreTaken}
+use Rattle.no_std_io2_base.specs.Read.{Reader, tells, ReadCall, Gave, Filled, Consumed, ReadCallLaw, GaveLaw, ReadLaw, gave, bytes_given}
+use Rattle.no_std_io2_base.specs.Read.{answered, fault_of}
+use Rattle.no_std_io2_base.specs.ReadMeter.{FillsRoom}
+use Rattle.no_std_io2_base.specs.BufRead.{Lender, as_reader, lender_tells, ConsumeLaw, IsNotEmpty}
+use Rattle.no_std_io2_base.specs.Take.{take_held, take_inner, take_limit, take_events, cut_to_come, lent_within, TakeTakes, TakeAsks}
+use Rattle.no_std_io2_base.specs.Take.{TakeMay}
+use Rattle.no_std_io2_base.proofs.EventLemmas.{bytes-append, bytes-events_of}
+use Rattle.no_std_io2_base.proofs.FillBufHeld.{begins_cut}
+use Rattle.no_std_io2_base.proofs.TakesLemmas.{takes_none, takes_then, cut-none, cut-fitting, cut-error, read_law, read_by, lend_law}
+use lib.Seq.{take-take}
+
+-- a `Take`, as the laws of its calls see it
+abbrev pub take_reader : {T : Type 0} → Reader T → Reader (Take T)
+take_reader inner = record {
+  store = λ t. None;
+  turns = λ t. inner.turns (take_inner t);
+  events = take_events (tells inner);
+  may = TakeMay inner;
+}
+
+-- events within a limit are the first of those that are cut there
+pub cut-within : (P R : List Event) (k k' : ℕ) → cut k P ≡ P → k' + length (bytes P) ≡ k → cut k (P ++ R) ≡ P ++ cut k' R
+cut-within [] R k k' within falls = let same : k ≡ k' = omega (arith, falls) in ap (λ n. cut n R) same
+cut-within (byte b ∷ P) R zero k' within falls = absurd (omega (arith, falls))
+cut-within (byte b ∷ P) R (suc k) k' within falls =
+    let rest : cut k P ≡ P = cc in ap (λ l. byte b ∷ l) (cut-within P R k k' rest (omega (arith, falls)))
+cut-within (fails e ∷ P) R zero k' within falls = absurd (let no : ⊥ = cc in no)
+cut-within (fails e ∷ P) R (suc k) k' within falls =
+    let rest : cut (suc k) P ≡ P = cc in ap (λ l. fails e ∷ l) (cut-within P R (suc k) k' rest falls)
+
+cut_taken : (E E' : Option (List Event)) (P : List Event) (k k' : ℕ) → AreTaken E P E' → cut k P ≡ P → k' + length (bytes P) ≡ k
+    → AreTaken (cut_to_come k E) P (cut_to_come k' E')
+cut_taken None E' P k k' taken within falls = tt
+cut_taken (Some E) None P k k' taken within falls = absurd taken
+cut_taken (Some E) (Some E') P k k' taken within falls = ap (cut k) taken ∙ cut-within P E' k k' within falls
+
+-- the end is the end of the cut events
+pub cut_end : (k : ℕ) (E : Option (List Event)) → IfSome E (λ l. l ≡ []) → IfSome (cut_to_come k E) (λ l. l ≡ [])
+cut_end k None end = tt
+cut_end k (Some E) end = ap (cut k) end ∙ cut-none k
+
+-- at limit 0 it is at its end
+pub cut_zero : (k : ℕ) (E : Option (List Event)) → k ≡ 0 → IfSome (cut_to_come k E) (λ l. l ≡ [])
+cut_zero k None none = tt
+cut_zero k (Some E) none = ap (λ n. cut n E) none
+
+-- bytes that fit and an error before the last of them are within
+answered_within : (k : ℕ) (answer : Result (List ℕ) Error) → 0 < k → length (bytes_given answer) ≤ k
+    → cut k (answered answer) ≡ answered answer
+answered_within k (Ok x) some fits = cut-fitting k x fits
+answered_within k (Err e) some fits = cut-error k e some
+
+pub bytes-answered : (answer : Result (List ℕ) Error) → bytes (answered answer) ≡ bytes_given answer
+bytes-answered (Ok x) = bytes-events_of x
+bytes-answered (Err e) = refl
+
+-- the error that was lent is that which came from the inner reader
+fault_within : (k : ℕ) (lent : Result (List ℕ) Error) → fault_of (lent_within k lent) ≡ fault_of lent
+fault_within k (Ok x) = refl
+fault_within k (Err e) = refl
+
+pub fault-bytes : (answer : Result (List ℕ) Error) → bytes (fault_of answer) ≡ []
+fault-bytes (Ok x) = refl
+fault-bytes (Err e) = refl
+
+fault-within : (k : ℕ) (answer : Result (List ℕ) Error) → 0 < k → cut k (fault_of answer) ≡ fault_of answer
+fault-within k (Ok x) some = cut-none k
+fault-within k (Err e) some = cut-error k e some
+
+-- bytes that are cut are their first ones
+cut-events_of : (k : ℕ) (bs : List ℕ) → cut k (events_of bs) ≡ events_of (take k bs)
+cut-events_of zero bs = refl
+cut-events_of (suc k) [] = refl
+cut-events_of (suc k) (b ∷ bs) = ap (λ l. byte b ∷ l) (cut-events_of k bs)
+
+-- as many bytes as fit in the room up to the limit are as many of those up to the limit as fit in the room
+gave_most : (room limit left some : ℕ) (answer : Result (List ℕ) Error) → some ≡ min limit left
+    → IsOkAnd answer (λ x. length x ≡ min (min room limit) left) → IsOkAnd answer (λ x. length x ≡ min room some)
+gave_most room limit left some (Ok x) is gave = omega (arith, is, gave)
+gave_most room limit left some (Err e) is gave = gave
+
+module _ {T : Type 0} {inner : Reader T} where
+  -- what the inner reader took, the `Take` took
+  pub take_takes : {old new : Take T} (P : List Event) → TakeTakes inner old P new
+      → Takes (tells (take_reader inner) old) P (tells (take_reader inner) new)
+  take_takes {old} {new} P took = record {
+    events = cut_taken (to_come (tells inner (take_inner old))) (to_come (tells inner (take_inner new))) P (take_limit old) (take_limit new)
+        took.takes.events took.within took.limit;
+    store = tt;
+    turns = took.takes.turns;
+  }
+
+  -- nothing
+  pub take_none : (t : Take T) → TakeTakes inner t [] t
+  take_none t = record {
+    takes = takes_none (tells inner (take_inner t));
+    within = cut-none (take_limit t);
+    limit = omega arith;
+    at_limit = λ low. refl;
+  }
+
+  -- some events and then others
+  pub take_then : {a b c : Take T} {P Q : List Event} → TakeTakes inner a P b → TakeTakes inner b Q c → TakeTakes inner a (P ++ Q) c
+  take_then {P = P} {Q} first next = record {
+    takes = takes_then first.takes next.takes;
+    within = cut-within P Q _ _ first.within first.limit ∙ ap (λ l. P ++ l) next.within;
+    limit = omega (arith, first.limit, next.limit, ap length (bytes-append P Q), length-append (bytes P) (bytes Q));
+    at_limit = λ low. next.at_limit (omega (arith, low, first.limit)) ∙ first.at_limit low;
+  }
+
+  -- a call took what its inner call took
+  asked : {old new : Take T} {call : ReadCall} {n : ℕ} (P : List Event) → TakeAsks inner old call n new → (take_limit old ≡ 0 → P ≡ [])
+      → (0 < take_limit old → Takes (tells inner (take_inner old)) P (tells inner (take_inner new)) × (cut (take_limit old) P ≡ P)
+      × (length (bytes P) ≡ n)) → TakeTakes inner old P new
+  asked {old} {new} P asks none took = elim (cases_lt 0 (take_limit old)) [
+    | inl some ↦ let (takes, within, count) = took some in record {
+      takes = takes;
+      within = within;
+      limit = omega (arith, asks.limit, count);
+      at_limit = asks.at_limit;
+    }
+    | inr low ↦
+        let zero : take_limit old ≡ 0 = omega (arith, low) in
+        subst (λ l. TakeTakes inner old l new) (sym (none zero)) (subst (TakeTakes inner old []) (sym (asks.at_limit zero)) (take_none old))
+  ]
+
+  pub gave_took : {old new : Take T} (room : ℕ) (answer : Result (List ℕ) Error) → TakeMay inner old (Gave room answer) new
+      → TakeTakes inner old (answered answer) new
+  gave_took {old} room answer (at_limit, asks) = asked (answered answer) asks (λ low. ap answered (at_limit low)) (λ some.
+      let law = asks.asks some in
+      (law.takes, answered_within (take_limit old) answer some (omega (arith, law.bound)), ap length (bytes-answered answer)))
+
+  pub filled_took : {old new : Take T} (answer : Result (List ℕ) Error) → TakeMay inner old (Filled answer) new
+      → TakeTakes inner old (fault_of answer) new
+  filled_took {old} {new} answer (lent, at_limit, above, asks) = asked (fault_of answer) asks (λ low. ap fault_of (at_limit low)) (λ some.
+      let same = ap fault_of (above some) ∙ fault_within (take_limit old) lent in (
+        subst (λ l. Takes (tells inner (take_inner old)) l (tells inner (take_inner new))) (sym same) (asks.asks some).1,
+        fault-within (take_limit old) answer some,
+        ap length (fault-bytes answer),
+      ))
+
+  pub consumed_took : {old new : Take T} {n : ℕ} → TakeMay inner old (Consumed n) new
+      → (P : List Event) × (length (bytes P) ≡ n) × TakeTakes inner old P new
+  consumed_took {old} {new} {n} asks = elim (cases_lt 0 (take_limit old)) [
+    | inl some ↦
+        let (call, (x, long, takes)) = asks.asks some in
+        let count : length (bytes (events_of x)) ≡ n = ap length (bytes-events_of x) ∙ long in (
+          events_of x,
+          count,
+          record {
+            takes = takes;
+            within = cut-fitting (take_limit old) x (omega (arith, long, asks.limit));
+            limit = omega (arith, asks.limit, count);
+            at_limit = asks.at_limit;
+          },
+        )
+    | inr low ↦
+        let zero : take_limit old ≡ 0 = omega (arith, low) in
+        ([], omega (arith, zero, asks.limit), subst (TakeTakes inner old []) (sym (asks.at_limit zero)) (take_none old))
+  ]
+
+  -- at limit 0 a `read` gives nothing
+  pub gave_at_limit : {t : Take T} (room : ℕ) → take_limit t ≡ 0 → GaveLaw (take_reader inner) t room (Ok []) t
+  gave_at_limit {t} room low = record {
+    bound = omega arith;
+    takes = takes_none _;
+    end = λ none some. cut_zero (take_limit t) (to_come (tells inner (take_inner t))) low;
+    call = (λ none. refl, record { limit = omega arith; at_limit = λ none. refl; asks = λ some. absurd (omega (arith, some, low)) });
+  }
+
+  -- above 0 it is one inner read into as much of the room as the limit allows
+  pub gave_inner : {old new : Take T} (room : ℕ) (answer : Result (List ℕ) Error) → 0 < take_limit old
+      → GaveLaw inner (take_inner old) (min room (take_limit old)) answer (take_inner new)
+      → take_limit new + length (bytes_given answer) ≡ take_limit old → GaveLaw (take_reader inner) old room answer new
+  gave_inner {old} {new} room answer some law falls =
+      let call : TakeMay inner old (Gave room answer) new = (
+        λ low. absurd (omega (arith, some, low)),
+        record { limit = falls; at_limit = λ low. absurd (omega (arith, some, low)); asks = λ _. law },
+      ) in
+      record {
+        bound = omega (arith, law.bound);
+        takes = take_takes (answered answer) (gave_took room answer call);
+        end = λ none space. cut_end (take_limit new) (to_come (tells inner (take_inner new))) (law.end none (omega (arith, some, space)));
+        call = call;
+      }
+
+  -- so it is, if the inner reader read into a part of the buffer
+  pub reads_inner : {old new : Take T} {before into part : List ℕ} (whole : List ℕ) (reply : Result ℕ Error) → 0 < take_limit old
+      → ReadLaw inner (take_inner old) into reply part (take_inner new) → length part ≡ min (length whole) (take_limit old)
+      → gave reply whole ≡ gave reply part → take_limit new + length (bytes_given (gave reply part)) ≡ take_limit old
+      → ReadLaw (take_reader inner) old before reply whole new
+  reads_inner {old} {new} {into = into} {part} whole reply some read room same falls =
+      read_by reply (fits reply read.bound)
+      (gave_inner (length whole) (gave reply whole) some
+      (subst (λ a. GaveLaw inner (take_inner old) (min (length whole) (take_limit old)) a (take_inner new)) (sym same)
+      (subst (λ r. GaveLaw inner (take_inner old) r (gave reply part) (take_inner new)) room (read_law reply read)))
+      (subst (λ a. take_limit new + length (bytes_given a) ≡ take_limit old) (sym same) falls))
+    where
+      fits : (reply : Result ℕ Error) → IfOk reply (λ n. n ≤ length part) → IfOk reply (λ n. n ≤ length whole)
+      fits (Ok n) bound = omega (arith, bound, room)
+      fits (Err e) bound = tt
+
+  -- above 0 a `fill_buf` is one inner `fill_buf`, of whose bytes a part is lent
+  pub filled_inner : {old new : Take T} (lent : Result (List ℕ) Error) {answer : Result (List ℕ) Error} → 0 < take_limit old
+      → take_limit new ≡ take_limit old → answer ≡ lent_within (take_limit old) lent
+      → ReadCallLaw inner (take_inner old) (Filled lent) (take_inner new) → TakeMay inner old (Filled answer) new
+  filled_inner lent some same is law = (
+    lent,
+    λ low. absurd (omega (arith, some, low)),
+    λ _. is,
+    record { limit = omega (arith, same); at_limit = λ low. absurd (omega (arith, some, low)); asks = λ _. law },
+  )
+
+  -- at limit 0 it lends nothing
+  pub filled_at_limit : (t : Take T) → take_limit t ≡ 0 → TakeMay inner t (Filled (Ok [])) t
+  filled_at_limit t low = (
+    Ok [],
+    λ _. refl,
+    λ some. absurd (omega (arith, some, low)),
+    record { limit = omega arith; at_limit = λ _. refl; asks = λ some. absurd (omega (arith, some, low)) },
+  )
+
+  -- it is filling if its inner reader is
+  pub take_fills : FillsRoom inner → FillsRoom (take_reader inner)
+  take_fills fills = record {
+    left = λ t. take (take_limit t) (fills.left (take_inner t));
+    told = λ t. ap (cut_to_come (take_limit t)) (fills.told (take_inner t))
+        ∙ ap Some (cut-events_of (take_limit t) (fills.left (take_inner t)));
+    gives = λ old new room answer call. elim (cases_lt 0 (take_limit old)) [
+      | inl some ↦
+          gave_most room (take_limit old) _ _ answer (length-take (take_limit old) (fills.left (take_inner old)))
+          (fills.gives (take_inner old) (take_inner new) (min room (take_limit old)) answer (call.1.asks some).call)
+      | inr low ↦
+          let none : take_limit old ≡ 0 = omega (arith, low) in
+          subst (λ a. IsOkAnd a (λ x. length x ≡ min room (length (take (take_limit old) (fills.left (take_inner old))))))
+          (sym (call.0 none)) (omega (arith, none, length-take (take_limit old) (fills.left (take_inner old))))
+    ];
+  }
+
+-- a `Take` that lends
+abbrev pub take_lender : {T : Type 0} → Lender T → Lender (Take T)
+take_lender inner = record {
+  store = λ t. None;
+  turns = λ t. inner.turns (take_inner t);
+  events = take_events (lender_tells inner);
+  may = TakeMay (as_reader inner);
+  held = take_held inner.held;
+}
+
+module _ {T : Type 0} (inner : Lender T) where
+  -- at limit 0 there is nothing to consume
+  pub consumed_at_limit : {t : Take T} {n : ℕ} → take_limit t ≡ 0 → n ≡ 0 → ConsumeLaw (take_lender inner) t n t
+  consumed_at_limit {t} {n} low none = record {
+    held = ap (λ k. drop k (take_held inner.held t)) (sym none);
+    takes = subst (λ k. Takes (lender_tells (take_lender inner) t) (events_of (take k (take_held inner.held t)))
+        (lender_tells (take_lender inner) t))
+        (sym none) (takes_none _);
+    call = record { limit = omega (arith, none); at_limit = λ low. refl; asks = λ some. absurd (omega (arith, some, low)) };
+  }
+
+  -- above 0 the inner reader's first bytes are consumed
+  pub consumed_inner : {old new : Take T} {n : ℕ} → 0 < take_limit old → n ≤ length (take_held inner.held old)
+      → ConsumeLaw inner (take_inner old) n (take_inner new) → take_limit new + n ≡ take_limit old
+      → ConsumeLaw (take_lender inner) old n new
+  consumed_inner {old} {new} {n} some fits law falls =
+      let held = inner.held (take_inner old) in
+      let within : (n ≤ length held) × (n ≤ take_limit old) = omega (arith, fits, length-take (take_limit old) held) in
+      let part : take n (take (take_limit old) held) ≡ take n held = take-take n (take_limit old) held within.1 in
+      let call : TakeMay (as_reader inner) old (Consumed n) new = record {
+        limit = falls;
+        at_limit = λ low. absurd (omega (arith, some, low));
+        asks = λ _. lend_law inner (take_inner old) (take_inner new) (Consumed n) (within.0, law);
+      } in
+      let took : TakeTakes (as_reader inner) old (events_of (take n held)) new = record {
+        takes = law.takes;
+        within = cut-fitting (take_limit old) (take n held) (omega (arith, within.1, length-take-le n held within.0));
+        limit = omega (arith, falls, ap length (bytes-events_of (take n held)), length-take-le n held within.0);
+        at_limit = λ low. absurd (omega (arith, some, low));
+      } in
+      record {
+        held = ap (take (take_limit new)) law.held ∙ sym (subst (λ k. drop n (take k held) ≡ take (take_limit new) (drop n held)) falls'
+            (drop-take n (take_limit new) held));
+        takes = subst (λ l. Takes (lender_tells (take_lender inner) old) (events_of l) (lender_tells (take_lender inner) new)) (sym part)
+            (take_takes (events_of (take n held)) took);
+        call = call;
+      }
+    where
+      falls' : n + take_limit new ≡ take_limit old
+      falls' = omega (arith, falls)
+
+-- what comes next under the limit begins with a part of what comes next
+pub front_cut : (E : Option (List Event)) (bs : List ℕ) (n k : ℕ) → n ≤ k → IfSome E (λ l. BeginsWith l bs)
+    → IfSome (cut_to_come k E) (λ l. BeginsWith l (take n bs))
+front_cut None bs n k within front = tt
+front_cut (Some E) bs n k within front = begins_cut n k within front
+
+-- some bytes under the limit are some bytes
+pub some_within : (k : ℕ) (bs : List ℕ) → IsNotEmpty (take k bs) → IsNotEmpty bs
+some_within k bs some = omega (arith, some, length-take k bs)
+
+-- no bytes under a limit above 0 are none
+pub none_within : (k : ℕ) (bs : List ℕ) → 0 < k → take k bs ≡ [] → bs ≡ []
+none_within k [] some none = refl
+none_within zero (b ∷ bs) some none = absurd (omega (arith, some))
+none_within (suc k) (b ∷ bs) some none = absurd (let no : ⊥ = cc in no)
+
+-- of no bytes none are under the limit
+pub none_lent : (k : ℕ) {bs : List ℕ} → bs ≡ [] → take k bs ≡ []
+none_lent zero none = refl
+none_lent (suc k) none = ap (take (suc k)) none
+
+-- at limit 0 nothing is held
+pub none_at_limit : {k : ℕ} (bs : List ℕ) → k ≡ 0 → take k bs ≡ []
+none_at_limit bs low = ap (λ n. take n bs) low
+
+-- a part of a buffer that is cut to the limit has as much room as that allows
+pub part_length : (most k : ℕ) (buf part : List ℕ) → most ≡ min (length buf) k → length part ≡ length (take most buf)
+    → length part ≡ min (length (part ++ drop most buf)) k
+part_length most k buf part is same =
+    omega (arith, is, same, length-append part (drop most buf), length-take most buf, length-drop most buf)
+
+-- the limit falls by the given bytes
+pub limit_falls : (k n : ℕ) (buf : List ℕ) → n ≤ length buf → length buf ≤ k → k - n + length (take n buf) ≡ k
+limit_falls k n buf fits within = omega (arith, fits, within, length-take-le n buf fits)
+
+-- the first k bytes are cut to as many as there are
+pub take_most : (most k : ℕ) (x : List ℕ) → most ≡ min (length x) k → take most x ≡ take k x
+take_most most k x is = elim (cases_lt k (length x)) [
+  | inl below ↦ ap (λ n. take n x) (omega (arith, is, below))
+  | inr above ↦ take_all most x (omega (arith, is, above)) ∙ sym (take_all k x above)
+]

@@ -1,0 +1,276 @@
+-- Calls one after another: what they take, and what their laws say of it.
+use Rattle.std.proofs.Common.{◌≡◌, ℕ, zero, suc, ◌+◌, ◌-◌, ◌<◌, ◌≤◌, List, [], ◌∷◌, ◌++◌, Result, Ok, Err, length, take, Option, None, Some}
+use Rattle.std.proofs.Common.{refl, sym, ap, subst, ◌∙◌, arith, append_assoc, append-nil, length-append, length-take-le, IfOk, IfSome}
+use Rattle.std.proofs.Common.{inl, inr}
+use Rattle.no_std_io2_base.specs.declared.error.Error.{Error}
+use Rattle.no_std_io2_base.specs.Errors.{IsInterruption}
+use Rattle.no_std_io2_base.specs.Events.{Event, byte, fails, events_of, bytes, HasNoFault, cut, EndsInFault}
+use Rattle.no_std_io2_base.specs.Takes.{Store, Tells, Takes, TakesBytes, to_come, AreTaken, KeepsContent, IsAtEnd, IsAll}
+use Rattle.no_std_io2_base.specs.Read.{Reader, tells, ReadCall, Gave, GaveExactly, GaveAll, Filled, Consumed, gave, ended, bytes_given}
+use Rattle.no_std_io2_base.specs.Read.{ReadCallLaw, GaveLaw, ReadLaw, ReadExactLaw, Gives, AllOrNone, DrainsOrStops}
+use Rattle.no_std_io2_base.specs.BufRead.{Lender, as_reader, LendCallLaw}
+use Rattle.no_std_io2_base.specs.Write.{Made}
+use Rattle.no_std_io2_base.proofs.CallsLemmas.{made_map}
+use Rattle.no_std_io2_base.proofs.EventLemmas.{bytes-append, bytes-events_of, length-events_of, HasNoFault-append}
+use Rattle.no_std_io2_base.proofs.EventLemmas.{HasNoFault-events_of, cut-append}
+use Rattle.no_std_io2_base.proofs.ReadExactExits.{some_bytes}
+
+are_none : (E : Option (List Event)) → AreTaken E [] E
+are_none None = tt
+are_none (Some E) = refl
+
+stays : (s : Option Store) → KeepsContent s (λ len was now. now ≡ was + 0) s
+stays None = tt
+stays (Some s) = (refl, omega arith)
+
+-- before the first call nothing is taken
+pub takes_none : (t : Tells) → Takes t [] t
+takes_none t = record { events = are_none (to_come t); store = stays t.store; turns = omega arith }
+
+are_then : (E E' E'' : Option (List Event)) (P Q : List Event) → AreTaken E P E' → AreTaken E' Q E'' → AreTaken E (P ++ Q) E''
+are_then None E' E'' P Q first next = tt
+are_then (Some E) None E'' P Q first next = absurd first
+are_then (Some E) (Some E') None P Q first next = absurd next
+are_then (Some E) (Some E') (Some E'') P Q first next = first ∙ ap (λ l. P ++ l) next ∙ sym (append_assoc P Q E'')
+
+moves_then : (s s' s'' : Option Store) (j k : ℕ) → KeepsContent s (λ len was now. now ≡ was + j) s'
+    → KeepsContent s' (λ len was now. now ≡ was + k) s'' → KeepsContent s (λ len was now. now ≡ was + (j + k)) s''
+moves_then None s' s'' j k first next = tt
+moves_then (Some s) None s'' j k first next = absurd first
+moves_then (Some s) (Some s') None j k first next = absurd next
+moves_then (Some s) (Some s') (Some s'') j k first next = (next.0 ∙ first.0, omega (arith, first.1, next.1))
+
+-- one call after another
+pub takes_then : {a b c : Tells} {P Q : List Event} → Takes a P b → Takes b Q c → Takes a (P ++ Q) c
+takes_then {a} {b} {c} {P} {Q} first next =
+    let long : length (bytes (P ++ Q)) ≡ length (bytes P) + length (bytes Q) =
+    ap length (bytes-append P Q) ∙ length-append (bytes P) (bytes Q) in
+    record {
+      events = are_then (to_come a) (to_come b) (to_come c) P Q first.events next.events;
+      store = subst (λ n. KeepsContent a.store (λ len was now. now ≡ was + n) c.store) (sym long)
+          (moves_then a.store b.store c.store _ _ first.store next.store);
+      turns = omega (arith, first.turns, next.turns, length-append P Q);
+    }
+
+-- a call that takes nothing, after others
+pub takes_still : {a b c : Tells} {P : List Event} → Takes a P b → Takes b [] c → Takes a P c
+takes_still {a} {c = c} {P} first next = subst (λ l. Takes a l c) (append-nil P) (takes_then first next)
+
+-- turns do not rise
+pub takes_turns : {a b : Tells} {P : List Event} → Takes a P b → b.turns ≤ a.turns
+takes_turns takes = omega (arith, takes.turns)
+
+-- and whatever is taken spends one
+pub spends : {a b : Tells} {P : List Event} → Takes a P b → 0 < length P → b.turns < a.turns
+spends takes some = omega (arith, takes.turns)
+
+-- what was taken up to the end is all
+pub takes_all : {a b : Tells} (P : List Event) → Takes a P b → IsAtEnd b → IsAll a P
+takes_all {a} {b} P takes end = by (to_come a) (to_come b) takes.events end
+  where
+    by : (E E' : Option (List Event)) → AreTaken E P E' → IfSome E' (λ l. l ≡ []) → IfSome E (λ l. l ≡ P)
+    by None E' are end = tt
+    by (Some E) None are end = absurd are
+    by (Some E) (Some E') are end = are ∙ ap (λ l. P ++ l) end ∙ append-nil P
+
+-- a reader stays at its end
+pub stays_at_end : {a b : Tells} → Takes a [] b → IsAtEnd b → IsAtEnd a
+stays_at_end takes end = takes_all [] takes end
+
+-- some bytes, and then some more
+unfoldable pub bytes_more : {a b c : Tells} {x : List ℕ} (y : List ℕ) → TakesBytes a x b → Takes b (events_of y) c → TakesBytes a (x ++ y) c
+bytes_more {x = x} y so_far takes = record {
+  taken = so_far.taken ++ events_of y;
+  takes = takes_then so_far.takes takes;
+  no_fault = HasNoFault-append so_far.taken (events_of y) so_far.no_fault (HasNoFault-events_of y);
+  are = bytes-append so_far.taken (events_of y) ∙ ap (λ l. l ++ bytes (events_of y)) so_far.are ∙ ap (λ l. x ++ l) (bytes-events_of y);
+}
+
+-- or an interruption
+unfoldable pub bytes_still : {a b c : Tells} {x : List ℕ} {e : Error} → TakesBytes a x b → Takes b (fails e ∷ []) c → IsInterruption e
+    → TakesBytes a x c
+bytes_still {e = e} so_far takes again = record {
+  taken = so_far.taken ++ fails e ∷ [];
+  takes = takes_then so_far.takes takes;
+  no_fault = HasNoFault-append so_far.taken (fails e ∷ []) so_far.no_fault (again, tt);
+  are = bytes-append so_far.taken (fails e ∷ []) ∙ append-nil (bytes so_far.taken) ∙ so_far.are;
+}
+
+-- bytes, and then bytes
+pub TakesBytes-then : {a b c : Tells} {x y : List ℕ} → TakesBytes a x b → TakesBytes b y c → TakesBytes a (x ++ y) c
+TakesBytes-then {x = x} first next = record {
+  taken = first.taken ++ next.taken;
+  takes = takes_then first.takes next.takes;
+  no_fault = HasNoFault-append first.taken next.taken first.no_fault next.no_fault;
+  are = bytes-append first.taken next.taken ∙ ap (λ l. l ++ bytes next.taken) first.are ∙ ap (λ l. x ++ l) next.are;
+}
+
+-- a buffer was filled
+pub TakesBytes-fills : {S : Type 0} {R : Reader S} {old new : S} {buf buf' : List ℕ} {u : Unit {0}} → ReadExactLaw R old buf (Ok u) buf' new
+    → TakesBytes (tells R old) buf' (tells R new)
+TakesBytes-fills law = record { taken = law.taken; takes = law.takes; no_fault = law.ends.0.no_fault; are = law.ends.0.given }
+
+-- all that is to come behind P is all, with P in front
+pub IsAll-behind : {a b : Tells} (P Q : List Event) → Takes a P b → IsAll b Q → IsAll a (P ++ Q)
+IsAll-behind {a} {b} P Q takes all = by (to_come a) (to_come b) takes.events all
+  where
+    by : (E E' : Option (List Event)) → AreTaken E P E' → IfSome E' (λ l. l ≡ Q) → IfSome E (λ l. l ≡ P ++ Q)
+    by None E' are all = tt
+    by (Some E) None are all = absurd are
+    by (Some E) (Some E') are all = are ∙ ap (λ l. P ++ l) all
+
+-- a fault behind events without one
+pub EndsInFault-behind : (P Q : List Event) {e : Error} → HasNoFault P → EndsInFault Q e → EndsInFault (P ++ Q) e
+EndsInFault-behind P Q {e} no_fault fault = (
+  P ++ fault.0,
+  ap (λ l. P ++ l) fault.1 ∙ sym (append_assoc P fault.0 (fails e ∷ [])),
+  HasNoFault-append P fault.0 no_fault fault.2,
+  fault.3,
+)
+
+module _ {S : Type 0} (R : Reader S) where
+  -- a call that keeps its law is one that the reader may make
+  pub law_may : (a b : S) (call : ReadCall) → ReadCallLaw R a call b → R.may a call b
+  law_may a b (Gave room answer) law = law.call
+  law_may a b (GaveExactly room answer) law = law.0
+  law_may a b (GaveAll x answer) law = law.0
+  law_may a b (Filled answer) law = law.0
+  law_may a b (Consumed n) law = law.0
+
+  -- and it takes something
+  pub law_takes : (a b : S) (call : ReadCall) → ReadCallLaw R a call b → (P : List Event) × Takes (tells R a) P (tells R b)
+  law_takes a b (Gave room answer) law = (_, law.takes)
+  law_takes a b (GaveExactly room answer) law = (_, law.1.1)
+  law_takes a b (GaveAll x answer) law = (_, law.1.1)
+  law_takes a b (Filled answer) law = (_, law.1)
+  law_takes a b (Consumed n) law = (_, law.1.2)
+
+  -- calls, without their laws
+  pub made_may : (C : List ReadCall) (a b : S) → Made (ReadCallLaw R) a C b → Made R.may a C b
+  made_may C a b made = made_map (ReadCallLaw R) R.may (λ x. x) law_may C a b made
+
+  -- calls take something
+  pub made_takes : (C : List ReadCall) (a b : S) → Made (ReadCallLaw R) a C b → (P : List Event) × Takes (tells R a) P (tells R b)
+  made_takes [] a b made = ([], subst (λ x. Takes (tells R a) [] (tells R x)) (sym made) (takes_none (tells R a)))
+  made_takes (call ∷ C) a b made =
+      let first = law_takes a made.0 call made.1 in
+      let rest = made_takes C made.0 b made.2 in
+      (first.0 ++ rest.0, takes_then first.1 rest.1)
+
+-- a call of a reader that lends is one of a reader
+pub lend_law : {S : Type 0} (R : Lender S) (a b : S) (call : ReadCall) → LendCallLaw R a call b → ReadCallLaw (as_reader R) a call b
+lend_law R a b (Gave room answer) law = law
+lend_law R a b (GaveExactly room answer) law = law
+lend_law R a b (GaveAll x answer) law = law
+lend_law R a b (Filled answer) law = (law.call, law.takes, law.front)
+lend_law R a b (Consumed n) law = (law.1.call, (_, length-take-le n (R.held a) law.0, law.1.takes))
+
+-- and so are many
+pub made_lend : {S : Type 0} (R : Lender S) (C : List ReadCall) (a b : S) → Made (LendCallLaw R) a C b
+    → Made (ReadCallLaw (as_reader R)) a C b
+made_lend R C a b made = made_map (LendCallLaw R) (ReadCallLaw (as_reader R)) (λ x. x) (lend_law R) C a b made
+
+-- a `read` is a call
+pub read_law : {S : Type 0} {R : Reader S} {old new : S} {buf buf' : List ℕ} (reply : Result ℕ Error)
+    → ReadLaw R old buf reply buf' new → GaveLaw R old (length buf') (gave reply buf') new
+read_law {buf' = buf'} (Ok n) read = record {
+  bound = omega (arith, read.bound, length-take-le n buf' read.bound);
+  takes = read.takes;
+  end = λ none room. read.end (omega (arith, length-take-le n buf' read.bound, ap (λ r. length (bytes_given r)) none)) room;
+  call = read.call;
+}
+read_law (Err e) read = record { bound = omega arith; takes = read.takes; end = λ none. absurd (let no : ⊥ = cc in no); call = read.call }
+
+-- and a call that fits is a `read`
+pub read_by : {S : Type 0} {R : Reader S} {old new : S} {buf buf' : List ℕ} (reply : Result ℕ Error) → IfOk reply (λ n. n ≤ length buf')
+    → GaveLaw R old (length buf') (gave reply buf') new → ReadLaw R old buf reply buf' new
+read_by {buf' = buf'} (Ok n) bound law = record {
+  bound = bound;
+  takes = law.takes;
+  end = λ none room. law.end (ap (λ k. Ok (take k buf')) none) room;
+  call = law.call;
+}
+read_by (Err e) bound law = record { bound = tt; takes = law.takes; end = tt; call = law.call }
+
+-- a read that gives some bytes spends a turn
+pub read_spends : {S : Type 0} {R : Reader S} {old new : S} {buf buf' : List ℕ} {n : ℕ} → ReadLaw R old buf (Ok n) buf' new → (n ≡ 0 → ⊥)
+    → R.turns new < R.turns old
+read_spends {buf' = buf'} {n} law some =
+    spends law.takes (omega (arith, length-events_of (take n buf'), length-take-le n buf' law.bound, some_bytes n some))
+
+-- a read of no bytes
+pub nothing_read : {S : Type 0} {R : Reader S} {old new : S} {buf buf' : List ℕ} {reply : Result ℕ Error} {n : ℕ}
+    → ReadLaw R old buf reply buf' new → reply ≡ Ok n → n ≡ 0 → GaveLaw R old (length buf') (Ok []) new
+nothing_read {R = R} {old} {new} {buf} {buf'} law is none =
+    read_law (Ok 0) (subst (λ r. ReadLaw R old buf r buf' new) (is ∙ ap Ok none) law)
+
+-- a read of no bytes into some room met the end
+pub met_end : {S : Type 0} {R : Reader S} {old new : S} {buf buf' : List ℕ} {reply : Result ℕ Error} {n : ℕ}
+    → ReadLaw R old buf reply buf' new → reply ≡ Ok n → n ≡ 0 → 0 < length buf'
+    → Takes (tells R old) [] (tells R new) × IsAtEnd (tells R new)
+met_end law is none some = let zero = nothing_read law is none in (zero.takes, zero.end refl some)
+
+-- then all of it was taken
+pub all_taken : (P : List Event) (room : ℕ) (left : Option (List Event)) → IfSome left (λ E. E ≡ []) → IfSome left (AllOrNone P room)
+all_taken P room None end = tt
+all_taken P room (Some E) end = inl end
+
+-- how a `read_to_end` ended, with a weaker reason
+pub drains_lacks : {lacks lacks' : Type 0} (P : List Event) (reply : Result ℕ Error) (new : Tells) → (lacks → lacks')
+    → DrainsOrStops lacks P reply new → DrainsOrStops lacks' P reply new
+drains_lacks P (Ok n) new weaker ends = ends
+drains_lacks P (Err e) new weaker (inl fault) = inl fault
+drains_lacks P (Err e) new weaker (inr (none, refused, why)) = inr (none, refused, weaker why)
+
+-- and as one call
+pub drains_ended : (lacks : Type 0) (P : List Event) (reply : Result ℕ Error) (new : Tells) → DrainsOrStops lacks P reply new
+    → DrainsOrStops (Unit {0}) P (ended reply) new
+drains_ended lacks P (Ok n) new ends = ends
+drains_ended lacks P (Err e) new ends = drains_lacks P (Err e) new (λ why. tt) ends
+
+pub cut-none : (k : ℕ) → cut k [] ≡ []
+cut-none zero = refl
+cut-none (suc k) = refl
+
+-- a cut past all bytes keeps them
+pub cut-fitting : (k : ℕ) (bs : List ℕ) → length bs ≤ k → cut k (events_of bs) ≡ events_of bs
+cut-fitting k [] fits = cut-none k
+cut-fitting zero (b ∷ bs) fits = absurd (omega arith)
+cut-fitting (suc k) (b ∷ bs) fits = ap (λ l. byte b ∷ l) (cut-fitting k bs (omega arith))
+
+-- and an error, if it comes before the last byte
+pub cut-error : (k : ℕ) (e : Error) → 0 < k → cut k (fails e ∷ []) ≡ fails e ∷ []
+cut-error zero e some = absurd (omega arith)
+cut-error (suc k) e some = refl
+
+-- no events give no bytes
+pub gives_none : (room : ℕ) → Gives room [] []
+gives_none room = record { no_fault = tt; given = refl; within = cut-none room }
+
+-- before the room is full, more events give more bytes
+gives_more : {room : ℕ} {P : List Event} {x : List ℕ} (k : ℕ) (Q : List Event) → Gives room P x → room ≡ length x + k → 0 < k
+    → HasNoFault Q → cut k Q ≡ Q → Gives room (P ++ Q) (x ++ bytes Q)
+gives_more {P = P} k Q so_far long some no_fault within = record {
+  no_fault = HasNoFault-append P Q so_far.no_fault no_fault;
+  given = bytes-append P Q ∙ ap (λ l. l ++ bytes Q) so_far.given;
+  within = cut-append P Q _ k some (omega (arith, long, ap length so_far.given)) ∙ ap (λ l. P ++ l) within;
+}
+
+-- some bytes
+pub gives_bytes : {room : ℕ} {P : List Event} {x : List ℕ} (more : List ℕ) → Gives room P x → length x + length more ≤ room
+    → 0 < length more → Gives room (P ++ events_of more) (x ++ more)
+gives_bytes {room} {P} {x} more so_far fits some =
+    subst (λ l. Gives room (P ++ events_of more) (x ++ l)) (bytes-events_of more)
+    (gives_more (room - length x) (events_of more) so_far (omega arith) (omega arith) (HasNoFault-events_of more)
+    (cut-fitting _ more (omega arith)))
+
+-- an interruption
+pub gives_still : {room : ℕ} {P : List Event} {x : List ℕ} (e : Error) → Gives room P x → length x < room → IsInterruption e
+    → Gives room (P ++ fails e ∷ []) x
+gives_still {room} {P} {x} e so_far short again =
+    subst (Gives room (P ++ fails e ∷ [])) (append-nil x)
+    (gives_more (room - length x) (fails e ∷ []) so_far (omega arith) (omega arith) (again, tt) (cut-error _ e (omega arith)))
+
+-- bytes that fit fill the room alone
+pub gives_whole : {room : ℕ} (x : List ℕ) → length x ≤ room → Gives room (events_of x) x
+gives_whole {room} x fits = record { no_fault = HasNoFault-events_of x; given = bytes-events_of x; within = cut-fitting room x fits }

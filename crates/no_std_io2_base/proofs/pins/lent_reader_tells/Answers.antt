@@ -1,0 +1,12 @@
+use Rattle.no_std_io2_base.proofs.pins.lent_reader_tells.Goals as goal
+
+pub returns-clause-filling : goal.returns-clause-filling
+returns-clause-filling g c =
+    λ fills. record {
+      left = λ v. fills.left v.now;
+      told = λ v. fills.told v.now;
+      gives = λ a b. fills.gives a.now b.now;
+    }
+
+pub returns-clause-reads : goal.returns-clause-reads
+returns-clause-reads g c = λ cost meter a b. meter a.now b.now

@@ -1,0 +1,61 @@
+// What readers give, and where seeks go.
+ghost use Rattle.std.specs.Prelude.{◌≡◌, ◌+◌, ◌<◌, ◌++◌, List, Some, IsOk, length, vec_len, vec_capacity};
+ghost use Rattle.no_std_io2.specs.BufReader.{reader_inner, reader_behind, reader_held};
+ghost use Rattle.no_std_io2.specs.BufRead.{lender_tells};
+ghost use Rattle.no_std_io2.specs.Buffer.{IsInBuffer};
+ghost use Rattle.no_std_io2.specs.Events.{Event, bytes};
+ghost use Rattle.no_std_io2.specs.Pieces.{PieceEnds};
+ghost use Rattle.no_std_io2.specs.Read.{tells, answered, gave};
+ghost use Rattle.no_std_io2.specs.Seek.{Seeks};
+ghost use Rattle.no_std_io2.specs.Takes.{Store, Takes, to_come};
+
+use no_std_io2::io::{BufRead, BufReader, Read, Result, Seek, SeekFrom};
+
+/// If it is known what a reader is going to give, a `read` gives what comes next, bytes or an error, and nothing else is gone.
+pub fn gives_what_comes_next<R: Read>(r: &mut R, buf: &mut [u8]) -> Result<usize>
+    ensures { (E : List Event) → to_come (tells R.Read r.old) ≡ Some E
+        → (after : List Event) × (to_come (tells R.Read r.new) ≡ Some after) × (E ≡ answered (gave result buf.new) ++ after) }
+{
+    r.read(buf)
+}
+
+/// So it is through a `BufReader`, after any other calls.
+pub fn gives_what_comes_next_in_a_tower<R: Read + Drop, const S: usize, const T: usize>(
+    r: &mut BufReader<BufReader<R, S>, T>,
+    buf: &mut [u8],
+) -> Result<usize>
+    ensures { (E : List Event) → to_come (tells ⟦<BufReader<BufReader<R, S>, T> as Read>⟧ r.old) ≡ Some E
+        → (after : List Event) × (to_come (tells ⟦<BufReader<BufReader<R, S>, T> as Read>⟧ r.new) ≡ Some after)
+        × (E ≡ answered (gave result buf.new) ++ after) }
+{
+    gives_what_comes_next(r, buf)
+}
+
+/// `read_until` appends one piece: the bytes up to and including the next delimiter, or all if there is none. After an error it has
+/// appended what it took, and the delimiter is not among these bytes.
+pub fn gives_the_next_piece<R: BufRead>(r: &mut R, delim: u8, buf: &mut Vec<u8>) -> Result<usize>
+    ensures { (taken : List Event) × Takes (lender_tells ⟦<R as BufRead>⟧ r.old) taken (lender_tells ⟦<R as BufRead>⟧ r.new)
+        × (buf.new.items ≡ buf.old.items ++ bytes taken)
+        × PieceEnds (λ n. vec_capacity buf.old < vec_len buf.old + n) delim (lender_tells ⟦<R as BufRead>⟧ r.old) taken result }
+{
+    r.read_until(delim, buf)
+}
+
+/// A seek over a known content keeps it, and goes to its target, or is refused if there is none.
+pub fn goes_to_its_target<S: Seek>(s: &mut S, target: SeekFrom) -> Result<u64>
+    ensures { (was : Store) → S.store s.old ≡ Some was → (now : Store) × (S.store s.new ≡ Some now)
+        × (now.content ≡ was.content) × Seeks (length was.content) was.position target result now.position }
+{
+    s.seek(target)
+}
+
+/// A `seek_relative` inside the buffer of a `BufReader` succeeds and makes no inner call.
+pub fn moves_inside_its_buffer<R: Read + Seek + Drop, const S: usize>(
+    r: &mut BufReader<R, S>,
+    offset: i64,
+) -> Result<()>
+    ensures { IsInBuffer offset (length (reader_behind r.old)) (length (reader_held r.old))
+        → IsOk result × (reader_inner r.new ≡ reader_inner r.old) }
+{
+    r.seek_relative(offset)
+}
