@@ -12,8 +12,8 @@ use Rattle.no_std_io2.specs.Takes.{Tells, to_come}
 use Rattle.no_std_io2.specs.Pieces.{ends_in, pieces, pieces_before, pieces_given, items_left, RefusesLine}
 use Rattle.no_std_io2.specs.BufRead.{Lender, NextPieceLaw}
 use Rattle.no_std_io2.proofs.GivenPieces.{GivesNext, GivesNone, next_turns}
-use Rattle.no_std_io2.specs.Appended.{appended}
-use Rattle.no_std_io2.proofs.AppendedLemmas.{appended-one}
+use Rattle.io_bench.specs.Appended.{appended}
+use Rattle.io_bench.proofs.AppendedLemmas.{appended-one}
 use Rattle.io_bench.specs.PieceRuns.{AllPieces, GathersPieces}
 
 -- the first pieces were gathered, trimmed, and the others are to come

@@ -14,7 +14,7 @@ use Rattle.io_bench.specs.declared.runs.Op.{Op}
 use Rattle.io_bench.specs.declared.runs.Op.TheVariants.{WriteAll}
 use Rattle.io_bench.specs.declared.runs.Reply.{Reply}
 use Rattle.io_bench.specs.declared.runs.Reply.TheVariants.{Done}
-use Rattle.no_std_io2.specs.Appended.{appended}
+use Rattle.io_bench.specs.Appended.{appended}
 use Rattle.io_bench.specs.Runs.{Accepts, Run, mishap_of, mishaps_of, IsFlushed, EndsFlushed, IsWhole}
 use Rattle.io_bench.specs.Runs.{AreWhole, CallReplies, Ran, JoinsEach, OpCalls, RunCalls, RunBelow}
 

@@ -1,6 +1,8 @@
+pub mod Appended
 pub mod Asks
 pub mod Calls
 pub mod Closed
+pub mod Counts
 pub mod Faulty
 pub mod Feed
 pub mod Joined

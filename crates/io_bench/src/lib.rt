@@ -12,6 +12,7 @@
 
 mod accepted;
 mod asks;
+mod counts;
 mod faulty;
 mod feed;
 mod pieces;

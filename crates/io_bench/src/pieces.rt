@@ -7,7 +7,7 @@ ghost use Rattle.no_std_io2.specs.Read.{tells};
 ghost use Rattle.no_std_io2.specs.Pieces.{newline, line_text, without};
 ghost use Rattle.no_std_io2.specs.Pieces.{split_reader, split_delim, split_is_ended, lines_reader, lines_is_ended, RefusesLine};
 ghost use Rattle.io_bench.specs.PieceRuns.{GathersPieces};
-ghost use Rattle.no_std_io2.specs.Appended.{appended};
+ghost use Rattle.io_bench.specs.Appended.{appended};
 
 use no_std_io2::io::{BufRead, Lines, Read, Result, Split};
 

@@ -4,7 +4,7 @@ ghost use Rattle.std.specs.Prelude.{◌≡◌, ◌+◌, ◌<◌, List, [], ◌++
 ghost use Rattle.no_std_io2.specs.Errors.{IsOutOfMemory};
 ghost use Rattle.no_std_io2.specs.Write.{WriteCall, Made};
 ghost use Rattle.no_std_io2.specs.declared.io.ErrorKind.{ErrorKind};
-ghost use Rattle.no_std_io2.specs.Appended.{appended};
+ghost use Rattle.io_bench.specs.Appended.{appended};
 ghost use Rattle.io_bench.specs.Runs.{CallReplies, Ran, EndsFlushed, failures, failures_of, IsShorterBy};
 ghost use Rattle.io_bench.specs.Runs.{HasFewer, AreWhole, IsWhole, OpCalls, RunCalls};
 

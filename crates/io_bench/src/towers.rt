@@ -7,7 +7,7 @@ ghost use Rattle.no_std_io2.specs.Read.{tells};
 ghost use Rattle.no_std_io2.specs.LineWriter.{line_inner};
 ghost use Rattle.no_std_io2.specs.BufWriter.{writer_inner};
 ghost use Rattle.io_bench.specs.Faulty.{acts_left, act_mishaps};
-ghost use Rattle.no_std_io2.specs.Appended.{appended};
+ghost use Rattle.io_bench.specs.Appended.{appended};
 ghost use Rattle.io_bench.specs.Runs.{failures, AreWhole, IsShorterBy};
 
 use crate::faulty::Faulty;

@@ -1,6 +1,8 @@
 // The examples in the comments of `no_std_io2_base`, one function for each of its modules.
+use no_std_io2::ghost_bytes::GhostBytes;
 use no_std_io2::io::{
-    AsSlice, BufRead, BufWriter, Cursor, Error, ErrorKind, Read, Seek, SeekFrom, Write,
+    AsSlice, BufRead, BufWriter, Cursor, Error, ErrorKind, Read, Seek, SeekFrom, Write, copy,
+    empty, sink,
 };
 use std::test::Fail;
 
@@ -234,5 +236,22 @@ fn seek(rt: HostRuntime) -> Result<(), Fail> {
     assert!(rt; r.position() == 3);
     assert!(rt; r.seek_relative(-4).is_err()); // below 0: it stays
     assert!(rt; r.position() == 3);
+    Ok(())
+}
+
+#[test]
+fn ghost_bytes(_rt: HostRuntime) -> Result<(), Fail> {
+    let mut taken = GhostBytes::new();
+    taken.add(b"ab"); // for contracts `taken.bytes` is `ab` now
+    Ok(())
+}
+
+#[test]
+fn makers(rt: HostRuntime) -> Result<(), Fail> {
+    let mut nothing = empty();
+    assert!(rt; nothing.read(&mut [0u8; 4])? == 0);
+
+    let mut from = Cursor::new(*b"abcde");
+    assert!(rt; copy::<_, _, 64>(&mut from, &mut sink())? == 5);
     Ok(())
 }

@@ -1,18 +1,10 @@
 // The examples in the comments of `no_std_io2`, one function for each of its modules.
 use examples::Narrow;
-use no_std_io2::ghost_bytes::GhostBytes;
 use no_std_io2::io::{
     BufRead, BufReader, BufWriter, CopyError, Cursor, ErrorKind, LineWriter, Read, Seek, SeekFrom,
-    Write, copy, copy_sided, empty, read_exact_at, sink, skip, write_with_retries,
+    Write, copy, copy_sided, read_exact_at, skip, write_with_retries,
 };
 use std::test::Fail;
-
-#[test]
-fn ghost_bytes(_rt: HostRuntime) -> Result<(), Fail> {
-    let mut taken = GhostBytes::new();
-    taken.add(b"ab"); // for contracts `taken.bytes` is `ab` now
-    Ok(())
-}
 
 #[test]
 fn buf_writer(rt: HostRuntime) -> Result<(), Fail> {
@@ -126,16 +118,6 @@ fn sides(rt: HostRuntime) -> Result<(), Fail> {
     let mut full = Cursor::new([0u8; 2]);
     let side = copy_sided::<_, _, 64>(&mut from, &mut full);
     assert!(rt; matches!(side, Err(CopyError::Write(_)))); // two of the five bytes fit
-    Ok(())
-}
-
-#[test]
-fn makers(rt: HostRuntime) -> Result<(), Fail> {
-    let mut nothing = empty();
-    assert!(rt; nothing.read(&mut [0u8; 4])? == 0);
-
-    let mut from = Cursor::new(*b"abcde");
-    assert!(rt; copy::<_, _, 64>(&mut from, &mut sink())? == 5);
     Ok(())
 }
 

@@ -18,13 +18,13 @@ use Rattle.no_std_io2_base.proofs.CallsLemmas.{made_split, writes_whole}
 use Rattle.no_std_io2_base.proofs.WritesFacts.{writes_fault, writes_sends}
 use Rattle.no_std_io2_base.proofs.AllFacts.{all_calls, call_steady}
 use Rattle.no_std_io2_base.specs.Meter.{charges}
-use Rattle.no_std_io2.proofs.MeterLemmas.{writes_count, all_count}
+use Rattle.no_std_io2_base.proofs.MeterLemmas.{writes_count, all_count}
 use Rattle.no_std_io2.specs.declared.buffered.sender.Sender.{Sender}
 use Rattle.no_std_io2.specs.BufWriter.{stops, goes_on, with_buffer, TakesStep, sender_inner, sender_buffer, sender_with_inner}
 use Rattle.no_std_io2.specs.BufWriter.{SendCalls, WayCalls, PutCalls, Buffered, WriteCalls, WriteAllCalls, FlushCalls, PastEmpty, OneWrite}
 use Rattle.no_std_io2.specs.BufWriter.{OneWriteAll, OneFlush, way_calls, writing_calls, buffer_after, Buffers, BuffersAll, Flushes}
 use Rattle.no_std_io2.proofs.BufWriterLemmas.{Moves-kept, Moves-emptied, MovesFront-emptied}
-use Rattle.no_std_io2.proofs.AnswerLemmas.{onok_map}
+use Rattle.std.proofs.lemmas.Result.{on_ok_weaker}
 use Rattle.no_std_io2.proofs.StepLemmas.{no_ok, Stepped, Leaves, Tells, Sending, Counts, Counted, then_goes_on, then_leaves, then_tells}
 use Rattle.no_std_io2.proofs.StepLemmas.{then_counts}
 
@@ -102,7 +102,7 @@ pub send_leaves : Leaves SendCalls (λ _. [])
 send_leaves = λ held C reply left writes. writes_whole writes
 
 way_leaves : (S n : ℕ) → Leaves (WayCalls S n) (way_left S n)
-way_leaves S n = grind (arith, common_steps, onok_map, writes_whole)
+way_leaves S n = grind (arith, common_steps, on_ok_weaker, writes_whole)
 
 module _ {A : Type 0} (S : ℕ) (x : List ℕ) (v : A) (past : List WriteCall → Result A Error → Type 0) where
   put_leaves : Leaves (PutCalls S x v past) (put_left S x)
@@ -231,7 +231,7 @@ module _ {W : Type 0} (I : Writer W) where
   -- `flush` leaves nothing held, here or further in
   pub flush_empty : {held left : List ℕ} {C : List WriteCall} {reply : Result (Unit {0}) Error} → FlushCalls held C reply left
       → (a b : W) → Made (CallOf I) a C b → OnOk reply ((I.told b).held ++ left ≡ [])
-  flush_empty = grind (arith, common_steps, made_split, onok_map, append-nil, one_call)
+  flush_empty = grind (arith, common_steps, made_split, on_ok_weaker, append-nil, one_call)
 
 module _ {W : Type 0} (I : Writer W) where
   -- a `write_all` accepts some front of x, all of it after `Ok`, and never returns an interruption

@@ -1,22 +1,20 @@
 -- A buffer in front of a writer.
 use Rattle.std.proofs.lemmas.Grind.{common_steps}
-use Rattle.std.proofs.Common.{◌≡◌, ℕ, ◌-◌, ◌≤◌, length-take, Result, Ok, []}
-use Rattle.std.proofs.Common.{List, ◌++◌, length, drop, sym, ap, ◌∙◌, arith, append_assoc, append-nil}
+use Rattle.std.proofs.lemmas.List.{nil_from_length}
+use Rattle.std.proofs.Common.{◌≡◌, ℕ, ◌-◌, ◌≤◌, length-take, length-append, Result, Ok, Err, OnOk, []}
+use Rattle.std.proofs.Common.{List, ◌++◌, length, drop, refl, sym, ap, subst, ◌∙◌, arith, append_assoc, append-nil}
 use Rattle.no_std_io2_base.specs.declared.error.ErrorKind.{ErrorKind}
 use Rattle.no_std_io2_base.specs.declared.error.Error.{Error}
 use Rattle.no_std_io2_base.specs.Write.{Told, Moves, MovesFront}
 use Rattle.no_std_io2.specs.declared.buffered.buf_writer.BufWriter.{BufWriter}
-use Rattle.no_std_io2.specs.BufWriter.{with_buffer, writer_buffer}
+use Rattle.no_std_io2_base.proofs.MovesLemmas.{MovesFront-whole}
+use Rattle.no_std_io2.specs.BufWriter.{with_buffer, writer_inner, writer_buffer, writer_told}
 use Rattle.no_std_io2.specs.Buffer.{IsSuffix}
 
 -- What the inner writer accepted, x, came from the front of the buffer and of what was given, y.
 pub Moves-buffered : {a b : Told} {x : List ℕ} {k : List ErrorKind} (old new y : List ℕ) → Moves a x k b
     → old ++ y ≡ x ++ new → Moves (with_buffer a old) y k (with_buffer b new)
 Moves-buffered {a} {b} {x} old new y f e = grind (arith, common_steps)
-
--- two equal results `Ok` have equal values
-pub ok_same : {A E : Type 0} {x y : A} → ◌≡◌ {A = Result A E} (Ok x) (Ok y) → x ≡ y
-ok_same e = cc
 
 -- past an empty buffer
 pub Moves-emptied : {a b : Told} {x : List ℕ} {k : List ErrorKind} {held left : List ℕ} → held ≡ [] → left ≡ [] → Moves a x k b
@@ -37,10 +35,6 @@ pub Moves-bare : {a b : Told} {x : List ℕ} {k : List ErrorKind} (buffer : List
     → Moves (with_buffer a buffer) x k b → Moves a x k b
 Moves-bare {a} {b} {x} buffer e f = grind (arith, common_steps)
 
--- the empty list is an end of any list
-pub IsSuffix-none : (whole end : List ℕ) → end ≡ [] → IsSuffix whole end
-IsSuffix-none whole end e = (whole, sym (append-nil whole) ∙ ap (λ l. whole ++ l) (sym e))
-
 -- a suffix of a suffix is a suffix, also with more bytes after both
 pub IsSuffix-trans : (old mid new : List ℕ) → IsSuffix old mid → IsSuffix mid new → IsSuffix old new
 IsSuffix-trans old mid new f g = (f.0 ++ g.0, f.1 ∙ ap (λ l. f.0 ++ l) g.1 ∙ sym (append_assoc f.0 g.0 new))
@@ -49,3 +43,27 @@ IsSuffix-trans old mid new f g = (f.0 ++ g.0, f.1 ∙ ap (λ l. f.0 ++ l) g.1 �
 pub Moves-kept : {W : Type 0} (told : W → Told) (inner next : W) (old new x : List ℕ) → next ≡ inner → new ≡ old ++ x
     → Moves (with_buffer (told inner) old) x [] (with_buffer (told next) new)
 Moves-kept told inner next old new x same e = grind (arith, common_steps)
+
+-- an empty buffer in front of a device, and afterwards a buffer with any bytes: its `Moves` is the `Moves` of the device
+pub Moves-device : {W : Type 0} {S : ℕ} {a : Told} {b : Told} {x : List ℕ} {k : List ErrorKind} (told : W → Told) (w : BufWriter W S)
+    (device : W)
+    → writer_inner w ≡ device → writer_buffer w ≡ [] → a ≡ writer_told told w → Moves a x k b → Moves (told device) x k b
+Moves-device {b = b} {x = x} {k = k} told w device inner none is m = grind (arith, common_steps)
+
+-- with nothing in its buffer a writer tells what its device tells
+bare : (t : Told) → with_buffer t [] ≡ t
+bare t = ap (λ held. record t { held = held }) (append-nil t.held)
+
+-- the bytes that an empty buffer accepted after `Ok`, if it holds nothing afterwards, are what its device accepted
+pub MovesFront-device : {W : Type 0} {S : ℕ} (told : W → Told) (w v : BufWriter W S) (x : List ℕ) (r : Result (Unit {0}) Error)
+    → MovesFront (writer_told told w) x r (writer_told told v) → writer_buffer w ≡ []
+    → OnOk r ((writer_told told v).held ≡ [])
+    → OnOk r (Moves (told (writer_inner w)) x [] (told (writer_inner v)))
+MovesFront-device told w v x (Ok u) f none flushed =
+    let below = (told (writer_inner v)).held in
+    let buffer = writer_buffer v in
+    let sent : buffer ≡ [] = nil_from_length buffer (omega (arith, ap length flushed, length-append below buffer)) in
+    subst (λ b. Moves (told (writer_inner w)) x [] b)
+    (ap (λ held. with_buffer (told (writer_inner v)) held) sent ∙ bare (told (writer_inner v)))
+    (Moves-device told w (writer_inner w) refl none refl (MovesFront-whole x u f))
+MovesFront-device told w v x (Err e) f none flushed = tt

@@ -7,14 +7,14 @@ use Rattle.no_std_io2_base.specs.Write.{WriteCall, WroteRest, CallAdds, Made}
 use Rattle.no_std_io2_base.proofs.CallsLemmas.{made_split}
 use Rattle.no_std_io2_base.proofs.CallsAdd.{Joins, writes_add}
 use Rattle.no_std_io2.specs.BufWriter.{FlushCalls}
-use Rattle.no_std_io2.proofs.AnswerLemmas.{onok}
+use Rattle.no_std_io2_base.proofs.MovesLemmas.{after_ok}
 
 module _ {W : Type 0} {may : W → WriteCall → W → Type 0} {Adds : W → List ℕ → W → Type 0} (joins : Joins Adds)
     (each : (a b : W) (call : WriteCall) → may a call b → CallAdds Adds a call b) where
   -- those of a `flush`: the bytes that are no longer held were added, after `Ok` all held bytes
   flushed_adds : {C : List WriteCall} {held left : List ℕ} {reply : Result (Unit {0}) Error} → FlushCalls held C reply left
       → (a b : W) → Made may a C b → CallAdds Adds a (WroteRest held reply left) b
-  flushed_adds = grind (arith, nat_tests, writes_add, made_split, onok, append-nil)
+  flushed_adds = grind (arith, nat_tests, writes_add, made_split, after_ok, append-nil)
 
   pub flush_adds : (C : List WriteCall) (held left : List ℕ) (reply : Result (Unit {0}) Error) (a b : W)
       → Made may a C b → FlushCalls held C reply left → CallAdds Adds a (WroteRest held reply left) b

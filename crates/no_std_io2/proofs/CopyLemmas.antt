@@ -16,7 +16,7 @@ use Rattle.no_std_io2_base.proofs.TakesLemmas.{takes_none, bytes_more, bytes_sti
 use Rattle.no_std_io2_base.proofs.EventLemmas.{HasNoFault-front}
 use Rattle.no_std_io2_base.proofs.MovesLemmas.{Moves-steady}
 use Rattle.no_std_io2.specs.Copy.{CopyEnds, Handed, nothing, piece, refused, HandsOn, Copied}
-use Rattle.no_std_io2.proofs.ExactLemmas.{left_of}
+use Rattle.no_std_io2_base.proofs.ExactLemmas.{left_of}
 
 -- events without a fault do not end in one
 pub no_fault_at_end : (P : List Event) (e : Error) → HasNoFault P → EndsInFault P e → ⊥

@@ -12,7 +12,7 @@ use Rattle.no_std_io2_base.specs.Writers.{Writer}
 use Rattle.no_std_io2_base.proofs.CallsLemmas.{made_split}
 use Rattle.no_std_io2_base.proofs.EventLemmas.{length-events_of}
 use Rattle.no_std_io2.specs.Copy.{IsExactly, Copied, copy_reads}
-use Rattle.no_std_io2.proofs.ExactLemmas.{left_of}
+use Rattle.no_std_io2_base.proofs.ExactLemmas.{left_of}
 
 -- a read into the whole room that gave bytes
 one_read : (room : ℕ) {size : ℕ} (n : ℕ) {left : ℕ} (left' cost : ℕ) {cost' all : ℕ} → 0 < room → size ≡ room

@@ -22,13 +22,13 @@ use Rattle.no_std_io2.specs.LineWriter.{SendLineCalls, HoldsTail, LinesCalls, Se
 use Rattle.no_std_io2.specs.LineWriter.{line_buffer_filled, held_tail}
 use Rattle.no_std_io2.proofs.BufWriterLemmas.{Moves-buffered, Moves-emptied, MovesFront-emptied}
 use Rattle.no_std_io2_base.specs.Meter.{charges}
-use Rattle.no_std_io2.proofs.MeterLemmas.{all_count, charges-append}
+use Rattle.no_std_io2_base.proofs.MeterLemmas.{all_count, charges-append}
 use Rattle.no_std_io2.proofs.StepLemmas.{no_ok, Tells, Sending, Counts, Counted, then_leaves, then_tells, then_counts}
 use Rattle.no_std_io2.proofs.BufWriterCalls.{buffered_leaves, send_leaves}
 use Rattle.no_std_io2.proofs.BufWriterCalls.{one_call, send_tells, kept_tells, write_tells, Writing, write_bound, send_counts, idle_counts}
 use Rattle.no_std_io2.proofs.BufWriterCalls.{write_counts}
 use Rattle.no_std_io2.proofs.BufWriterCalls.{write_all_tells, write_all_fault, write_all_counts, writing_all_calls}
-use Rattle.no_std_io2.proofs.MovesLemmas.{MovesFront-ends, MovesFront-whole, MovesFront-join, MovesFront-first}
+use Rattle.no_std_io2_base.proofs.MovesLemmas.{MovesFront-ends, MovesFront-whole, MovesFront-join, MovesFront-first}
 use Rattle.no_std_io2.proofs.LineWriterStates.{line_left, line_left-is, send_line_leaves, send_lines_leaves, tail_whole}
 use Rattle.no_std_io2_base.proofs.LineLemmas.{lines_some, lines_none, lines_split, take_lines, lines_bound}
 use Rattle.no_std_io2.proofs.HeldTail.{took_tail, tail_fits}

@@ -20,7 +20,8 @@ use Rattle.no_std_io2.specs.BufWriter.{Then, stops, goes_on, SendCalls, WayCalls
 use Rattle.no_std_io2.specs.BufWriter.{OneWriteAll, buffer_after}
 use Rattle.no_std_io2.specs.LineWriter.{SendLineCalls, HoldsTail, LinesCalls, SendLinesCalls, LineWriteCalls, LineWriteAllCalls}
 use Rattle.no_std_io2.specs.LineWriter.{line_buffer_after, IsShortText}
-use Rattle.no_std_io2.proofs.AnswerLemmas.{onok, onok_map}
+use Rattle.std.proofs.lemmas.Result.{on_ok_weaker}
+use Rattle.no_std_io2_base.proofs.MovesLemmas.{after_ok}
 use Rattle.no_std_io2.proofs.BufWriterLemmas.{IsSuffix-trans}
 use Rattle.no_std_io2.proofs.StepLemmas.{Stepped, Leaves, then_leaves}
 use Rattle.no_std_io2.proofs.BufWriterCalls.{buffered_leaves, buffered_fits, send_leaves, write_whole}
@@ -64,7 +65,7 @@ pub line_left-is : (held : List ℕ) → IsLineState held → line_left held ≡
 line_left-is held line = grind (arith, common_steps, lines_split held, unfinished_none held, contains_lines held refl)
 
 pub send_line_leaves : Leaves SendLineCalls line_left
-send_line_leaves = grind (arith, common_steps, lines_none, onok_map, lines_some, writes_whole)
+send_line_leaves = grind (arith, common_steps, lines_none, on_ok_weaker, lines_some, writes_whole)
 
 -- and what is left then has no newline
 send_line_plain : {held left : List ℕ} {C : List WriteCall} → SendLineCalls held C (Ok tt) left → Lacks newline left
@@ -104,7 +105,7 @@ module _ {A : Type 0} (S : ℕ) (x : List ℕ) (v : A) (past : List WriteCall �
       → IsLineState left × OnOk reply (Lacks newline left)
   text_state (stops p) line plain = (state_end (send_line_end p) line, tt)
   text_state (goes_on {reply = reply} p q) line plain =
-      let none = buffered_plain q (send_line_plain p) plain in (plain_state _ none, onok reply _ none)
+      let none = buffered_plain q (send_line_plain p) plain in (plain_state _ none, after_ok reply none)
 
   -- if no line is held and it fits, it is held without a call
   plain_fits : {held left : List ℕ} {C : List WriteCall} {reply : Result A Error}
@@ -157,7 +158,7 @@ flush_state (goes_on {left = left} sent past) line = nothing_state past.1
 -- after `Ok` of lines that are passed on, nothing is held
 pub send_lines_leaves : (S : ℕ) (y : List ℕ) → Leaves (SendLinesCalls S y) (λ _. [])
 send_lines_leaves S y = λ held C reply left sends. elim sends [
-  | inl past ↦ onok reply _ past.1
+  | inl past ↦ after_ok reply past.1
   | inr behind ↦
       then_leaves (WriteAllCalls S y) SendCalls (λ held. buffer_after S held y) (λ _. []) (buffered_leaves S y tt
       (OneWriteAll y)) send_leaves behind.1
@@ -189,7 +190,7 @@ all_lines_state S x (goes_on {mid = mid} {reply = reply} p q) line some =
     let empty = nothing_lacks (send_lines_leaves S (lines_of x) _ _ _ _ p) in
     let rest = unfinished_line x in
     let none = buffered_plain S rest tt (OneWriteAll rest) q empty (unfinished_lacks x) in
-    (plain_state _ none, onok reply _ none)
+    (plain_state _ none, after_ok reply none)
 
 pub line_write_all_state : (S : ℕ) {x held left : List ℕ} {C : List WriteCall} {reply : Result (Unit {0}) Error}
     → LineWriteAllCalls S x held C reply left → IsLineState held → IsLineState left × OnOk reply (Lacks newline left)
@@ -210,13 +211,13 @@ line_write_all_leaves S {x} {held} {left} {reply = reply} write line = elim writ
   | inl plain ↦
       let after = then_leaves SendLineCalls (WriteAllCalls S x) line_left (λ held. buffer_after S held x) send_line_leaves
       (buffered_leaves S x tt (OneWriteAll x)) plain.1 in
-      onok_map reply _ _
+      on_ok_weaker reply
       (λ e. grind (arith, nat_tests, e, line_left-is held line, lines_none x plain.0, unfinished_all x plain.0)) after
   | inr lines ↦
       let after = then_leaves (SendLinesCalls S (lines_of x)) (WriteAllCalls S (unfinished_line x)) (λ _. [])
       (λ held. buffer_after S held (unfinished_line x)) (send_lines_leaves S (lines_of x))
       (buffered_leaves S (unfinished_line x) tt (OneWriteAll (unfinished_line x))) lines.1 in
-      onok_map reply _ _ (λ e. grind (arith, nat_tests, e, lines_some x lines.0)) after
+      on_ok_weaker reply (λ e. grind (arith, nat_tests, e, lines_some x lines.0)) after
 ]
 
 -- the lines were written by one call, and of what it left the tail is held

@@ -9,7 +9,7 @@ use Rattle.no_std_io2.specs.BufWriter.{Step, TakesStep, UnwrapCalls, writing_cal
 use Rattle.no_std_io2.specs.declared.buffered.into_inner_error.IntoInnerError.{IntoInnerError}
 use Rattle.no_std_io2.proofs.StepLemmas.{Counts}
 use Rattle.no_std_io2.proofs.BufWriterCalls.{send_counts, writing_all_calls}
-use Rattle.no_std_io2.proofs.MeterLemmas.{meter_made}
+use Rattle.no_std_io2_base.proofs.MeterLemmas.{meter_made}
 
 -- with some room, an empty `write_all` makes no call past the buffer
 pub writing_all-is : (S : ℕ) (x held : List ℕ) → 0 < S → writing_all_calls S x held ≡ writing_calls S held x

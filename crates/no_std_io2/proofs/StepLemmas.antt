@@ -8,7 +8,7 @@ use Rattle.no_std_io2_base.specs.Writers.{Writer}
 use Rattle.no_std_io2_base.specs.Write.{Told, Moves, WriteCall, Made, call_mishap}
 use Rattle.no_std_io2_base.proofs.CallsLemmas.{made_then, made_split}
 use Rattle.no_std_io2_base.specs.Meter.{charges}
-use Rattle.no_std_io2.proofs.MeterLemmas.{charges-append}
+use Rattle.no_std_io2_base.proofs.MeterLemmas.{charges-append}
 use Rattle.no_std_io2.specs.BufWriter.{Step, Then, stops, goes_on, with_buffer}
 
 -- no error is `Ok`

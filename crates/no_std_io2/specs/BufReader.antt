@@ -1,6 +1,6 @@
 -- What a `BufReader` holds and tells, and what its calls do.
-use Rattle.std.specs.Prelude.{◌≡◌, ℕ, ℤ, ◌^◌, ◌<◌, ◌≤◌, negsuc, pos, ◌+◌, ◌-◌, ◌-ℤ◌, ◌*◌, ◌&&◌, min, max, nat_eq, nat_lt, nat_le}
-use Rattle.std.specs.Prelude.{if◌then◌else◌, Bool, true, false, List, [], ◌++◌, length, take, drop, ◌⊎◌, Option, None, Some}
+use Rattle.std.specs.Prelude.{◌≡◌, ℕ, ℤ, ◌^◌, ◌<◌, ◌≤◌, negsuc, pos, ◌+◌, ◌-◌, ◌-ℤ◌, ◌*◌, ◌&&◌, max, nat_eq, nat_le}
+use Rattle.std.specs.Prelude.{Bool, true, false, List, [], ◌++◌, length, take, drop, ◌⊎◌, Option, None, Some}
 use Rattle.std.specs.Prelude.{Ok, Err, Result, IsErr, IsErrAnd, OnOk, OnErr}
 use Rattle.std.proofs.Common.{lt_of_le_of_lt, sub-le}
 use lib.Pointwise.{pointwise}
@@ -245,30 +245,6 @@ abbrev pub ReaderMaySeek : {R : Type 0} {S : ℕ} → Seeker R → BufReader R S
 ReaderMaySeek inner old (Sought target reply) new = ReaderSeeks inner old target reply new
 ReaderMaySeek inner old (Measured reply) new = StreamLenLaw inner (reader_inner old) reply (reader_inner new) × KeepsBuffer old new
 ReaderMaySeek inner old (Moved offset reply) new = MovesBelow inner old offset reply new
-
--- over a reader that fills its room, from how many bytes a read gives: from those that are held, or if none are, from those to come
-abbrev pub held_or_to_come : ℕ → ℕ → ℕ
-held_or_to_come held to_come = if nat_lt 0 held then held else to_come
-
--- how many bytes are held after a fill of a buffer of `room` bytes, with this many held before and to come
-abbrev pub filled_length : ℕ → ℕ → ℕ → ℕ
-filled_length room held to_come = if nat_lt 0 held then held else min room to_come
-
--- how many inner reads a `read_exact` of `len` bytes makes, with this many bytes held and to come in all
-abbrev pub exact_reads : ℕ → ℕ → ℕ → ℕ
-exact_reads len held all = (if nat_le len held then 0 else 1) + (if nat_lt held all && nat_lt all len then 1 else 0)
-
--- how many bytes are held after that `read_exact`
-abbrev pub exact_left : ℕ → ℕ → ℕ → ℕ → ℕ
-exact_left room len held all =
-    if nat_le len held then held - len
-    else if nat_le room (len - held) then 0
-    else min room (all - held) - (len - held)
-
--- how many bytes lie behind after a `read_exact` of `len` bytes with `held` held before: those that were read into the buffer, or none if
--- they did not go through it
-abbrev pub exact_behind : ℕ → ℕ → ℕ → ℕ
-exact_behind room len held = if nat_le room (len - held) then 0 else len - held
 
 -- a `BufReader<R, S>` fits in memory
 abbrev pub BufReaderFits : RattleType → ℕ → Type 0

@@ -2,7 +2,7 @@
 // all, and how many inner reads a buffered reader and `copy` make: for every number that counts the calls of the inner stream.
 ghost use Rattle.std.specs.Prelude.{ℕ, ◌≡◌, ◌+◌, ◌-◌, ◌<◌, ◌^◌, min, nat_lt, if◌then◌else◌, length, IfOk, IsOkAnd, OnOk};
 ghost use Rattle.no_std_io2_base.specs.ReadMeter.{IsReadMeter, FillsRoom};
-ghost use Rattle.no_std_io2.specs.BufReader.{reader_held, reader_inner, filled_length, held_or_to_come, exact_reads, exact_left};
+ghost use Rattle.no_std_io2.specs.BufReader.{reader_held, reader_inner};
 ghost use Rattle.no_std_io2.specs.Copy.{copy_reads};
 ghost use Rattle.no_std_io2_base.specs.Write.{calls_for};
 ghost use Rattle.no_std_io2_base.specs.Meter.{Costs, CostsAtMost};
@@ -73,7 +73,7 @@ fn lend_counted<R: Read, const S: usize>(r: &mut BufReader<R, S>) -> Result<usiz
     ensures reads { (cost : R → ℕ) → IsReadMeter R.may cost → cost (reader_inner r.new) ≡ cost (reader_inner r.old)
         + (if nat_lt 0 (length (reader_held r.old)) then 0 else 1) }
     ensures fills { (fills : FillsRoom R.Read) → IsOkAnd result (λ n. (n ≡ length (reader_held r.new))
-        × (n ≡ filled_length S (length (reader_held r.old)) (length (fills.left (reader_inner r.old))))) }
+        × (n ≡ (if nat_lt 0 (length (reader_held r.old)) then length (reader_held r.old) else min S (length (fills.left (reader_inner r.old)))))) }
 {
     let lent = r.fill_buf()?;
     Ok(lent.len())
@@ -83,24 +83,10 @@ fn lend_counted<R: Read, const S: usize>(r: &mut BufReader<R, S>) -> Result<usiz
 fn read_counted<R: Read, const S: usize>(r: &mut BufReader<R, S>, buf: &mut [u8]) -> Result<usize>
     ensures reads { (cost : R → ℕ) → IsReadMeter R.may cost → cost (reader_inner r.new) ≡ cost (reader_inner r.old)
         + (if nat_lt 0 (length (reader_held r.old)) then 0 else 1) }
-    ensures fills { (fills : FillsRoom R.Read) → IsOkAnd result (λ n. n ≡ min (length buf.old) (held_or_to_come
-        (length (reader_held r.old)) (length (fills.left (reader_inner r.old))))) }
+    ensures fills { (fills : FillsRoom R.Read) → IsOkAnd result (λ n. n ≡ min (length buf.old)
+        (if nat_lt 0 (length (reader_held r.old)) then length (reader_held r.old) else length (fills.left (reader_inner r.old)))) }
 {
     r.read(buf)
-}
-
-// An exact read makes at most two inner reads of a reader that fills its room.
-fn read_exact_counted<R: Read, const S: usize>(
-    r: &mut BufReader<R, S>,
-    buf: &mut [u8],
-) -> Result<()>
-    ensures reads { (cost : R → ℕ) → IsReadMeter R.may cost → (fills : FillsRoom R.Read)
-        → cost (reader_inner r.new) ≡ cost (reader_inner r.old) + exact_reads (length buf.old) (length (reader_held r.old))
-        (length (reader_held r.old) + length (fills.left (reader_inner r.old))) }
-    ensures left { (fills : FillsRoom R.Read) → length (reader_held r.new) ≡ exact_left S (length buf.old) (length (reader_held r.old))
-        (length (reader_held r.old) + length (fills.left (reader_inner r.old))) }
-{
-    r.read_exact(buf)
 }
 
 // A copy makes one read for each S bytes, rounded up, and one more.

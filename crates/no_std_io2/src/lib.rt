@@ -14,13 +14,17 @@
 
 pub mod buffered;
 mod count_pins;
-pub mod ghost_bytes;
 mod pins;
 pub mod util;
 
 /// Re-exports the standard trait of errors.
 pub mod error {
     pub use std::error::Error;
+}
+
+/// Re-exports the bytes that exist only for contracts.
+pub mod ghost_bytes {
+    pub use no_std_io2_base::ghost_bytes::GhostBytes;
 }
 
 /// Re-exports all public names, as Rust's `std::io` does: the traits, the buffers, `Cursor`, the

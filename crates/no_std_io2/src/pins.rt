@@ -9,7 +9,7 @@ ghost use Rattle.no_std_io2_base.specs.Seek.{SeekCall};
 ghost use Rattle.no_std_io2.specs.BufWriter.{writer_inner, writer_buffer, with_buffer, store_unheld, BufferMay, WriterMaySeek};
 ghost use Rattle.no_std_io2.specs.BufReader.{reader_held, reader_behind, reader_inner, reader_told, TakesOver, ReaderMay, ReaderMaySeek};
 ghost use Rattle.no_std_io2.specs.LineWriter.{line_inner, line_buffer, LineMay};
-ghost use Rattle.no_std_io2.specs.Sink.{sink_taken, SinkMay};
+ghost use Rattle.no_std_io2_base.specs.Sink.{sink_taken, SinkMay};
 
 use crate::buffered::{BufReader, BufWriter, LineWriter};
 use crate::util::Sink;

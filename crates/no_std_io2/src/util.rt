@@ -3,26 +3,23 @@
 //! make streams without a device.
 ghost use Rattle.std.specs.Prelude.{◌<◌, ◌^◌};
 ghost use Rattle.no_std_io2.specs.Copy.{Copied};
-ghost use Rattle.no_std_io2.specs.Passing.{Skipped};
+ghost use Rattle.no_std_io2_base.specs.Passing.{Skipped};
 
 use no_std_io2_base::error::Result;
 use no_std_io2_base::internal::failed_to_fill;
 use no_std_io2_base::traits::{BufRead, Read, Write};
 
-mod empties;
-mod makers;
 mod read_at;
 mod retries;
 mod sides;
-mod sinks;
 mod steady;
 
-pub use empties::Empty;
-pub use makers::{empty, sink};
+pub use no_std_io2_base::empties::Empty;
+pub use no_std_io2_base::makers::{empty, sink};
+pub use no_std_io2_base::sinks::Sink;
 pub use read_at::read_exact_at;
 pub use retries::write_with_retries;
 pub use sides::{CopyError, copy_sided};
-pub use sinks::Sink;
 
 /// Copies all remaining bytes of `reader` to `writer`, through a buffer of `S` bytes on the stack.
 /// It returns their number, or `u64::MAX` if there are more. It ignores the reader's interruptions,
@@ -83,7 +80,7 @@ pub fn copy<R: Read, W: Write, const S: usize>(reader: &mut R, writer: &mut W) -
 /// assert!(rt; skip(&mut r, &mut left).is_err());
 /// assert!(rt; left == 3); // two of them were there
 /// ```
-#[tactic(auto, using(crate::proofs::PortionLemmas::portions_none))]
+#[tactic(auto, using(no_std_io2_base::proofs::PortionLemmas::portions_none))]
 pub fn skip<B: BufRead>(reader: &mut B, left: &mut u64) -> Result<()>
     ensures { Skipped B.BufRead reader.old left.old result left.new reader.new }
 {

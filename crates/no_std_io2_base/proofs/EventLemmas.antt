@@ -13,6 +13,10 @@ pub bytes-events_of : (bs : List ℕ) → bytes (events_of bs) ≡ bs
 bytes-events_of [] = refl
 bytes-events_of (b ∷ bs) = ap (λ l. b ∷ l) (bytes-events_of bs)
 
+-- the bytes of some bytes and then of E
+pub bytes-behind : (bs : List ℕ) (E : List Event) → bytes (events_of bs ++ E) ≡ bs ++ bytes E
+bytes-behind bs E = bytes-append (events_of bs) E ∙ ap (λ l. l ++ bytes E) (bytes-events_of bs)
+
 -- bytes turned into events are as many as before
 pub length-events_of : (bs : List ℕ) → length (events_of bs) ≡ length bs
 length-events_of [] = refl

@@ -1,6 +1,6 @@
 -- How calls of a writer follow one another.
 use Rattle.std.proofs.Common.{◌≡◌, Result, Ok, Err, ℕ, ◌+◌, ◌≤◌, length, Bool, true, subst, List, [], ◌∷◌, ◌++◌, Option}
-use Rattle.std.proofs.Common.{None, Some, sym, ap, ◌∙◌, arith, count_by, append_assoc, append-nil}
+use Rattle.std.proofs.Common.{None, Some, refl, sym, ap, ◌∙◌, arith, count_by, append_assoc, append-nil}
 use Rattle.std.proofs.lemmas.List.Sums.{sum_by-append, sum_by-cons}
 use Rattle.std.proofs.lemmas.Bool.Decides.{nat_tests}
 use Rattle.no_std_io2_base.specs.declared.error.ErrorKind.{ErrorKind}
@@ -8,7 +8,12 @@ use Rattle.std.specs.List.{concat}
 use Rattle.std.specs.Result.{OnOk}
 use Rattle.no_std_io2_base.specs.declared.error.Error.{Error}
 use Rattle.no_std_io2_base.specs.Errors.{is_interruption}
-use Rattle.no_std_io2_base.specs.Write.{Told, IsFront, HasSpent, Moves, MovesFront, MovesEach, Sends, zero_write}
+use Rattle.no_std_io2_base.specs.Write.{Told, IsFront, HasSpent, Moves, MovesFront, MovesEach, Sends, call_mishap, zero_write}
+
+-- what holds, holds after an `Ok`
+pub after_ok : {A E : Type 0} {P : Type 0} (reply : Result A E) → P → OnOk reply P
+after_ok (Ok a) p = p
+after_ok (Err e) p = tt
 
 -- a list is a front of itself
 pub IsFront-refl : (xs : List ℕ) → IsFront xs xs
@@ -104,17 +109,19 @@ Moves-steady {a} {c} {x} {k} {l} e f = spent c.mishaps (subst (λ m. HasSpent m 
 pub zero_write-whole : (xs : List ℕ) → zero_write (length xs) xs ≡ []
 zero_write-whole xs = grind (arith, nat_tests)
 
+-- a `write_all` of x that returned `Ok` accepted x, without a mishap
+pub MovesFront-whole : {a b : Told} (x : List ℕ) (u : Unit {0}) → MovesFront a x (Ok u) b → Moves a x [] b
+MovesFront-whole {a} {b} x u f = subst (λ l. Moves a l [] b) f.whole f.moves
+
 -- `write_all(x)?; write_all(y)`, if the first returned `Ok`: some front of both was accepted, all of it after `Ok`
 pub MovesFront-join : {a b c : Told} (x y : List ℕ) (r : Result (Unit {0}) Error) → MovesFront a x (Ok tt) b
     → MovesFront b y r c → MovesFront a (x ++ y) r c
-MovesFront-join {a} {b} {c} x y r f g =
-    let first : Moves a x [] b = subst (λ l. Moves a l [] b) f.whole f.moves in
-    record {
-      accepted = x ++ g.accepted;
-      front = (g.front.0, ap (λ l. x ++ l) g.front.1 ∙ sym (append_assoc x g.accepted g.front.0));
-      whole = joined r g.whole;
-      moves = Moves-then first g.moves;
-    }
+MovesFront-join x y r f g = record {
+  accepted = x ++ g.accepted;
+  front = (g.front.0, ap (λ l. x ++ l) g.front.1 ∙ sym (append_assoc x g.accepted g.front.0));
+  whole = joined r g.whole;
+  moves = Moves-then (MovesFront-whole x tt f) g.moves;
+}
   where
     joined : (r : Result (Unit {0}) Error) → OnOk r (g.accepted ≡ y) → OnOk r (x ++ g.accepted ≡ x ++ y)
     joined (Ok u) e = ap (λ l. x ++ l) e
@@ -128,6 +135,26 @@ MovesFront-first x y e f = record {
   whole = tt;
   moves = f.moves;
 }
+
+-- if x was accepted whole, and then a call accepted nothing: together they do what a `write_all` of x does, with that call's result
+pub MovesFront-ends : {a b c : Told} (x : List ℕ) (r : Result (Unit {0}) Error) → Moves a x [] b
+    → Moves b [] (call_mishap r) c → MovesFront a x r c
+MovesFront-ends x r m n = record { accepted = x; front = IsFront-refl x; whole = after_ok r refl; moves = Moves-ends m n }
+
+-- `write_all(x)?; write_all(y)?; write_all(z)`, if the first two returned `Ok`
+pub MovesFront-three : {a b c d : Told} (x y z : List ℕ) (r : Result (Unit {0}) Error) → MovesFront a x (Ok tt) b
+    → MovesFront b y (Ok tt) c → MovesFront c z r d → MovesFront a (x ++ y ++ z) r d
+MovesFront-three x y z r f g h = MovesFront-join (x ++ y) z r (MovesFront-join x y (Ok tt) f g) h
+
+-- the same, if the second of three failed: the third made no call
+pub MovesFront-second : {a b c : Told} (x y z : List ℕ) (e : Error) → MovesFront a x (Ok tt) b → MovesFront b y (Err e) c
+    → MovesFront a (x ++ (y ++ z)) (Err e) c
+MovesFront-second x y z e f g = MovesFront-join x (y ++ z) (Err e) f (MovesFront-first y z e g)
+
+-- `write_all(x)?; flush()`, if the first returned `Ok`
+pub MovesFront-flush : {a b c : Told} (x : List ℕ) (u : Unit {0}) (r : Result (Unit {0}) Error) → MovesFront a x (Ok u) b
+    → Moves b [] (call_mishap r) c → MovesFront a x r c
+MovesFront-flush x u r f g = MovesFront-ends x r (MovesFront-whole x u f) g
 
 -- a call that says what is left is a call that accepted some front
 pub MovesFront-sends : {a b : Told} {r : Result (Unit {0}) Error} (x rest : List ℕ) → Sends a x r b rest

@@ -1,7 +1,7 @@
 -- How the calls that print a text follow one another, and what is known after any formatter.
 use Rattle.std.proofs.Common.{◌≡◌, ℕ, List, [], ◌++◌, Option, None, Some, Result, Ok, Err, OnOk, OnErr, IsOk, is_ok, IfSome}
 use Rattle.std.proofs.Common.{◌∷◌, ◌⊎◌, Bool, true, false, true≢false, IsErrAnd}
-use Rattle.std.proofs.Common.{refl, sym, ap, subst, ◌∙◌, append-nil, length, drop, inl, inr}
+use Rattle.std.proofs.Common.{refl, sym, ap, subst, ◌∙◌, append-nil, length, drop, inl, inr, ⊎_elim}
 use Rattle.std.proofs.Math.Seq.{drop-append_seam}
 use Rattle.std.proofs.Math.Logic.{∥∥₁_elim, ∥∥₁_map}
 use Rattle.std.proofs.Props.{props}
@@ -15,16 +15,11 @@ use Rattle.std.specs.declared.fmt.Formatter.{Formatter}
 use Rattle.std.specs.declared.fmt.Error.{Error as FormatError}
 use Rattle.no_std_io2_base.specs.declared.error.Error.{Error}
 use Rattle.no_std_io2_base.specs.declared.error.ErrorKind.{ErrorKind}
-use Rattle.no_std_io2_base.specs.Write.{Told, Moves, MovesFront, HasSpent}
+use Rattle.no_std_io2_base.specs.Write.{Told, Moves, MovesFront, HasSpent, call_mishap}
 use Rattle.no_std_io2_base.specs.Writers.{Writer, WriteAllOf, PrintsOf, WriteFmtOf}
 use Rattle.no_std_io2_base.specs.Text.{nothing, piece, silent, IsTextError, FailsText, AnswersText, MovesText}
 use Rattle.no_std_io2_base.specs.Errors.{is_interruption, IsNoInterruption}
-use Rattle.no_std_io2_base.proofs.MovesLemmas.{IsFront-refl, Moves-refl, MovesFront-join, MovesFront-first}
-
--- what holds, holds after an `Ok`
-pub after_ok : {A E : Type 0} {P : Type 0} (reply : Result A E) → P → OnOk reply P
-after_ok (Ok a) p = p
-after_ok (Err e) p = tt
+use Rattle.no_std_io2_base.proofs.MovesLemmas.{after_ok, IsFront-refl, Moves-refl, MovesFront-join, MovesFront-first, MovesFront-flush}
 
 module _ {S : Type 0} {I : Writer S} {old : S} where
   -- a piece more, if the test says that no error was met
@@ -218,3 +213,8 @@ MovesFront-text {a} {b} {bs} {r} f = of_answer f.answers
     of_answer : AnswersText (Some bs) f.text f.met r → MovesFront a bs r b ⊎ IsErrAnd r IsTextError
     of_answer (inl (same, is)) = inl (subst (λ r. MovesFront a bs r b) (sym is) (subst (λ l. MovesFront a l f.met b) same f.moves))
     of_answer (inr failed) = inr (said r failed)
+
+-- `write!(..)?; flush()`, if the `write!` returned `Ok`
+pub MovesFront-text_flush : {a b c : Told} {text : List ℕ} {u : Unit {0}} (r : Result (Unit {0}) Error) → MovesText a (Some text) (Ok u) b
+    → Moves b [] (call_mishap r) c → MovesFront a text r c
+MovesFront-text_flush {text = text} {u} r f g = ⊎_elim (λ front. MovesFront-flush text u r front g) (λ no. absurd no) (MovesFront-text f)

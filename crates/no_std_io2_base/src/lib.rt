@@ -4,9 +4,13 @@
 
 mod adaptor_pins;
 pub mod cursor;
+pub mod empties;
 pub mod error;
+pub mod ghost_bytes;
 mod impls;
 pub mod internal;
+pub mod makers;
 mod piece_pins;
 mod pins;
+pub mod sinks;
 pub mod traits;

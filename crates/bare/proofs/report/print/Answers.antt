@@ -1,5 +1,6 @@
 use Rattle.std.proofs.Common.{arith, take_all}
-use Rattle.no_std_io2.proofs.MovesLemmas.{Moves-refl, MovesFront-text}
+use Rattle.no_std_io2.proofs.MovesLemmas.{Moves-refl}
+use Rattle.no_std_io2.proofs.TextLemmas.{MovesFront-text}
 use Rattle.bare.specs.Report.{reading_line}
 use Rattle.bare.proofs.ReportLemmas.{printed_more, printed_all}
 use Rattle.bare.proofs.report.print.Goals as goal

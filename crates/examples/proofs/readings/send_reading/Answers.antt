@@ -1,5 +1,5 @@
 use Rattle.std.proofs.Common.{inl}
-use Rattle.no_std_io2.proofs.MovesLemmas.{MovesFront-text_flush}
+use Rattle.no_std_io2.proofs.TextLemmas.{MovesFront-text_flush}
 use Rattle.examples.proofs.readings.send_reading.Goals as goal
 
 pub returns : goal.returns

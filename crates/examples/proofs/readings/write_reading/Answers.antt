@@ -1,4 +1,4 @@
-use Rattle.no_std_io2.proofs.MovesLemmas.{MovesFront-text}
+use Rattle.no_std_io2.proofs.TextLemmas.{MovesFront-text}
 use Rattle.examples.proofs.readings.write_reading.Goals as goal
 
 pub returns : goal.returns

@@ -2,7 +2,7 @@
 use Rattle.std.proofs.Common.{◌≡◌, ◌++◌, map, false, string_bytes}
 use Rattle.no_std_io2.specs.Read.{tells}
 use Rattle.no_std_io2.specs.Pieces.{newline, line_text, lines_reader, lines_is_ended, items_left}
-use Rattle.no_std_io2.specs.Appended.{appended}
+use Rattle.io_bench.specs.Appended.{appended}
 use Rattle.no_std_io2.proofs.Readers.{reader}
 use Rattle.io_bench.proofs.PieceRunLemmas.{GatheredToldSoFar}
 use Rattle.io_bench.proofs.pieces.run_lines.Given as goal

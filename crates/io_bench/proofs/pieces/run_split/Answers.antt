@@ -1,6 +1,6 @@
 use Rattle.std.proofs.Common.{◌≡◌, ◌∙◌, ap, refl, vec_items, Global, [], ◌∷◌, ◌++◌, Some, Ok, Err}
 use Rattle.no_std_io2.specs.Pieces.{without, split_delim, ends_at}
-use Rattle.no_std_io2.proofs.AppendedLemmas.{appended-more}
+use Rattle.io_bench.proofs.AppendedLemmas.{appended-more}
 use Rattle.no_std_io2.proofs.GivenPieces.{next_item, next_none, next_error, next_fault}
 use Rattle.io_bench.proofs.PieceRunLemmas.{one_gathered, all_gathered, gathered_to, shown-one, shown-same}
 use Rattle.io_bench.proofs.PieceRunLemmas.{law_at, if_told, not_ended, fewer_left}

@@ -2,7 +2,7 @@ use Rattle.no_std_io2.specs.Writers.{TakesAll}
 use Rattle.std.proofs.Common.{List, take, ◌≡◌, ◌<◌, ◌++◌, ◌∷◌, [], length, rules, arith, ap, ◌∙◌, sym, append-nil, append_assoc}
 use Rattle.io_bench.specs.declared.runs.Op.{Op}
 use Rattle.io_bench.specs.declared.runs.Reply.{Reply}
-use Rattle.no_std_io2.specs.Appended.{appended}
+use Rattle.io_bench.specs.Appended.{appended}
 use Rattle.io_bench.proofs.RunLemmas.{Ran-none, Ran-next, AreWhole-next, EndsFlushed-next, RunCalls-none, RunCalls-next, all_made}
 use Rattle.io_bench.specs.Runs.{Ran, EndsFlushed, AreWhole, RunCalls, failures, failures_of, IsShorterBy, HasFewer}
 use Rattle.io_bench.proofs.FailureLemmas.{failures_told, failures_none, fewer_of}

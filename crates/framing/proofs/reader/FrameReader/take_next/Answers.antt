@@ -1,7 +1,7 @@
 use Rattle.std.proofs.Common.{◌≡◌, ◌<◌, ◌≤◌, [], Ok, Err, true, false, length, sym, ap, ◌∙◌, inl, arith, rules}
 use Rattle.std.proofs.lemmas.Result.{err_from_is_err_and}
 use Rattle.no_std_io2.proofs.Readers.{reader}
-use Rattle.no_std_io2.proofs.EventLemmas.{not_empty, is_empty}
+use Rattle.no_std_io2.proofs.WriteExits.{not_empty, is_empty}
 use Rattle.framing.specs.Taking.{seen_bytes}
 use Rattle.framing.proofs.SeenLemmas.{seen_between, not_inside}
 use Rattle.framing.proofs.TakingLemmas.{sees_header, sees_both, takes_fault, takes_none_left, takes_end, takes_refused, takes_given}

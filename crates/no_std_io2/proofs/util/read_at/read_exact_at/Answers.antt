@@ -1,5 +1,5 @@
 use Rattle.std.proofs.Common.{inr}
-use Rattle.no_std_io2.proofs.PlaceLemmas.{stands_there, enough_there}
+use Rattle.no_std_io2_base.proofs.PlaceLemmas.{stands_there, enough_there}
 use Rattle.no_std_io2.proofs.util.read_at.read_exact_at.Goals as goal
 
 pub returns : goal.returns

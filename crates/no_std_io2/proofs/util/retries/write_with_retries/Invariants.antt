@@ -2,7 +2,7 @@
 use Rattle.std.proofs.Common.{Ok, Result, List, ℕ}
 use Rattle.no_std_io2_base.specs.declared.error.Error.{Error}
 use Rattle.no_std_io2_base.specs.Write.{Sends}
-use Rattle.no_std_io2.specs.Retries.{HasSpentTries, RestFlushLaw, Tries}
+use Rattle.no_std_io2_base.specs.Retries.{HasSpentTries, RestFlushLaw, Tries}
 use Rattle.no_std_io2.proofs.util.retries.write_with_retries.Given as goal
 
 abbrev pub invariant-tries : goal.invariant-tries

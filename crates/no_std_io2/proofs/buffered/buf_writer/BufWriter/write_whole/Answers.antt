@@ -8,7 +8,7 @@ use Rattle.no_std_io2_base.specs.Errors.{error_kind, IsFault}
 use Rattle.no_std_io2_base.specs.Write.{Moves}
 use Rattle.no_std_io2.specs.declared.buffered.buf_writer.BufWriter.{BufWriter}
 use Rattle.no_std_io2.specs.BufWriter.{writer_inner, writer_buffer, writer_told, TakesStep, WayCalls, OneWriteAll, Puts}
-use Rattle.no_std_io2.proofs.MovesLemmas.{Moves-then}
+use Rattle.no_std_io2_base.proofs.MovesLemmas.{Moves-then}
 use Rattle.no_std_io2.proofs.BufWriterLemmas.{Moves-kept}
 use Rattle.no_std_io2.proofs.BufWriterCalls.{puts}
 use Rattle.no_std_io2.proofs.StepLemmas.{then_stops, then_goes_on}

@@ -1,21 +1,21 @@
-// [`Empty`], a stream without bytes.
+//! [`Empty`], a stream without bytes.
 ghost use Rattle.std.specs.Prelude.{◌≡◌, [], Some};
-ghost use Rattle.no_std_io2.specs.Sink.{empty_taken};
+ghost use Rattle.no_std_io2_base.specs.Sink.{sink_taken};
 
-use super::sinks::Sink;
-use no_std_io2_base::error::Result;
-use no_std_io2_base::traits::{BufRead, Read, Seek, SeekFrom, Stored, Write};
+use crate::error::Result;
+use crate::sinks::Sink;
+use crate::traits::{BufRead, Read, Seek, SeekFrom, Stored, Write};
 use std::fmt;
 
-/// A reader that is at its end, and a writer that takes every byte like a [`Sink`](super::Sink). A seek leaves it where it
-/// is. Made by [`empty`](super::empty); follows `std::io::Empty`.
+/// A reader that is at its end, and a writer that takes every byte like a [`Sink`]. A seek leaves it where it
+/// is. Made by [`empty`](crate::makers::empty); follows `std::io::Empty`.
 #[derive(Drop)]
 pub struct Empty {
     sink: Sink,
 }
 
 impl Default for Empty {
-    ghost is_default = { λ e. empty_taken e ≡ [] };
+    ghost is_default = { λ e. sink_taken e.sink ≡ [] };
 
     fn default() -> Empty {
         Empty { sink: Sink::new() }
@@ -56,14 +56,14 @@ impl Seek for Empty {
 
 /// Tells what its sink tells.
 impl Write for Empty {
-    ghost use Rattle.no_std_io2.specs.Sink.{empty_told, EmptyMay};
+    ghost use Rattle.no_std_io2_base.specs.Sink.{sink_told, SinkMay};
     ghost use Rattle.std.specs.Prelude.{⊤};
 
-    ghost told = { empty_told };
+    ghost told = { λ e. sink_told e.sink };
 
     ghost takes_all = { λ _. ⊤ };
 
-    ghost may = { EmptyMay };
+    ghost may = { λ old call new. SinkMay old.sink call new.sink };
 
     fn write(&mut self, buf: &[u8]) -> Result<usize> {
         self.sink.write(buf)

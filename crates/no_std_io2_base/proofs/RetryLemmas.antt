@@ -6,7 +6,7 @@ use Rattle.no_std_io2_base.specs.declared.error.Error.{Error}
 use Rattle.no_std_io2_base.specs.declared.error.ErrorKind.{ErrorKind}
 use Rattle.no_std_io2_base.specs.Write.{Told, Moves, Sends, HasSpent, call_mishap}
 use Rattle.no_std_io2_base.proofs.MovesLemmas.{Moves-refl, Moves-ends}
-use Rattle.no_std_io2.specs.Retries.{HasAtMost, HasSpentTries, Law, Tries, again}
+use Rattle.no_std_io2_base.specs.Retries.{HasAtMost, HasSpentTries, Law, Tries, again}
 
 -- at the start nothing went, and all is still to go
 pub sends_none : (a : Told) (to_go : List ℕ) → Sends a to_go (Ok tt) a to_go

@@ -2,7 +2,7 @@
 use Rattle.std.proofs.lemmas.Grind.{common_steps}
 use Rattle.std.proofs.Common.{arith, []}
 use Rattle.std.proofs.Common.{◌≡◌, List, ◌∷◌, ◌++◌}
-use Rattle.no_std_io2.specs.Appended.{appended}
+use Rattle.io_bench.specs.Appended.{appended}
 
 -- an item that is pushed follows those that were appended before
 pub appended-one : {X : Type 0} (old mid new : List X) (x : X) → mid ≡ old ++ appended old mid → new ≡ mid ++ x ∷ []

@@ -6,7 +6,7 @@ use Rattle.no_std_io2_base.specs.declared.error.Error.{Error}
 use Rattle.no_std_io2_base.specs.Errors.{error_kind, kind_number, is_interruption, IsInterruption, IsFault}
 use Rattle.no_std_io2_base.specs.Events.{Event, byte, fails, HasNoFault}
 use Rattle.no_std_io2_base.specs.Write.{Told, Moves, HasSpent}
-use Rattle.no_std_io2.specs.Faults.{HasFirstFault, TellsMishap, MayFail}
+use Rattle.no_std_io2_base.specs.Faults.{HasFirstFault, TellsMishap, MayFail}
 
 -- if the mishaps to come were told, one that happened was among them
 told_mishap : (old : Option (List ErrorKind)) (kind : ErrorKind) (new : Option (List ErrorKind)) → HasSpent old (kind ∷ []) new

@@ -1,5 +1,5 @@
-use Rattle.no_std_io2.proofs.BufReaderCounts.{exact_counted}
-use Rattle.no_std_io2.proofs.count_pins.read_exact_counted.Goals as goal
+use Rattle.io_bench.proofs.ExactCounts.{exact_counted}
+use Rattle.io_bench.proofs.counts.read_exact_counted.Goals as goal
 
 pub returns-clause-reads : goal.returns-clause-reads
 returns-clause-reads g c = λ cost meter fills.

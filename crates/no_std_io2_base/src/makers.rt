@@ -1,9 +1,9 @@
-// `empty` and `sink`. A module cannot have these names beside those of their types.
+//! [`empty`] and [`sink`]. A module cannot have these names beside those of their types.
 ghost use Rattle.std.specs.Prelude.{◌≡◌, []};
-ghost use Rattle.no_std_io2.specs.Sink.{sink_taken, empty_taken};
+ghost use Rattle.no_std_io2_base.specs.Sink.{sink_taken};
 
-use super::empties::Empty;
-use super::sinks::Sink;
+use crate::empties::Empty;
+use crate::sinks::Sink;
 
 /// Returns a reader that is at its end, and that takes every byte as a writer. Follows `std::io::empty`.
 ///
@@ -12,7 +12,7 @@ use super::sinks::Sink;
 /// assert!(rt; nothing.read(&mut [0u8; 4])? == 0);
 /// ```
 pub fn empty() -> Empty
-    ensures { empty_taken result ≡ [] }
+    ensures { sink_taken result.sink ≡ [] }
 {
     Empty::default()
 }

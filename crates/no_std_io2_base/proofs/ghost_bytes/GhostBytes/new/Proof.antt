@@ -21,12 +21,12 @@ use denote.Triple.Entry.{on_entry}
 use denote.Triple.Spec.{Meets, triple_of}
 use denote.Triple.Table.{entered}
 use denote.Triple.Walked.{says, ends_at, walked, walk_Meets}
-use Rattle.no_std_io2.specs.declared.ghost_bytes.GhostBytes.{GhostBytes}
-use Rattle.no_std_io2.specs.contracts.ghost_bytes.GhostBytes as T
-use Rattle.no_std_io2.specs.contracts.ghost_bytes.GhostBytes.new.Key.{name as #it}
-use Rattle.no_std_io2.specs.contracts.ghost_bytes.GhostBytes.new as it
-use Rattle.no_std_io2.proofs.ghost_bytes.GhostBytes.new.Statement as stated
-use Rattle.no_std_io2.proofs.ghost_bytes.GhostBytes.new.Code as code
+use Rattle.no_std_io2_base.specs.declared.ghost_bytes.GhostBytes.{GhostBytes}
+use Rattle.no_std_io2_base.specs.contracts.ghost_bytes.GhostBytes as T
+use Rattle.no_std_io2_base.specs.contracts.ghost_bytes.GhostBytes.new.Key.{name as #it}
+use Rattle.no_std_io2_base.specs.contracts.ghost_bytes.GhostBytes.new as it
+use Rattle.no_std_io2_base.proofs.ghost_bytes.GhostBytes.new.Statement as stated
+use Rattle.no_std_io2_base.proofs.ghost_bytes.GhostBytes.new.Code as code
 
 abbrev v : Val
 v = vstruct (vcons (vstruct vnil) vnil)

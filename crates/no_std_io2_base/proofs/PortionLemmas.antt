@@ -12,7 +12,7 @@ use Rattle.no_std_io2_base.proofs.CallsLemmas.{made_more, made_then}
 use Rattle.no_std_io2_base.proofs.EventLemmas.{HasNoFault-append, HasNoFault-events_of, length-events_of}
 use Rattle.no_std_io2_base.proofs.PieceLemmas.{bytes_more, bytes_still}
 use Rattle.no_std_io2_base.proofs.TakesLemmas.{takes_none, takes_then, takes_still, takes_turns, takes_all, spends}
-use Rattle.no_std_io2.specs.Passing.{PortionCalls, no_portion, and_portion, and_waited, Skipped}
+use Rattle.no_std_io2_base.specs.Passing.{PortionCalls, no_portion, and_portion, and_waited, Skipped}
 
 -- Of n bytes, `left` are still wanted; the others were taken, by these calls.
 pub record PortionsTaken {X : Type 0} (R : Lender X) (old : X) (n left : ℕ) (now : X) : Type 0 where

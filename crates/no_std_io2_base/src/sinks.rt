@@ -1,21 +1,21 @@
-// [`Sink`], a writer that takes all.
+//! [`Sink`], a writer that takes all.
 ghost use Rattle.std.specs.Prelude.{◌≡◌, [], ⊤};
-ghost use Rattle.no_std_io2.specs.Sink.{sink_taken};
+ghost use Rattle.no_std_io2_base.specs.Sink.{sink_taken};
 
+use crate::error::Result;
 use crate::ghost_bytes::GhostBytes;
-use no_std_io2_base::error::Result;
-use no_std_io2_base::traits::Write;
+use crate::traits::Write;
 use std::fmt;
 
 /// A writer that takes every byte and never fails. It keeps none of them; only contracts see its
-/// bytes. Made by [`sink`](super::sink); follows `std::io::Sink`.
+/// bytes. Made by [`sink`](crate::makers::sink); follows `std::io::Sink`.
 #[derive(Drop)]
 pub struct Sink {
     taken: GhostBytes,
 }
 
 impl Sink {
-    /// Makes a sink that has taken nothing yet. [`sink`](super::sink) does the same.
+    /// Makes a sink that has taken nothing yet. [`sink`](crate::makers::sink) does the same.
     pub fn new() -> Sink
         ensures { sink_taken result ≡ [] }
     {
@@ -35,7 +35,7 @@ impl Default for Sink {
 
 /// Tells that each byte is out as soon as it is written, and that no mishap is to come.
 impl Write for Sink {
-    ghost use Rattle.no_std_io2.specs.Sink.{sink_told, SinkMay};
+    ghost use Rattle.no_std_io2_base.specs.Sink.{sink_told, SinkMay};
 
     ghost told = { sink_told };
 

@@ -1,8 +1,7 @@
--- What a `Sink` and an `Empty` tell.
+-- What a `Sink` tells; an `Empty` tells what its sink tells.
 use Rattle.std.specs.Prelude.{◌≡◌, ℕ, List, [], ◌++◌, length, Some, Ok}
 use Rattle.no_std_io2_base.specs.Write.{Told, WriteCall, Wrote, WroteAll, WroteRest, Flushed}
-use Rattle.no_std_io2.specs.declared.util.sinks.Sink.{Sink}
-use Rattle.no_std_io2.specs.declared.util.empties.Empty.{Empty}
+use Rattle.no_std_io2_base.specs.declared.sinks.Sink.{Sink}
 
 -- the bytes that it took
 abbrev pub sink_taken : Sink → List ℕ
@@ -18,14 +17,3 @@ SinkMay old (Wrote x reply) new = (reply ≡ Ok (length x)) × (sink_taken new �
 SinkMay old (Flushed reply) new = (reply ≡ Ok tt) × (new ≡ old)
 SinkMay old (WroteAll x reply) new = ⊥
 SinkMay old (WroteRest x reply left) new = ⊥
-
--- the bytes that an `Empty` took as a writer
-abbrev pub empty_taken : Empty → List ℕ
-empty_taken e = sink_taken e.sink
-
--- what it tells as a writer, and what one call does: as its sink
-abbrev pub empty_told : Empty → Told
-empty_told e = sink_told e.sink
-
-abbrev pub EmptyMay : Empty → WriteCall → Empty → Type 0
-EmptyMay old call new = SinkMay old.sink call new.sink

@@ -10,8 +10,8 @@ use Rattle.no_std_io2_base.specs.Takes.{Store, Tells, Takes, AreTaken, KeepsCont
 use Rattle.no_std_io2_base.specs.Read.{Reader, tells, ReadExactLaw, FillsOrEnds, gave_whole}
 use Rattle.no_std_io2_base.proofs.EventLemmas.{bytes-append, bytes-events_of}
 use Rattle.no_std_io2_base.specs.Seek.{Seeks, IsTarget}
-use Rattle.no_std_io2.specs.ReadAt.{ReadsAt, HasBytesAt}
-use Rattle.no_std_io2.proofs.ExactLemmas.{ReadsExact-enough}
+use Rattle.no_std_io2_base.specs.ReadAt.{ReadsAt, HasBytesAt}
+use Rattle.no_std_io2_base.proofs.ExactLemmas.{ReadsExact-enough}
 
 -- a seek has one target
 pub IsTarget-unique : (len position : ℕ) (at : SeekFrom) (p q : ℕ) → IsTarget len position at p → IsTarget len position at q → p ≡ q
