@@ -6,7 +6,7 @@ use Rattle.std.proofs.Common.{refl, sym, ap, subst, ◌∙◌, arith, inl, inr, 
 use Rattle.std.proofs.Math.Nat.{le-max_left, le-max_right, max-eq_left, max-eq_right}
 use Rattle.no_std_io2.specs.declared.io.Error.{Error}
 use Rattle.no_std_io2.specs.Write.{Made}
-use Rattle.no_std_io2.specs.Read.{Reader, ReadCallLaw, GaveLaw, Gave, Gathers, no_read, and_gave, and_again, bytes_given}
+use Rattle.no_std_io2.specs.Read.{Reader, ReadCall, ReadCallLaw, GaveLaw, Gave, Gathers, no_read, and_gave, and_again, bytes_given}
 use Rattle.no_std_io2.specs.ReadMeter.{IsReadMeter, FillsRoom}
 use Rattle.no_std_io2.specs.declared.buffered.buf_reader.BufReader.{BufReader}
 use Rattle.no_std_io2.specs.BufReader.{reader_held, reader_inner, AsksExact, ExactReads, ExactBelow, LeavesExact}
