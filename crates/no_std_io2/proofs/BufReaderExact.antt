@@ -1,5 +1,5 @@
 -- Which inner reads an exact read of a `BufReader` makes, and what is in the buffer then.
-use Rattle.std.proofs.Common.{◌≡◌, ℕ, zero, suc, ◌+◌, ◌-◌, ◌<◌, ◌≤◌, ◌⊎◌, min, max, List, [], ◌∷◌, ◌++◌, Result, Ok, Err, length, take}
+use Rattle.std.proofs.Common.{◌≡◌, ℕ, ◌+◌, ◌-◌, ◌<◌, ◌≤◌, ◌⊎◌, max, List, [], ◌∷◌, ◌++◌, Result, Ok, Err, length, take}
 use Rattle.std.proofs.Common.{drop}
 use Rattle.std.proofs.Common.{refl, sym, ap, subst, ◌∙◌, arith, append_assoc, append-nil, length-append, take-append-drop, length-take}
 use Rattle.std.proofs.Common.{length-take-le, length-drop, inl, inr, ⊎_elim, take_all, le_refl}
@@ -16,15 +16,13 @@ use Rattle.no_std_io2_base.specs.Read.{ExactCalls, tells, FillsOrEnds}
 use Rattle.no_std_io2_base.specs.Read.{ReadCallLaw, ReadExactLaw, bytes_given}
 use Rattle.no_std_io2_base.proofs.CallsLemmas.{made_more, made_split}
 use Rattle.no_std_io2_base.proofs.ReadCalls.{exact_own}
-use Rattle.no_std_io2_base.proofs.ReadLoop.{reads_none, reads_more}
-use Rattle.no_std_io2_base.proofs.ReadExactLoop.{ExactSoFar}
-use Rattle.no_std_io2_base.proofs.TakesLemmas.{gives_none, gives_whole, bytes_more}
+use Rattle.no_std_io2_base.proofs.TakesLemmas.{gives_whole}
 use Rattle.no_std_io2.specs.declared.buffered.buf_reader.BufReader.{BufReader}
 use Rattle.no_std_io2.specs.Buffer.{IsSuffix}
 use Rattle.no_std_io2.specs.BufReader.{reader_held, reader_behind, reader_inner, HasNoBuffer, PassesOn, AsksExact, ExactBelow}
 use Rattle.no_std_io2.specs.BufReader.{LeavesExact, GivesHeld}
 use Rattle.no_std_io2.proofs.BufferedReads.{takes_held}
-use Rattle.no_std_io2.proofs.BufReaderCalls.{buf_reader, by_held}
+use Rattle.no_std_io2.proofs.BufReaderCalls.{buf_reader}
 use Rattle.no_std_io2.proofs.BufReaderRoom.{held-le}
 
 module _ {R : Type 0} {S : ℕ} (inner : Reader R) (old : BufReader R S) (room : ℕ) (past : length (reader_held old) < room) where
@@ -288,37 +286,6 @@ leaves_exact {inner = inner} {old} {new} {buf} {buf'} reply law long past =
         let one = subst (λ C. Made (ReadCallLaw (buf_reader inner)) old C new) own law.calls.made in
         absurd (omega (arith, one.1.0.0, long, past))
     by (inr reads) = exact_below inner old (length buf) past reply law.calls.calls reads law.calls.made long
-
--- the held bytes were given first
-pub exact_first : {R : Type 0} {S : ℕ} {inner : Reader R} {old now : BufReader R S} {buf shown : List ℕ} (n : ℕ) → length shown ≡ length buf
-    → length (reader_held old) < length buf → reader_inner now ≡ reader_inner old → n ≡ min (length (reader_held old)) (length buf)
-    → take n shown ≡ take n (reader_held old) → reader_behind now ≡ reader_behind old ++ take n shown
-    → reader_held now ≡ drop n (reader_held old) → (reader_held old ≡ [] → now ≡ old)
-    → ExactSoFar (buf_reader inner) old buf n shown now
-unfolding reads_none reads_more bytes_more
-exact_first {inner = inner} {old} {buf = buf} {shown} zero same_length past same is gave front left none =
-    subst (ExactSoFar (buf_reader inner) old buf 0 shown) (sym (none (nil_from_length (reader_held old) (omega (arith, is, past)))))
-    (record {
-      long = same_length;
-      within = omega arith;
-      untouched = λ nothing. refl;
-      given = [];
-      filled = refl;
-      reads = reads_none old;
-      gives = gives_none (length buf);
-    })
-exact_first {old = old} {buf = buf} {shown} (suc k) same_length past same is gave front left none =
-    let fits : length (take (suc k) shown) ≤ length buf = omega (arith, same_length, length-take (suc k) shown) in
-    record {
-      long = same_length;
-      within = omega (arith, is, same_length);
-      untouched = λ nothing. absurd (omega (arith, nothing, past));
-      given = take (suc k) shown;
-      filled = refl;
-      reads = reads_more (reads_none old) (by_held (suc k) buf shown same_length (omega (arith, is, past)) same is gave front left)
-          (λ no. absurd (omega (arith, no))) (omega (arith, same_length), omega (arith, same_length, past));
-      gives = gives_whole (take (suc k) shown) fits;
-    }
 
 -- only held bytes were given
 pub exact_held : {R : Type 0} {S : ℕ} {inner : Reader R} {old new : BufReader R S} {buf buf' : List ℕ}

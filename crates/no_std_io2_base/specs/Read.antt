@@ -1,5 +1,5 @@
 -- What a call needs to know of a reader, the calls of `Read` with the law of each, and what `Bytes` yields.
-use Rattle.std.specs.Prelude.{◌≡◌, ℕ, ◌<◌, List, [], ◌∷◌, ◌++◌, length, take, Ok, Err, Result, ◌⊎◌, ◌+◌}
+use Rattle.std.specs.Prelude.{◌≡◌, ℕ, ◌<◌, List, [], ◌∷◌, ◌++◌, length, take, Ok, Err, Result, ◌⊎◌, ◌+◌, ◌-◌}
 use Rattle.std.specs.Prelude.{◌≤◌, Vec, vec_len, vec_capacity, Some, IfOk, IsOk, Option, None, IfSome}
 use Rattle.no_std_io2_base.specs.declared.error.Error.{Error}
 use Rattle.no_std_io2_base.specs.Errors.{IsInterruption, IsFault, IsUnexpectedEnd, IsOutOfMemory}
@@ -72,6 +72,11 @@ FillCalls C (Err e) buf = (x : List ℕ) × IsFront x buf × ((IsUnexpectedEnd e
 abbrev pub ExactCalls : List ReadCall → Result (Unit {0}) Error → List ℕ → Type 0
 ExactCalls C reply buf = (C ≡ GaveExactly (length buf) (gave_whole reply buf) ∷ []) ⊎ FillCalls C reply buf
 
+-- C are the reads of a `read_full` into this much room, which gave x: until it is full, or the end or a fault comes first
+abbrev pub FullCalls : List ReadCall → ℕ → List ℕ → Result (Unit {0}) Error → Type 0
+FullCalls C room x (Ok u) = (Gathers (IsRest room) C x × (length x ≡ room)) ⊎ GathersUntil (IsRest room) C x (Ok [])
+FullCalls C room x (Err e) = IsFault e × GathersUntil (IsRest room) C x (Err e)
+
 -- C are the reads of a `read_to_end` that appends x: up to the end, a fault, or a failed allocation
 abbrev pub DrainCalls : List ReadCall → List ℕ → Result ℕ Error → Type 0
 DrainCalls C x (Ok n) = GathersUntil IsRoom C x (Ok [])
@@ -89,6 +94,13 @@ pub record ExactMade {S : Type 0} (may : S → ReadCall → S → Type 0) (old :
   pub calls : List ReadCall
   pub made : Made may old calls new
   pub are : ExactCalls calls reply buf
+
+-- The calls that a `read_full` made, which gave x.
+pub record FullMade {S : Type 0} (may : S → ReadCall → S → Type 0) (old : S) (room : ℕ) (x : List ℕ) (reply : Result (Unit {0}) Error)
+    (new : S) : Type 0 where
+  pub calls : List ReadCall
+  pub made : Made may old calls new
+  pub are : FullCalls calls room x reply
 
 -- The calls that a `read_to_end` made, and the bytes that they gave, which were appended.
 pub record ToEndMade {S : Type 0} (may : S → ReadCall → S → Type 0) (old : S) (buf : List ℕ) (reply : Result ℕ Error) (buf' : List ℕ)
@@ -142,6 +154,11 @@ FillsOrEnds room P (Ok x) new = Gives room P x × (length x ≡ room)
 FillsOrEnds room P (Err e) new = (length (bytes P) < room)
     × (EndsInFault P e ⊎ (IsUnexpectedEnd e × HasNoFault P × IfSome (to_come new) (AllOrNone P room)))
 
+-- how a `read_full` into this much room that took P ended: it gave so many bytes, or met the end; or a fault came first
+abbrev pub FillsOrMeetsEnd : ℕ → List Event → Result (Unit {0}) Error → Tells → Type 0
+FillsOrMeetsEnd room P (Ok u) new = HasNoFault P × (cut room P ≡ P) × (length (bytes P) < room → IsAtEnd new)
+FillsOrMeetsEnd room P (Err e) new = EndsInFault P e × (length (bytes P) < room)
+
 -- how a `read_to_end` that took P ended: at the end; or after a fault; or since an allocation failed, for which `lacks` is a reason
 abbrev pub DrainsOrStops : {A : Type 0} → Type 0 → List Event → Result A Error → Tells → Type 0
 DrainsOrStops lacks P (Ok _) new = HasNoFault P × IsAtEnd new
@@ -193,6 +210,22 @@ pub record ReadExactLaw {S : Type 0} (R : Reader S) (old : S) (buf : List ℕ) (
   pub empty : length buf ≡ 0 → IsOk reply × (new ≡ old)
   -- which calls it made
   pub calls : ExactMade (ReadCallLaw R) old reply buf' new
+
+-- `read_full(buf, &mut filled)`, of a buffer whose first `filled` bytes stand already
+pub record ReadFullLaw {S : Type 0} (R : Reader S) (old : S) (buf : List ℕ) (filled : ℕ) (reply : Result (Unit {0}) Error) (buf' : List ℕ)
+    (filled' : ℕ) (new : S) : Type 0 where
+  -- what it takes
+  pub taken : List Event
+  pub takes : Takes (tells R old) taken (tells R new)
+  -- its bytes stand behind those that stood, and are counted
+  pub fills : take filled' buf' ≡ take filled buf ++ bytes taken
+  pub counts : filled' ≡ filled + length (bytes taken)
+  -- that fills the rest of the buffer, or is all, or ends in a fault
+  pub ends : FillsOrMeetsEnd (length buf - filled) taken reply (tells R new)
+  -- a full buffer makes no call
+  pub full : length buf ≤ filled → IsOk reply × (new ≡ old)
+  -- which calls it made
+  pub calls : FullMade (ReadCallLaw R) old (length buf - filled) (bytes taken) reply new
 
 -- the least room into which a read to the end reads
 abbrev pub least_room : ℕ

@@ -2,7 +2,7 @@ ghost use Rattle.std.specs.Prelude.{◌≡◌, ℕ, false, List, Option, None};
 ghost use Rattle.no_std_io2_base.specs.Chain.{chain_first, chain_second, chain_is_done, chain_events, both_to_come};
 ghost use Rattle.no_std_io2_base.specs.Events.{Event};
 ghost use Rattle.no_std_io2_base.specs.Takes.{to_come};
-ghost use Rattle.no_std_io2_base.specs.Read.{tells, ReadLaw, ReadExactLaw, ReadToEndLaw, ReadCall, bytes_reader};
+ghost use Rattle.no_std_io2_base.specs.Read.{tells, ReadLaw, ReadExactLaw, ReadFullLaw, ReadToEndLaw, ReadCall, bytes_reader};
 ghost use Rattle.no_std_io2_base.specs.ReadToString.{ReadToStringLaw};
 ghost use Rattle.no_std_io2_base.specs.Take.{take_inner, take_limit, take_events, cut_to_come};
 
@@ -68,11 +68,38 @@ pub trait Read: Stored {
     fn read_exact(&mut self, buf: &mut [u8]) -> Result<()>
         ensures law { ReadExactLaw ⟦<Self as Read>⟧ self.old buf.old result buf.new self.new }
     {
-        let mut at = 0;
-        'reads: while at < buf.len() {
-            match self.read(&mut buf[at..]) {
-                Ok(0) => return Err(failed_to_fill()),
-                Ok(n) => at += n,
+        let mut filled = 0;
+        self.read_full(buf, &mut filled)?;
+        if filled < buf.len() {
+            return Err(failed_to_fill());
+        }
+        Ok(())
+    }
+
+    /// Fills `buf` behind its first `filled` bytes, as far as there are bytes, and ignores
+    /// interruptions. Afterwards `filled` counts the new bytes too: if they are fewer than
+    /// `buf.len()` after `Ok`, the reader is at its end. If `buf` is full, no call is made. Rust's
+    /// std has no such call.
+    ///
+    /// # Errors
+    /// Returns the first fault that comes before `buf` is full; the reader is then right after it.
+    /// The bytes before it are in `buf` and counted, so the same call continues. Never returns
+    /// `Interrupted`.
+    ///
+    /// ```rust
+    /// let mut r = Cursor::new(*b"abcde");
+    /// let mut buf = [0u8; 8];
+    /// let mut filled = 0;
+    /// r.read_full(&mut buf, &mut filled)?;
+    /// assert!(rt; &buf[..filled] == b"abcde".as_slice()); // fewer than 8: the end
+    /// ```
+    fn read_full(&mut self, buf: &mut [u8], filled: &mut usize) -> Result<()>
+        ensures law { ReadFullLaw ⟦<Self as Read>⟧ self.old buf.old filled.old result buf.new filled.new self.new }
+    {
+        'reads: while *filled < buf.len() {
+            match self.read(&mut buf[*filled..]) {
+                Ok(0) => return Ok(()),
+                Ok(n) => *filled += n,
                 Err(e) if e.is_interrupted() => {}
                 Err(e) => return Err(e),
             }

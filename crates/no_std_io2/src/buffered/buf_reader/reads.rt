@@ -18,14 +18,10 @@ impl<R: Read, const S: usize> BufReader<R, S> {
         ensures law { ReadExactLaw ⟦<BufReader<R, S> as Read>⟧ self.old buf.old result buf.new self.new }
         ensures leaves { LeavesExact R.Read self.old (length buf.old) result buf.new self.new }
     {
-        let mut at = self.buffer.give(buf);
-        'reads: while at < buf.len() {
-            match self.read(&mut buf[at..]) {
-                Ok(0) => return Err(failed_to_fill()),
-                Ok(n) => at += n,
-                Err(e) if e.is_interrupted() => {}
-                Err(e) => return Err(e),
-            }
+        let mut filled = 0;
+        self.read_full(buf, &mut filled)?;
+        if filled < buf.len() {
+            return Err(failed_to_fill());
         }
         Ok(())
     }

@@ -1,0 +1,32 @@
+use Rattle.std.proofs.Common.{sym, ◌∙◌}
+use Rattle.no_std_io2_base.proofs.ReadFullLoop.{full_none, full_read, full_interruption, full_end, full_fault, full_all}
+use Rattle.no_std_io2_base.proofs.TakesLemmas.{read_spends}
+use Rattle.no_std_io2_base.proofs.traits.read.Read.read_full.Goals as goal
+
+pub reads-init : goal.reads-init
+reads-init g c = full_none
+
+pub returns-in-Ok-eq0 : goal.returns-in-Ok-eq0
+returns-in-Ok-eq0 g c = record {
+  law = full_end c.reads.invariant c.reads-test.true _ c.read.auto.buf c.read.ensures.law c.in-Ok-eq0.is c.in-Ok-eq0.field-0-test;
+}
+
+pub returns : goal.returns
+returns g c = record { law = full_all c.reads.invariant c.reads-test.false }
+
+pub reads-preserved-in-Ok : goal.reads-preserved-in-Ok
+reads-preserved-in-Ok g c = full_read c.reads.invariant c.reads-test.true _ c.read.auto.buf c.in-Ok.ensures.law c.in-Ok.n-test.1
+
+pub returns-in-Err-2 : goal.returns-in-Err-2
+returns-in-Err-2 g c = record {
+  law = full_fault c.reads.invariant c.reads-test.true _ c.read.auto.buf c.in-Err.ensures.law
+      (sym c.is_interrupted.ensures ∙ c.if-is_interrupted.false);
+}
+
+pub reads-preserved : goal.reads-preserved
+reads-preserved g c =
+    full_interruption c.reads.invariant c.reads-test.true _ c.read.auto.buf c.in-Err.ensures.law
+    (sym c.is_interrupted.ensures ∙ c.if-is_interrupted.true)
+
+pub reads-smaller-in-Ok : goal.reads-smaller-in-Ok
+reads-smaller-in-Ok g c = read_spends c.in-Ok.ensures.law c.in-Ok.n-test.1
