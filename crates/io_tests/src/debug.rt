@@ -56,8 +56,8 @@ fn streams_in_memory_print_their_fields(rt: HostRuntime) -> Result<(), Fail> {
     let long =
         "Chain {\n    first: [\n        65,\n    ],\n    second: [],\n    done_first: false,\n}";
     assert!(rt; prints(alloc, &text.chain(b"".as_slice()), short, long)?);
-    let short = "Take { inner: [65], limit: 2 }";
-    let long = "Take {\n    inner: [\n        65,\n    ],\n    limit: 2,\n}";
+    let short = "Take { inner: [65], len: 2, limit: 2 }";
+    let long = "Take {\n    inner: [\n        65,\n    ],\n    len: 2,\n    limit: 2,\n}";
     assert!(rt; prints(alloc, &text.take(2), short, long)?);
     let long = "Bytes {\n    inner: [\n        65,\n    ],\n}";
     assert!(rt; prints(alloc, &text.bytes(), "Bytes { inner: [65] }", long)?);

@@ -13,8 +13,8 @@ use Rattle.no_std_io2_base.specs.Read.{Reader, tells, ReadCall, Gave, Filled, Co
 use Rattle.no_std_io2_base.specs.Read.{answered, fault_of}
 use Rattle.no_std_io2_base.specs.ReadMeter.{FillsRoom}
 use Rattle.no_std_io2_base.specs.BufRead.{Lender, as_reader, lender_tells, ConsumeLaw, IsNotEmpty}
-use Rattle.no_std_io2_base.specs.Take.{take_held, take_inner, take_limit, take_events, cut_to_come, lent_within, TakeTakes, TakeAsks}
-use Rattle.no_std_io2_base.specs.Take.{TakeMay}
+use Rattle.no_std_io2_base.specs.Take.{take_held, take_inner, take_limit, take_len, take_events, cut_to_come, lent_within, TakeTakes}
+use Rattle.no_std_io2_base.specs.Take.{TakeAsks, TakeMay}
 use Rattle.no_std_io2_base.proofs.EventLemmas.{bytes-append, bytes-events_of}
 use Rattle.no_std_io2_base.proofs.FillBufHeld.{begins_cut}
 use Rattle.no_std_io2_base.proofs.TakesLemmas.{takes_none, takes_then, cut-none, cut-fitting, cut-error, read_law, read_by, lend_law}
@@ -107,6 +107,7 @@ module _ {T : Type 0} {inner : Reader T} where
     takes = takes_none (tells inner (take_inner t));
     within = cut-none (take_limit t);
     limit = omega arith;
+    len = refl;
     at_limit = λ low. refl;
   }
 
@@ -116,6 +117,7 @@ module _ {T : Type 0} {inner : Reader T} where
     takes = takes_then first.takes next.takes;
     within = cut-within P Q _ _ first.within first.limit ∙ ap (λ l. P ++ l) next.within;
     limit = omega (arith, first.limit, next.limit, ap length (bytes-append P Q), length-append (bytes P) (bytes Q));
+    len = next.len ∙ first.len;
     at_limit = λ low. next.at_limit (omega (arith, low, first.limit)) ∙ first.at_limit low;
   }
 
@@ -128,6 +130,7 @@ module _ {T : Type 0} {inner : Reader T} where
       takes = takes;
       within = within;
       limit = omega (arith, asks.limit, count);
+      len = asks.len;
       at_limit = asks.at_limit;
     }
     | inr low ↦
@@ -162,6 +165,7 @@ module _ {T : Type 0} {inner : Reader T} where
             takes = takes;
             within = cut-fitting (take_limit old) x (omega (arith, long, asks.limit));
             limit = omega (arith, asks.limit, count);
+            len = asks.len;
             at_limit = asks.at_limit;
           },
         )
@@ -176,17 +180,21 @@ module _ {T : Type 0} {inner : Reader T} where
     bound = omega arith;
     takes = takes_none _;
     end = λ none some. cut_zero (take_limit t) (to_come (tells inner (take_inner t))) low;
-    call = (λ none. refl, record { limit = omega arith; at_limit = λ none. refl; asks = λ some. absurd (omega (arith, some, low)) });
+    call = (
+      λ none. refl,
+      record { limit = omega arith; len = refl; at_limit = λ none. refl; asks = λ some. absurd (omega (arith, some, low)) },
+    );
   }
 
   -- above 0 it is one inner read into as much of the room as the limit allows
   pub gave_inner : {old new : Take T} (room : ℕ) (answer : Result (List ℕ) Error) → 0 < take_limit old
       → GaveLaw inner (take_inner old) (min room (take_limit old)) answer (take_inner new)
-      → take_limit new + length (bytes_given answer) ≡ take_limit old → GaveLaw (take_reader inner) old room answer new
-  gave_inner {old} {new} room answer some law falls =
+      → take_limit new + length (bytes_given answer) ≡ take_limit old → take_len new ≡ take_len old
+      → GaveLaw (take_reader inner) old room answer new
+  gave_inner {old} {new} room answer some law falls same =
       let call : TakeMay inner old (Gave room answer) new = (
         λ low. absurd (omega (arith, some, low)),
-        record { limit = falls; at_limit = λ low. absurd (omega (arith, some, low)); asks = λ _. law },
+        record { limit = falls; len = same; at_limit = λ low. absurd (omega (arith, some, low)); asks = λ _. law },
       ) in
       record {
         bound = omega (arith, law.bound);
@@ -199,13 +207,13 @@ module _ {T : Type 0} {inner : Reader T} where
   pub reads_inner : {old new : Take T} {before into part : List ℕ} (whole : List ℕ) (reply : Result ℕ Error) → 0 < take_limit old
       → ReadLaw inner (take_inner old) into reply part (take_inner new) → length part ≡ min (length whole) (take_limit old)
       → gave reply whole ≡ gave reply part → take_limit new + length (bytes_given (gave reply part)) ≡ take_limit old
-      → ReadLaw (take_reader inner) old before reply whole new
-  reads_inner {old} {new} {into = into} {part} whole reply some read room same falls =
+      → take_len new ≡ take_len old → ReadLaw (take_reader inner) old before reply whole new
+  reads_inner {old} {new} {into = into} {part} whole reply some read room same falls stays =
       read_by reply (fits reply read.bound)
       (gave_inner (length whole) (gave reply whole) some
       (subst (λ a. GaveLaw inner (take_inner old) (min (length whole) (take_limit old)) a (take_inner new)) (sym same)
       (subst (λ r. GaveLaw inner (take_inner old) r (gave reply part) (take_inner new)) room (read_law reply read)))
-      (subst (λ a. take_limit new + length (bytes_given a) ≡ take_limit old) (sym same) falls))
+      (subst (λ a. take_limit new + length (bytes_given a) ≡ take_limit old) (sym same) falls) stays)
     where
       fits : (reply : Result ℕ Error) → IfOk reply (λ n. n ≤ length part) → IfOk reply (λ n. n ≤ length whole)
       fits (Ok n) bound = omega (arith, bound, room)
@@ -213,13 +221,13 @@ module _ {T : Type 0} {inner : Reader T} where
 
   -- above 0 a `fill_buf` is one inner `fill_buf`, of whose bytes a part is lent
   pub filled_inner : {old new : Take T} (lent : Result (List ℕ) Error) {answer : Result (List ℕ) Error} → 0 < take_limit old
-      → take_limit new ≡ take_limit old → answer ≡ lent_within (take_limit old) lent
+      → take_limit new ≡ take_limit old → take_len new ≡ take_len old → answer ≡ lent_within (take_limit old) lent
       → ReadCallLaw inner (take_inner old) (Filled lent) (take_inner new) → TakeMay inner old (Filled answer) new
-  filled_inner lent some same is law = (
+  filled_inner lent some same len is law = (
     lent,
     λ low. absurd (omega (arith, some, low)),
     λ _. is,
-    record { limit = omega (arith, same); at_limit = λ low. absurd (omega (arith, some, low)); asks = λ _. law },
+    record { limit = omega (arith, same); len = len; at_limit = λ low. absurd (omega (arith, some, low)); asks = λ _. law },
   )
 
   -- at limit 0 it lends nothing
@@ -228,7 +236,7 @@ module _ {T : Type 0} {inner : Reader T} where
     Ok [],
     λ _. refl,
     λ some. absurd (omega (arith, some, low)),
-    record { limit = omega arith; at_limit = λ _. refl; asks = λ some. absurd (omega (arith, some, low)) },
+    record { limit = omega arith; len = refl; at_limit = λ _. refl; asks = λ some. absurd (omega (arith, some, low)) },
   )
 
   -- it is filling if its inner reader is
@@ -266,19 +274,20 @@ module _ {T : Type 0} (inner : Lender T) where
     takes = subst (λ k. Takes (lender_tells (take_lender inner) t) (events_of (take k (take_held inner.held t)))
         (lender_tells (take_lender inner) t))
         (sym none) (takes_none _);
-    call = record { limit = omega (arith, none); at_limit = λ low. refl; asks = λ some. absurd (omega (arith, some, low)) };
+    call = record { limit = omega (arith, none); len = refl; at_limit = λ low. refl; asks = λ some. absurd (omega (arith, some, low)) };
   }
 
   -- above 0 the inner reader's first bytes are consumed
   pub consumed_inner : {old new : Take T} {n : ℕ} → 0 < take_limit old → n ≤ length (take_held inner.held old)
-      → ConsumeLaw inner (take_inner old) n (take_inner new) → take_limit new + n ≡ take_limit old
+      → ConsumeLaw inner (take_inner old) n (take_inner new) → take_limit new + n ≡ take_limit old → take_len new ≡ take_len old
       → ConsumeLaw (take_lender inner) old n new
-  consumed_inner {old} {new} {n} some fits law falls =
+  consumed_inner {old} {new} {n} some fits law falls same =
       let held = inner.held (take_inner old) in
       let within : (n ≤ length held) × (n ≤ take_limit old) = omega (arith, fits, length-take (take_limit old) held) in
       let part : take n (take (take_limit old) held) ≡ take n held = take-take n (take_limit old) held within.1 in
       let call : TakeMay (as_reader inner) old (Consumed n) new = record {
         limit = falls;
+        len = same;
         at_limit = λ low. absurd (omega (arith, some, low));
         asks = λ _. lend_law inner (take_inner old) (take_inner new) (Consumed n) (within.0, law);
       } in
@@ -286,6 +295,7 @@ module _ {T : Type 0} (inner : Lender T) where
         takes = law.takes;
         within = cut-fitting (take_limit old) (take n held) (omega (arith, within.1, length-take-le n held within.0));
         limit = omega (arith, falls, ap length (bytes-events_of (take n held)), length-take-le n held within.0);
+        len = same;
         at_limit = λ low. absurd (omega (arith, some, low));
       } in
       record {

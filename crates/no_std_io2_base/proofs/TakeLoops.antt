@@ -96,6 +96,7 @@ take_taken {inner = inner} {old} {new} P Q above below same = elim (lost (to_com
                   (omega (arith, same, length-events_of x, bytes-within Q)) below.takes;
               within = cut-fitting (take_limit old) x (omega (arith, same, below.limit));
               limit = omega (arith, below.limit, same, long);
+              len = below.len;
               at_limit = below.at_limit;
             },
           )

@@ -1,5 +1,5 @@
 -- The limit and the inner reader of a `Take`, what it tells, and what its calls do.
-use Rattle.std.specs.Prelude.{◌≡◌, ℕ, ◌+◌, ◌<◌, min, List, [], length, take, Option, None, Some, Result, Ok, Err}
+use Rattle.std.specs.Prelude.{◌≡◌, ℕ, ◌+◌, ◌-◌, ◌<◌, min, List, [], length, take, Option, None, Some, Result, Ok, Err}
 use Rattle.no_std_io2_base.specs.declared.error.Error.{Error}
 use Rattle.no_std_io2_base.specs.declared.traits.take.Take.{Take}
 use Rattle.no_std_io2_base.specs.Events.{Event, bytes, cut}
@@ -9,6 +9,14 @@ use Rattle.no_std_io2_base.specs.Read.{Reader, tells, ReadCall, Gave, Filled, Co
 -- `t.limit()`
 abbrev pub take_limit : {T : Type 0} → Take T → ℕ
 take_limit t = t.limit
+
+-- the limit that was set last, from which positions are counted
+abbrev pub take_len : {T : Type 0} → Take T → ℕ
+take_len t = t.len
+
+-- how far the limit has fallen since then
+abbrev pub take_position : {T : Type 0} → Take T → ℕ
+take_position t = t.len - t.limit
 
 -- `t.into_inner()`
 abbrev pub take_inner : {T : Type 0} → Take T → T
@@ -42,11 +50,13 @@ pub record TakeTakes {T : Type 0} (inner : Reader T) (old : Take T) (P : List Ev
   pub takes : Takes (tells inner (take_inner old)) P (tells inner (take_inner new))
   pub within : cut (take_limit old) P ≡ P
   pub limit : take_limit new + length (bytes P) ≡ take_limit old
+  pub len : take_len new ≡ take_len old
   pub at_limit : take_limit old ≡ 0 → new ≡ old
 
 -- From old to new a `Take` made this call of its inner reader, and the limit fell by n. At limit 0 it made none, and nothing changed.
 pub record TakeAsks {T : Type 0} (inner : Reader T) (old : Take T) (call : ReadCall) (n : ℕ) (new : Take T) : Type 0 where
   pub limit : take_limit new + n ≡ take_limit old
+  pub len : take_len new ≡ take_len old
   pub at_limit : take_limit old ≡ 0 → new ≡ old
   pub asks : 0 < take_limit old → ReadCallLaw inner (take_inner old) call (take_inner new)
 

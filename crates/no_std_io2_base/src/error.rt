@@ -4,7 +4,7 @@ ghost use Rattle.std.specs.Prelude.{◌≡◌, Some, None};
 ghost use Rattle.std.specs.Option.{option_map};
 ghost use Rattle.no_std_io2_base.specs.Errors.{kind_text, error_kind, error_text, error_display, is_interruption, IsPlain, IsOutOfMemory};
 
-pub(crate) use crate::internal::{failed_to_fill, failed_to_write};
+pub(crate) use crate::internal::{failed_to_fill, failed_to_write, invalid_seek};
 use std::alloc::{AllocError, AllocFailed};
 use std::fmt;
 

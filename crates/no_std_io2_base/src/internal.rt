@@ -1,5 +1,5 @@
 //! Functions that `no_std_io2` shares with this crate. They are no part of the public interface.
-ghost use Rattle.no_std_io2_base.specs.Errors.{IsUnexpectedEnd, IsUnwritten};
+ghost use Rattle.no_std_io2_base.specs.Errors.{IsInvalidSeek, IsUnexpectedEnd, IsUnwritten};
 
 use crate::error::{Error, ErrorKind};
 pub use crate::impls::{append, append_rest, copy_bytes};
@@ -20,4 +20,12 @@ pub fn failed_to_write() -> Error
     ensures { IsUnwritten result }
 {
     Error::new(ErrorKind::WriteZero, "failed to write whole buffer")
+}
+
+/// Makes the error of a seek to a place that there is not.
+pub fn invalid_seek() -> Error
+    ensures { IsInvalidSeek result }
+{
+    let text = "invalid seek to a negative or overflowing position";
+    Error::new(ErrorKind::InvalidInput, text)
 }

@@ -9,7 +9,7 @@ mod lines;
 pub(crate) mod pieces;
 mod read;
 pub(crate) mod room;
-mod seek;
+pub(crate) mod seek;
 mod split;
 mod stored;
 mod take;

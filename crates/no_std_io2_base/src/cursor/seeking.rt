@@ -3,7 +3,8 @@ ghost use Rattle.no_std_io2_base.specs.Cursor.{cursor_position, cursor_inner};
 ghost use Rattle.no_std_io2_base.specs.Seek.{Seeks, SeekLaw, StreamPositionLaw, RewindLaw, StreamLenLaw};
 
 use super::{AsSlice, Cursor};
-use crate::error::{Error, ErrorKind, Result};
+use crate::error::{Result, invalid_seek};
+use crate::traits::seek::target;
 use crate::traits::{Seek, SeekFrom};
 
 impl<T: AsSlice<u8>> Seek for Cursor<T> {
@@ -14,26 +15,12 @@ impl<T: AsSlice<u8>> Seek for Cursor<T> {
         ensures seeks { Seeks (length (T.slice (cursor_inner self.old))) (cursor_position self.old) pos result (cursor_position self.new) }
         ensures inner { cursor_inner self.new ≡ cursor_inner self.old }
     {
-        let (base, offset) = match pos {
-            SeekFrom::Start(at) => (at, 0),
-            SeekFrom::End(offset) => (self.inner.as_slice().len() as u64, offset),
-            SeekFrom::Current(offset) => (self.pos, offset),
-        };
-        let distance = offset.unsigned_abs();
-        let target = if offset < 0 {
-            base.checked_sub(distance)
-        } else {
-            base.checked_add(distance)
-        };
-        match target {
+        match target(pos, self.inner.as_slice().len() as u64, self.pos) {
             Some(at) => {
                 self.pos = at;
                 Ok(at)
             }
-            None => {
-                let message = "invalid seek to a negative or overflowing position";
-                Err(Error::new(ErrorKind::InvalidInput, message))
-            }
+            None => Err(invalid_seek()),
         }
     }
 

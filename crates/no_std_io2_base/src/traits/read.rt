@@ -4,7 +4,7 @@ ghost use Rattle.no_std_io2_base.specs.Events.{Event};
 ghost use Rattle.no_std_io2_base.specs.Takes.{to_come};
 ghost use Rattle.no_std_io2_base.specs.Read.{tells, ReadLaw, ReadExactLaw, ReadFullLaw, ReadToEndLaw, ReadCall, bytes_reader};
 ghost use Rattle.no_std_io2_base.specs.ReadToString.{ReadToStringLaw};
-ghost use Rattle.no_std_io2_base.specs.Take.{take_inner, take_limit, take_events, cut_to_come};
+ghost use Rattle.no_std_io2_base.specs.Take.{take_inner, take_limit, take_len, take_events, cut_to_come};
 
 use super::bytes::Bytes;
 use super::chain::Chain;
@@ -230,6 +230,7 @@ pub trait Read: Stored {
         Self: Sized,
         ensures inner { take_inner result ≡ self }
         ensures limit { take_limit result ≡ limit }
+        ensures len { take_len result ≡ limit }
         ensures events { take_events (tells ⟦<Self as Read>⟧) result ≡ cut_to_come limit (to_come (tells ⟦<Self as Read>⟧ self)) }
     {
         Take::new(self, limit)

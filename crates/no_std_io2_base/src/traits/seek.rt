@@ -1,3 +1,6 @@
+ghost use Rattle.std.specs.Prelude.{ℕ, IfSome, IfNone};
+ghost use Rattle.no_std_io2_base.specs.Seek.{IsTarget};
+
 use super::stored::Stored;
 use crate::error::Result;
 
@@ -18,6 +21,24 @@ pub enum SeekFrom {
     End(i64),
     /// The current position, plus this offset.
     Current(i64),
+}
+
+// Returns the target of a seek in a content of `len` bytes from `position`, if there is such a place.
+pub(crate) fn target(pos: SeekFrom, len: u64, position: u64) -> Option<u64>
+    ensures is { IfSome result (IsTarget len position pos) }
+    ensures none { IfNone result ((n : ℕ) → IsTarget len position pos n → ⊥) }
+{
+    let (base, offset) = match pos {
+        SeekFrom::Start(at) => (at, 0),
+        SeekFrom::End(offset) => (len, offset),
+        SeekFrom::Current(offset) => (position, offset),
+    };
+    let distance = offset.unsigned_abs();
+    if offset < 0 {
+        base.checked_sub(distance)
+    } else {
+        base.checked_add(distance)
+    }
 }
 
 /// A stream with a position that can be moved. Follows Rust's `std::io::Seek`.

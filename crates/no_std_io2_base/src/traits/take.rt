@@ -3,8 +3,10 @@ ghost use types.Logic.{sem};
 ghost use Rattle.std.specs.Borrow.{Lends};
 ghost use Rattle.no_std_io2_base.specs.contracts.traits.take.Take.{the_row as take-row};
 ghost use Rattle.no_std_io2_base.specs.BufRead.{FillBufLaw, AfterLoan, ConsumeLaw, Rests};
-ghost use Rattle.no_std_io2_base.specs.Take.{take_with_inner, take_limit, take_inner, take_events, take_held, TakeMay};
+ghost use Rattle.no_std_io2_base.specs.Take.{take_with_inner, take_limit, take_len, take_inner, take_events, take_held, TakeMay};
 ghost use Rattle.no_std_io2_base.specs.Read.{tells, least_room, ToEndLaw, ReadToEndLaw};
+
+mod seeking;
 
 use super::buf_read::BufRead;
 use super::read::Read;
@@ -21,14 +23,22 @@ use std::alloc::Allocator;
 #[derive(Debug, Drop)]
 pub struct Take<T> {
     inner: T,
+    // The limit that was set last, above which `limit` never is.
+    len: u64,
     limit: u64,
 }
 
 impl<T> Take<T> {
     pub(crate) fn new(inner: T, limit: u64) -> Take<T>
-        ensures { result ≡ record { inner = inner; limit = limit } }
+        ensures inner { take_inner result ≡ inner }
+        ensures limit { take_limit result ≡ limit }
+        ensures len { take_len result ≡ limit }
     {
-        Take { inner, limit }
+        Take {
+            inner,
+            len: limit,
+            limit,
+        }
     }
 
     /// Returns how many more bytes this reader may give; the inner reader may end earlier. Follows
@@ -46,13 +56,15 @@ impl<T> Take<T> {
         self.limit
     }
 
-    /// Sets how many more bytes this reader may give from now on, whatever it gave before. Follows
-    /// `std::io::Take::set_limit`.
+    /// Sets how many more bytes this reader may give from now on, whatever it gave before. Its
+    /// positions are counted from here. Follows `std::io::Take::set_limit`.
     pub fn set_limit(&mut self, limit: u64)
         ensures limit { take_limit self.new ≡ limit }
+        ensures len { take_len self.new ≡ limit }
         ensures inner { take_inner self.new ≡ take_inner self.old }
     {
         self.limit = limit;
+        self.len = limit;
     }
 
     /// Gets a reference to the inner reader. Follows `std::io::Take::get_ref`.
@@ -97,7 +109,7 @@ fn min_with_limit(n: usize, limit: u64) -> usize
 }
 
 // A `Take` tells no store.
-impl<T: Read> Stored for Take<T> {}
+impl<T> Stored for Take<T> {}
 
 impl<T: Read> Read for Take<T> {
     ghost turns = { λ t. T.turns (take_inner t) };

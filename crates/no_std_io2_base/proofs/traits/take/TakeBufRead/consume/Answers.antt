@@ -1,4 +1,4 @@
-use Rattle.std.proofs.Common.{◌≡◌, ◌≤◌, arith, length-take}
+use Rattle.std.proofs.Common.{◌≡◌, ◌≤◌, arith, refl, length-take}
 use Rattle.no_std_io2_base.proofs.ReadExactExits.{some_bytes}
 use Rattle.no_std_io2_base.proofs.TakeLemmas.{consumed_at_limit, consumed_inner}
 use Rattle.no_std_io2_base.proofs.traits.take.TakeBufRead.consume.Goals as goal
@@ -13,4 +13,4 @@ pub returns : goal.returns
 returns g c =
     let within : c.args.amount ≤ c.args.self.now.limit =
     omega (arith, c.requires, length-take c.args.self.now.limit (g.T.BufRead.held c.args.self.now.inner)) in
-    record { law = consumed_inner _ (some_bytes _ c.if-self-eq0.false) c.requires c.consume.ensures.law (omega (arith, within)) }
+    record { law = consumed_inner _ (some_bytes _ c.if-self-eq0.false) c.requires c.consume.ensures.law (omega (arith, within)) refl }

@@ -37,7 +37,7 @@ returns-in_err-available g c =
     let limit = c.args.self.now.limit in
     let after = c.fill_buf.follows.holds-at-none in
     let call =
-    filled_inner (lent_bytes c.fill_buf.result) (some_bytes _ c.if-self-eq0.false) refl
+    filled_inner (lent_bytes c.fill_buf.result) (some_bytes _ c.if-self-eq0.false) refl refl
     (ap lent_bytes (p.1 ∙ ap Err p.2) ∙ sym (ap (λ r. lent_within limit (lent_bytes r)) c.in_err-available.was))
     (lend_law _ _ _ (Filled _) (filled_law refl c.fill_buf.ensures.law after)) in (
       (
@@ -70,7 +70,7 @@ returns g c =
     let some = some_bytes limit c.if-self-eq0.false in
     let part : take c.min_with_limit-most.result lent ≡ take limit lent = take_most _ limit lent c.min_with_limit-most.ensures in
     let call =
-    filled_inner (lent_bytes c.fill_buf.result) some refl
+    filled_inner (lent_bytes c.fill_buf.result) some refl refl
     (ap Ok part ∙ sym (ap (λ r. lent_within limit (lent_bytes r)) c.in_ok-available.was))
     (lend_law _ _ _ (Filled _) (filled_law refl c.fill_buf.ensures.law after)) in (
       (

@@ -15,7 +15,7 @@ returns-in_err-n g c =
     let p = err_from_is_err_and c.from_residual-in_err-n.result c.from_residual-in_err-n.ensures.1 in
     let part = part_length _ _ c.args.buf.now c.read-2.new.buf c.min_with_limit-most.ensures c.read-2.auto.buf in
     rw (p.1, p.2) (record {
-      law = reads_inner _ (Err _) (some_bytes _ c.if-self-eq0.false) c.in_err-n.ensures.law part refl (omega arith);
+      law = reads_inner _ (Err _) (some_bytes _ c.if-self-eq0.false) c.in_err-n.ensures.law part refl (omega arith) refl;
     })
 
 pub returns : goal.returns
@@ -24,7 +24,7 @@ returns g c =
     let read = c.in_ok-n.ensures.law in
     record {
       law = reads_inner _ (Ok _) (some_bytes _ c.if-self-eq0.false) read part (ap Ok (take-append-le _ c.read-2.new.buf _ read.bound))
-          (limit_falls _ c.in_ok-n.n c.read-2.new.buf read.bound (omega (arith, part)));
+          (limit_falls _ c.in_ok-n.n c.read-2.new.buf read.bound (omega (arith, part))) refl;
     }
 
 pub returns-in_err-given : goal.returns-in_err-given
@@ -32,7 +32,7 @@ returns-in_err-given g c =
     let p = err_from_is_err_and c.from_residual.result c.from_residual.ensures.1 in
     rw (p.1, p.2) (record {
       law = reads_inner _ (Err _) (omega (arith, c.if-buf-self.true)) c.in_err-given.ensures.law
-          (omega (arith, c.if-buf-self.true, c.read.auto.buf)) refl (omega arith);
+          (omega (arith, c.if-buf-self.true, c.read.auto.buf)) refl (omega arith) refl;
     })
 
 pub returns-then-buf-self : goal.returns-then-buf-self
@@ -41,5 +41,5 @@ returns-then-buf-self g c =
     let room : length c.read.new.buf ≤ c.args.self.now.limit = omega (arith, c.if-buf-self.true, c.read.auto.buf) in
     record {
       law = reads_inner _ (Ok _) (omega (arith, c.if-buf-self.true)) read (omega (arith, room)) refl
-          (limit_falls _ c.in_ok-given.given c.read.new.buf read.bound room);
+          (limit_falls _ c.in_ok-given.given c.read.new.buf read.bound room) refl;
     }

@@ -1,0 +1,8 @@
+use Rattle.std.proofs.Common.{◌<◌, ◌^◌, subst}
+use Rattle.no_std_io2_base.proofs.TakeSeekLemmas.{stays_here}
+use Rattle.no_std_io2_base.proofs.traits.take.seeking.TakeSeek.stream_position.Goals as goal
+
+pub returns-clause-law : goal.returns-clause-law
+returns-clause-law g c =
+    let at = c.position.ensures in
+    record { store = tt; position = tt; call = rw (at.is) (stays_here _ _ (subst (λ n. n < 2 ^ 64) at.is at.fits)) }
