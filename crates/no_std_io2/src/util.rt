@@ -1,6 +1,6 @@
 //! Functions over streams: [`copy`] copies a reader to a writer, [`skip`] skips bytes, [`read_exact_at`]
-//! reads at a place, and [`write_with_retries`] writes again after a fault. [`empty`] and [`sink`]
-//! make streams without a device.
+//! reads at a place, and [`write_with_retries`] writes again after a fault. [`empty`], [`repeat`] and
+//! [`sink`] make streams without a device.
 ghost use Rattle.std.specs.Prelude.{◌<◌, ◌^◌};
 ghost use Rattle.no_std_io2.specs.Copy.{Copied};
 ghost use Rattle.no_std_io2_base.specs.Passing.{Skipped};
@@ -15,7 +15,8 @@ mod sides;
 mod steady;
 
 pub use no_std_io2_base::empties::Empty;
-pub use no_std_io2_base::makers::{empty, sink};
+pub use no_std_io2_base::makers::{empty, repeat, sink};
+pub use no_std_io2_base::repeats::Repeat;
 pub use no_std_io2_base::sinks::Sink;
 pub use read_at::read_exact_at;
 pub use retries::write_with_retries;

@@ -12,5 +12,6 @@ pub mod internal;
 pub mod makers;
 mod piece_pins;
 mod pins;
+pub mod repeats;
 pub mod sinks;
 pub mod traits;
