@@ -168,6 +168,7 @@ fn seek_call<S: Seek + ?Sized>(s: &mut S, word: &str, rest: &str) -> Option<Stri
             number(&s.seek(match from { "start" => SeekFrom::Start(n.parse().ok()?), "end" => SeekFrom::End(n.parse().ok()?),
                 _ => SeekFrom::Current(n.parse().ok()?) }))
         }
+        "seek_relative" => done(&s.seek_relative(rest.parse().ok()?)),
         "stream_position" => number(&s.stream_position()), "rewind" => done(&s.rewind()), _ => return None })
 }
 fn read_call<R: BufRead + ?Sized>(r: &mut R, word: &str, rest: &str) -> Option<String> {
@@ -326,6 +327,14 @@ impl BufRead for Text {
     fn consume(&mut self, n: usize) { self.0.consume(n) }
 }
 impl Source for Text {}
+// A byte that is repeated; it is only read.
+struct Repeated(Take<Repeat>);
+impl Read for Repeated { fn read(&mut self, buf: &mut [u8]) -> io::Result<usize> { self.0.read(buf) } }
+impl BufRead for Repeated {
+    fn fill_buf(&mut self) -> io::Result<&[u8]> { unimplemented!() }
+    fn consume(&mut self, _: usize) { unimplemented!() }
+}
+impl Source for Repeated {}
 impl Source for Chain<Any, Any> {
     fn shown(&self) -> String { format!("{}{}", self.get_ref().0.shown(), self.get_ref().1.shown()) }
     fn limit(&mut self, n: u64) { self.get_mut().0.limit(n) }
@@ -333,13 +342,12 @@ impl Source for Chain<Any, Any> {
 impl Source for Take<Any> {
     fn shown(&self) -> String { format!(" | {}{}", Take::limit(self), self.get_ref().shown()) }
     fn limit(&mut self, n: u64) { self.set_limit(n) }
+    fn seeks(&mut self, word: &str, rest: &str) -> Option<String> { seek_call(self, word, rest) }
 }
 impl Source for BufReader<Any> {
     fn shown(&self) -> String { format!(" | {}{}", bytes(self.buffer()), self.get_ref().shown()) }
     fn limit(&mut self, n: u64) { self.get_mut().limit(n) }
-    fn seeks(&mut self, word: &str, rest: &str) -> Option<String> {
-        if word == "seek_relative" { Some(done(&self.seek_relative(rest.parse().ok()?))) } else { seek_call(self, word, rest) }
-    }
+    fn seeks(&mut self, word: &str, rest: &str) -> Option<String> { seek_call(self, word, rest) }
     fn place(&mut self, place: u64) { self.get_mut().place(place) }
 }
 // A tower of these names: over devices, or over texts on both sides of a plus.
@@ -351,6 +359,7 @@ fn source(names: &[&str], device: &Device, words: &str) -> Option<Any> {
         ["Text"] => Box::new(Text(b"456789")),
         ["Cursor"] => Box::new(Cursor::new(unescape(words))),
         ["&[u8]"] => Box::new(&*unescape(words).leak()),
+        ["Repeat"] => { let (byte, len) = words.split_once(' ')?; Box::new(Repeated(repeat(byte.as_bytes()[0]).take(len.parse().ok()?))) }
         ["Box" | "&mut", rest @ ..] => source(rest, device, words)?,
         ["BufReader", n, rest @ ..] => Box::new(BufReader::with_capacity(n.parse().ok()?, source(rest, device, words)?)),
         ["Take", rest @ ..] => Box::new(source(rest, device, words)?.take(2)),
@@ -394,7 +403,7 @@ fn make<'a>(name: &'a str, device: Device, words: &str) -> Option<Box<dyn Stream
             Box::new(source(rest, &device, words)?.split(if *rest == ["Cursor"] { b'3' } else { b',' })), "piece ", *rest != ["Device"])),
         ("lines", rest) => Box::new(Items(
             Box::new(source(rest, &device, words)?.lines().map(|it| it.map(String::into_bytes))), "line ", *rest != ["Device"])),
-        ("reader", rest) | ("seeker", rest @ ["BufReader", ..]) =>
+        ("reader", rest) | ("seeker", rest @ ["BufReader" | "Take", ..]) =>
             Box::new(Reader { top: source(rest, &device, words)?, shows: |r| r.shown() }),
         ("moved", rest) => Box::new(Reader { top: source(rest, &device, words)?, shows: |r| format!(" | ?{}", r.shown()) }),
         ("answers", rest) => Box::new(Reader { top: source(rest, &device, words)?, shows: |_| String::new() }),
@@ -433,7 +442,7 @@ fn main() {
                 journal.borrow_mut().answers = told(words);
                 let mut stream = make(name, device, words.trim());
                 let notes_calls = !["bench", "cursor", "queue", "grown", "answers"].iter().any(|it| name.starts_with(it))
-                    && !["Cursor", "&[u8]"].iter().any(|it| name.contains(it));
+                    && !["Cursor", "&[u8]", "Repeat"].iter().any(|it| name.contains(it));
                 for row in rows.lines().filter(|row| row.contains(" | ") && !row.starts_with('#')) {
                     let call = row.split(" | ").next().unwrap();
                     match stream.as_mut().and_then(|it| play(&mut **it, &journal, call, notes_calls)) {

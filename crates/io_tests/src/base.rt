@@ -2,7 +2,7 @@
 use no_std_io2::ghost_bytes::GhostBytes;
 use no_std_io2::io::{
     AsSlice, BufRead, BufWriter, Cursor, Error, ErrorKind, Read, Seek, SeekFrom, Write, copy,
-    empty, sink,
+    empty, repeat, sink,
 };
 use std::test::Fail;
 
@@ -105,6 +105,12 @@ fn read(rt: HostRuntime) -> Result<(), Fail> {
     assert!(rt; r.read_exact(&mut header).is_err()); // one byte is left: `UnexpectedEof`
 
     let mut r = Cursor::new(*b"abcde");
+    let mut buf = [0u8; 8];
+    let mut filled = 0;
+    r.read_full(&mut buf, &mut filled)?;
+    assert!(rt; &buf[..filled] == b"abcde".as_slice()); // fewer than 8: the end
+
+    let mut r = Cursor::new(*b"abcde");
     let mut content = Vec::<u8>::new(rt.alloc());
     assert!(rt; r.read_to_end(&mut content)? == 5);
     assert!(rt; content.as_slice() == b"abcde".as_slice());
@@ -176,6 +182,14 @@ fn take(rt: HostRuntime) -> Result<(), Fail> {
     assert!(rt; r.limit() == 0); // the limit stays
     let inner = r.into_inner();
     assert!(rt; inner.position() == 0);
+
+    let mut r = Cursor::new(*b"-abc-").take(4);
+    r.seek_relative(1)?;
+    let mut two = [0u8; 2];
+    r.read_exact(&mut two)?;
+    assert!(rt; two == *b"ab");
+    assert!(rt; r.seek(SeekFrom::End(-4))? == 0);
+    assert!(rt; r.limit() == 4);
     Ok(())
 }
 
@@ -250,6 +264,10 @@ fn ghost_bytes(_rt: HostRuntime) -> Result<(), Fail> {
 fn makers(rt: HostRuntime) -> Result<(), Fail> {
     let mut nothing = empty();
     assert!(rt; nothing.read(&mut [0u8; 4])? == 0);
+
+    let mut file = Vec::<u8>::new(rt.alloc());
+    assert!(rt; copy::<_, _, 64>(&mut repeat(b' ', 100), &mut file)? == 100);
+    assert!(rt; file.len() == 100);
 
     let mut from = Cursor::new(*b"abcde");
     assert!(rt; copy::<_, _, 64>(&mut from, &mut sink())? == 5);

@@ -94,6 +94,10 @@ pub fn make_seek<S: Seek>(s: &mut S, call: &Call<'_>, line: &mut Line) -> bool {
         "stream_position" => line.position(&s.stream_position()),
         "rewind" => line.done(&s.rewind()),
         "stream_len" => line.position(&s.stream_len()),
+        "seek_relative" => match call.rest.parse::<i64>() {
+            Ok(offset) => line.done(&s.seek_relative(offset)),
+            Err(_) => line.tell(Fault::NoNumber),
+        },
         _ => return false,
     }
     true

@@ -43,6 +43,17 @@ fn call_read_exact<R: Read>(alloc: Global, r: &mut R, count: usize, line: &mut L
     line.bytes(&room);
 }
 
+// Fills a buffer as far as there are bytes, and prints how many bytes of it are filled.
+fn call_read_full<R: Read>(alloc: Global, r: &mut R, count: usize, line: &mut Line) {
+    let mut room = dots(alloc, count, line);
+    let mut filled = 0;
+    line.done(&r.read_full(&mut room, &mut filled));
+    line.word(", filled ");
+    line.number(filled as u64);
+    line.column();
+    line.bytes(&room);
+}
+
 // Reads all, and appends it to the vector.
 fn call_read_to_end<R: Read>(r: &mut R, all: Vec<u8>, line: &mut Line) {
     let mut all = all;
@@ -107,13 +118,14 @@ fn call_read_line<R: BufRead>(alloc: Global, r: &mut R, old: &str, line: &mut Li
     show_given(&r.read_line(alloc, &mut text), text.as_bytes(), line);
 }
 
-/// Makes the call of a row on any reader, and prints its result: `read N`, `read_exact N`, `read_to_end OLD`, which appends to these
-/// bytes, `read_into N`, which reads all into a vector of this capacity, or `take N`, which reads at most that many bytes through
-/// the borrowed reader.
+/// Makes the call of a row on any reader, and prints its result: `read N`, `read_exact N`, `read_full N`, `read_to_end OLD`, which
+/// appends to these bytes, `read_into N`, which reads all into a vector of this capacity, or `take N`, which reads at most that many
+/// bytes through the borrowed reader.
 pub fn make_read<R: Read>(alloc: Global, r: &mut R, call: &Call<'_>, line: &mut Line) {
     match call.word {
         "read" => call_read(alloc, r, call.number(line), line),
         "read_exact" => call_read_exact(alloc, r, call.number(line), line),
+        "read_full" => call_read_full(alloc, r, call.number(line), line),
         "read_to_end" => call_read_to_end(r, copied(alloc, &call.bytes, line), line),
         "read_into" => call_read_into(alloc, r, call.number(line), line),
         "take" => {

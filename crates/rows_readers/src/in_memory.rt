@@ -15,7 +15,8 @@ mod vectors;
 pub fn has(name: &str) -> bool {
     let (word, _) = cut(name, " ");
     let (_, base) = cut_last(name, " ");
-    matches!(word, "cursor" | "grown" | "queue" | "room") || matches!(base, "Cursor" | "&[u8]")
+    matches!(word, "cursor" | "grown" | "queue" | "room")
+        || matches!(base, "Cursor" | "&[u8]" | "Repeat")
 }
 
 /// Makes a cursor on the text that a row's `new` says.

@@ -1,7 +1,7 @@
 // The state of each level of a reader, the outer one first, in a column for each level that has
 // one.
 use crate::devices::Columns;
-use no_std_io2::io::{BufRead, BufReader, Chain, Cursor, Read, Take};
+use no_std_io2::io::{BufRead, BufReader, Chain, Cursor, Read, Repeat, Take};
 use rows_play::line::Line;
 use rows_play::noted::Noted;
 use rows_play::recorder::Recorder;
@@ -18,6 +18,8 @@ pub trait Levels {
 impl Levels for Recorder {}
 
 impl Levels for Noted<Recorder> {}
+
+impl Levels for Repeat {}
 
 // A boxed object shows nothing.
 impl Levels for Box<dyn Read + Drop> {}

@@ -64,7 +64,7 @@ fn lend_recorded(
     match word {
         "reader" | "answers" => reading::lend(tower, devices, player),
         "noted" => noted::lend(tower, devices, player),
-        "seeker" => reading::lend_seeker(devices, player),
+        "seeker" => reading::lend_seeker(tower, devices, player),
         "moved" => moving::lend(devices, player),
         _ => Err(Fault::NoStream),
     }

@@ -5,7 +5,7 @@
 // that reached the device.
 use crate::devices::Devices;
 use examples::records::{peek_header, read_record};
-use no_std_io2::io::{BufReader, Seek};
+use no_std_io2::io::BufReader;
 use rows_play::calls::{Call, make_seek};
 use rows_play::fault::{Fault, Made};
 use rows_play::line::Line;
@@ -35,7 +35,7 @@ fn call_record(alloc: Global, r: &mut Reader, tag: u8, line: &mut Line) {
     }
 }
 
-// Besides the calls of a reader and a seeker there are `seek_relative N`, `peek`, which prints the tag and the length of the
+// Besides the calls of a reader and a seeker there are `peek`, which prints the tag and the length of the
 // next record, and `record TAG`.
 #[derive(Drop)]
 struct Moving<'j> {
@@ -46,10 +46,6 @@ struct Moving<'j> {
 impl<'j> Moving<'j> {
     fn make_move(&mut self, alloc: Global, call: &Call<'_>, line: &mut Line) {
         match call.word {
-            "seek_relative" => match call.rest.parse::<i64>() {
-                Ok(offset) => line.done(&self.reader.seek_relative(offset)),
-                Err(_) => line.tell(Fault::NoNumber),
-            },
             "peek" => call_peek(&mut self.reader, line),
             "record" => match call.bytes.first() {
                 Some(tag) => call_record(alloc, &mut self.reader, *tag, line),

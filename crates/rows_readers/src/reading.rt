@@ -92,8 +92,12 @@ fn lend_text(first: Recorder, devices: &Devices<'_>, player: &mut Player<'_, '_>
     play_chain(first, new_text(player.alloc, "456789")?, devices, player)
 }
 
-/// Lends a buffer of 4 bytes that also seeks.
-pub fn lend_seeker(devices: &Devices<'_>, player: &mut Player<'_, '_>) -> Made<()> {
-    let tower = BufReader::<Recorder, 4>::new(devices.first()?);
-    play_seeking(tower, 0, devices, player)
+/// Lends a buffer of 4 bytes, or a limit, that also seeks.
+pub fn lend_seeker(tower: &str, devices: &Devices<'_>, player: &mut Player<'_, '_>) -> Made<()> {
+    let device = devices.first()?;
+    match tower {
+        "BufReader 4" => play_seeking(BufReader::<Recorder, 4>::new(device), 0, devices, player),
+        "Take" => play_seeking(device.take(2), 0, devices, player),
+        _ => Err(Fault::NoStream),
+    }
 }

@@ -36,6 +36,15 @@ impl<'j, T: Read + Levels + Drop> Stream for Reading<'j, T> {
     }
 }
 
+// Sets the limit that a row says.
+fn set_limit<T: Levels>(tower: &mut T, call: &Call<'_>, line: &mut Line) {
+    if tower.limit(call.number(line)) {
+        line.word("-");
+    } else {
+        line.tell(Fault::NoCall);
+    }
+}
+
 // A `BufRead`. Besides its calls, `limit N` sets a limit, and `next` gives a single byte.
 #[derive(Drop)]
 struct Lending<'j, T: Drop> {
@@ -46,13 +55,7 @@ struct Lending<'j, T: Drop> {
 impl<'j, T: BufRead + Levels + Drop> Stream for Lending<'j, T> {
     fn play(&mut self, alloc: Global, call: &Call<'_>, line: &mut Line) {
         match call.word {
-            "limit" => {
-                if self.tower.limit(call.number(line)) {
-                    line.word("-");
-                } else {
-                    line.tell(Fault::NoCall);
-                }
-            }
+            "limit" => set_limit(&mut self.tower, call, line),
             "next" => show_byte(self.tower.by_ref().bytes().next(), line),
             _ => make_lend(alloc, &mut self.tower, call, line),
         }
@@ -60,7 +63,7 @@ impl<'j, T: BufRead + Levels + Drop> Stream for Lending<'j, T> {
     }
 }
 
-// A `BufRead` that seeks. It is borrowed `lent` times for each call.
+// A `BufRead` that seeks. It is borrowed `lent` times for each call but `limit N`.
 #[derive(Drop)]
 struct Seeking<'j, T: Drop> {
     tower: T,
@@ -95,6 +98,7 @@ fn make_lent_call<T: BufRead + Seek>(
 impl<'j, T: BufRead + Seek + Levels + Drop> Stream for Seeking<'j, T> {
     fn play(&mut self, alloc: Global, call: &Call<'_>, line: &mut Line) {
         match self.lent {
+            _ if call.word == "limit" => set_limit(&mut self.tower, call, line),
             0 => make_seeking_call(alloc, &mut self.tower, call, line),
             1 => make_lent_call(alloc, &mut self.tower, call, line),
             _ => make_lent_call(alloc, &mut &mut self.tower, call, line),

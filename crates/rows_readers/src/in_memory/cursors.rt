@@ -150,8 +150,8 @@ impl Stream for OnArray {
     }
 }
 
-// A buffer of 4 bytes over a text. Besides the calls of a reader and a seeker it has `seek_relative N`, and `place N`, which
-// sets the position of the text below.
+// A buffer of 4 bytes over a text. Besides the calls of a reader and a seeker it has `place N`, which sets the position of the
+// text below.
 #[derive(Drop)]
 struct Moving<'j> {
     reader: BufReader<Text, 4>,
@@ -161,10 +161,6 @@ struct Moving<'j> {
 impl<'j> Stream for Moving<'j> {
     fn play(&mut self, alloc: Global, call: &Call<'_>, line: &mut Line) {
         match call.word {
-            "seek_relative" => match call.rest.parse::<i64>() {
-                Ok(offset) => line.done(&self.reader.seek_relative(offset)),
-                Err(_) => line.tell(Fault::NoNumber),
-            },
             "place" => self.reader.get_mut().set_position(place_of(call, line)),
             _ => make_seeking_call(alloc, &mut self.reader, call, line),
         }

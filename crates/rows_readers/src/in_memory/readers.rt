@@ -1,8 +1,8 @@
 // Readers in memory.
 use super::new_text;
 use crate::devices::Devices;
-use crate::streams::{play_chain, play_lending, play_limited};
-use no_std_io2::io::{Chain, Read};
+use crate::streams::{play_chain, play_lending, play_limited, play_reading};
+use no_std_io2::io::{Chain, Read, repeat};
 use rows_play::fault::{Fault, Made};
 use rows_play::line::{cut_last, unescape};
 use rows_play::player::Player;
@@ -19,6 +19,7 @@ pub fn lend(
         "Cursor" => lend_text(tower, words, devices, player),
         "&[u8]" if tower.starts_with("Chain of") => lend_slices(tower, words, devices, player),
         "&[u8]" => lend_slice(tower, words, devices, player),
+        "Repeat" => lend_repeat(words, devices, player),
         _ => Err(Fault::NoStream),
     }
 }
@@ -55,6 +56,15 @@ fn lend_slice(
             play_chain(first.as_slice(), slice, devices, player)
         }
         _ => Err(Fault::NoStream),
+    }
+}
+
+// Lends a byte as often as the number behind it says.
+fn lend_repeat(words: &str, devices: &Devices<'_>, player: &mut Player<'_, '_>) -> Made<()> {
+    let (byte, len) = cut_last(words, " ");
+    match (byte.as_bytes().first(), len.parse::<u64>()) {
+        (Some(byte), Ok(len)) => play_reading(repeat(*byte, len), devices, player),
+        _ => Err(Fault::NoNumber),
     }
 }
 
