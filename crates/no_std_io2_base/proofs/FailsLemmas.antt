@@ -19,7 +19,8 @@ pub appends_fails : {W : Type 0} (items : W → List ℕ) (len capacity : W → 
     → FailsOnly IsOutOfMemory (AppendsMay items len capacity)
 appends_fails items len capacity old new (Wrote x (Ok n)) made = (tt, λ some. omega (arith, made.0, some))
 appends_fails items len capacity old new (Wrote x (Err e)) made = (made.1.0, tt)
-appends_fails items len capacity old new (WroteAll x reply) made = whole_fails (items old) (items new) x (len old) (capacity old) reply made
+appends_fails items len capacity old new (WroteAll x reply) made =
+    whole_fails (items old) (items new) x (len old) (capacity old) reply made.0
 appends_fails items len capacity old new (WroteRest x reply left) made = absurd made
 appends_fails items len capacity old new (Flushed (Ok u)) made = tt
 appends_fails items len capacity old new (Flushed (Err e)) made = absurd (true≢false (sym made.0))

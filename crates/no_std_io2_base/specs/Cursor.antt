@@ -73,12 +73,12 @@ PutsFitting bs place x bs' place' =
     let front = fitting place x bs in (bs' ≡ put_over place front bs) × (place' ≡ place + length front)
 
 -- What a call may do to a cursor over a vector with this content and this capacity: the whole buffer is put at the position, or nothing
--- changes.
+-- changes. The capacity does not shrink.
 abbrev pub PutsMay : {T : Type 0} → (T → List ℕ) → (T → ℕ) → Cursor T → WriteCall → Cursor T → Type 0
 PutsMay items capacity old (Wrote x reply) new = PutsWhole (items old.inner) old.pos x reply (items new.inner) new.pos
-    × OnErr reply (capacity old.inner < old.pos + length x)
+    × OnErr reply (capacity old.inner < old.pos + length x) × (capacity old.inner ≤ capacity new.inner)
 PutsMay items capacity old (WroteAll x reply) new = PutsAll (items old.inner) old.pos x reply (items new.inner) new.pos
-    × OnErr reply (capacity old.inner < old.pos + length x)
+    × OnErr reply (capacity old.inner < old.pos + length x) × (capacity old.inner ≤ capacity new.inner)
 PutsMay items capacity old (WroteRest x reply left) new = ⊥
 PutsMay items capacity old (Flushed reply) new = IsOk reply × (new ≡ old)
 

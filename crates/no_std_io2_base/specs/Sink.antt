@@ -1,5 +1,6 @@
 -- What a `Sink` tells; an `Empty` tells what its sink tells.
 use Rattle.std.specs.Prelude.{◌≡◌, ℕ, List, [], ◌++◌, length, Some, Ok}
+use Rattle.no_std_io2_base.specs.Seek.{SeekCall, Sought}
 use Rattle.no_std_io2_base.specs.Write.{Told, WriteCall, Wrote, WroteAll, WroteRest, Flushed}
 use Rattle.no_std_io2_base.specs.declared.sinks.Sink.{Sink}
 
@@ -17,3 +18,8 @@ SinkMay old (Wrote x reply) new = (reply ≡ Ok (length x)) × (sink_taken new �
 SinkMay old (Flushed reply) new = (reply ≡ Ok tt) × (new ≡ old)
 SinkMay old (WroteAll x reply) new = ⊥
 SinkMay old (WroteRest x reply left) new = ⊥
+
+-- a seek of an `Empty` stays at 0
+abbrev pub StaysAtStart : {X : Type 0} → X → SeekCall → X → Type 0
+StaysAtStart old (Sought from reply) new = (reply ≡ Ok 0) × (new ≡ old)
+StaysAtStart old _ new = ⊥

@@ -49,6 +49,10 @@ impl BufRead for Empty {
 
 /// Each seek returns 0.
 impl Seek for Empty {
+    ghost use Rattle.no_std_io2_base.specs.Sink.{StaysAtStart};
+
+    ghost may = { StaysAtStart };
+
     fn seek(&mut self, _pos: SeekFrom) -> Result<u64> {
         Ok(0)
     }

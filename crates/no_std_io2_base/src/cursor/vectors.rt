@@ -21,6 +21,7 @@ fn lengthen<A: Allocator>(
     ensures items { content.new.items
         ≡ (if is_ok result then content.old.items ++ replicate (end - vec_len content.old) 0 else content.old.items) }
     ensures full { OnErr result (vec_capacity content.old < end) }
+    ensures grows { vec_capacity content.old ≤ vec_capacity content.new }
 {
     content.resize(end, 0)
 }
@@ -29,7 +30,8 @@ fn lengthen<A: Allocator>(
 // is past the end.
 #[inline(always)]
 fn put<A: Allocator>(content: &mut Vec<u8, A>, start: usize, buf: &[u8]) -> Result<()>
-    ensures { IsPut content.old.items (vec_capacity content.old) start buf.now result content.new.items }
+    ensures put { IsPut content.old.items (vec_capacity content.old) start buf.now result content.new.items }
+    ensures grows { vec_capacity content.old ≤ vec_capacity content.new }
 {
     if start == content.len() {
         return append(content, buf);
@@ -50,6 +52,7 @@ fn put<A: Allocator>(content: &mut Vec<u8, A>, start: usize, buf: &[u8]) -> Resu
 fn write_at<A: Allocator>(content: &mut Vec<u8, A>, pos: &mut u64, buf: &[u8]) -> Result<usize>
     ensures puts { PutsWhole content.old.items pos.old buf.now result content.new.items pos.new }
     ensures full { OnErr result (vec_capacity content.old < pos.old + length buf.now) }
+    ensures grows { vec_capacity content.old ≤ vec_capacity content.new }
 {
     put(content, *pos as usize, buf)?;
     *pos += buf.len() as u64;
@@ -62,6 +65,7 @@ fn write_all_at<A: Allocator>(content: &mut Vec<u8, A>, pos: &mut u64, buf: &[u8
     ensures puts { PutsAll content.old.items pos.old buf.now result content.new.items pos.new }
     ensures empty { length buf.now ≡ 0 → IsOk result × (content.new ≡ content.old) × (pos.new ≡ pos.old) }
     ensures full { OnErr result (vec_capacity content.old < pos.old + length buf.now) }
+    ensures grows { vec_capacity content.old ≤ vec_capacity content.new }
 {
     if buf.is_empty() {
         return Ok(());
@@ -94,6 +98,7 @@ impl<A: Allocator> Write for Cursor<Vec<u8, A>> {
             (cursor_inner self.new).items (cursor_position self.new) }
         ensures full { OnErr result (vec_capacity (cursor_inner self.old)
             < cursor_position self.old + length buf.now) }
+        ensures grows { vec_capacity (cursor_inner self.old) ≤ vec_capacity (cursor_inner self.new) }
     {
         write_at(&mut self.inner, &mut self.pos, buf)
     }
@@ -120,6 +125,7 @@ impl<A: Allocator> Write for Cursor<Vec<u8, A>> {
         ensures empty { length buf.now ≡ 0 → IsOk result × (self.new ≡ self.old) }
         ensures full { OnErr result (vec_capacity (cursor_inner self.old)
             < cursor_position self.old + length buf.now) }
+        ensures grows { vec_capacity (cursor_inner self.old) ≤ vec_capacity (cursor_inner self.new) }
     {
         write_all_at(&mut self.inner, &mut self.pos, buf)
     }
@@ -146,6 +152,7 @@ impl<A: Allocator> Write for Cursor<&mut Vec<u8, A>> {
             (cursor_inner self.new).now.items (cursor_position self.new) }
         ensures full { OnErr result (vec_capacity (cursor_inner self.old).now
             < cursor_position self.old + length buf.now) }
+        ensures grows { vec_capacity (cursor_inner self.old).now ≤ vec_capacity (cursor_inner self.new).now }
         ensures reference { (cursor_inner self.new).ghost_name ≡ (cursor_inner self.old).ghost_name }
     {
         write_at(self.inner, &mut self.pos, buf)
@@ -173,6 +180,7 @@ impl<A: Allocator> Write for Cursor<&mut Vec<u8, A>> {
         ensures empty { length buf.now ≡ 0 → IsOk result × (self.new ≡ self.old) }
         ensures full { OnErr result (vec_capacity (cursor_inner self.old).now
             < cursor_position self.old + length buf.now) }
+        ensures grows { vec_capacity (cursor_inner self.old).now ≤ vec_capacity (cursor_inner self.new).now }
         ensures reference { (cursor_inner self.new).ghost_name ≡ (cursor_inner self.old).ghost_name }
     {
         write_all_at(self.inner, &mut self.pos, buf)

@@ -17,7 +17,8 @@ use std::collections::VecDeque;
 // Drops the first `n` bytes of the queue.
 fn drop_front<A: Allocator>(queue: &mut VecDeque<u8, A>, n: usize)
     requires { n ≤ deque_len queue.old }
-    ensures { queue.new.items ≡ drop n queue.old.items }
+    ensures items { queue.new.items ≡ drop n queue.old.items }
+    ensures room { deque_capacity queue.new ≡ deque_capacity queue.old }
 {
     let left = queue.len() - n;
     queue.rotate_left(n);
@@ -26,7 +27,8 @@ fn drop_front<A: Allocator>(queue: &mut VecDeque<u8, A>, n: usize)
 
 // Appends bytes to a queue, or returns `OutOfMemory` and leaves it as it was.
 fn append_back<A: Allocator>(queue: &mut VecDeque<u8, A>, bytes: &[u8]) -> Result<()>
-    ensures { AppendsWhole queue.old.items (deque_len queue.old) (deque_capacity queue.old) bytes.now result queue.new.items }
+    ensures whole { AppendsWhole queue.old.items (deque_len queue.old) (deque_capacity queue.old) bytes.now result queue.new.items }
+    ensures grows { deque_capacity queue.old ≤ deque_capacity queue.new }
 {
     queue.reserve(bytes.len())?;
     push_all(queue, bytes);
@@ -36,7 +38,8 @@ fn append_back<A: Allocator>(queue: &mut VecDeque<u8, A>, bytes: &[u8]) -> Resul
 // Appends bytes to a queue that has room for them.
 fn push_all<A: Allocator>(queue: &mut VecDeque<u8, A>, bytes: &[u8])
     requires { deque_len queue.old + length bytes.now ≤ deque_capacity queue.old }
-    ensures { queue.new.items ≡ queue.old.items ++ bytes.now }
+    ensures items { queue.new.items ≡ queue.old.items ++ bytes.now }
+    ensures grows { deque_capacity queue.old ≤ deque_capacity queue.new }
 {
     'bytes: for b in bytes {
         queue.push_back_reserved(*b);
@@ -60,6 +63,9 @@ impl<A: Allocator> Read for VecDeque<u8, A> {
 
         // It never fails.
         ensures rest { IsOkAnd result (λ n. self.new.items ≡ drop n self.old.items) }
+
+        // It asks for no memory, and gives none back.
+        ensures room { deque_capacity self.new ≡ deque_capacity self.old }
     {
         let (front, _) = self.as_slices();
         let n = copy_prefix(front, buf);
@@ -84,6 +90,7 @@ impl<A: Allocator> Write for VecDeque<u8, A> {
         ensures err { IfErr result IsOutOfMemory }
         ensures same { OnErr result (self.new.items ≡ self.old.items) }
         ensures full { OnErr result (deque_capacity self.old < deque_len self.old + length buf.now) }
+        ensures grows { deque_capacity self.old ≤ deque_capacity self.new }
     {
         append_back(self, buf)?;
         Ok(buf.len())
@@ -97,6 +104,7 @@ impl<A: Allocator> Write for VecDeque<u8, A> {
         ensures err { IfErr result IsOutOfMemory }
         ensures same { OnErr result (self.new.items ≡ self.old.items) }
         ensures full { OnErr result (deque_capacity self.old < deque_len self.old + length buf.now) }
+        ensures grows { deque_capacity self.old ≤ deque_capacity self.new }
     {
         append_back(self, buf)
     }

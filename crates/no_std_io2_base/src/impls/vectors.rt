@@ -75,6 +75,7 @@ impl<A: Allocator> Write for Vec<u8, A> {
         ensures same { OnErr result (self.new.items ≡ self.old.items) }
         ensures empty { length buf.now ≡ 0 → IsOk result }
         ensures full { OnErr result (vec_capacity self.old < vec_len self.old + length buf.now) }
+        ensures grows { vec_capacity self.old ≤ vec_capacity self.new }
     {
         append(self, buf)?;
         Ok(buf.len())
@@ -90,6 +91,7 @@ impl<A: Allocator> Write for Vec<u8, A> {
         ensures same { OnErr result (self.new.items ≡ self.old.items) }
         ensures empty { length buf.now ≡ 0 → IsOk result }
         ensures full { OnErr result (vec_capacity self.old < vec_len self.old + length buf.now) }
+        ensures grows { vec_capacity self.old ≤ vec_capacity self.new }
     {
         append(self, buf)
     }

@@ -7,8 +7,8 @@ use Rattle.no_std_io2_base.proofs.CursorLemmas.{left_after, IsLengthened, length
 use Rattle.no_std_io2_base.proofs.cursor.vectors.put.Goals as goal
 use Rattle.no_std_io2_base.proofs.cursor.vectors.put.Goals.{then-end-len+in_ok-lengthen, else-end-len}
 
-pub returns : goal.returns
-returns g c =
+pub returns-clause-put : goal.returns-clause-put
+returns-clause-put g c =
     let bs = c.args.content.now.items in
     let x = c.args.buf.now in
     let start = c.args.start in

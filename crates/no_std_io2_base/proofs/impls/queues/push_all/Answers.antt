@@ -9,5 +9,5 @@ bytes-preserved g c =
     let len = c.push_back_reserved.ensures.len in
     (grind (arith, common_steps, items, inv.0), omega arith, omega arith)
 
-pub returns : goal.returns
-returns g c = rw (← take_all c.bytes.b-index c.args.bytes.now (omega arith)) c.bytes.invariant.0
+pub returns-clause-items : goal.returns-clause-items
+returns-clause-items g c = rw (← take_all c.bytes.b-index c.args.bytes.now (omega arith)) c.bytes.invariant.0

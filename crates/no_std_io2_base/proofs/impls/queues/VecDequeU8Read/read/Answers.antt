@@ -9,7 +9,7 @@ returns-clause-law g c =
     let parts = c.as_slices.result in
     let n = c.copy_prefix-n.result in
     let buf = c.copy_prefix-n.new.to in
-    let left = c.drop_front.ensures in
+    let left = c.drop_front.ensures.items in
     let whole : length parts.0.now + length parts.1.now ≡ length all =
     sym (length-append parts.0.now parts.1.now) ∙ ap length c.as_slices.ensures.items in
     let within : n ≤ length parts.0.now = omega arith in

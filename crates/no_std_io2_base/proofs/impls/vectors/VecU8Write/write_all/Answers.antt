@@ -9,4 +9,4 @@ returns-clause-law g c =
     let whole = appends_whole _ _ _ (vec_len c.args.self.now)
     (vec_capacity c.args.self.now) c.append.result said.ok said.err said.refused said.full in
     let all = appends_all _ _ c.append.result whole in
-    record { never_interrupted = all.0; moves = all.1; all = λ h. h; calls = all_own _ _ _ (whole, all.0, all.1, λ h. h) }
+    record { never_interrupted = all.0; moves = all.1; all = λ h. h; calls = all_own _ _ _ ((whole, said.grows), all.0, all.1, λ h. h) }
