@@ -4,21 +4,22 @@ use Rattle.std.proofs.Common.{◌≡◌, ℕ, ◌≤◌, ◌<◌, Bool, true, Li
 use Rattle.std.proofs.Common.{arith}
 use Rattle.std.proofs.Common.{Result, Ok, Err, ⊎_elim, inl, inr, append_assoc, append-nil, length-append, length-take-le, take-append-drop}
 use Rattle.std.proofs.Common.{take_all}
-use Rattle.std.proofs.Common.{Vec}
+use Rattle.std.proofs.Common.{Vec, String, string_bytes, IfOk}
 use Rattle.std.proofs.lemmas.Bool.{cases_lt}
 use Rattle.no_std_io2_base.specs.declared.error.Error.{Error}
+use Rattle.no_std_io2_base.specs.Errors.{IsOutOfMemory}
 use Rattle.no_std_io2_base.specs.Write.{Made}
 use Rattle.no_std_io2_base.specs.Events.{bytes}
 use Rattle.no_std_io2_base.specs.Read.{Reader, ReadCall, Filled, Consumed}
-use Rattle.no_std_io2_base.specs.BufRead.{LendCallLaw, ConsumeLaw, ReadUntilLaw}
+use Rattle.no_std_io2_base.specs.BufRead.{LendCallLaw, ConsumeLaw, ReadUntilLaw, ReadLineLaw, lender_tells, line_room}
 use Rattle.no_std_io2_base.specs.Pieces.{AnswersLine, Lacks, EndsPiece, FindsPiece, newline, PartCalls, no_part, and_part, and_waited}
-use Rattle.no_std_io2_base.specs.Pieces.{PieceMade}
+use Rattle.no_std_io2_base.specs.Pieces.{PieceMade, PieceEnds}
 use Rattle.no_std_io2_base.specs.Pieces.{PieceCalls}
 use Rattle.no_std_io2_base.proofs.CallsLemmas.{made_split}
 use Rattle.no_std_io2_base.proofs.PieceLemmas.{found_end}
 use Rattle.no_std_io2.specs.declared.buffered.buf_reader.BufReader.{BufReader}
 use Rattle.no_std_io2.specs.Buffer.{IsSuffix}
-use Rattle.no_std_io2.specs.BufReader.{reader_held, reader_behind, reader_inner, FillsBelow, TakesHeld, TakesHeldLine}
+use Rattle.no_std_io2.specs.BufReader.{reader_held, reader_behind, reader_inner, FillsBelow, HasBuffer, TakesHeld, TakesHeldLine}
 use Rattle.no_std_io2.proofs.BufReaderCalls.{buf_lender}
 
 -- if d is among the bytes, they do not lack it
@@ -83,73 +84,83 @@ module _ {R : Type 0} {S : ℕ} (K : Reader R) (old : BufReader R S) (d : ℕ) w
         let filled = split.2.1.held (subst (λ r. 0 < length (reader_held r)) (sym first.1) some) in
         absurd (let no : ⊥ = cc in no)
 
-    -- so that piece is taken
-    pub until_held : {A : Type 0} {buf buf' : Vec ℕ A} {new : BufReader R S} (reply : Result ℕ Error)
-        → ReadUntilLaw (buf_lender K) old d buf reply buf' new → TakesHeld piece rest old buf.items reply buf'.items new
-    until_held {buf = buf} {buf'} {new} (Ok n) until =
-        let (D, y, lent, k, parts, found, x, calls) = until.calls.are in
-        let split = made_split law D old (Filled (Ok lent) ∷ Consumed k ∷ []) new
-        (subst (λ C. Made law old C new) calls until.calls.made) in
+    -- so that piece is taken; or an allocation failed, and nothing was
+    abbrev Took : List ℕ → Result ℕ Error → BufReader R S → Type 0
+    Took x (Ok n) new = (x ≡ piece) × HasBuffer new (reader_behind old ++ piece) rest × (reader_inner new ≡ reader_inner old)
+    Took x (Err e) new = IsOutOfMemory e × (x ≡ []) × (new ≡ old)
+
+    piece_held : {x : List ℕ} {new : BufReader R S} (reply : Result ℕ Error) → PieceMade (Unit {0}) law old d reply x new → Took x reply new
+    piece_held {new = new} (Ok n) m =
+        let (D, y, lent, k, parts, found, x, calls) = m.are in
+        let split = made_split law D old (Filled (Ok lent) ∷ Consumed k ∷ []) new (subst (λ C. Made law old C new) calls m.made) in
         let first = no_part_first parts split.0 split.1 in
         let filled = split.2.1.held (subst (λ r. 0 < length (reader_held r)) (sym first.1) some) in
         let lends : lent ≡ reader_held old = (let same : lent ≡ reader_held split.0 = cc in same) ∙ ap reader_held first.1 in
         let is_piece = piece_found piece rest lent (lends ∙ is) ends found refl in
         let same : split.2.0 ≡ old = filled.1 ∙ first.1 in
-        let given : bytes until.taken ≡ piece = x ∙ ap₂ (λ a b. a ++ b) first.0 is_piece.1 in
         let part : take k (reader_held split.2.0) ≡ piece = ap (λ r. take k (reader_held r)) same ∙ ap (take k) (sym lends) ∙ is_piece.1 in
         let left : drop k (reader_held split.2.0) ≡ rest = ap (λ r. drop k (reader_held r)) same ∙ ap (drop k) (sym lends) ∙ is_piece.2 in
         let consumed = split.2.2.1.1.call in
         let end : new ≡ split.2.2.0 = split.2.2.2 in (
-          until.ends.1 ∙ ap length given,
-          until.appends ∙ ap (λ l. buf.items ++ l) given,
+          x ∙ ap₂ (λ a b. a ++ b) first.0 is_piece.1,
           (
             ap reader_behind end ∙ consumed.1.0 ∙ ap₂ (λ a b. a ++ b) (ap reader_behind same) part,
             ap reader_held end ∙ consumed.1.1 ∙ left,
           ),
           ap reader_inner end ∙ consumed.0 ∙ ap reader_inner same,
         )
-    until_held {buf = buf} {buf'} {new} (Err e) until = by until.calls.are
+    piece_held {x} {new} (Err e) m = by m.are
       where
-        by : PieceCalls (Unit {0}) d until.calls.calls (bytes until.taken) (Err e)
-            → TakesHeld piece rest old buf.items (Err e) buf'.items new
+        by : PieceCalls (Unit {0}) d m.calls x (Err e) → Took x (Err e) new
         by (D, parts, inl (fault, calls)) =
-            let split = made_split law D old (Filled (Err e) ∷ []) new (subst (λ C. Made law old C new) calls until.calls.made) in
+            let split = made_split law D old (Filled (Err e) ∷ []) new (subst (λ C. Made law old C new) calls m.made) in
             let first = no_part_first parts split.0 split.1 in
             let filled = split.2.1.held (subst (λ r. 0 < length (reader_held r)) (sym first.1) some) in
             absurd (let no : ⊥ = cc in no)
         by (D, parts, inr (_, memory, lent, _, calls)) =
-            let split = made_split law D old (Filled (Ok lent) ∷ []) new (subst (λ C. Made law old C new) calls until.calls.made) in
+            let split = made_split law D old (Filled (Ok lent) ∷ []) new (subst (λ C. Made law old C new) calls m.made) in
             let first = no_part_first parts split.0 split.1 in
-            let filled = split.2.1.held (subst (λ r. 0 < length (reader_held r)) (sym first.1) some) in (
-              memory,
-              until.appends ∙ ap (λ l. buf.items ++ l) first.0 ∙ append-nil buf.items,
-              split.2.2 ∙ filled.1 ∙ first.1,
-            )
+            let filled = split.2.1.held (subst (λ r. 0 < length (reader_held r)) (sym first.1) some) in
+            (memory, first.0, split.2.2 ∙ filled.1 ∙ first.1)
 
--- a held line was read into a vector of its own, and then appended to a text
-pub line_held : {R : Type 0} {S : ℕ} (line rest none items : List ℕ) (old new : BufReader R S) (read reply : Result ℕ Error)
-    (len capacity : ℕ) (text mid text' : List ℕ) → none ≡ [] → mid ≡ text → TakesHeld line rest old none read items new
-    → AnswersLine items read len capacity reply mid text' → TakesHeldLine line rest old text reply text' new
-line_held = grind (arith, common_steps)
+    -- by `read_until`
+    pub until_held : {A : Type 0} {buf buf' : Vec ℕ A} {new : BufReader R S} (reply : Result ℕ Error)
+        → ReadUntilLaw (buf_lender K) old d buf reply buf' new → TakesHeld piece rest old buf.items reply buf'.items new
+    until_held {buf = buf} (Ok n) until =
+        let taken = piece_held (Ok n) until.calls in
+        (until.ends.1 ∙ ap length taken.0, until.appends ∙ ap (λ l. buf.items ++ l) taken.0, taken.1, taken.2)
+    until_held {buf = buf} (Err e) until =
+        let taken = piece_held (Err e) until.calls in
+        (taken.0, until.appends ∙ ap (λ l. buf.items ++ l) taken.1 ∙ append-nil buf.items, taken.2)
 
--- the part of the held bytes that was found is a line, if it is whole and not empty
-pub line_first : {n : ℕ} {is_whole : Bool} {lent : List ℕ} (held : List ℕ) → lent ≡ held → FindsPiece newline lent n is_whole
-    → is_whole ≡ true → 0 < n → (n ≤ length held) × EndsPiece newline (take n held)
-line_first {n} {is_whole} held same finds ended some = grind (arith, common_steps)
+-- by `read_line`
+module _ {R : Type 0} {S : ℕ} (K : Reader R) (old : BufReader R S) (line rest : List ℕ) (is : reader_held old ≡ line ++ rest)
+    (ends : EndsPiece newline line) where
+  answered : (x : List ℕ) (new : BufReader R S) (len capacity : ℕ) (text text' : List ℕ) (read reply : Result ℕ Error)
+      → IfOk read (λ n. n ≡ length x) → Took K old newline line rest is ends x read new
+      → AnswersLine x read len capacity reply text text' → TakesHeldLine line rest old text reply text' new
+  answered x new len capacity text text' (Ok n) (Ok m) count taken answers =
+      (answers.1 ∙ count ∙ ap length taken.0, answers.0.1 ∙ ap (λ l. text ++ l) taken.0, taken.1, taken.2)
+  answered x new len capacity text text' (Ok n) (Err e) count taken answers = (answers.0, taken.2, inl taken.1)
+  answered x new len capacity text text' (Err f) (Ok m) count taken answers = absurd answers
+  answered x new len capacity text text' (Err f) (Err e) count taken (inl memory) = (
+    memory.2,
+    ap reader_inner taken.2,
+    inr (subst IsOutOfMemory (sym memory.1) taken.0, (ap reader_behind taken.2, ap reader_held taken.2)),
+  )
+  answered x new len capacity text text' (Err f) (Err e) count taken (inr other) = absurd (other.0 taken.0.0)
 
--- a line that was held went straight to the text
-pub line_given : {R : Type 0} {S n : ℕ} (K : Reader R) (line rest : List ℕ) (old new : BufReader R S) (text : List ℕ) {text' : List ℕ}
-    → n ≤ length (reader_held old) → EndsPiece newline (take n (reader_held old)) → ConsumeLaw (buf_lender K) old n new
-    → text' ≡ text ++ take n (reader_held old) → reader_held old ≡ line ++ rest → EndsPiece newline line
-    → TakesHeldLine line rest old text (Ok n) text' new
-line_given {n = n} K line rest old new text within first dropped given is ends =
-    let part = piece_found line rest (reader_held old) is ends (found_end within first) refl in
-    let call = dropped.call in (
-      part.0,
-      given ∙ ap (λ l. text ++ l) part.1,
-      (call.1.0 ∙ ap (λ l. reader_behind old ++ l) part.1, call.1.1 ∙ part.2),
-      call.0,
-    )
+  pub line_held : {A : Type 0} {text text' : String A} {new : BufReader R S} (reply : Result ℕ Error)
+      → ReadLineLaw (buf_lender K) old text reply text' new
+      → TakesHeldLine line rest old (string_bytes text) reply (string_bytes text') new
+  line_held {text = text} reply law =
+      answered (bytes law.taken) _ _ _ _ _ law.read reply (counts law.read law.ends)
+      (piece_held K old newline line rest is ends law.read law.calls) law.answers
+    where
+      counts : (read : Result ℕ Error) → PieceEnds (λ n. line_room text < n) newline (lender_tells (buf_lender K) old) law.taken read
+          → IfOk read (λ n. n ≡ length (bytes law.taken))
+      counts (Ok n) ends = ends.1
+      counts (Err e) ends = tt
 
 -- what is behind after a `fill_buf`
 filled_behind : {R : Type 0} {S : ℕ} {K : Reader R} {answer : Result (List ℕ) Error} (x : List ℕ) (old new : BufReader R S)

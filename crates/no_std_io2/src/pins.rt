@@ -1,13 +1,14 @@
 //! Fixes what each type tells. A type whose ghost members say nothing would still be proved, but
 //! every promise about it would be empty.
-ghost use Rattle.std.specs.Prelude.{◌≡◌, [], length, drop, ◌++◌, Some, IsOk, IfErr, vec_len};
+ghost use Rattle.std.specs.Prelude.{◌≡◌, ℕ, List, [], length, drop, ◌++◌, Some, IsOk, IfErr, vec_len, string_bytes};
 ghost use Rattle.no_std_io2_base.specs.Read.{tells, ReadCall};
 ghost use Rattle.no_std_io2_base.specs.Write.{WriteCall};
 ghost use Rattle.no_std_io2_base.specs.Errors.{IsOutOfMemory};
+ghost use Rattle.no_std_io2_base.specs.Pieces.{EndsPiece, newline};
 ghost use Rattle.no_std_io2.specs.Buffer.{IsInBuffer, IsSuffix};
 ghost use Rattle.no_std_io2_base.specs.Seek.{SeekCall};
 ghost use Rattle.no_std_io2.specs.BufWriter.{writer_inner, writer_buffer, with_buffer, store_unheld, BufferMay, WriterMaySeek};
-ghost use Rattle.no_std_io2.specs.BufReader.{reader_held, reader_behind, reader_inner, reader_told, TakesOver, ReaderMay, ReaderMaySeek};
+ghost use Rattle.no_std_io2.specs.BufReader.{reader_held, reader_behind, reader_inner, reader_told, TakesOver, TakesHeldLine, ReaderMay, ReaderMaySeek};
 ghost use Rattle.no_std_io2.specs.LineWriter.{line_inner, line_buffer, LineMay};
 ghost use Rattle.no_std_io2_base.specs.Sink.{sink_taken, SinkMay};
 
@@ -15,7 +16,7 @@ use crate::buffered::{BufReader, BufWriter, LineWriter};
 use crate::util::Sink;
 use no_std_io2_base::error::Result;
 use no_std_io2_base::traits::{BufRead, Read, Seek, SeekFrom, Stored, Write};
-use std::alloc::Allocator;
+use std::alloc::{Allocator, Global};
 
 fn buffered_writer_tells<W: Write + Drop, const S: usize>(w: &BufWriter<W, S>)
     ensures told { ⟦<BufWriter<W, S> as Write>⟧.told w.now
@@ -104,6 +105,18 @@ fn until_behind<R: Read, const S: usize, A: Allocator>(
     ensures { IsSuffix (reader_behind r.old ++ drop (vec_len buf.old) buf.new.items) (reader_behind r.new) }
 {
     r.read_until(delim, buf)
+}
+
+// Reads a line. If a whole line is held, it takes only held bytes.
+fn line_held<R: Read, const S: usize>(
+    r: &mut BufReader<R, S>,
+    alloc: Global,
+    text: &mut String,
+) -> Result<usize>
+    ensures { (line rest : List ℕ) → reader_held r.old ≡ line ++ rest → EndsPiece newline line
+        → TakesHeldLine line rest r.old (string_bytes text.old) result (string_bytes text.new) r.new }
+{
+    r.read_line(alloc, text)
 }
 
 fn sink_tells(s: &Sink, new: &Sink)

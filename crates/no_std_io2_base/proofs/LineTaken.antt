@@ -1,21 +1,24 @@
 -- A line that goes to a string: through a vector, which has the memory of an empty string, or straight from what a reader lends.
-use Rattle.std.proofs.Common.{◌≡◌, ℕ, ◌+◌, ◌<◌, ◌≤◌, [], ◌++◌, length, take, Ok}
+use Rattle.std.proofs.Common.{◌≡◌, ℕ, ◌+◌, ◌<◌, ◌≤◌, ◌⊎◌, List, [], ◌∷◌, ◌++◌, length, take, Ok, Bool, true}
 use Rattle.std.proofs.Common.{Result, Err, String, string_bytes, string_len, string_capacity, Vec, vec_len, vec_capacity, refl, sym}
-use Rattle.std.proofs.Common.{ap, ◌∙◌, subst, arith, le_trans, IfSome, IfOk, IfErr, length-take-le}
+use Rattle.std.proofs.Common.{ap, ◌∙◌, subst, arith, le_refl, le_trans, IfSome, IfOk, IfErr, IsUtf8, length-take-le, append-nil}
+use Rattle.std.proofs.Common.{⊎_elim, inl, inr}
+use Rattle.std.proofs.lemmas.Str.{IsUtf8-nil}
 use Rattle.no_std_io2_base.specs.declared.error.Error.{Error}
-use Rattle.no_std_io2_base.specs.Errors.{IsFault}
+use Rattle.no_std_io2_base.specs.declared.error.ErrorKind.{ErrorKind}
+use Rattle.no_std_io2_base.specs.declared.error.ErrorKind.TheVariants.{OutOfMemory}
+use Rattle.no_std_io2_base.specs.Errors.{error_kind, IsFault}
 use Rattle.no_std_io2_base.specs.Write.{IsFront}
-use Rattle.no_std_io2_base.specs.Events.{bytes, events_of, BeginsWith}
+use Rattle.no_std_io2_base.specs.Events.{bytes, events_of, fails, BeginsWith}
 use Rattle.no_std_io2_base.specs.Takes.{to_come}
 use Rattle.no_std_io2_base.specs.Read.{Filled}
 use Rattle.no_std_io2_base.specs.BufRead.{Lender, lender_tells, ConsumeLaw, FilledLaw, ReadUntilLaw, ReadLineLaw, line_room, text_room}
-use Rattle.no_std_io2_base.specs.Pieces.{AnswersLine, EndsPiece, Follows, PieceEnds, newline}
+use Rattle.no_std_io2_base.specs.Pieces.{AnswersLine, FindsPiece, Follows, PieceEnds, newline}
 use Rattle.no_std_io2_base.proofs.EventLemmas.{bytes-events_of}
 use Rattle.no_std_io2_base.proofs.TakesLemmas.{takes_none}
 use Rattle.no_std_io2_base.proofs.TextRoom.{room_lent, room_grown, text_answers, answers_count, answers_front, answers_fault}
 use Rattle.no_std_io2_base.proofs.GivenPieces.{piece_fault}
-use Rattle.no_std_io2_base.proofs.PieceLemmas.{found_end}
-use Rattle.no_std_io2_base.proofs.PieceLoop.{PieceTaken, part_none, piece_whole, piece_since}
+use Rattle.no_std_io2_base.proofs.PieceLoop.{PieceTaken, part_none, piece_whole, piece_faulted, piece_since}
 
 -- a line that was read into a vector, which has the memory of an empty text
 pub line_law : {X A : Type 0} {R : Lender X} {old new : X} (text taken : String A) (none line : Vec ℕ A) {read reply : Result ℕ Error}
@@ -38,30 +41,17 @@ line_law {R = R} {old} text taken none line {read} {reply} {text'} len same empt
       calls = until.calls;
     }
 
--- held bytes, which are to come, are lent by a call that changes nothing
-pub held_law : {X : Type 0} (R : Lender X) (old : X) → 0 < length (R.held old)
-    → IfSome (to_come (lender_tells R old)) (λ E. BeginsWith E (R.held old)) → R.may old (Filled (Ok (R.held old))) old
-    → FilledLaw R old (Ok (R.held old)) old
-held_law R old some front lends = record {
-  held = λ _. (refl, refl);
-  front = front;
-  lends = refl;
-  end = λ none. absurd (let is : R.held old ≡ [] = cc in omega (arith, some, ap length is));
-  takes = takes_none (lender_tells R old);
-  call = lends;
-}
-
--- a held line is taken by one `consume`, and appended
-pub line_at_once : {X A : Type 0} {R : Lender X} {old new : X} {n : ℕ} {buf buf' : String A} → n ≤ length (R.held old)
-    → EndsPiece newline (take n (R.held old)) → FilledLaw R old (Ok (R.held old)) old → ConsumeLaw R old n new
-    → Follows (take n (R.held old)) (string_bytes buf) (string_bytes buf') → string_capacity buf ≤ string_capacity buf'
+-- a line that was lent whole went straight to the text
+pub line_at_once : {X A : Type 0} {R : Lender X} {old now new : X} {lent : List ℕ} {n : ℕ} {is_whole : Bool} {buf buf' : String A}
+    → FilledLaw R old (Ok lent) now → FindsPiece newline lent n is_whole → is_whole ≡ true → ConsumeLaw R now n new
+    → Follows (take n lent) (string_bytes buf) (string_bytes buf') → string_capacity buf ≤ string_capacity buf'
     → ReadLineLaw R old buf (Ok n) buf' new
-line_at_once {R = R} {old} {n = n} {buf} {buf'} within ends filled dropped follows grown =
-    let line = take n (R.held old) in
+line_at_once {R = R} {old} {lent = lent} {n} {buf = buf} {buf'} filled found whole dropped follows grown =
+    let line = take n lent in
     let same = sym (bytes-events_of line) in
-    let long : n ≡ length (bytes (events_of line)) = sym (length-take-le n (R.held old) within) ∙ ap length same in
+    let long : n ≡ length (bytes (events_of line)) = sym (length-take-le n lent found.within) ∙ ap length same in
     let piece : PieceTaken R (λ n. line_room buf < n) (Unit {0}) newline old (events_of line) (Ok n) _ =
-    piece_whole (part_none R newline old) filled (found_end within ends) dropped refl long in
+    piece_whole (part_none R newline old) filled found dropped whole long in
     record {
       taken = events_of line;
       takes = piece.takes;
@@ -71,6 +61,35 @@ line_at_once {R = R} {old} {n = n} {buf} {buf'} within ends filled dropped follo
       capacity = grown;
       calls = piece.calls;
     }
+
+memory_or_other : (kind : ErrorKind) → (kind ≡ OutOfMemory) ⊎ (kind ≡ OutOfMemory → ⊥)
+memory_or_other OutOfMemory = inl refl
+memory_or_other _ = inr (λ is. cc)
+
+-- before a fault no byte of a line came, and the text stays
+pub line_faulted : {X A : Type 0} {R : Lender X} {old new : X} {e : Error} {buf : String A} → FilledLaw R old (Err e) new → IsFault e
+    → ReadLineLaw R old buf (Err e) buf new
+line_faulted {R = R} {old} {e = e} {buf} filled fault =
+    let piece : PieceTaken R (λ n. line_room buf < n) (Unit {0}) newline old (fails e ∷ []) (Err e) _ =
+    piece_faulted (part_none R newline old) filled fault in
+    record {
+      taken = fails e ∷ [];
+      takes = piece.takes;
+      read = Err e;
+      ends = piece.ends;
+      answers = ⊎_elim (λ memory. inl (memory, refl, refl))
+          (λ other. inr (other, inl ((IsUtf8-nil, sym (append-nil (string_bytes buf))), refl)))
+          (memory_or_other (error_kind e));
+      capacity = le_refl _;
+      calls = piece.calls;
+    }
+
+-- a text refuses only a line that has some bytes
+pub line_some : {A : Type 0} (buf : String A) (line : List ℕ)
+    → (string_capacity buf < string_len buf + length line) ⊎ (IsUtf8 line → ⊥) → 0 < length line
+line_some buf [] (inl full) = absurd (omega (arith, full, buf.bytes.ok.1))
+line_some buf [] (inr bad) = absurd (bad IsUtf8-nil)
+line_some buf (b ∷ line) refused = omega arith
 
 -- the number that `read_line` returns is that of the appended bytes, the text keeps what it had, and an error is a fault
 module _ {X A : Type 0} {R : Lender X} {old new : X} {buf buf' : String A} (reply : Result ℕ Error)

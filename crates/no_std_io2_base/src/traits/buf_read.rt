@@ -4,7 +4,7 @@ ghost use Rattle.no_std_io2_base.specs.BufRead.{FillBufLaw, AfterLoan, ConsumeLa
 ghost use Rattle.no_std_io2_base.specs.Pieces.{split_reader, split_delim, split_is_ended, lines_reader, lines_is_ended};
 
 use super::lines::Lines;
-use super::pieces::{find_piece, put_line, take_memory};
+use super::pieces::{append_text, find_piece, put_line, take_memory};
 use super::read::Read;
 use super::split::Split;
 use crate::error::Result;
@@ -117,9 +117,10 @@ pub trait BufRead: Read {
     }
 
     /// Appends the next line to `buf`, with its newline, and returns the number of its bytes: 0
-    /// means the end. The last line may have no newline. It ignores interruptions. If `buf` is empty,
-    /// the line is read into its own memory; if not, into a vector from `alloc` first. The capacity
-    /// of `buf` never shrinks. Follows `std::io::BufRead::read_line`.
+    /// means the end. The last line may have no newline. It ignores interruptions. If the line is
+    /// lent whole and `buf` has room for it, it is appended at once. Any other is read by
+    /// `read_until`: into the memory of `buf` if that is empty, and else into a vector from `alloc`
+    /// first. The capacity of `buf` never shrinks. Follows `std::io::BufRead::read_line`.
     ///
     /// # Errors
     /// Returns `InvalidData` if the line is not UTF-8; `buf` is unchanged, and the line is taken.
@@ -140,6 +141,17 @@ pub trait BufRead: Read {
         Self: Sized,
         ensures law { ReadLineLaw ⟦<Self as BufRead>⟧ self.old buf.old result buf.new self.new }
     {
+        match self.fill_buf() {
+            Ok(lent) => {
+                let (len, is_whole) = find_piece(lent, b'\n');
+                if is_whole && append_text(buf, &lent[..len]) {
+                    self.consume(len);
+                    return Ok(len);
+                }
+            }
+            Err(e) if e.is_interrupted() => {}
+            Err(e) => return Err(e),
+        }
         let mut line = take_memory(alloc, buf);
         let read = self.read_until(b'\n', &mut line);
         put_line(buf, line, read)

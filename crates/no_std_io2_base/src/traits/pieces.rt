@@ -1,5 +1,5 @@
 // The parts of which the calls that read pieces are made.
-ghost use Rattle.std.specs.Prelude.{◌≡◌, ◌≢◌, ◌<◌, ◌≤◌, ◌+◌, [], true, false, length, IfErr, IfOk, IsErrAnd, IsUtf8};
+ghost use Rattle.std.specs.Prelude.{◌≡◌, ◌≢◌, ◌<◌, ◌≤◌, ◌+◌, ◌⊎◌, [], true, false, length, IfErr, IfOk, IsErrAnd, IsUtf8};
 ghost use Rattle.std.specs.Prelude.{string_bytes, string_len, string_capacity, vec_capacity};
 ghost use Rattle.std.specs.Bool.{OnTrue, OnFalse};
 ghost use Rattle.std.specs.List.{AllWithin};
@@ -114,6 +114,7 @@ pub fn append_text(buf: &mut String, line: &[u8]) -> bool
     ensures appended { OnTrue result (Follows line.now (string_bytes buf.old) (string_bytes buf.new)
         × (string_len buf.new ≡ string_len buf.old + length line.now)) }
     ensures same { OnFalse result (buf.new ≡ buf.old) }
+    ensures refused { OnFalse result ((string_capacity buf.old < string_len buf.old + length line.now) ⊎ (IsUtf8 line.now → ⊥)) }
     ensures capacity { string_capacity buf.old ≤ string_capacity buf.new }
 {
     if line.len() > buf.capacity() - buf.len() {
