@@ -334,3 +334,23 @@ calls! {
     records_writer_64(source, room, calls) { through::<64>(|w| write_records(w, source, room, calls)) }
     records_writer_1024(source, room, calls) { through::<1024>(|w| write_records(w, source, room, calls)) }
 }
+
+// Frames: each is its length, and then its payload.
+calls! {
+    frame_send(source, room, calls) {
+        let mut w = buffered_writer::<_, 8192>(Counter::default());
+        let payload = &source[..room.len()];
+        for _ in 0..calls {
+            if w.write_all(&(payload.len() as u32).to_le_bytes()).is_err() || w.write_all(payload).is_err() {
+                return FAILED;
+            }
+        }
+        // The sides make other writes, so their sums differ.
+        if w.flush().is_err() || w.get_ref().sum() == 0 {
+            return FAILED;
+        }
+        calls
+    }
+    frame_next(source, room, calls) { next_often(&mut buffered_reader::<_, 8192>(source), room, calls) }
+    frame_past(source, room, calls) { next_often(&mut buffered_reader::<_, 64>(source), room, calls) }
+}

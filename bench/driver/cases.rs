@@ -73,6 +73,12 @@ fn lines_of(len: usize, lines: usize) -> &'static [u8] {
     Vec::leak((0..lines).flat_map(line).collect())
 }
 
+// So many frames, each with a payload of so many bytes.
+fn frames_of(len: usize, frames: usize) -> &'static [u8] {
+    let header = (len as u32).to_le_bytes();
+    Vec::leak((0..frames).flat_map(|at| header.iter().chain(&source()[at..at + len])).copied().collect())
+}
+
 // A number of bytes, as the table shows it.
 fn size_text(size: usize) -> String {
     match size {
@@ -115,6 +121,9 @@ macro_rules! sides {
     ($name:ident original) => {
         [Some(ours::$name), Some(crate::std_side::$name), None, Some(kit::$name)]
     };
+    ($name:ident kit) => {
+        [Some(ours::$name), Some(crate::std_side::$name), crate::original!($name), None]
+    };
     ($name:ident original_kit) => {
         [Some(ours::$name), Some(crate::std_side::$name), None, None]
     };
@@ -129,10 +138,14 @@ pub fn all() -> Vec<Case> {
     macro_rules! add {
         ($($name:ident: $source:ident $class:ident $text:literal [$($size:literal)*] $(| $missing:ident)?;)*) => {$(
             for size in [$($size),*] {
-                let lines = stringify!($source) == "lines";
-                let calls = (4 * MEBIBYTE / size).clamp(1, if lines { 1 << 13 } else { 1 << 16 });
+                let kind = stringify!($source);
+                let calls = (4 * MEBIBYTE / size).clamp(1, if kind == "bytes" { 1 << 16 } else { 1 << 13 });
                 // The longer of two runs makes twice as many calls.
-                let source = if lines { lines_of(size, 2 * calls) } else { source() };
+                let source = match kind {
+                    "lines" => lines_of(size, 2 * calls),
+                    "frames" => frames_of(size, 2 * calls),
+                    _ => source(),
+                };
                 cases.push(Case {
                     name: $text.replace("{}", &size_text(size)),
                     class: stringify!($class),

@@ -106,13 +106,21 @@ macro_rules! listed {
             take_to_end: bytes whole "`Take` over a slice, `read_to_end` of {}" [900 4096 16777216];
             lent_line: lines short "a reference to a `BufReader` 1024, `read_line` of {} into one text" [40 80] | original;
             chain_line: lines short "`Chain` of two slices, `read_line` of {} into one text" [40 80] | original;
+            box_line: lines short "a boxed `BufReader` 1024, `read_line` of {} into one text" [40 80] | original;
             take_line: lines short "`Take` over a slice, `read_line` of {} into one text" [40 80] | original;
+            chain_readers_line: lines short "`Chain` of two `BufReader` 1024, `read_line` of {} into one text" [40 80] | original;
+            take_reader_line: lines short "`Take` over a `BufReader` 1024, `read_line` of {} into one text" [40 80] | original;
+            chain_lines: lines short "`Chain` of two slices, `lines` of {}" [40 80] | original;
+            take_lines: lines short "`Take` over a slice, `lines` of {}" [40 80] | original;
             slice_to_string: lines whole "a slice, `read_to_string` of {} into a new text" [100 5000 1048576] | original;
             reader_to_string: lines whole "`BufReader` 1024, `read_to_string` of {} into a new text" [100 5000] | original;
             values_writer: bytes whole "`BufWriter` 1024, `write!` of six values" [1];
             values_cursor: bytes whole "`Cursor<&mut [u8]>`, `write!` of six values" [1];
             queue_turns: bytes whole "a queue, `write_all` and `read_exact` of {} by turns" [16 100 1000] | original;
             queue_to_end: bytes whole "a queue, `write_all` of {} and `read_to_end`" [4000] | original;
+            frame_send: bytes long "`FrameWriter` 8192, `send` of {}" [1 18 100 1000] | kit;
+            frame_next: frames long "`FrameReader` 8192, `next` of {}" [1 18 100 1000] | kit;
+            frame_past: frames whole "`FrameReader` 64, `next` of {}" [1000 100000] | kit;
             copy_64: bytes whole "`copy` 64 of {}" [16777216] | std_kit;
             copy_8192: bytes whole "`copy` 8192 of {}" [16777216];
         }

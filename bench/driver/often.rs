@@ -292,6 +292,22 @@ pub fn read_varints<R: Read>(r: &mut R, calls: u64) -> u64 {
     sum
 }
 
+/// Reads so many frames, each a length and a payload.
+pub fn next_often<R: Read>(r: &mut R, room: &mut [u8], calls: u64) -> u64 {
+    let (mut sum, mut header) = (0u64, [0; 4]);
+    for _ in 0..calls {
+        if r.read_exact(&mut header).is_err() {
+            return FAILED;
+        }
+        let len = u32::from_le_bytes(header) as usize;
+        if len > room.len() || r.read_exact(&mut room[..len]).is_err() {
+            return FAILED;
+        }
+        sum = sum.wrapping_add(len as u64).wrapping_add(first_byte(room));
+    }
+    sum
+}
+
 /// What goes through a buffer to a counter.
 pub fn through<const S: usize>(write: impl Fn(&mut BufferedWriter<S>) -> u64) -> u64 {
     let mut w = buffered_writer::<_, S>(Counter::default());

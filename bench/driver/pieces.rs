@@ -80,6 +80,17 @@ calls! {
         line_often(&mut Read::chain(first, second), calls)
     }
     take_line(source, room, calls) { line_often(&mut Read::take(source, u64::MAX), calls) }
+    box_line(source, room, calls) { line_often(&mut Box::new(buffered_reader::<_, 1024>(source)), calls) }
+    chain_readers_line(source, room, calls) {
+        let (first, second) = source.split_at(source.len() / 2);
+        line_often(&mut buffered_reader::<_, 1024>(first).chain(buffered_reader::<_, 1024>(second)), calls)
+    }
+    take_reader_line(source, room, calls) { line_often(&mut buffered_reader::<_, 1024>(source).take(u64::MAX), calls) }
+    chain_lines(source, room, calls) {
+        let (first, second) = source.split_at(source.len() / 2);
+        items_often(Read::chain(first, second).lines(), calls)
+    }
+    take_lines(source, room, calls) { items_often(Read::take(source, u64::MAX).lines(), calls) }
     slice_to_string(source, room, calls) { strings(|| &source[..room.len()], calls) }
     reader_to_string(source, room, calls) { strings(|| buffered_reader::<_, 1024>(&source[..room.len()]), calls) }
     queue_turns(source, room, calls) {
