@@ -132,12 +132,16 @@ macro_rules! sides {
     };
 }
 
-/// A case for each size of each line of the list.
-pub fn all() -> Vec<Case> {
+/// A case for each size of each line of the list, if its name has this word.
+pub fn with(word: &str) -> Vec<Case> {
     let mut cases = Vec::new();
     macro_rules! add {
         ($($name:ident: $source:ident $class:ident $text:literal [$($size:literal)*] $(| $missing:ident)?;)*) => {$(
             for size in [$($size),*] {
+                let name = $text.replace("{}", &size_text(size));
+                if !name.contains(word) {
+                    continue;
+                }
                 let kind = stringify!($source);
                 let calls = (4 * MEBIBYTE / size).clamp(1, if kind == "bytes" { 1 << 16 } else { 1 << 13 });
                 // The longer of two runs makes twice as many calls.
@@ -147,7 +151,7 @@ pub fn all() -> Vec<Case> {
                     _ => source(),
                 };
                 cases.push(Case {
-                    name: $text.replace("{}", &size_text(size)),
+                    name,
                     class: stringify!($class),
                     size,
                     source,

@@ -66,8 +66,7 @@ fn measure(cases: &[Case], word: Option<&str>) -> Result<(), String> {
 
 fn main() -> ExitCode {
     let word = std::env::args().nth(1);
-    let mut cases = cases::all();
-    cases.retain(|case| case.name.contains(word.as_deref().unwrap_or("")));
+    let cases = cases::with(word.as_deref().unwrap_or(""));
     if std::env::args().nth(2).as_deref() == Some("count") {
         counting::count_below_callgrind(&cases);
         return ExitCode::SUCCESS;
