@@ -6,7 +6,8 @@ use Rattle.no_std_io2.specs.Takes.{to_come}
 use Rattle.no_std_io2.specs.Read.{Reader, tells}
 use Rattle.no_std_io2.specs.Write.{Told, Moves, call_mishap}
 use Rattle.no_std_io2.specs.Writers.{Writer}
-use Rattle.no_std_io2.specs.Copy.{Copied, CopyEnds}
+use Rattle.no_std_io2.specs.Copy.{Copied}
+use Rattle.no_std_io2.proofs.CopyLemmas.{copied_ok}
 use Rattle.no_std_io2.proofs.EventLemmas.{bytes-events_of}
 use Rattle.no_std_io2.proofs.MovesLemmas.{Moves-ends}
 use Rattle.no_std_io2.proofs.TakesLemmas.{takes_all}
@@ -15,9 +16,9 @@ use Rattle.no_std_io2.proofs.TakesLemmas.{takes_all}
 pub copied : {R W : Type 0} {K : Reader R} {I : Writer W} {a a' : R} {w w' : W} (from : List ℕ) (c : Told) (r : Result ℕ Error) {n : ℕ}
     (q : Result (Unit {0}) Error) → to_come (tells K a) ≡ Some (events_of from) → Copied K I 16 a w r a' w' → r ≡ Ok n
     → Moves (I.told w') [] (call_mishap q) c → OnOk q (Moves (I.told w) from [] c)
-copied {K = K} {I = I} {a' = a'} {w = w} {w' = w'} from c r (Ok u) is copies ok flushed =
-    let ends = subst (λ r. CopyEnds 16 r copies.taken (tells K a') (I.told w) (I.told w')) ok copies.ends in
-    let all = subst (λ o. IfSome o (λ E. E ≡ copies.taken)) is (takes_all copies.taken copies.takes (ends.1 (omega arith))) in
-    let moved : bytes copies.taken ≡ from = ap bytes (sym all) ∙ bytes-events_of from in
-    Moves-ends (subst (λ l. Moves (I.told w) l [] (I.told w')) moved ends.3) flushed
+copied {K = K} {I = I} {a} {a'} {w} {w'} from c r (Ok u) is copies ok flushed =
+    let whole = copied_ok (subst (λ r. Copied K I 16 a w r a' w') ok copies) in
+    let all = subst (λ o. IfSome o (λ E. E ≡ whole.taken)) is (takes_all whole.taken whole.takes (whole.ends.1 (omega arith))) in
+    let moved : bytes whole.taken ≡ from = ap bytes (sym all) ∙ bytes-events_of from in
+    Moves-ends (subst (λ l. Moves (I.told w) l [] (I.told w')) moved whole.ends.3) flushed
 copied from c r (Err e) is copies ok flushed = tt

@@ -5,9 +5,9 @@ use Rattle.no_std_io2.specs.declared.io.Error.{Error}
 use Rattle.no_std_io2.specs.declared.io.SeekFrom.TheVariants.{Start, End}
 use Rattle.std.proofs.Common.{◌<◌, ◌^◌, [], Bool, true, false}
 use Rattle.no_std_io2.specs.Takes.{Store, store_by, store_at, fits_u64, fits_by}
-use Rattle.no_std_io2.specs.BufReader.{IsBefore, is_before, step_back, store_if, store_before}
+use Rattle.no_std_io2.specs.BufReader.{is_before, step_back, store_if, store_before}
 use Rattle.no_std_io2.proofs.StoreLemmas.{fits_at}
-use Rattle.no_std_io2.proofs.BufferedReads.{before_decides}
+use Rattle.no_std_io2.proofs.BufferedReads.{before_decides, IsBefore}
 use Rattle.no_std_io2.specs.ReadAt.{ReadsAt}
 use Rattle.examples.specs.Indexed.{u32_at, IsNumberAt, entry_place}
 

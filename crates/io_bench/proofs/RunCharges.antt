@@ -6,9 +6,10 @@ use Rattle.std.proofs.Common.{take-append-drop}
 use Rattle.no_std_io2.specs.declared.io.Error.{Error}
 use Rattle.no_std_io2.specs.Writers.{Writer, TakesAll, CallOf}
 use Rattle.no_std_io2.specs.Write.{WriteCall, Wrote, WroteAll, WroteRest, Flushed, Made, Writes, none, took, again, calls_for, taken}
+use Rattle.no_std_io2.specs.Write.{AllCalls}
 use Rattle.no_std_io2.specs.Meter.{IsMeter}
-use Rattle.no_std_io2.specs.BufWriter.{BufferMay, WriteCalls, WriteAllCalls, FlushCalls, OneWrite, OneWriteAll, SendCalls}
-use Rattle.no_std_io2.specs.BufWriter.{writing_calls, buffer_after, PastEmpty, OneFlush}
+use Rattle.no_std_io2.specs.BufWriter.{BufferMay, WriteCalls, WriteAllCalls, FlushCalls, SendCalls, Only, InnerCalls}
+use Rattle.no_std_io2.specs.BufWriter.{writing_calls, buffer_after, PastEmpty}
 use Rattle.no_std_io2.proofs.CallsLemmas.{made_map, law_may}
 use Rattle.no_std_io2.proofs.BufWriterCalls.{buffered_leaves, writing_all_calls, write_takes, send_leaves}
 use Rattle.no_std_io2.proofs.BufWriterCalls.{send_counts, write_counts, write_all_counts, flush_counts}
@@ -102,7 +103,7 @@ at_ok = grind (arith, common_steps)
 flush_empties : {held left : List ℕ} {C : List WriteCall} (reply : Result (Unit {0}) Error) → FlushCalls held C reply left
     → OnOk reply (left ≡ [])
 flush_empties reply calls =
-    then_leaves SendCalls (PastEmpty OneFlush) (λ _. []) (λ _. []) send_leaves (λ held C r left gone. after r gone.1) calls
+    then_leaves SendCalls (PastEmpty (Only Flushed)) (λ _. []) (λ _. []) send_leaves (λ held C r left gone. after r gone.1) calls
   where
     after : {left : List ℕ} (r : Result (Unit {0}) Error) → left ≡ [] → OnOk r (left ≡ [])
     after (Ok u) gone = gone
@@ -111,7 +112,7 @@ flush_empties reply calls =
 module _ {W B : Type 0} (I : Writer W) (cost : W → ℕ) (meter : IsMeter I.may cost) (S : ℕ) (some : 0 < S) (inner : B → W)
     (buffer : B → List ℕ) (fits : (b : B) → length (buffer b) ≤ S) (old : B) where
   abbrev May : B → WriteCall → B → Type 0
-  May = BufferMay I S inner buffer
+  May = BufferMay I (InnerCalls S) inner buffer
 
   -- the inner writer still takes all, and the calls so far, of f flushes and n bytes, are paid for
   abbrev PaidTo : ℕ → ℕ → B → Type 0
@@ -140,14 +141,15 @@ module _ {W B : Type 0} (I : Writer W) (cost : W → ℕ) (meter : IsMeter I.may
       ap (λ r. taken r x) (write_takes I S made.2 (inner a) (inner b) made.1 paid.0) ∙ take_all (length x) x (le_refl (length x)) in
       subst (λ l. PaidTo (f + 0) (n + length l) b) (sym whole)
       (paid_on f n a b reply k (buffer_after S (buffer a) x) paid (f + 0) (n + length x) done
-      (buffered_leaves S x (length x) (OneWrite x) _ _ _ _ made.2)
+      (buffered_leaves S x (length x) (Only (Wrote x)) _ _ _ _ made.2)
       (Paid-same refl (omega arith) refl refl (Paid-write S paid.1.0 f n (buffer a) x some (fits a) paid.1.2)))
   call_paid f n a b (WroteAll x reply) made paid =
       let k = writing_calls S (buffer a) x in
       let done = step_cost I cost meter inner buffer (WriteAllCalls S x) (writing_all_calls S x) (write_all_counts I S x) a b
       {reply = reply} made paid.0 in
       paid_on f n a b reply k (buffer_after S (buffer a) x) paid (f + 0) (n + length x)
-      (done.0, done.1, omega (arith, done.2, writing_all-is S x (buffer a) some)) (buffered_leaves S x tt (OneWriteAll x) _ _ _ _ made.2)
+      (done.0, done.1, omega (arith, done.2, writing_all-is S x (buffer a) some))
+      (buffered_leaves S x tt (λ C. AllCalls C x) _ _ _ _ made.2)
       (Paid-same refl (omega arith) refl refl (Paid-write S paid.1.0 f n (buffer a) x some (fits a) paid.1.2))
   call_paid f n a b (WroteRest x reply left) made paid = absurd made.2
   call_paid f n a b (Flushed reply) made paid =

@@ -107,7 +107,8 @@ module _ {R : Type 0} {S : ℕ} {K : Reader R} (old new : BufReader R S) where
         let call = read.filled (omega (arith, none)) small in
         let one = drawn fills call.0 call.1 in
         let passes = subst (λ r. PassesOn [] r room answer new) one.is call.2 in
-        is_ok _ passes.0 (omega (arith, length-take room one.gave, one.count, small, as_left (length (reader_held old)) (length (fills.left (reader_inner old))) none)))
+        let all = as_left (length (reader_held old)) (length (fills.left (reader_inner old))) none in
+        is_ok _ passes.0 (omega (arith, length-take room one.gave, one.count, small, all)))
         (λ large.
         let call = read.direct (omega (arith, none)) large in
         let one = drawn fills answer call.0 in

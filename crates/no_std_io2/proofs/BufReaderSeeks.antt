@@ -16,11 +16,10 @@ use Rattle.no_std_io2_base.specs.declared.traits.stored.Stored.{Ghosts as Stores
 use Rattle.no_std_io2_base.specs.Takes.{Store, KeepsContent}
 use Rattle.no_std_io2.specs.declared.buffered.buf_reader.BufReader.{BufReader}
 use Rattle.no_std_io2.specs.BufReader.{reader_held, reader_behind, reader_inner, reader_store, store_before, store_if, is_before, step_back}
-use Rattle.no_std_io2.specs.BufReader.{IsBefore}
 use Rattle.no_std_io2.specs.BufReader.{HasNoBuffer, KeepsBuffer, IsTooFarBack, SeeksOnce, SeeksTwice, ReaderSeeks, ReaderMaySeek, back_by}
 use Rattle.no_std_io2.specs.BufReader.{MovesBelow}
 use Rattle.no_std_io2.specs.Buffer.{IsInBuffer, IsCutOn}
-use Rattle.no_std_io2.proofs.BufferedReads.{keeps_before}
+use Rattle.no_std_io2.proofs.BufferedReads.{keeps_before, IsBefore}
 
 -- the members of a bound `Seek`
 abbrev pub seeker : {S : Type 0} → Stores S → SeekMembers S → Seeker S
@@ -33,10 +32,6 @@ buf_seeker I = record { store = reader_store I.store; may = ReaderMaySeek I }
 -- an offset that does not fit one inner seek is too far back
 pub far_unless_fits : (o : ℤ) (held : ℕ) → FitsSigned w64 o → held < 2 ^ 63 → (FitsSigned w64 (o -ℤ pos held) → ⊥) → IsTooFarBack o held
 far_unless_fits = grind (arith, common_steps)
-
--- and one that it can say is not too far back
-pub fits_not_far : (o : ℤ) (held : ℕ) → FitsSigned w64 (o -ℤ pos held) → IsTooFarBack o held → ⊥
-fits_not_far = grind (arith, common_steps)
 
 -- the target `inner`, from some bytes further on, is `outer`
 abbrev AreSame : SeekFrom → SeekFrom → ℕ → Type 0

@@ -12,6 +12,7 @@ use Rattle.no_std_io2_base.specs.declared.error.Error.{Error}
 use Rattle.no_std_io2_base.specs.Errors.{IsNoInterruption}
 use Rattle.no_std_io2_base.specs.Writers.{Writer}
 use Rattle.no_std_io2_base.specs.Write.{Told, Moves, MovesFront, WriteCall, Made, taken, write_mishap, call_mishap}
+use Rattle.no_std_io2_base.specs.Write.{Wrote, Flushed, AllCalls}
 use Rattle.no_std_io2_base.specs.Write.{calls_for, none as no_write}
 use Rattle.no_std_io2_base.proofs.MovesLemmas.{IsFront-refl, Moves-then, zero_write-whole}
 use Rattle.no_std_io2_base.proofs.CallsLemmas.{made_split, writes_whole}
@@ -20,9 +21,9 @@ use Rattle.no_std_io2_base.proofs.AllFacts.{all_calls, call_steady}
 use Rattle.no_std_io2_base.specs.Meter.{charges}
 use Rattle.no_std_io2_base.proofs.MeterLemmas.{writes_count, all_count}
 use Rattle.no_std_io2.specs.declared.buffered.sender.Sender.{Sender}
-use Rattle.no_std_io2.specs.BufWriter.{stops, goes_on, with_buffer, TakesStep, sender_inner, sender_buffer, sender_with_inner}
-use Rattle.no_std_io2.specs.BufWriter.{SendCalls, WayCalls, PutCalls, Buffered, WriteCalls, WriteAllCalls, FlushCalls, PastEmpty, OneWrite}
-use Rattle.no_std_io2.specs.BufWriter.{OneWriteAll, OneFlush, way_calls, writing_calls, buffer_after, Buffers, BuffersAll, Flushes}
+use Rattle.no_std_io2.specs.BufWriter.{stops, goes_on, with_buffer, TakesStep, sender_inner, sender_buffer, Only}
+use Rattle.no_std_io2.specs.BufWriter.{SendCalls, WayCalls, PutCalls, Buffered, WriteCalls, WriteAllCalls, FlushCalls, PastEmpty}
+use Rattle.no_std_io2.specs.BufWriter.{way_calls, writing_calls, buffer_after, Buffers, BuffersAll, Flushes}
 use Rattle.no_std_io2.proofs.BufWriterLemmas.{Moves-kept, Moves-emptied, MovesFront-emptied}
 use Rattle.std.proofs.lemmas.Result.{on_ok_weaker}
 use Rattle.no_std_io2.proofs.StepLemmas.{no_ok, Stepped, Leaves, Tells, Sending, Counts, Counted, then_goes_on, then_leaves, then_tells}
@@ -87,9 +88,9 @@ module _ {W : Type 0} {I : Writer W} (S : ℕ) where
 pub buffered_past : {W A : Type 0} {S : ℕ} {I : Writer W} {old mid : Sender W S} {inner : W} (x : List ℕ) (v : A)
     (past : List WriteCall → Result A Error → Type 0) {reply : Result A Error} → mid ≡ old → sender_buffer mid ≡ [] → S ≤ length x
     → (C : List WriteCall) × Made (CallOf I) (sender_inner mid) C inner × past C reply
-    → TakesStep I sender_inner sender_buffer (Buffered S x v past) old reply (sender_with_inner mid inner)
+    → TakesStep I sender_inner sender_buffer (Buffered S x v past) old reply (record mid { inner = inner })
 buffered_past {S} {I} {mid = mid} {inner = inner} x v past {reply = reply} same none long calls =
-    subst (λ w. TakesStep I sender_inner sender_buffer (Buffered S x v past) w reply (sender_with_inner mid inner)) same
+    subst (λ w. TakesStep I sender_inner sender_buffer (Buffered S x v past) w reply (record mid { inner = inner })) same
     (then_goes_on _ _ _ _ (way_empty S (length x) none) (passes S x v past long none none calls))
 
 -- one call
@@ -196,19 +197,19 @@ module _ {W : Type 0} (I : Writer W) where
   Writing x old reply new = Moves old (taken reply x) (write_mishap reply x) new
 
   pub write_tells : (S : ℕ) (x : List ℕ) → Tells I (WriteCalls S x) (Writing x)
-  write_tells S x = buffered_tells S x (length x) (OneWrite x) (Writing x) (λ s t e m. m)
+  write_tells S x = buffered_tells S x (length x) (Only (Wrote x)) (Writing x) (λ s t e m. m)
       (λ s m t r f g. Moves-then {k = []} f g) (λ s t m. rw (take_all _ x (le_refl (length x)), zero_write-whole x) m)
       (λ held C reply left gone a b made. Moves-emptied gone.0 gone.1 (one_call a b gone.2 made).moves)
 
   pub write_counts : (S : ℕ) (x : List ℕ) → Counts I (WriteCalls S x) (λ held. writing_calls S held x)
-  write_counts S x = buffered_counts S x (length x) (OneWrite x) 1
+  write_counts S x = buffered_counts S x (length x) (Only (Wrote x)) 1
       (λ held C reply left gone a b made takes.
       let law = one_call a b gone.2 made in
       let all = law.all takes in (all.0, subst IsOk (sym all.1) refl, ap charges gone.2 ∙ omega arith))
 
   pub flush_tells : Tells I FlushCalls (Sending I)
   flush_tells = λ held C reply left flush.
-      then_tells I SendCalls (PastEmpty OneFlush) (Sending I) (λ s t e m. m)
+      then_tells I SendCalls (PastEmpty (Only Flushed)) (Sending I) (λ s t e m. m)
       (λ s m t r f g. Moves-then {k = []} f g) send_tells
       (λ held C reply left gone a b made. Moves-emptied gone.0 gone.1 (one_call a b gone.2 made).moves) flush
 
@@ -239,7 +240,7 @@ module _ {W : Type 0} (I : Writer W) where
   WritingAll x old reply new = MovesFront old x reply new
 
   pub write_all_tells : (S : ℕ) (x : List ℕ) → Tells I (WriteAllCalls S x) (WritingAll x)
-  write_all_tells S x = buffered_tells I S x tt (OneWriteAll x) (WritingAll x)
+  write_all_tells S x = buffered_tells I S x tt (λ C. AllCalls C x) (WritingAll x)
       (λ s t e m. record { accepted = []; front = (x, refl); whole = tt; moves = m })
       (λ s m t r f g. record { accepted = g.accepted; front = g.front; whole = g.whole; moves = Moves-then {k = []} f g.moves })
       (λ s t m. record { accepted = x; front = IsFront-refl x; whole = refl; moves = m })
@@ -247,7 +248,7 @@ module _ {W : Type 0} (I : Writer W) where
       MovesFront-emptied gone.0 gone.1 (all_calls I gone.2 a b made).1)
 
   pub write_all_counts : (S : ℕ) (x : List ℕ) → Counts I (WriteAllCalls S x) (writing_all_calls S x)
-  write_all_counts S x = buffered_counts I S x tt (OneWriteAll x) (calls_for x)
+  write_all_counts S x = buffered_counts I S x tt (λ C. AllCalls C x) (calls_for x)
       (λ held C reply left gone a b made takes. all_count I gone.2 a b made takes)
 
   pub write_all_fault : (S : ℕ) {x held left : List ℕ} {C : List WriteCall} {reply : Result (Unit {0}) Error}
@@ -256,11 +257,11 @@ module _ {W : Type 0} (I : Writer W) where
 
   pub flush_counts : Counts I FlushCalls calls_for
   flush_counts = λ held C reply left flush a b made takes.
-      let all = then_counts I SendCalls (PastEmpty OneFlush) (λ _. []) calls_for (λ _. 0) send_leaves
+      let all = then_counts I SendCalls (PastEmpty (Only Flushed)) (λ _. []) calls_for (λ _. 0) send_leaves
       (send_counts I) past_counts flush a b made takes in
       (all.0, all.1, omega (arith, all.2))
     where
-      past_counts : Counts I (PastEmpty OneFlush) (λ _. 0)
+      past_counts : Counts I (PastEmpty (Only Flushed)) (λ _. 0)
       past_counts = λ held C reply left gone a b made takes.
           let law = one_call I a b gone.2 made in
           (law.all takes, call_steady reply takes.1 law.moves, ap charges gone.2 ∙ omega arith)

@@ -1,16 +1,16 @@
 -- Which errors a writer with a buffer returns, if each call of its inner writer fails with such errors only.
 use Rattle.std.proofs.Common.{◌≡◌, ℕ, ◌<◌, List, ◌∷◌, [], Result, Ok, Err, IfErr, IfOk, length, arith, subst, sym, inl, inr}
 use Rattle.no_std_io2_base.specs.declared.error.Error.{Error}
-use Rattle.no_std_io2_base.specs.Write.{WriteCall, Wrote, WroteAll, WroteRest, Flushed, Made}
+use Rattle.no_std_io2_base.specs.Write.{WriteCall, Wrote, WroteAll, WroteRest, Flushed, Made, AllCalls}
 use Rattle.no_std_io2_base.specs.Writers.{Writer}
 use Rattle.no_std_io2_base.specs.Fails.{FailsBy, FailsOnly}
 use Rattle.no_std_io2_base.proofs.CallsLemmas.{made_split}
 use Rattle.no_std_io2_base.proofs.FailsLemmas.{bare, writes_fail, all_fails}
-use Rattle.no_std_io2.specs.BufWriter.{Step, Then, stops, goes_on, PastEmpty, SendCalls, WayCalls, PutCalls, Buffered, WriteCalls}
+use Rattle.no_std_io2.specs.BufWriter.{Step, Then, stops, goes_on, PastEmpty, SendCalls, WayCalls, PutCalls, Buffered, WriteCalls, Only}
 use Rattle.no_std_io2.specs.BufWriter.{WriteAllCalls}
-use Rattle.no_std_io2.specs.BufWriter.{FlushCalls, OneWrite, OneWriteAll, OneFlush, BufferMay}
+use Rattle.no_std_io2.specs.BufWriter.{FlushCalls, InnerCalls, BufferMay}
 use Rattle.no_std_io2_base.specs.Lines.{lines_of, unfinished_line}
-use Rattle.no_std_io2.specs.LineWriter.{SendLineCalls, LinesCalls, HoldsTail, SendLinesCalls, LineWriteCalls, LineWriteAllCalls, LineMay}
+use Rattle.no_std_io2.specs.LineWriter.{SendLineCalls, LinesCalls, HoldsTail, SendLinesCalls, LineWriteCalls, LineWriteAllCalls, LineCalls}
 use Rattle.no_std_io2_base.proofs.LineLemmas.{lines_some}
 
 module _ {W : Type 0} (I : Writer W) (Q : Error → Type 0) (fails : FailsOnly Q I.may) where
@@ -62,19 +62,19 @@ module _ {W : Type 0} (I : Writer W) (Q : Error → Type 0) (fails : FailsOnly Q
   Some x reply = IfErr reply Q × IfOk reply (λ n. 0 < length x → 0 < n)
 
   write_some : (S : ℕ) (x : List ℕ) → Gives (Some x) (WriteCalls S x)
-  write_some S x = buffered_gives (Some x) S x (length x) (OneWrite x) (λ e q. (q, tt)) (tt, λ some. some)
+  write_some S x = buffered_gives (Some x) S x (length x) (Only (Wrote x)) (λ e q. (q, tt)) (tt, λ some. some)
       (λ C reply is a b made. one {call = Wrote x reply} a b is made)
 
   write_all_fails : (S : ℕ) (x : List ℕ) → Fails (WriteAllCalls S x)
-  write_all_fails S x = buffered_gives (λ reply. IfErr reply Q) S x tt (OneWriteAll x) (λ e q. q) tt
+  write_all_fails S x = buffered_gives (λ reply. IfErr reply Q) S x tt (λ C. AllCalls C x) (λ e q. q) tt
       (λ C reply calls a b made. all_fails Q I.may fails reply calls a b made)
 
   flush_fails : Fails FlushCalls
-  flush_fails = then_gives (λ reply. IfErr reply Q) SendCalls (PastEmpty OneFlush) (λ e q. q) send_fails
+  flush_fails = then_gives (λ reply. IfErr reply Q) SendCalls (PastEmpty (Only Flushed)) (λ e q. q) send_fails
       (λ held C reply left gone a b made. one {call = Flushed reply} a b gone.2 made)
 
   -- A writer with a buffer fails with the errors of its inner writer only.
-  pub buffer_fails : {B : Type 0} (S : ℕ) (inner : B → W) (buffer : B → List ℕ) → FailsOnly Q (BufferMay I S inner buffer)
+  pub buffer_fails : {B : Type 0} (S : ℕ) (inner : B → W) (buffer : B → List ℕ) → FailsOnly Q (BufferMay I (InnerCalls S) inner buffer)
   buffer_fails S inner buffer old new (Wrote x reply) may =
       write_some S x _ _ _ _ may.2 (inner old) (inner new) (bare I may.0 (inner old) (inner new) may.1)
   buffer_fails S inner buffer old new (WroteAll x reply) may =
@@ -128,7 +128,7 @@ module _ {W : Type 0} (I : Writer W) (Q : Error → Type 0) (fails : FailsOnly Q
         (send_lines_fails S (lines_of x)) (write_all_fails S (unfinished_line x)) held C reply left lines.1 a b made
   ]
 
-  pub line_fails : {B : Type 0} (S : ℕ) (inner : B → W) (buffer : B → List ℕ) → FailsOnly Q (LineMay I S inner buffer)
+  pub line_fails : {B : Type 0} (S : ℕ) (inner : B → W) (buffer : B → List ℕ) → FailsOnly Q (BufferMay I (LineCalls S) inner buffer)
   line_fails S inner buffer old new (Wrote x reply) may =
       line_write_some S x _ _ _ _ may.2 (inner old) (inner new) (bare I may.0 (inner old) (inner new) may.1)
   line_fails S inner buffer old new (WroteAll x reply) may =

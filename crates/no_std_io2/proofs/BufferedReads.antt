@@ -18,9 +18,13 @@ use Rattle.no_std_io2_base.specs.Read.{answered, fault_of, bytes_given}
 use Rattle.no_std_io2_base.specs.Events.{BeginsWith}
 use Rattle.no_std_io2_base.proofs.EventLemmas.{bytes-append, bytes-events_of, length-events_of, events_of-append}
 use Rattle.no_std_io2_base.proofs.TakesLemmas.{takes_none}
-use Rattle.no_std_io2.specs.BufReader.{behind_held, IsBefore, is_before, step_back, store_if, store_before, reader_told}
+use Rattle.no_std_io2.specs.BufReader.{behind_held, is_before, step_back, store_if, store_before, reader_told}
 use Rattle.no_std_io2.specs.BufReader.{TakesOver}
 use Rattle.no_std_io2.specs.Buffer.{IsInBuffer, IsCutOn}
+
+-- these bytes are those of the content right before its position
+abbrev pub IsBefore : List ℕ → Store → Type 0
+IsBefore whole s = (length whole ≤ s.position) × (drop (s.position - length whole) s.content ≡ whole ++ drop s.position s.content)
 
 -- the test of a store
 pub before_decides : (whole : List ℕ) (s : Store) → Decides (is_before whole s) (IsBefore whole s)
@@ -252,12 +256,3 @@ begins_filled {a} {b} x takes begins = by (to_come a) (to_come b) takes.events b
     by None E' taken begins = tt
     by (Some E) None taken begins = absurd taken
     by (Some E) (Some E') taken begins = subst (λ l. BeginsWith l x) (sym taken) begins
-
--- a buffer that was just made tells what the inner reader tells
-pub told_new : (room : ℕ) (behind : List ℕ) {held : List ℕ} (t : Tells) → held ≡ [] → to_come (reader_told room behind held t) ≡ to_come t
-told_new room behind {held} t none =
-    told_behind room behind held t ∙ ap (λ l. behind_held l (to_come t)) none ∙ nothing (to_come t)
-  where
-    nothing : (E : Option (List Event)) → behind_held [] E ≡ E
-    nothing None = refl
-    nothing (Some E) = refl

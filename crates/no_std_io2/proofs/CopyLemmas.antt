@@ -1,21 +1,21 @@
 -- What follows of a copy, if its reader tells its events or its writer its mishaps.
 use Rattle.std.proofs.lemmas.Grind.{common_steps}
 use Rattle.std.proofs.Common.{◌≡◌, Option, None, Some, true, ℕ, List, ◌∷◌, ◌++◌, [], refl, sym, ap, ◌∙◌, subst, arith, Err, append-nil}
-use Rattle.std.proofs.Common.{IfSome, ⊎_elim, Ok, Result}
+use Rattle.std.proofs.Common.{IfSome, Ok}
 use Rattle.std.proofs.lemmas.List.Sums.{sum_by-cons}
 use Rattle.no_std_io2_base.specs.declared.error.Error.{Error}
 use Rattle.no_std_io2_base.specs.declared.error.ErrorKind.{ErrorKind}
 use Rattle.no_std_io2_base.specs.Errors.{IsInterruption, IsFault}
-use Rattle.no_std_io2_base.specs.Events.{Event, byte, fails, events_of, HasNoFault, EndsInFault}
-use Rattle.no_std_io2_base.specs.Read.{Reader, tells, ReadCall, ReadCallLaw, Gave, Gathers, no_read, and_gave, and_again}
-use Rattle.no_std_io2_base.specs.Takes.{Tells, Takes, TakesBytes, to_come, IsAtEnd}
-use Rattle.no_std_io2_base.specs.Write.{Told, Moves, HasSpent, WriteCall, Made}
-use Rattle.no_std_io2_base.specs.Writers.{Writer, CallOf}
-use Rattle.no_std_io2_base.proofs.CallsLemmas.{made_split}
-use Rattle.no_std_io2_base.proofs.TakesLemmas.{takes_none, bytes_more, bytes_still}
+use Rattle.no_std_io2_base.specs.Events.{Event, byte, fails, HasNoFault, EndsInFault}
+use Rattle.no_std_io2_base.specs.Read.{Reader}
+use Rattle.no_std_io2_base.specs.Takes.{Tells, Takes, to_come, IsAtEnd}
+use Rattle.no_std_io2_base.specs.Write.{Told, Moves, HasSpent}
+use Rattle.no_std_io2_base.specs.Writers.{Writer}
 use Rattle.no_std_io2_base.proofs.EventLemmas.{HasNoFault-front}
 use Rattle.no_std_io2_base.proofs.MovesLemmas.{Moves-steady}
-use Rattle.no_std_io2.specs.Copy.{CopyEnds, Handed, nothing, piece, refused, HandsOn, Copied}
+use Rattle.no_std_io2.specs.Copy.{CopyEnds, Copied, SidesCopied, side_error}
+use Rattle.no_std_io2.specs.declared.util.sides.CopyError.{CopyError}
+use Rattle.no_std_io2.specs.declared.util.sides.CopyError.TheVariants.{Read, Write}
 use Rattle.no_std_io2_base.proofs.ExactLemmas.{left_of}
 
 -- events without a fault do not end in one
@@ -37,14 +37,23 @@ took_all {b = b} {P} takes told end =
     (sym (left.2 ∙ ap (λ l. P ++ l) none ∙ append-nil P), left.1 ∙ ap Some none)
 
 -- a copy fails for a fault of the reader, or a mishap of the writer
-pub copies_steadily : (room : ℕ) {a b : Tells} {P E : List Event} (e : Error) {old new : Told} → Takes a P b → to_come a ≡ Some E
-    → HasNoFault E → CopyEnds room (Err e) P b old new → old.mishaps ≡ Some [] → ⊥
-copies_steadily room {P = P} e takes told none ends steady =
-    let left = left_of takes told in
-    ⊎_elim
-    (λ fault. no_fault_at_end P e (HasNoFault-front P left.0 (subst HasNoFault left.2 none)) fault.0)
-    (λ refused. Moves-steady steady refused.1.2.2)
-    ends
+pub copies_steadily : (room : ℕ) {a b : Tells} {P E : List Event} (side : CopyError) (old new : Told) → Takes a P b → to_come a ≡ Some E
+    → HasNoFault E → CopyEnds room (Err side) P b old new → old.mishaps ≡ Some [] → ⊥
+copies_steadily room {P = P} (Read e) old new takes told none ends steady =
+    let left = left_of takes told in no_fault_at_end P e (HasNoFault-front P left.0 (subst HasNoFault left.2 none)) ends.0
+copies_steadily room (Write e) old new takes told none ends steady = Moves-steady steady ends.1.2.2
+
+module _ {R W : Type 0} {K : Reader R} {I : Writer W} {S : ℕ} {from from' : R} {old new : W} where
+  -- a `copy` that returned `Ok` is a `copy_sided` that did
+  pub copied_ok : {n : ℕ} → Copied K I S from old (Ok n) from' new → SidesCopied K I S from old (Ok n) from' new
+  copied_ok {n} (Ok m, same, copied) = let is : m ≡ n = cc in subst (λ k. SidesCopied K I S from old (Ok k) from' new) is copied
+  copied_ok (Err side, same, copied) = absurd (let no : ⊥ = cc in no)
+
+  -- and one that failed is a `copy_sided` of which one side failed
+  pub copied_err : {e : Error} → Copied K I S from old (Err e) from' new
+      → (side : CopyError) × (side_error side ≡ e) × SidesCopied K I S from old (Err side) from' new
+  copied_err (Ok m, same, copied) = absurd (let no : ⊥ = cc in no)
+  copied_err {e} (Err side, same, copied) = let is : side_error side ≡ e = cc in (side, is, copied)
 
 -- a steady writer is steady afterwards
 pub stays_steady : {a c : Told} {x : List ℕ} → a.mishaps ≡ Some [] → Moves a x [] c → c.mishaps ≡ Some []
@@ -59,36 +68,3 @@ stays_steady {a} {c} {x} steady m = none_left c.mishaps (subst (λ k. HasSpent k
 pub flushed : (a : Told) {b c : Told} {x : List ℕ}
     → Moves a x [] b → Moves b [] [] c → c.held ≡ [] → c.out ≡ a.out ++ a.held ++ x
 flushed a {b = b} {c = c} m n empty = grind (arith, common_steps)
-
--- through no buffer no piece is passed on
-handed_none : {S : ℕ} {xs : List (List ℕ)} {C : List WriteCall} {reply : Result (Unit {0}) Error} → S ≡ 0 → Handed S xs C reply → C ≡ []
-handed_none zero nothing = refl
-handed_none zero (piece some fits calls rest) = absurd (omega (arith, zero, some, fits))
-handed_none zero (refused some fits calls) = absurd (omega (arith, zero, some, fits))
-
-module _ {R W : Type 0} {K : Reader R} {I : Writer W} {S : ℕ} {from from' : R} {old new : W} where
-  -- so the writer does not change
-  pub hands_unchanged : {last : List ReadCall} {reply : Result (Unit {0}) Error} → S ≡ 0 → HandsOn K I S last from old reply from' new
-      → new ≡ old
-  hands_unchanged zero hands = subst (λ C. Made (CallOf I) old C new) (handed_none zero hands.handed) hands.made
-
-  pub copy_unchanged : (reply : Result ℕ Error) → S ≡ 0 → Copied K I S from old reply from' new → new ≡ old
-  copy_unchanged (Ok n) zero copied = hands_unchanged zero copied.calls
-  copy_unchanged (Err e) zero copied = ⊎_elim (hands_unchanged zero) (hands_unchanged zero) copied.calls
-
--- the bytes that reads in a row gave were taken
-pub gathers_took : {R : Type 0} (K : Reader R) {asks : ℕ → ℕ → Type 0} {C : List ReadCall} {x : List ℕ} → Gathers asks C x
-    → (a b : R) → Made (ReadCallLaw K) a C b → TakesBytes (tells K a) x (tells K b)
-gathers_took K no_read a b made = record {
-  taken = [];
-  takes = subst (λ r. Takes (tells K a) [] (tells K r)) (sym made) (takes_none (tells K a));
-  no_fault = tt;
-  are = refl;
-}
-gathers_took K (and_gave C x y room before into more) a b made =
-    let (mid, first, last) = made_split (ReadCallLaw K) C a (Gave room (Ok y) ∷ []) b made in
-    bytes_more y (gathers_took K before a mid first) (subst (λ r. Takes (tells K mid) (events_of y) (tells K r)) (sym last.2) last.1.takes)
-gathers_took K (and_again C x room e before into again) a b made =
-    let (mid, first, last) = made_split (ReadCallLaw K) C a (Gave room (Err e) ∷ []) b made in
-    let took = subst (λ r. Takes (tells K mid) (fails e ∷ []) (tells K r)) (sym last.2) last.1.takes in
-    bytes_still (gathers_took K before a mid first) took again

@@ -5,7 +5,7 @@ use Rattle.std.specs.List.{concat}
 use Rattle.std.proofs.lemmas.List.Folds.{concat-append}
 use Rattle.no_std_io2_base.specs.declared.error.Error.{Error}
 use Rattle.no_std_io2_base.specs.Errors.{IsInterruption, IsFault}
-use Rattle.no_std_io2_base.specs.Events.{Event, fails, events_of, bytes, HasNoFault, EndsInFault}
+use Rattle.no_std_io2_base.specs.Events.{fails, events_of, bytes}
 use Rattle.no_std_io2_base.specs.Takes.{Takes}
 use Rattle.no_std_io2_base.specs.Read.{Reader, tells, ReadCall, Gave, ReadLaw, GaveLaw, ReadCallLaw}
 use Rattle.no_std_io2_base.specs.Write.{WriteCall, Made, AllCalls, Moves}
@@ -17,7 +17,8 @@ use Rattle.no_std_io2_base.proofs.PieceLemmas.{bytes_still}
 use Rattle.no_std_io2_base.proofs.ReadExactExits.{some_bytes}
 use Rattle.no_std_io2_base.proofs.ReadLoop.{ReadsSoFar, reads_none, reads_more, reads_again}
 use Rattle.no_std_io2_base.proofs.TakesLemmas.{takes_then, takes_still, takes_turns, read_law, read_spends, nothing_read}
-use Rattle.no_std_io2.specs.Copy.{Handed, nothing, piece, refused, HandsOn, IsExactly, counted, CopyWhole, WriterRefuses}
+use Rattle.no_std_io2.specs.Copy.{Handed, nothing, piece, refused, HandsOn, counted, SidesCopied}
+use Rattle.no_std_io2.specs.declared.util.sides.CopyError.TheVariants.{Read, Write}
 
 -- one piece more
 handed_more : {S : ℕ} {xs : List (List ℕ)} {x : List ℕ} {C D : List WriteCall} {so_far : Result (Unit {0}) Error}
@@ -41,7 +42,7 @@ pub record CopySoFar {R W : Type 0} (K : Reader R) (I : Writer W) (S : ℕ) (fro
     : Type 0 where
   pub long : length buf ≡ S
   pub pieces : List (List ℕ)
-  pub reads : ReadsSoFar K (IsExactly S) from (concat pieces) mid
+  pub reads : ReadsSoFar K (λ _ room. room ≡ S) from (concat pieces) mid
   pub turns : K.turns mid + length pieces ≤ K.turns from
   pub writes : List WriteCall
   pub handed : Handed S pieces writes (Ok tt)
@@ -49,14 +50,6 @@ pub record CopySoFar {R W : Type 0} (K : Reader R) (I : Writer W) (S : ℕ) (fro
   pub moves : Moves (I.told old) (concat pieces) [] (I.told now)
   pub count : copied ≡ counted (concat pieces)
   pub all : TakesAll I old → TakesAll I now
-
--- A loop ended: it took some events, of which this holds, and passed on the pieces that they gave.
-pub record CopyStopped {R W : Type 0} (K : Reader R) (I : Writer W) (S : ℕ) (last : List ReadCall) (Ends : List Event → Type 0) (from : R)
-    (old : W) (reply : Result (Unit {0}) Error) (from' : R) (new : W) : Type 0 where
-  pub taken : List Event
-  pub takes : Takes (tells K from) taken (tells K from')
-  pub ends : Ends taken
-  pub hands : HandsOn K I S last from old reply from' new
 
 module _ {R W : Type 0} {K : Reader R} {I : Writer W} {S : ℕ} {from : R} {old : W} where
   -- before the first read
@@ -110,8 +103,7 @@ module _ {R W : Type 0} {K : Reader R} {I : Writer W} {S : ℕ} {from : R} {old 
 
       -- its fault ends the loop
       pub copy_faulted : {e : Error} → ReadLaw K mid part (Err e) ys mid' → IsFault e
-          → CopyStopped K I S (Gave S (Err e) ∷ []) (λ P. EndsInFault P e × Moves (I.told old) (bytes P) [] (I.told now)) from old
-          (Ok tt) mid' now
+          → SidesCopied K I S from old (Err (Read e)) mid' now
       copy_faulted {e} read fault =
           let took = before.reads.took in
           record {
@@ -121,13 +113,13 @@ module _ {R W : Type 0} {K : Reader R} {I : Writer W} {S : ℕ} {from : R} {old 
               (took.taken, refl, took.no_fault, fault),
               subst (λ l. Moves (I.told old) l [] (I.told now)) (sym (bytes_still took.taken e ∙ took.are)) before.moves,
             );
-            hands = hands_last long (Err e) (read_law (Err e) read);
+            all = before.all;
+            calls = hands_last long (Err e) (read_law (Err e) read);
           }
 
       -- and so does its end
       pub copy_ended : {reply : Result ℕ Error} {n : ℕ} → ReadLaw K mid part reply ys mid' → reply ≡ Ok n → n ≡ 0
-          → CopyStopped K I S (Gave S (Ok []) ∷ []) (λ P. CopyWhole S copied P (tells K mid') (I.told old) (I.told now)) from old
-          (Ok tt) mid' now
+          → SidesCopied K I S from old (Ok copied) mid' now
       copy_ended read is none =
           let took = before.reads.took in
           let last = nothing_read read is none in
@@ -140,7 +132,8 @@ module _ {R W : Type 0} {K : Reader R} {I : Writer W} {S : ℕ} {from : R} {old 
               before.count ∙ ap counted (sym took.are),
               subst (λ l. Moves (I.told old) l [] (I.told now)) (sym took.are) before.moves,
             );
-            hands = hands_last long (Ok []) last;
+            all = before.all;
+            calls = hands_last long (Ok []) last;
           }
 
       module _ {n : ℕ} (read : ReadLaw K mid part (Ok n) ys mid') (some : n ≡ 0 → ⊥) where
@@ -152,8 +145,9 @@ module _ {R W : Type 0} {K : Reader R} {I : Writer W} {S : ℕ} {from : R} {old 
         size = length-take-le n ys read.bound
 
         -- the reads up to this piece
-        reads : ReadsSoFar K (IsExactly S) from (concat (before.pieces ++ x ∷ [])) mid'
-        reads = subst (λ l. ReadsSoFar K (IsExactly S) from l mid') (joined_more before.pieces x) (reads_more before.reads read some long)
+        reads : ReadsSoFar K (λ _ room. room ≡ S) from (concat (before.pieces ++ x ∷ [])) mid'
+        reads = subst (λ l. ReadsSoFar K (λ _ room. room ≡ S) from l mid') (joined_more before.pieces x)
+            (reads_more before.reads read some long)
 
         turns : K.turns mid' + length (before.pieces ++ x ∷ []) ≤ K.turns from
         turns = omega (arith, before.turns, read_spends read some, length-append before.pieces (x ∷ []))
@@ -187,7 +181,7 @@ module _ {R W : Type 0} {K : Reader R} {I : Writer W} {S : ℕ} {from : R} {old 
 
         -- the writer's fault ends the loop, in the middle of a piece
         pub copy_refused : {new : W} {e : Error} → WriteAllOf I now x (Err e) new
-            → CopyStopped K I S [] (λ P. HasNoFault P × WriterRefuses S (bytes P) e (I.told old) (I.told new)) from old (Err e) mid' new
+            → SidesCopied K I S from old (Err (Write e)) mid' new
         copy_refused {new} {e} wrote =
             let took = before.reads.took in
             let accepted = wrote.moves.accepted in
@@ -215,7 +209,8 @@ module _ {R W : Type 0} {K : Reader R} {I : Writer W} {S : ℕ} {from : R} {old 
                   ),
                 ),
               );
-              hands = record {
+              all = λ t. wrote.all (before.all t);
+              calls = record {
                 pieces = before.pieces ++ x ∷ [];
                 calls = before.writes ++ wrote.calls.0;
                 handed = handed wrote;

@@ -11,8 +11,9 @@ use Rattle.no_std_io2_base.specs.Write.{Made}
 use Rattle.no_std_io2_base.specs.Writers.{Writer}
 use Rattle.no_std_io2_base.proofs.CallsLemmas.{made_split}
 use Rattle.no_std_io2_base.proofs.EventLemmas.{length-events_of}
-use Rattle.no_std_io2.specs.Copy.{IsExactly, Copied, copy_reads}
+use Rattle.no_std_io2.specs.Copy.{Copied}
 use Rattle.no_std_io2_base.proofs.ExactLemmas.{left_of}
+use Rattle.no_std_io2.proofs.CopyLemmas.{copied_ok}
 
 -- a read into the whole room that gave bytes
 one_read : (room : ℕ) {size : ℕ} (n : ℕ) {left : ℕ} (left' cost : ℕ) {cost' all : ℕ} → 0 < room → size ≡ room
@@ -44,7 +45,7 @@ module _ {R : Type 0} (K : Reader R) (cost : R → ℕ) (meter : IsReadMeter K.m
 
   module _ (S : ℕ) (some : 0 < S) where
     -- what reads into the whole buffer cost
-    reads_cost : {C : List ReadCall} {x : List ℕ} → Gathers (IsExactly S) C x → (a b : R) → Made (ReadCallLaw K) a C b
+    reads_cost : {C : List ReadCall} {x : List ℕ} → Gathers (λ _ room. room ≡ S) C x → (a b : R) → Made (ReadCallLaw K) a C b
         → cost b + div_ceil (length (fills.left b)) S ≡ cost a + div_ceil (length (fills.left a)) S
     reads_cost no_read a b made = ap (λ r. cost r + div_ceil (length (fills.left r)) S) made
     reads_cost (and_gave C x y room before whole more) a b made =
@@ -58,9 +59,9 @@ module _ {R : Type 0} (K : Reader R) (cost : R → ℕ) (meter : IsReadMeter K.m
 
     -- a copy that came to the end makes one read for each S bytes, rounded up, and one more
     pub copy_cost : {W : Type 0} {I : Writer W} {a b : R} {old new : W} (reply : Result ℕ Error) → Copied K I S a old reply b new
-        → OnOk reply (cost b ≡ cost a + copy_reads S (length (fills.left a)))
+        → OnOk reply (cost b ≡ cost a + (div_ceil (length (fills.left a)) S + 1))
     copy_cost {a = a} {b} (Ok n) copied =
-        let hands = copied.calls in
+        let hands = (copied_ok copied).calls in
         let (mid, first, last) = made_split (ReadCallLaw K) hands.reads a (Gave S (Ok []) ∷ []) b hands.asked in
         let call = meter mid b S (Ok []) in
         let law : GaveLaw K mid S (Ok []) b = subst (λ r. GaveLaw K mid S (Ok []) r) (sym last.2) last.1 in

@@ -10,14 +10,14 @@ use lib.Seq.{take-take}
 use Rattle.no_std_io2_base.specs.declared.error.Error.{Error}
 use Rattle.no_std_io2_base.specs.Errors.{IsNoInterruption}
 use Rattle.no_std_io2_base.specs.Writers.{Writer}
-use Rattle.no_std_io2_base.specs.Write.{Told, MovesFront, WriteCall, Wrote, Made, calls_for}
+use Rattle.no_std_io2_base.specs.Write.{Told, MovesFront, WriteCall, Wrote, Made, calls_for, AllCalls}
 use Rattle.no_std_io2_base.proofs.MovesLemmas.{Moves-then}
 use Rattle.no_std_io2_base.proofs.CallsLemmas.{made_split}
 use Rattle.no_std_io2_base.proofs.WritesFacts.{writes_fault}
 use Rattle.no_std_io2_base.proofs.AllFacts.{all_calls}
 use Rattle.no_std_io2_base.specs.Lines.{IsLineState, lines_of, lines_len, unfinished_line}
-use Rattle.no_std_io2.specs.BufWriter.{Then, stops, goes_on, with_buffer}
-use Rattle.no_std_io2.specs.BufWriter.{SendCalls, WriteCalls, WriteAllCalls, OneWrite, OneWriteAll, buffer_after, writing_calls}
+use Rattle.no_std_io2.specs.BufWriter.{Then, stops, goes_on, with_buffer, Only}
+use Rattle.no_std_io2.specs.BufWriter.{SendCalls, WriteCalls, WriteAllCalls, buffer_after, writing_calls}
 use Rattle.no_std_io2.specs.LineWriter.{SendLineCalls, HoldsTail, LinesCalls, SendLinesCalls, LineWriteCalls, LineWriteAllCalls}
 use Rattle.no_std_io2.specs.LineWriter.{line_buffer_filled, held_tail}
 use Rattle.no_std_io2.proofs.BufWriterLemmas.{Moves-buffered, Moves-emptied, MovesFront-emptied}
@@ -159,7 +159,7 @@ module _ {W : Type 0} (I : Writer W) where
       let keeps = line_write_keeps S write a b made takes in elim write [
         | inl plain ↦
             let after = at_ok reply keeps.1 (then_leaves SendLineCalls (WriteCalls S x) line_left (λ held. buffer_after S held x)
-            send_line_leaves (buffered_leaves S x (length x) (OneWrite x)) plain.1) in
+            send_line_leaves (buffered_leaves S x (length x) (Only (Wrote x))) plain.1) in
             grind (arith, nat_tests, after, line_left-is held line, lines_none x plain.0)
         | inr lines ↦
             let some = lines_some x lines.0 in grind (arith, nat_tests, tail_filled S x lines.1 some a b made takes, some)
@@ -203,7 +203,7 @@ module _ {W : Type 0} (I : Writer W) where
       writing_all_calls S y held + calls_for (buffer_after S held y),
       writing_then_sending S y held,
       then_counts I (WriteAllCalls S y) SendCalls (λ held. buffer_after S held y) (writing_all_calls S y) calls_for
-          (buffered_leaves S y tt (OneWriteAll y))
+          (buffered_leaves S y tt (λ C. AllCalls C y))
           (write_all_counts I S y) (send_counts I) behind.1 a b made takes,
     )
   ]

@@ -6,7 +6,7 @@ use Rattle.std.proofs.Common.{Ok, OnOk}
 use Rattle.std.proofs.Common.{IsOk, IfOk, refl, sym, ap, subst, arith, if◌then◌else◌, inl, inr, take-append-drop}
 use Rattle.std.proofs.lemmas.Bool.Decides.{nat_tests}
 use Rattle.no_std_io2_base.specs.declared.error.Error.{Error}
-use Rattle.no_std_io2_base.specs.Write.{WriteCall, Wrote, Writes, none as no_write, took, again, stuck, fault}
+use Rattle.no_std_io2_base.specs.Write.{WriteCall, Wrote, Writes, none as no_write, took, again, stuck, fault, AllCalls}
 use Rattle.no_std_io2_base.specs.Writers.{Writer}
 use Rattle.no_std_io2_base.proofs.CallsLemmas.{writes_whole}
 use Rattle.no_std_io2.specs.Buffer.{IsSuffix}
@@ -17,7 +17,7 @@ use Rattle.no_std_io2_base.proofs.LineLemmas.{lacks_contains}
 use Rattle.no_std_io2_base.proofs.LineLemmas.{contains_lines, take_lines, drop_lines, lines_split, plain_state, lacks_rest, state_rest}
 use Rattle.no_std_io2_base.proofs.LineLemmas.{ends_in-append}
 use Rattle.no_std_io2.specs.BufWriter.{Then, stops, goes_on, SendCalls, WayCalls, Buffered, WriteCalls, WriteAllCalls, FlushCalls}
-use Rattle.no_std_io2.specs.BufWriter.{OneWriteAll, buffer_after}
+use Rattle.no_std_io2.specs.BufWriter.{buffer_after}
 use Rattle.no_std_io2.specs.LineWriter.{SendLineCalls, HoldsTail, LinesCalls, SendLinesCalls, LineWriteCalls, LineWriteAllCalls}
 use Rattle.no_std_io2.specs.LineWriter.{line_buffer_after, IsShortText}
 use Rattle.std.proofs.lemmas.Result.{on_ok_weaker}
@@ -161,16 +161,16 @@ send_lines_leaves S y = λ held C reply left sends. elim sends [
   | inl past ↦ after_ok reply past.1
   | inr behind ↦
       then_leaves (WriteAllCalls S y) SendCalls (λ held. buffer_after S held y) (λ _. []) (buffered_leaves S y tt
-      (OneWriteAll y)) send_leaves behind.1
+      (λ C. AllCalls C y)) send_leaves behind.1
 ]
 
 -- a line state at an error
 behind_state : (S : ℕ) {y held left : List ℕ} {C : List WriteCall} {reply : Result (Unit {0}) Error}
     → Then (WriteAllCalls S y) SendCalls held C reply left → IsLineState held → ((front : List ℕ) → IsLineState (front ++ y))
     → IsLineState left
-behind_state S {y} (stops w) line ended = buffered_line S y tt (OneWriteAll y) w line ended
+behind_state S {y} (stops w) line ended = buffered_line S y tt (λ C. AllCalls C y) w line ended
 behind_state S {y} (goes_on w s) line ended =
-    state_end (writes_end s) (buffered_line S y tt (OneWriteAll y) w line ended)
+    state_end (writes_end s) (buffered_line S y tt (λ C. AllCalls C y) w line ended)
 
 lines_ended : (x : List ℕ) → 0 < lines_len x → (front : List ℕ) → IsLineState (front ++ lines_of x)
 lines_ended x some front has = ends_in-append newline front (lines_of x) some ∙ lines_end x some
@@ -189,7 +189,7 @@ all_lines_state S x (stops {left = left} p) line some = (
 all_lines_state S x (goes_on {mid = mid} {reply = reply} p q) line some =
     let empty = nothing_lacks (send_lines_leaves S (lines_of x) _ _ _ _ p) in
     let rest = unfinished_line x in
-    let none = buffered_plain S rest tt (OneWriteAll rest) q empty (unfinished_lacks x) in
+    let none = buffered_plain S rest tt (λ C. AllCalls C rest) q empty (unfinished_lacks x) in
     (plain_state _ none, after_ok reply none)
 
 pub line_write_all_state : (S : ℕ) {x held left : List ℕ} {C : List WriteCall} {reply : Result (Unit {0}) Error}
@@ -210,13 +210,13 @@ pub line_write_all_leaves : (S : ℕ) {x held left : List ℕ} {C : List WriteCa
 line_write_all_leaves S {x} {held} {left} {reply = reply} write line = elim write [
   | inl plain ↦
       let after = then_leaves SendLineCalls (WriteAllCalls S x) line_left (λ held. buffer_after S held x) send_line_leaves
-      (buffered_leaves S x tt (OneWriteAll x)) plain.1 in
+      (buffered_leaves S x tt (λ C. AllCalls C x)) plain.1 in
       on_ok_weaker reply
       (λ e. grind (arith, nat_tests, e, line_left-is held line, lines_none x plain.0, unfinished_all x plain.0)) after
   | inr lines ↦
       let after = then_leaves (SendLinesCalls S (lines_of x)) (WriteAllCalls S (unfinished_line x)) (λ _. [])
       (λ held. buffer_after S held (unfinished_line x)) (send_lines_leaves S (lines_of x))
-      (buffered_leaves S (unfinished_line x) tt (OneWriteAll (unfinished_line x))) lines.1 in
+      (buffered_leaves S (unfinished_line x) tt (λ C. AllCalls C (unfinished_line x))) lines.1 in
       on_ok_weaker reply (λ e. grind (arith, nat_tests, e, lines_some x lines.0)) after
 ]
 

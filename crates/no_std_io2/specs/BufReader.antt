@@ -33,26 +33,18 @@ reader_behind r = buffer_behind r.buffer
 abbrev pub reader_inner : {R : Type 0} {S : ℕ} → BufReader R S → R
 reader_inner r = r.inner
 
--- r after `*r.get_mut() = x`
-abbrev pub reader_with_inner : {R : Type 0} {S : ℕ} → BufReader R S → R → BufReader R S
-reader_with_inner r x = record r { inner = x }
-
 -- the held bytes, and then the events to come, if these are told
 abbrev pub behind_held : List ℕ → Option (List Event) → Option (List Event)
 behind_held held None = None
 behind_held held (Some E) = Some (events_of held ++ E)
 
--- these bytes are those of the content right before its position
-abbrev pub IsBefore : List ℕ → Store → Type 0
-IsBefore whole s = (length whole ≤ s.position) × (drop (s.position - length whole) s.content ≡ whole ++ drop s.position s.content)
-
--- whether they are
+-- whether these bytes are those of the content right before its position
 abbrev pub is_before : List ℕ → Store → Bool
 is_before whole s = nat_le (length whole) s.position
     && pointwise nat_eq (drop (s.position - length whole) s.content) (whole ++ drop s.position s.content)
 
 -- a lower position fits too
-pub lower_fits : (position n limit : ℕ) → position < limit → position - n < limit
+abbrev lower_fits : (position n limit : ℕ) → position < limit → position - n < limit
 lower_fits position n limit fits = lt_of_le_of_lt (sub-le position n) fits
 
 -- the same content, at a position that is lower by n
@@ -132,7 +124,7 @@ pub record FillsBelow {R : Type 0} {S : ℕ} (inner : Reader R) (old : BufReader
       → ReadCallLaw inner (reader_inner old) (Gave S answer) (reader_inner new) × HasBuffer new [] (bytes_given answer)
 
 -- a `read_to_end` could not grow the vector for the held bytes: it appended x, the first of them, and no inner call was made
-abbrev pub RefusesAll : {R : Type 0} {S : ℕ} → BufReader R S → List ℕ → Result (Unit {0}) Error → BufReader R S → Type 0
+abbrev RefusesAll : {R : Type 0} {S : ℕ} → BufReader R S → List ℕ → Result (Unit {0}) Error → BufReader R S → Type 0
 RefusesAll old x answer new = IsErrAnd answer IsOutOfMemory × (reader_inner new ≡ reader_inner old)
     × ((left : List ℕ) × (reader_held old ≡ x ++ left) × HasBuffer new (reader_behind old ++ x) left)
 
@@ -160,7 +152,7 @@ ExactReads asks C x (Err e) = (IsUnexpectedEnd e × GathersUntil asks C x (Ok []
 -- What such reads, which gave this, leave after the held bytes: what was given of both, and what is still held. Fewer bytes than a full
 -- buffer
 -- lie behind, the last that were given. After an error all was given, and the buffer is empty.
-abbrev pub ExactLeaves : {R : Type 0} {S : ℕ} → BufReader R S → List ℕ → Result (Unit {0}) Error → List ℕ → BufReader R S → Type 0
+abbrev ExactLeaves : {R : Type 0} {S : ℕ} → BufReader R S → List ℕ → Result (Unit {0}) Error → List ℕ → BufReader R S → Type 0
 ExactLeaves {S = size} old given (Ok u) buf new = (reader_held old ++ given ≡ buf ++ reader_held new)
     × IsSuffix buf (reader_behind new) × (length (reader_behind new) < size)
 ExactLeaves old given (Err e) buf new = IsFront (reader_held old ++ given) buf × HasNoBuffer new

@@ -47,13 +47,9 @@ into_inner_error_cause e = e.error
 abbrev pub with_buffer : Told → List ℕ → Told
 with_buffer told buffer = record told { held = told.held ++ buffer }
 
--- what a `Sender` tells if its inner writer tells `told`
-abbrev pub sender_told : {W : Type 0} {S : ℕ} → (W → Told) → Sender W S → Told
-sender_told told w = with_buffer (told w.inner) (sender_buffer w)
-
 -- what a `BufWriter` tells if its inner writer tells `told`
 abbrev pub writer_told : {W : Type 0} {S : ℕ} → (W → Told) → BufWriter W S → Told
-writer_told told w = sender_told told w.core
+writer_told told w = with_buffer (told (writer_inner w)) (writer_buffer w)
 
 -- the inner writer's store, if nothing is held
 abbrev pub store_unheld : List ℕ → Option Store → Option Store
@@ -72,14 +68,6 @@ writing_calls S buffer x = way_calls S buffer (length x) + (if nat_le S (length 
 abbrev pub buffer_after : ℕ → List ℕ → List ℕ → List ℕ
 buffer_after S buffer x =
     if nat_lt (length x) S then (if nat_le (length buffer + length x) S then buffer ++ x else x) else []
-
--- w with another inner writer
-abbrev pub sender_with_inner : {W : Type 0} {S : ℕ} → Sender W S → W → Sender W S
-sender_with_inner w x = record { inner = x; buffer = w.buffer }
-
--- w after `*w.get_mut() = x`
-abbrev pub writer_with_inner : {W : Type 0} {S : ℕ} → BufWriter W S → W → BufWriter W S
-writer_with_inner w x = record { core = sender_with_inner w.core x }
 
 -- A step of a writer with a buffer relates the bytes held before, the inner calls that were made, the result, and the bytes held
 -- afterwards.
@@ -115,29 +103,21 @@ PutCalls S x v past held C reply left = ((length x < S) × (C ≡ []) × (reply 
 abbrev pub Buffered : {A : Type 0} → ℕ → List ℕ → A → (List WriteCall → Result A Error → Type 0) → Step A
 Buffered S x v past = Then (WayCalls S (length x)) (PutCalls S x v past)
 
--- one `write` of x, with this result
-abbrev pub OneWrite : List ℕ → List WriteCall → Result ℕ Error → Type 0
-OneWrite x C reply = C ≡ Wrote x reply ∷ []
-
--- one `write_all` of x
-abbrev pub OneWriteAll : List ℕ → List WriteCall → Result (Unit {0}) Error → Type 0
-OneWriteAll x C reply = AllCalls C x reply
-
--- one flush
-abbrev pub OneFlush : List WriteCall → Result (Unit {0}) Error → Type 0
-OneFlush C reply = C ≡ Flushed reply ∷ []
+-- only this call, with this result
+abbrev pub Only : {A : Type 0} → (Result A Error → WriteCall) → List WriteCall → Result A Error → Type 0
+Only call C reply = C ≡ call reply ∷ []
 
 -- `write(x)`
 abbrev pub WriteCalls : ℕ → List ℕ → Step ℕ
-WriteCalls S x = Buffered S x (length x) (OneWrite x)
+WriteCalls S x = Buffered S x (length x) (Only (Wrote x))
 
 -- `write_all(x)`
 abbrev pub WriteAllCalls : ℕ → List ℕ → Step (Unit {0})
-WriteAllCalls S x = Buffered S x tt (OneWriteAll x)
+WriteAllCalls S x = Buffered S x tt (λ C. AllCalls C x)
 
 -- `flush()`: the held bytes are sent, and then one flush is made
 abbrev pub FlushCalls : Step (Unit {0})
-FlushCalls = Then SendCalls (PastEmpty OneFlush)
+FlushCalls = Then SendCalls (PastEmpty (Only Flushed))
 
 -- A writer B with a buffer in front of its inner writer took this step, and each inner call kept its law.
 abbrev pub TakesStep : {W B A : Type 0} → Writer W → (B → W) → (B → List ℕ) → Step A → B → Result A Error → B → Type 0
@@ -151,14 +131,11 @@ InnerCalls S held (WroteAll x reply) C left = WriteAllCalls S x held C reply lef
 InnerCalls S held (WroteRest x reply rest) C left = ⊥
 InnerCalls S held (Flushed reply) C left = FlushCalls held C reply left
 
--- what a call may do to a writer with a buffer: these inner calls
-abbrev pub BufferMay : {W B : Type 0} → Writer W → ℕ → (B → W) → (B → List ℕ) → B → WriteCall → B → Type 0
-BufferMay I S inner buffer old call new = (C : List WriteCall) × Made (CallOf I) (inner old) C (inner new)
-    × InnerCalls S (buffer old) call C (buffer new)
-
--- What a writer B tells that has a buffer in front of its inner writer.
-abbrev pub buffered_told : {W B : Type 0} → (W → Told) → (B → W) → (B → List ℕ) → B → Told
-buffered_told told inner buffer b = with_buffer (told (inner b)) (buffer b)
+-- what a call may do to a writer B with a buffer: inner calls that `level` lists, with the bytes held before and after it
+abbrev pub BufferMay : {W B : Type 0} → Writer W → (List ℕ → WriteCall → List WriteCall → List ℕ → Type 0) → (B → W) → (B → List ℕ)
+    → B → WriteCall → B → Type 0
+BufferMay I level inner buffer old call new =
+    (C : List WriteCall) × Made (CallOf I) (inner old) C (inner new) × level (buffer old) call C (buffer new)
 
 -- What `write(x)` does through a buffer of S bytes.
 pub record Buffers {W B : Type 0} (I : Writer W) (S : ℕ) (inner : B → W) (buffer : B → List ℕ) (old : B) (x : List ℕ)
@@ -191,7 +168,7 @@ pub record Flushes {W B : Type 0} (I : Writer W) (inner : B → W) (buffer : B �
   pub calls : TakesStep I inner buffer FlushCalls old reply new
 
 -- the bytes of a record x that were accepted, by the result of its call
-abbrev pub all_or_none : Result (Unit {0}) Error → List ℕ → List ℕ
+abbrev all_or_none : Result (Unit {0}) Error → List ℕ → List ℕ
 all_or_none (Ok u) x = x
 all_or_none (Err e) x = []
 
@@ -199,8 +176,8 @@ all_or_none (Err e) x = []
 pub record Puts {W B : Type 0} (I : Writer W) (inner : B → W) (buffer : B → List ℕ) (S : ℕ) (x : List ℕ) (old : B)
     (reply : Result (Unit {0}) Error) (new : B) : Type 0 where
   -- all of x was accepted, or nothing of it, and an error is a mishap
-  pub moves : Moves (buffered_told I.told inner buffer old) (all_or_none reply x) (call_mishap reply)
-      (buffered_told I.told inner buffer new)
+  pub moves : Moves (with_buffer (I.told (inner old)) (buffer old)) (all_or_none reply x) (call_mishap reply)
+      (with_buffer (I.told (inner new)) (buffer new))
   -- the error is never an interruption
   pub fault : IsNoInterruption reply
   -- the inner calls are those of a `write_all` of x
@@ -219,9 +196,9 @@ pub record Unwraps {W B : Type 0} (I : Writer W) (inner : B → W) (buffer : B �
   -- these inner calls were made
   pub calls : UnwrapCalls I inner buffer old reply
   -- no byte is lost
-  pub ok : IfOk reply (λ w. Moves (buffered_told I.told inner buffer old) [] [] (I.told w))
-  pub err : IfErr reply (λ e. Moves (buffered_told I.told inner buffer old) [] (error_kind (into_inner_error_cause e) ∷ [])
-      (buffered_told I.told inner buffer (into_inner_error_writer e)))
+  pub ok : IfOk reply (λ w. Moves (with_buffer (I.told (inner old)) (buffer old)) [] [] (I.told w))
+  pub err : IfErr reply (λ e. Moves (with_buffer (I.told (inner old)) (buffer old)) [] (error_kind (into_inner_error_cause e) ∷ [])
+      (with_buffer (I.told (inner (into_inner_error_writer e))) (buffer (into_inner_error_writer e))))
   -- the error is never an interruption
   pub fault : IfErr reply (λ e. IsFault (into_inner_error_cause e))
   -- if nothing was held, no inner call was made
@@ -240,7 +217,7 @@ pub record SendsFirst {W B A : Type 0} (I : Writer W) (inner : B → W) (buffer 
   pub stopped : IfErr reply (λ e. 0 < length (buffer new) → TakesStep I inner buffer SendCalls old (Err e) new)
   -- no byte is lost
   pub refused : IfErr reply (λ e. 0 < length (buffer new)
-      → Moves (buffered_told I.told inner buffer old) [] (error_kind e ∷ []) (buffered_told I.told inner buffer new))
+      → Moves (with_buffer (I.told (inner old)) (buffer old)) [] (error_kind e ∷ []) (with_buffer (I.told (inner new)) (buffer new)))
 
 -- All held bytes were sent, which left the inner writer in this state.
 pub record SendsHeld {W : Type 0} (I : Writer W) (old : W) (held : List ℕ) (sent : W) : Type 0 where

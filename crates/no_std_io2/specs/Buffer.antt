@@ -13,10 +13,6 @@ buffer_held b = slice_range b.bytes b.start b.end
 abbrev pub buffer_behind : {S : ℕ} → Buffer S → List ℕ
 buffer_behind b = take b.start b.bytes
 
--- how many bytes fit after the end
-abbrev pub buffer_room : {S : ℕ} → Buffer S → ℕ
-buffer_room {S} b = S - b.end
-
 -- the number of the bytes that a read gave, or its error
 abbrev pub number_given : Result (List ℕ) Error → Result ℕ Error
 number_given (Ok x) = Ok (length x)

@@ -1,12 +1,10 @@
 -- What a `LineWriter` holds and tells, and the inner calls that it makes.
-use Rattle.no_std_io2_base.specs.Writers.{TakesAll, CallOf}
+use Rattle.no_std_io2_base.specs.Writers.{Writer, TakesAll}
 use Rattle.std.specs.Prelude.{ℕ, List, ◌≡◌, ◌+◌, ◌<◌, ◌≤◌, ◌==◌, ◌⊎◌, [], ◌∷◌, ◌++◌, ◌-◌, length, take, drop, nat_le, Contains}
 use Rattle.std.specs.Prelude.{if◌then◌else◌}
 use Rattle.std.specs.Prelude.{Result, Ok, Err, IsOk}
-use Rattle.no_std_io2.specs.declared.buffered.line_writer.state.LineSender.{LineSender}
 use Rattle.no_std_io2_base.specs.declared.error.Error.{Error}
-use Rattle.no_std_io2_base.specs.Writers.{Writer}
-use Rattle.no_std_io2_base.specs.Write.{Told, WriteCall, Wrote, WroteAll, WroteRest, Flushed, Made}
+use Rattle.no_std_io2_base.specs.Write.{WriteCall, Wrote, WroteAll, WroteRest, Flushed, AllCalls}
 use Rattle.no_std_io2.specs.declared.buffered.line_writer.LineWriter.{LineWriter}
 use denote.Param.{param, number}
 use denote.RattleType.{RattleType}
@@ -14,12 +12,8 @@ use Rattle.std.specs.Mem.{FitsInMemory}
 use Rattle.no_std_io2.specs.contracts.buffered.line_writer.LineWriter.{the_row as lines-row}
 use Rattle.no_std_io2_base.specs.Pieces.{Lacks, newline}
 use Rattle.no_std_io2_base.specs.Lines.{lines_of, lines_len, unfinished_line}
-use Rattle.no_std_io2.specs.BufWriter.{sender_with_inner, sender_inner, sender_buffer, sender_told, buffer_after}
-use Rattle.no_std_io2.specs.BufWriter.{Step, Then, PastEmpty, OneWriteAll, SendCalls, WriteCalls, WriteAllCalls, FlushCalls}
-
--- w with another inner writer
-abbrev pub line_sender_with_inner : {W : Type 0} {S : ℕ} → LineSender W S → W → LineSender W S
-line_sender_with_inner w x = record { buffered = sender_with_inner w.buffered x; line = w.line }
+use Rattle.no_std_io2.specs.BufWriter.{sender_inner, sender_buffer, buffer_after}
+use Rattle.no_std_io2.specs.BufWriter.{Step, Then, PastEmpty, SendCalls, WriteCalls, WriteAllCalls, FlushCalls}
 
 -- `w.get_ref()`
 abbrev pub line_inner : {W : Type 0} {S : ℕ} → LineWriter W S → W
@@ -28,14 +22,6 @@ line_inner w = sender_inner w.core.buffered
 -- `w.buffer()`
 abbrev pub line_buffer : {W : Type 0} {S : ℕ} → LineWriter W S → List ℕ
 line_buffer w = sender_buffer w.core.buffered
-
--- what a `LineWriter` tells if its inner writer tells `told`
-abbrev pub line_told : {W : Type 0} {S : ℕ} → (W → Told) → LineWriter W S → Told
-line_told told w = sender_told told w.core.buffered
-
--- w after `*w.get_mut() = x`
-abbrev pub line_with_inner : {W : Type 0} {S : ℕ} → LineWriter W S → W → LineWriter W S
-line_with_inner w x = record { core = line_sender_with_inner w.core x }
 
 -- the held bytes, a line state, are sent if they end in a newline; if not, there is no call
 abbrev pub SendLineCalls : Step (Unit {0})
@@ -68,7 +54,7 @@ LinesCalls S x held C reply left =
 -- the lines y are passed on: by one `write_all` if nothing is held; if not, they go through the buffer after the held bytes, and the buffer
 -- is sent
 abbrev pub SendLinesCalls : ℕ → List ℕ → Step (Unit {0})
-SendLinesCalls S y held C reply left = PastEmpty (OneWriteAll y) held C reply left
+SendLinesCalls S y held C reply left = PastEmpty (λ D. AllCalls D y) held C reply left
     ⊎ ((0 < length held) × Then (WriteAllCalls S y) SendCalls held C reply left)
 
 -- `write(x)`: if x has no newline, a held line is sent, and then x is written as by a `BufWriter`; if x has one, the held bytes are sent,
@@ -89,11 +75,6 @@ LineCalls S held (WroteAll x reply) C left = LineWriteAllCalls S x held C reply 
 LineCalls S held (WroteRest x reply rest) C left = ⊥
 LineCalls S held (Flushed reply) C left = FlushCalls held C reply left
 
--- what a call may do to a writer with a line buffer: these inner calls
-abbrev pub LineMay : {W B : Type 0} → Writer W → ℕ → (B → W) → (B → List ℕ) → B → WriteCall → B → Type 0
-LineMay I S inner buffer old call new = (C : List WriteCall) × Made (CallOf I) (inner old) C (inner new)
-    × LineCalls S (buffer old) call C (buffer new)
-
 -- the buffer after a `write_all(x)` that returned `Ok`: the unfinished line, if it is shorter than S
 abbrev pub line_buffer_after : ℕ → List ℕ → List ℕ → List ℕ
 line_buffer_after S held x = buffer_after S (if lines_len x == 0 then unfinished_line held else []) (unfinished_line x)
@@ -111,10 +92,9 @@ abbrev pub HoldsShort : {W A : Type 0} {S : ℕ} → LineWriter W S → List ℕ
 HoldsShort {S = room} old x reply new = IsShortText room x → Lacks newline (line_buffer old) → length (line_buffer old) + length x ≤ room
     → IsOk reply × (line_inner new ≡ line_inner old) × (line_buffer new ≡ line_buffer old ++ x)
 
--- if the inner writer takes all, it still does, and there was no error; if it counts its calls, it got at most three
+-- if the inner writer takes all, it still does, and there was no error
 abbrev pub KeepsTaking : {W A : Type 0} → Writer W → W → Result A Error → W → Type 0
-KeepsTaking I old reply new = TakesAll I old
-    → TakesAll I new × IsOk reply
+KeepsTaking I old reply new = TakesAll I old → TakesAll I new × IsOk reply
 
 -- a `LineWriter<W, S>` fits in memory
 abbrev pub LineWriterFits : RattleType → ℕ → Type 0

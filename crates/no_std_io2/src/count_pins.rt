@@ -3,7 +3,7 @@
 ghost use Rattle.std.specs.Prelude.{ℕ, ◌≡◌, ◌+◌, ◌-◌, ◌<◌, ◌^◌, min, nat_lt, if◌then◌else◌, length, IfOk, IsOkAnd, OnOk};
 ghost use Rattle.no_std_io2_base.specs.ReadMeter.{IsReadMeter, FillsRoom};
 ghost use Rattle.no_std_io2.specs.BufReader.{reader_held, reader_inner};
-ghost use Rattle.no_std_io2.specs.Copy.{copy_reads};
+ghost use Rattle.std.specs.Int.{div_ceil};
 ghost use Rattle.no_std_io2_base.specs.Write.{calls_for};
 ghost use Rattle.no_std_io2_base.specs.Meter.{Costs, CostsAtMost};
 ghost use Rattle.no_std_io2.specs.BufWriter.{writer_inner, writer_buffer, writing_calls};
@@ -73,7 +73,8 @@ fn lend_counted<R: Read, const S: usize>(r: &mut BufReader<R, S>) -> Result<usiz
     ensures reads { (cost : R → ℕ) → IsReadMeter R.may cost → cost (reader_inner r.new) ≡ cost (reader_inner r.old)
         + (if nat_lt 0 (length (reader_held r.old)) then 0 else 1) }
     ensures fills { (fills : FillsRoom R.Read) → IsOkAnd result (λ n. (n ≡ length (reader_held r.new))
-        × (n ≡ (if nat_lt 0 (length (reader_held r.old)) then length (reader_held r.old) else min S (length (fills.left (reader_inner r.old)))))) }
+        × (n ≡ (if nat_lt 0 (length (reader_held r.old)) then length (reader_held r.old)
+        else min S (length (fills.left (reader_inner r.old)))))) }
 {
     let lent = r.fill_buf()?;
     Ok(lent.len())
@@ -93,7 +94,7 @@ fn read_counted<R: Read, const S: usize>(r: &mut BufReader<R, S>, buf: &mut [u8]
 fn copy_counted<R: Read, W: Write, const S: usize>(reader: &mut R, writer: &mut W) -> Result<u64>
     requires { S < 2 ^ 63 }
     ensures { (cost : R → ℕ) → IsReadMeter R.may cost → 0 < S → (fills : FillsRoom R.Read) → OnOk result
-        (cost reader.new ≡ cost reader.old + copy_reads S (length (fills.left reader.old))) }
+        (cost reader.new ≡ cost reader.old + (div_ceil (length (fills.left reader.old)) S + 1)) }
 {
     copy::<R, W, S>(reader, writer)
 }

@@ -7,9 +7,9 @@ ghost use Rattle.no_std_io2_base.specs.Errors.{IsOutOfMemory};
 ghost use Rattle.no_std_io2_base.specs.Pieces.{EndsPiece, newline};
 ghost use Rattle.no_std_io2.specs.Buffer.{IsInBuffer, IsSuffix};
 ghost use Rattle.no_std_io2_base.specs.Seek.{SeekCall};
-ghost use Rattle.no_std_io2.specs.BufWriter.{writer_inner, writer_buffer, with_buffer, store_unheld, BufferMay, WriterMaySeek};
+ghost use Rattle.no_std_io2.specs.BufWriter.{writer_inner, writer_buffer, with_buffer, store_unheld, BufferMay, WriterMaySeek, InnerCalls};
 ghost use Rattle.no_std_io2.specs.BufReader.{reader_held, reader_behind, reader_inner, reader_told, TakesOver, TakesHeldLine, ReaderMay, ReaderMaySeek};
-ghost use Rattle.no_std_io2.specs.LineWriter.{line_inner, line_buffer, LineMay};
+ghost use Rattle.no_std_io2.specs.LineWriter.{line_inner, line_buffer, LineCalls};
 ghost use Rattle.no_std_io2_base.specs.Sink.{sink_taken, SinkMay};
 
 use crate::buffered::{BufReader, BufWriter, LineWriter};
@@ -24,13 +24,13 @@ fn buffered_writer_tells<W: Write + Drop, const S: usize>(w: &BufWriter<W, S>)
     ensures all { W.takes_all (writer_inner w.now) → ⟦<BufWriter<W, S> as Write>⟧.takes_all w.now }
 {}
 
-// A `BufWriter` makes the inner calls that `BufferMay` lists.
+// A `BufWriter` makes the inner calls that `InnerCalls` lists.
 fn buffered_writer_calls<W: Write + Drop, const S: usize>(
     old: &BufWriter<W, S>,
     new: &BufWriter<W, S>,
 )
     ensures { (call : WriteCall) → ⟦<BufWriter<W, S> as Write>⟧.may old.now call new.now
-        → BufferMay W.Write S writer_inner writer_buffer old.now call new.now }
+        → BufferMay W.Write (InnerCalls S) writer_inner writer_buffer old.now call new.now }
 {}
 
 // A `BufWriter` tells the inner writer's store if its buffer is empty.
@@ -65,7 +65,7 @@ fn line_writer_calls<W: Write + Drop, const S: usize>(
     new: &LineWriter<W, S>,
 )
     ensures { (call : WriteCall) → ⟦<LineWriter<W, S> as Write>⟧.may old.now call new.now
-        → LineMay W.Write S line_inner line_buffer old.now call new.now }
+        → BufferMay W.Write (LineCalls S) line_inner line_buffer old.now call new.now }
 {}
 
 // A `BufReader` tells its held bytes and then the inner reader's events; and the inner reader's store, at a position that is lower by the

@@ -48,19 +48,8 @@ pub fn copy<R: Read, W: Write, const S: usize>(reader: &mut R, writer: &mut W) -
     requires { S < 2 ^ 63 }
     ensures { Copied R.Read W.Write S reader.old writer.old result reader.new writer.new }
 {
-    let mut buf = [0u8; S];
-    let mut copied = 0u64;
-    'reads: loop {
-        match reader.read(&mut buf[..]) {
-            Ok(0) => return Ok(copied),
-            Ok(n) => {
-                writer.write_all(&buf[..n])?;
-                copied = copied.saturating_add(n as u64);
-            }
-            Err(e) if e.is_interrupted() => {}
-            Err(e) => return Err(e),
-        }
-    }
+    let copied = copy_sided::<R, W, S>(reader, writer)?;
+    Ok(copied)
 }
 
 /// Skips the next `left` bytes of `reader` without copying them, and ignores interruptions.

@@ -89,10 +89,6 @@ Moves-then {k} f g = Moves-forget k (Moves-trans f g)
 pub Moves-quiet : {a c : Told} {x : List ℕ} {k : List ErrorKind} → Moves a x k c → Moves a x [] c
 Moves-quiet f = Moves-less (λ p. omega arith) f
 
--- two moves in a row, without their mishaps
-pub Moves-more : {a b c : Told} {x y : List ℕ} {k l : List ErrorKind} → Moves a x k b → Moves b y l c → Moves a (x ++ y) [] c
-Moves-more f g = Moves-quiet (Moves-trans f g)
-
 -- a step that accepts nothing after another
 pub Moves-ends : {a b c : Told} {x : List ℕ} {k l : List ErrorKind} → Moves a x k b → Moves b [] l c → Moves a x l c
 Moves-ends {a} {b} {c} {x} {k} {l} f g = subst (λ s. Moves a s l c) (append-nil x) (Moves-then f g)

@@ -133,24 +133,3 @@ module _ {X : Type 0} {R : Lender X} {old now : X} {n left : ℕ} (before : Port
           let less : R.turns new < R.turns after =
           spends taken (omega (arith, some, least, more, within, length-events_of (take len lent))) in
           omega (arith, less, takes_turns filled.takes)
-
--- a `skip` that skips some bytes spends a turn
-pub skip_spends : {X : Type 0} {R : Lender X} {old new : X} {n left : ℕ} {reply : Result (Unit {0}) Error} → Skipped R old n reply left new
-    → left < n → R.turns new < R.turns old
-skip_spends {R = R} {old} {new} {n} {left} skipped less = by skipped.taken skipped.takes skipped.count
-  where
-    by : (P : List Event) → Takes (lender_tells R old) P (lender_tells R new) → length (bytes P) + left ≡ n → R.turns new < R.turns old
-    by [] takes count = absurd (omega (arith, count, less))
-    by (event ∷ P) takes count = omega (arith, takes.turns)
-
--- and none of no bytes makes a call
-no_portions : {want : ℕ} {C : List ReadCall} {x : List ℕ} → want ≡ 0 → PortionCalls want C x → C ≡ []
-no_portions none no_portion = refl
-no_portions none (and_portion C x lent n before more some is) = absurd (omega (arith, none, more))
-no_portions none (and_waited C x e before more again) = absurd (omega (arith, none, more))
-
-pub skip_unmoved : {X : Type 0} {R : Lender X} {old new : X} {n left : ℕ} (reply : Result (Unit {0}) Error) → n ≡ 0
-    → Skipped R old n reply left new → new ≡ old
-skip_unmoved {R = R} {old} {new} (Ok done) none skipped =
-    subst (λ C. Made (LendCallLaw R) old C new) (no_portions none skipped.calls.2) skipped.calls.1
-skip_unmoved (Err e) none skipped = absurd (omega (arith, none, skipped.count, skipped.ends.0))

@@ -12,11 +12,6 @@ use Rattle.no_std_io2_base.specs.Retries.{HasAtMost, HasSpentTries, Law, Tries, 
 pub sends_none : (a : Told) (to_go : List ℕ) → Sends a to_go (Ok tt) a to_go
 sends_none a to_go = record { sent = []; split = refl; moves = Moves-refl a }
 
--- a call that accepts nothing, such as a `flush`, after a `Sends`
-pub sends_ends : {a b c : Told} {to_go left : List ℕ} (reply : Result (Unit {0}) Error)
-    → Sends a to_go (Ok tt) b left → Moves b [] (call_mishap reply) c → Sends a to_go reply c left
-sends_ends reply s m = record { sent = s.sent; split = s.split; moves = Moves-ends s.moves m }
-
 -- what was left out of a list of kinds, counted
 count_all : (xs : List ErrorKind) → length xs ≡ count_by (λ _. true) xs
 count_all = is_count_by length (λ _. true) refl (λ x xs. omega arith)

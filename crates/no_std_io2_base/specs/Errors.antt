@@ -13,12 +13,12 @@ use Rattle.no_std_io2_base.specs.declared.error.ErrorKind.TheVariants.{Other, Un
 use Rattle.no_std_io2_base.specs.declared.error.ErrorKind.TheVariants.{Uncategorized}
 
 -- the kind of either form
-abbrev pub repr_kind : Repr → ErrorKind
+abbrev repr_kind : Repr → ErrorKind
 repr_kind (Kind kind) = kind
 repr_kind (Custom kind _) = kind
 
 -- the text of either form, if it has one
-abbrev pub repr_text : Repr → Option (List ℕ)
+abbrev repr_text : Repr → Option (List ℕ)
 repr_text (Kind _) = None
 repr_text (Custom _ text) = Some text.now
 
@@ -83,7 +83,7 @@ kind_number OutOfMemory = 20
 kind_number Uncategorized = 21
 
 -- the text, or else the text of the kind
-abbrev pub text_or_kind : ErrorKind → Option (List ℕ) → List ℕ
+abbrev text_or_kind : ErrorKind → Option (List ℕ) → List ℕ
 text_or_kind kind (Some text) = text
 text_or_kind kind None = kind_text kind
 

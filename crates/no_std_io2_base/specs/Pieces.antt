@@ -36,7 +36,7 @@ without d bs = if ends_in d bs then but_last bs else bs
 abbrev pub newline : ℕ
 newline = 10
 
-abbrev pub carriage_return : ℕ
+abbrev carriage_return : ℕ
 carriage_return = 13
 
 -- a line's text: without its newline, and without one carriage return right before that newline

@@ -78,7 +78,7 @@ FullCalls C room x (Ok u) = (Gathers (IsRest room) C x × (length x ≡ room)) �
 FullCalls C room x (Err e) = IsFault e × GathersUntil (IsRest room) C x (Err e)
 
 -- C are the reads of a `read_to_end` that appends x: up to the end, a fault, or a failed allocation
-abbrev pub DrainCalls : List ReadCall → List ℕ → Result ℕ Error → Type 0
+abbrev DrainCalls : List ReadCall → List ℕ → Result ℕ Error → Type 0
 DrainCalls C x (Ok n) = GathersUntil IsRoom C x (Ok [])
 DrainCalls C x (Err e) = (IsFault e × GathersUntil IsRoom C x (Err e)) ⊎ (IsOutOfMemory e × Gathers IsRoom C x)
 
@@ -255,15 +255,15 @@ abbrev pub bytes_reader : {R : Type 0} → Bytes R → R
 bytes_reader s = s.inner
 
 -- E has only interruptions
-abbrev pub IsInterruptionsAlone : List Event → Type 0
+abbrev IsInterruptionsAlone : List Event → Type 0
 IsInterruptionsAlone E = HasNoFault E × (bytes E ≡ [])
 
 -- P are interruptions, and then this event
-abbrev pub IsRetried : List Event → Event → Type 0
+abbrev IsRetried : List Event → Event → Type 0
 IsRetried P event = (Q : List Event) × (P ≡ Q ++ event ∷ []) × IsInterruptionsAlone Q
 
 -- how a `next` that took P ended: with a byte, with a fault, or at the end
-abbrev pub EndsNext : List Event → Option (Result ℕ Error) → Tells → Type 0
+abbrev EndsNext : List Event → Option (Result ℕ Error) → Tells → Type 0
 EndsNext P None new = IsInterruptionsAlone P × IsAtEnd new
 EndsNext P (Some (Ok b)) new = IsRetried P (byte b)
 EndsNext P (Some (Err e)) new = IsRetried P (fails e) × IsFault e

@@ -18,7 +18,7 @@ pub record ReadsAt (s : Store) (at : SeekFrom) (bs : List ℕ) (now : ℕ) : Typ
   pub behind : now ≡ place + length bs
 
 -- a seek failed, and its error is the result; or the seek succeeded, and a `read_exact` after it had this result
-abbrev pub SeeksThenReads : {X : Type 0} → Seeker X → Reader X → X → SeekFrom → List ℕ → Result (Unit {0}) Error → List ℕ → X → Type 0
+abbrev SeeksThenReads : {X : Type 0} → Seeker X → Reader X → X → SeekFrom → List ℕ → Result (Unit {0}) Error → List ℕ → X → Type 0
 SeeksThenReads {X} S R old at buf reply buf' new = ((e : Error) × (reply ≡ Err e) × SeekLaw S old at (Err e) new)
     ⊎ ((mid : X) × (n : ℕ) × SeekLaw S old at (Ok n) mid × ReadExactLaw R mid buf reply buf' new)
 

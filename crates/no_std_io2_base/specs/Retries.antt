@@ -19,14 +19,10 @@ HasSpentTries n left (Some old) (Some new) = length new + n ≤ length old + lef
 abbrev pub Law : Type 0 → Type 1
 Law W = W → List ℕ → Result (Unit {0}) Error → W → List ℕ → Type 0
 
--- a call by this law and, if it succeeded, one more call; the result is that of the last call
-abbrev pub AndThen : {W : Type 0} → Law W → (W → Result (Unit {0}) Error → W → Type 0) → Law W
-AndThen {W} law last old x reply new left =
-    (IsErr reply × law old x reply new left) ⊎ ((mid : W) × law old x (Ok tt) mid left × last mid reply new)
-
--- a `write_rest`, and a `flush` if it succeeded
+-- a `write_rest`, and a `flush` if it succeeded; the result is that of the last call
 abbrev pub RestFlushLaw : {W : Type 0} → Writer W → Law W
-RestFlushLaw I = AndThen (WriteRestOf I) (FlushOf I)
+RestFlushLaw {W} I old x reply new left =
+    (IsErr reply × WriteRestOf I old x reply new left) ⊎ ((mid : W) × WriteRestOf I old x (Ok tt) mid left × FlushOf I mid reply new)
 
 -- Calls by this law were made again and again, with so many retries: each except the last failed, and the result is that of the last. If
 -- the last one failed, no retry was left.

@@ -22,7 +22,7 @@ abbrev pub IsTextError : Error → Type 0
 IsTextError e = error_text e ≡ Some (codes "formatter error")
 
 -- the kind of the writer's error, or else `Other`
-abbrev pub kind_met : Result (Unit {0}) Error → ErrorKind
+abbrev kind_met : Result (Unit {0}) Error → ErrorKind
 kind_met (Ok _) = Other
 kind_met (Err e) = error_kind e
 

@@ -2,7 +2,7 @@
 use Rattle.std.proofs.Common.{ℕ, List, [], ◌∷◌, ◌++◌, Result, Ok, Err, IfOk, IfErr, length, refl, subst, sym, inl, inr}
 use Rattle.no_std_io2.specs.declared.io.Error.{Error}
 use Rattle.no_std_io2.specs.Write.{WriteCall, Wrote, WroteAll, WroteRest, Flushed, Writes, none, took, again, stuck, fault}
-use Rattle.no_std_io2.specs.BufWriter.{stops, goes_on, WayCalls, FlushCalls, WriteCalls, PutCalls, OneWrite}
+use Rattle.no_std_io2.specs.BufWriter.{stops, goes_on, WayCalls, FlushCalls, WriteCalls, PutCalls, Only}
 use Rattle.promises.specs.Promises.{HasNoFlush, FailedWith, EndsIn}
 
 -- one more call before the others changes nothing, if there are others
@@ -62,12 +62,12 @@ way_only n (inr sends) = writes_only sends.1
 
 -- what is written after it
 put_only : {S : ℕ} {x held left : List ℕ} {D : List WriteCall} {reply : Result ℕ Error}
-    → PutCalls S x (length x) (OneWrite x) held D reply left → HasNoFlush D
+    → PutCalls S x (length x) (Only (Wrote x)) held D reply left → HasNoFlush D
 put_only (inl fits) = subst HasNoFlush (sym fits.1) tt
 put_only (inr past) = subst HasNoFlush (sym past.1.2) tt
 
 put_ends : {S : ℕ} {x held left : List ℕ} {D : List WriteCall} {e : Error} (C : List WriteCall)
-    → PutCalls S x (length x) (OneWrite x) held D (Err e) left → EndsIn (C ++ D) e
+    → PutCalls S x (length x) (Only (Wrote x)) held D (Err e) left → EndsIn (C ++ D) e
 put_ends C (inl fits) = absurd (let no : ⊥ = cc in no)
 put_ends {x = x} {e = e} C (inr past) = subst (λ D. EndsIn (C ++ D) e) (sym past.1.2) (ends_last C (Wrote x (Err e)) e refl)
 

@@ -10,13 +10,16 @@ use Rattle.no_std_io2.specs.Read.{Reader, tells, ReadCall}
 use Rattle.no_std_io2.specs.Write.{Told, Moves, WriteCall, Flushed, Made}
 use Rattle.no_std_io2.specs.Writers.{Writer, CallOf, FlushOf}
 use Rattle.no_std_io2.specs.BufWriter.{with_buffer}
-use Rattle.no_std_io2.specs.Copy.{Copied, CopyEnds, HandsOn}
+use Rattle.no_std_io2.specs.Copy.{Copied, SidesCopied, side_error, HandsOn}
+use Rattle.no_std_io2.specs.declared.io.CopyError.{CopyError}
+use Rattle.no_std_io2.specs.declared.io.CopyError.TheVariants.{Read, Write}
 use Rattle.no_std_io2.specs.Towers.{Through}
 use Rattle.no_std_io2.specs.Faults.{HasFirstFault, TellsMishap, MayFail, IsFaultOf}
 use Rattle.no_std_io2.proofs.TakesLemmas.{takes_all}
-use Rattle.no_std_io2.proofs.MovesLemmas.{Moves-ends}
+use Rattle.no_std_io2.proofs.MovesLemmas.{Moves-then, Moves-ends}
 use Rattle.no_std_io2.proofs.BufWriterLemmas.{Moves-bare}
 use Rattle.no_std_io2.proofs.CallsLemmas.{made_more}
+use Rattle.no_std_io2.proofs.CopyLemmas.{copied_ok, copied_err}
 use Rattle.no_std_io2.proofs.TowerCalls.{through}
 use Rattle.no_std_io2.proofs.FaultLemmas.{may_fail, no_failure}
 use Rattle.system_streams.specs.Copies.{CopiesAll, HandsAndFlushes, HandsThrough, BufferCalls}
@@ -24,13 +27,15 @@ use Rattle.system_streams.specs.Copies.{CopiesAll, HandsAndFlushes, HandsThrough
 -- a copy, and then a flush
 pub copies_all : {R W : Type 0} {K : Reader R} {I : Writer W} {from from' : R} {old mid : W} {n : ℕ} {end : Told}
     → Copied K I 64 from old (Ok n) from' mid → Moves (I.told mid) [] [] end → CopiesAll (tells K from) (I.told old) n end
-copies_all copied flushed = record {
-  taken = copied.taken;
-  all = takes_all copied.taken copied.takes (copied.ends.1 (omega arith));
-  no_fault = copied.ends.0;
-  moves = Moves-ends copied.ends.3 flushed;
-  count = copied.ends.2;
-}
+copies_all ok flushed =
+    let copied = copied_ok ok in
+    record {
+      taken = copied.taken;
+      all = takes_all copied.taken copied.takes (copied.ends.1 (omega arith));
+      no_fault = copied.ends.0;
+      moves = Moves-ends copied.ends.3 flushed;
+      count = copied.ends.2;
+    }
 
 -- a fault that was taken is the first
 first_fault : (E F : Option (List Event)) (P : List Event) (e : Error) → AreTaken E P F → EndsInFault P e
@@ -42,11 +47,18 @@ first_fault (Some E) (Some F) P e taken ends = record { front = P; rest = F; spl
 -- a copy that failed met the reader's first fault, or a mishap of the writer's
 pub copies_err : {R W : Type 0} {K : Reader R} {I : Writer W} {from from' : R} {old mid : W} {e : Error}
     → Copied K I 64 from old (Err e) from' mid → IsFaultOf (tells K from) (I.told old) e
-copies_err {K = K} {I} {from} {from'} {old} {mid} {e} copied = ends copied.ends
+copies_err {K = K} {I} {from} {from'} {old} {mid} err =
+    let (side, is, copied) = copied_err err in subst (IsFaultOf (tells K from) (I.told old)) is (of_side side copied)
   where
-    ends : CopyEnds 64 (Err e) copied.taken (tells K from') (I.told old) (I.told mid) → IsFaultOf (tells K from) (I.told old) e
-    ends (inl fault) = inl (first_fault _ _ copied.taken e copied.takes.events fault.0)
-    ends (inr refuses) = inr (may_fail refuses.1.2.2)
+    of_side : (side : CopyError) → SidesCopied K I 64 from old (Err side) from' mid
+        → IsFaultOf (tells K from) (I.told old) (side_error side)
+    of_side (Read e) copied = inl (first_fault _ _ copied.taken e copied.takes.events copied.ends.0)
+    of_side (Write e) copied = inr (may_fail copied.ends.1.2.2)
+
+-- and if the flush after it failed, that was a mishap of the writer's too
+pub flush_err : {R W : Type 0} {K : Reader R} {I : Writer W} {from from' : R} {old mid : W} {n : ℕ} {e : Error} {end : Told}
+    → Copied K I 64 from old (Ok n) from' mid → Moves (I.told mid) [] (error_kind e ∷ []) end → IsFaultOf (tells K from) (I.told old) e
+flush_err ok flushed = inr (may_fail (Moves-then (copied_ok ok).ends.3 flushed))
 
 -- what was to come of a reader is to come of a buffer in front of it
 all_through : (a b : Tells) (P : List Event) → to_come a ≡ to_come b → IsAll a P → IsAll b P

@@ -56,7 +56,7 @@ impl<R: Read, const S: usize> BufReader<R, S> {
 
 impl<R, const S: usize> BufReader<R, S> {
     ghost use Rattle.no_std_io2.specs.contracts.buffered.buf_reader.BufReader.{the_row as reader-row};
-    ghost use Rattle.no_std_io2.specs.BufReader.{reader_held, reader_behind, reader_inner, reader_with_inner};
+    ghost use Rattle.no_std_io2.specs.BufReader.{reader_held, reader_behind, reader_inner};
 
     /// Gets a reference to the inner reader, which is ahead of this one by the held bytes. Follows
     /// `std::io::BufReader::get_ref`.
@@ -78,7 +78,7 @@ impl<R, const S: usize> BufReader<R, S> {
     pub fn get_mut(&mut self) -> &mut R
         ensures value { result.now ≡ reader_inner self.old }
         ensures* writes_back { sem 𝓛 (Lends (reader-row R.row S.row) R.row self.entry result
-            (reader_with_inner self.old)) }
+            (λ inner. record self.old { inner = inner })) }
     {
         &mut self.inner
     }

@@ -3,7 +3,7 @@ ghost use Rattle.std.specs.Prelude.{◌≡◌, ◌≤◌, [], length};
 ghost use Rattle.std.specs.Borrow.{Lends, sem};
 ghost use Rattle.no_std_io2.specs.contracts.buffered.buf_writer.BufWriter.{the_row as writer-row};
 ghost use Rattle.no_std_io2_base.specs.Writers.{FlushOf, WriteAllOf, WriteOf};
-ghost use Rattle.no_std_io2.specs.BufWriter.{BufferMay, writer_inner, writer_buffer, writer_told, writer_with_inner};
+ghost use Rattle.no_std_io2.specs.BufWriter.{BufferMay, writer_inner, writer_buffer, writer_told, InnerCalls};
 ghost use Rattle.no_std_io2.specs.Unsent.{unsent_bytes};
 ghost use Rattle.no_std_io2.specs.BufWriter.{Unwraps, Buffers, BuffersAll, Flushes};
 
@@ -78,7 +78,7 @@ impl<W: Write + Drop, const S: usize> BufWriter<W, S> {
     pub fn get_mut(&mut self) -> &mut W
         ensures value { result.now ≡ writer_inner self.old }
         ensures* writes_back { sem 𝓛 (Lends (writer-row W.row S.row) W.row self.entry result
-            (writer_with_inner self.old)) }
+            (λ inner. record { core = record self.old.core { inner = inner } })) }
     {
         self.core.get_mut()
     }
@@ -170,7 +170,7 @@ impl<W: Write + Drop, const S: usize> Write for BufWriter<W, S> {
 
     ghost takes_all = { λ w. W.takes_all (writer_inner w) };
 
-    ghost may = { BufferMay W.Write S writer_inner writer_buffer };
+    ghost may = { BufferMay W.Write (InnerCalls S) writer_inner writer_buffer };
 
     /// Holds `buf` if it is shorter than `S`, and passes it to the inner `write` if it is not. If the
     /// held bytes and `buf` together are longer than `S`, the held bytes are sent first.

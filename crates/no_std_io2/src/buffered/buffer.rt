@@ -23,7 +23,7 @@ pub(crate) struct Buffer<const S: usize> {
 }
 
 impl<const S: usize> Buffer<S> {
-    ghost use Rattle.no_std_io2.specs.Buffer.{buffer_held, buffer_behind, buffer_room, IsInBuffer, IsCutOn, ReadsOn};
+    ghost use Rattle.no_std_io2.specs.Buffer.{buffer_held, buffer_behind, IsInBuffer, IsCutOn, ReadsOn};
 
     #[inline]
     pub(crate) fn new() -> Self
@@ -221,7 +221,7 @@ impl<const S: usize> Buffer<S> {
     fn make_room(&mut self)
         ensures same { buffer_held self.new ≡ buffer_held self.old }
         ensures start { self.new.start ≡ 0 }
-        ensures room { buffer_room self.new ≡ S - length (buffer_held self.new) }
+        ensures room { S - self.new.end ≡ S - length (buffer_held self.new) }
     {
         self.bytes.copy_within(self.start..self.end, 0);
         self.end -= self.start;
@@ -231,7 +231,7 @@ impl<const S: usize> Buffer<S> {
     // Copies `more` to the room after the end, in which it fits. No held byte moves.
     #[inline]
     fn append(&mut self, more: &[u8])
-        requires { length more.now ≤ buffer_room self.old }
+        requires { length more.now ≤ S - self.old.end }
         ensures held { buffer_held self.new ≡ buffer_held self.old ++ more.now }
         ensures unmoved { self.new.start ≡ self.old.start }
     {
@@ -245,7 +245,7 @@ impl<const S: usize> Buffer<S> {
     pub(crate) fn push(&mut self, more: &[u8])
         requires { length (buffer_held self.old) + length more.now ≤ S }
         ensures held { buffer_held self.new ≡ buffer_held self.old ++ more.now }
-        ensures unmoved { length more.now ≤ buffer_room self.old → self.new.start ≡ self.old.start }
+        ensures unmoved { length more.now ≤ S - self.old.end → self.new.start ≡ self.old.start }
     {
         if more.len() > S - self.end {
             self.make_room();
@@ -256,7 +256,7 @@ impl<const S: usize> Buffer<S> {
     /// Appends `more` if that leaves room after the end. No held byte moves.
     #[inline(always)]
     pub(crate) fn append_if_room(&mut self, more: &[u8]) -> bool
-        ensures held { OnTrue result ((length more.now < buffer_room self.old)
+        ensures held { OnTrue result ((length more.now < S - self.old.end)
             × (buffer_held self.new ≡ buffer_held self.old ++ more.now)) }
         ensures same { OnFalse result (self.new ≡ self.old) }
     {

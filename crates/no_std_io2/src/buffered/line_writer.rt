@@ -4,10 +4,10 @@ ghost use Rattle.std.specs.Borrow.{Lends, sem};
 ghost use Rattle.no_std_io2.specs.contracts.buffered.line_writer.LineWriter.{the_row as line-row};
 ghost use Rattle.no_std_io2_base.specs.Lines.{IsLineState};
 ghost use Rattle.no_std_io2_base.specs.Pieces.{Lacks, newline};
-ghost use Rattle.no_std_io2.specs.LineWriter.{line_inner, line_buffer, line_told, line_with_inner, LineMay};
+ghost use Rattle.no_std_io2.specs.LineWriter.{line_inner, line_buffer, LineCalls};
 ghost use Rattle.no_std_io2.specs.LineWriter.{LineWriteCalls, LineWriteAllCalls, line_buffer_after, line_buffer_filled};
 ghost use Rattle.no_std_io2.specs.LineWriter.{IsShortText, HoldsShort, KeepsTaking};
-ghost use Rattle.no_std_io2.specs.BufWriter.{TakesStep, Unwraps, Flushes, into_inner_error_writer};
+ghost use Rattle.no_std_io2.specs.BufWriter.{TakesStep, Unwraps, Flushes, into_inner_error_writer, with_buffer, BufferMay};
 ghost use Rattle.no_std_io2_base.specs.Writers.{TakesAll, FlushOf, WriteAllOf, WriteOf};
 
 mod state;
@@ -71,7 +71,7 @@ impl<W: Write + Drop, const S: usize> LineWriter<W, S> {
     pub fn get_mut(&mut self) -> &mut W
         ensures value { result.now ≡ line_inner self.old }
         ensures* writes_back { sem 𝓛 (Lends (line-row W.row S.row) W.row self.entry result
-            (line_with_inner self.old)) }
+            (λ inner. record { core = record { buffered = record self.old.core.buffered { inner = inner }; line = self.old.core.line } })) }
     {
         self.core.get_mut()
     }
@@ -134,9 +134,9 @@ impl<W: Write + Drop + fmt::Debug, const S: usize> fmt::Debug for LineWriter<W, 
 /// Sends bytes line by line. Its `out` is the inner writer's `out`; its `held` is the inner writer's
 /// `held`, then its own buffer.
 impl<W: Write + Drop, const S: usize> Write for LineWriter<W, S> {
-    ghost told = { line_told W.told };
+    ghost told = { λ w. with_buffer (W.told (line_inner w)) (line_buffer w) };
 
-    ghost may = { LineMay W.Write S line_inner line_buffer };
+    ghost may = { BufferMay W.Write (LineCalls S) line_inner line_buffer };
 
     /// Writes some first bytes of `buf`. Complete lines that are held are sent first. If `buf` has no
     /// newline, it is then written as by a `BufWriter`: it is held if it fits; if not, the held

@@ -7,7 +7,7 @@ ghost use Rattle.std.specs.Prelude.{◌≡◌, ◌+◌, ◌<◌, ◌≤◌, [], 
 ghost use Rattle.std.specs.Bool.{OnTrue, OnFalse};
 ghost use Rattle.std.specs.Borrow.{Lends, sem};
 ghost use Rattle.no_std_io2.specs.contracts.buffered.sender.Sender.{the_row as sender-row};
-ghost use Rattle.no_std_io2.specs.BufWriter.{sender_inner, sender_buffer, sender_with_inner, TakesStep, SendCalls, WayCalls};
+ghost use Rattle.no_std_io2.specs.BufWriter.{sender_inner, sender_buffer, TakesStep, SendCalls, WayCalls};
 ghost use Rattle.no_std_io2.specs.BufWriter.{WriteCalls, WriteAllCalls, FlushCalls, Unwraps};
 ghost use Rattle.no_std_io2.specs.Unsent.{unsent_bytes};
 
@@ -46,7 +46,7 @@ impl<W: Write + Drop, const S: usize> Sender<W, S> {
     pub fn get_mut(&mut self) -> &mut W
         ensures value { result.now ≡ sender_inner self.old }
         ensures* writes_back { sem 𝓛 (Lends (sender-row W.row S.row) W.row self.entry result
-            (sender_with_inner self.old)) }
+            (λ inner. record self.old { inner = inner })) }
     {
         &mut self.inner
     }

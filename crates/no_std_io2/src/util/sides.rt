@@ -1,6 +1,6 @@
 //! [`copy_sided`], a copy whose error says which side failed.
 ghost use Rattle.std.specs.Prelude.{◌≡◌, ◌<◌, ◌^◌};
-ghost use Rattle.no_std_io2.specs.CopySides.{side_error, SidesCopied};
+ghost use Rattle.no_std_io2.specs.Copy.{side_error, SidesCopied};
 
 use no_std_io2_base::error::{Error, Result};
 use no_std_io2_base::traits::{Read, Write};

@@ -10,8 +10,8 @@ use Rattle.no_std_io2_base.specs.Fails.{FailsOnly}
 use Rattle.no_std_io2_base.proofs.FailsLemmas.{appends_fails, write_all_fails, flush_fails}
 use Rattle.no_std_io2.specs.declared.buffered.buf_writer.BufWriter.{BufWriter}
 use Rattle.no_std_io2.specs.declared.buffered.line_writer.LineWriter.{LineWriter}
-use Rattle.no_std_io2.specs.BufWriter.{writer_inner, writer_buffer, writer_told, BufferMay}
-use Rattle.no_std_io2.specs.LineWriter.{line_inner, line_buffer, line_told, LineMay}
+use Rattle.no_std_io2.specs.BufWriter.{writer_inner, writer_buffer, writer_told, BufferMay, with_buffer, InnerCalls}
+use Rattle.no_std_io2.specs.LineWriter.{line_inner, line_buffer, LineCalls}
 use Rattle.no_std_io2.proofs.BufferFails.{buffer_fails, line_fails}
 use Rattle.no_std_io2.proofs.pins.tower_fails.Goals as goal
 
@@ -23,14 +23,14 @@ abbrev buffered : (Z : Type 0) (S : ℕ) → Writer (BufWriter (Vec ℕ Z) S)
 buffered Z S = record {
   told = writer_told (vector Z).told;
   takes_all = λ _. ⊥;
-  may = BufferMay (vector Z) S writer_inner writer_buffer;
+  may = BufferMay (vector Z) (InnerCalls S) writer_inner writer_buffer;
 }
 
 abbrev lines : (Z : Type 0) (S T : ℕ) → Writer (LineWriter (BufWriter (Vec ℕ Z) S) T)
 lines Z S T = record {
-  told = line_told (buffered Z S).told;
+  told = λ w. with_buffer ((buffered Z S).told (line_inner w)) (line_buffer w);
   takes_all = λ _. ⊥;
-  may = LineMay (buffered Z S) T line_inner line_buffer;
+  may = BufferMay (buffered Z S) (LineCalls T) line_inner line_buffer;
 }
 
 fails : (Z : Type 0) (S T : ℕ) → FailsOnly IsOutOfMemory (lines Z S T).may

@@ -17,7 +17,6 @@ pub struct LineSender<W, const S: usize> {
 }
 
 impl<W: Write + Drop, const S: usize> LineSender<W, S> {
-    ghost use Rattle.no_std_io2.specs.LineWriter.{line_sender_with_inner};
     ghost use Rattle.no_std_io2.specs.contracts.buffered.line_writer.state.LineSender.{the_row as sender-row};
 
     // Wraps a sender whose held bytes have no newline, or end in one.
@@ -32,7 +31,7 @@ impl<W: Write + Drop, const S: usize> LineSender<W, S> {
     pub(super) fn get_mut(&mut self) -> &mut W
         ensures value { result.now ≡ sender_inner self.old.buffered }
         ensures* writes_back { sem 𝓛 (Lends (sender-row W.row S.row) W.row self.entry result
-            (line_sender_with_inner self.old)) }
+            (λ inner. record { buffered = record self.old.buffered { inner = inner }; line = self.old.line })) }
     {
         self.buffered.get_mut()
     }

@@ -1,5 +1,6 @@
 use Rattle.std.proofs.lemmas.Result.{err_from_is_err_and}
-use Rattle.system_streams.proofs.CopyLemmas.{copies_all, copies_err, flushed_behind}
+use Rattle.no_std_io2.proofs.CopyLemmas.{copied_ok}
+use Rattle.system_streams.proofs.CopyLemmas.{copies_all, copies_err, flush_err, flushed_behind}
 use Rattle.system_streams.proofs.copy.copy_and_flush.Goals as goal
 
 pub returns-in_err-count-clause-err : goal.returns-in_err-count-clause-err
@@ -7,8 +8,13 @@ returns-in_err-count-clause-err g c =
     let p = err_from_is_err_and c.from_residual.result c.from_residual.ensures.1 in
     rw (p.1, p.2) (copies_err c.in_err-count.ensures)
 
+pub returns-in_err-flush-clause-err : goal.returns-in_err-flush-clause-err
+returns-in_err-flush-clause-err g c =
+    let p = err_from_is_err_and c.from_residual-in_err-flush.result c.from_residual-in_err-flush.ensures.1 in
+    rw (p.1, p.2) (flush_err c.in_ok-count.ensures c.in_err-flush.ensures.law.moves)
+
 pub returns-clause-all : goal.returns-clause-all
 returns-clause-all g c = copies_all c.in_ok-count.ensures c.in_ok-flush.ensures.law.moves
 
 pub returns-clause-calls : goal.returns-clause-calls
-returns-clause-calls g c = flushed_behind c.in_ok-count.ensures.calls c.in_ok-flush.ensures.law
+returns-clause-calls g c = flushed_behind (copied_ok c.in_ok-count.ensures).calls c.in_ok-flush.ensures.law

@@ -19,21 +19,16 @@ reads-preserved-in-Ok-write_all g c =
 pub returns-in-Ok-eq0 : goal.returns-in-Ok-eq0
 returns-in-Ok-eq0 g c =
     let before = c.reads.invariant in
-    let end = copy_ended before (c.read.auto.buf ∙ before.long) c.read.ensures.law c.in-Ok-eq0.is c.in-Ok-eq0.field-0-test in
-    record { taken = end.taken; takes = end.takes; ends = end.ends; calls = end.hands }
+    copy_ended before (c.read.auto.buf ∙ before.long) c.read.ensures.law c.in-Ok-eq0.is c.in-Ok-eq0.field-0-test
 
 -- the reader's fault
 pub returns-in-Err-2 : goal.returns-in-Err-2
 returns-in-Err-2 g c =
     let before = c.reads.invariant in
-    let end = copy_faulted before (c.read.auto.buf ∙ before.long) c.in-Err.ensures.law
-    (sym c.is_interrupted.ensures ∙ c.if-is_interrupted.false) in
-    record { taken = end.taken; takes = end.takes; ends = end.ends; calls = end.hands }
+    copy_faulted before (c.read.auto.buf ∙ before.long) c.in-Err.ensures.law (sym c.is_interrupted.ensures ∙ c.if-is_interrupted.false)
 
 -- the writer's fault
 pub returns-in-Err-write_all : goal.returns-in-Err-write_all
 returns-in-Err-write_all g c =
     let before = c.reads.invariant in
-    let wrote = c.in-Err-write_all.ensures.law in
-    let end = copy_refused before (c.read.auto.buf ∙ before.long) c.in-Ok.ensures.law c.in-Ok.n-test.1 wrote in
-    record { taken = end.taken; takes = end.takes; ends = end.ends; calls = end.hands }
+    copy_refused before (c.read.auto.buf ∙ before.long) c.in-Ok.ensures.law c.in-Ok.n-test.1 c.in-Err-write_all.ensures.law

@@ -2,12 +2,12 @@ use Rattle.std.proofs.Common.{◌++◌, ◌∙◌, ap}
 use Rattle.no_std_io2_base.specs.Events.{bytes}
 use Rattle.no_std_io2_base.proofs.MovesLemmas.{Moves-steady}
 use Rattle.no_std_io2.specs.Copy.{counted}
-use Rattle.no_std_io2.proofs.CopyLemmas.{took_all, copies_steadily, stays_steady, flushed}
+use Rattle.no_std_io2.proofs.CopyLemmas.{took_all, copied_ok, copied_err, copies_steadily, stays_steady, flushed}
 use Rattle.no_std_io2.proofs.util.steady.copy_and_flush.Goals as goal
 
 pub returns : goal.returns
 returns g c = λ some E told none steady.
-    let copied = c.in_ok-n.ensures in
+    let copied = copied_ok c.in_ok-n.ensures in
     let (no_fault, end, count, moves) = copied.ends in
     let all = took_all copied.takes told (end some) in
     let flush = c.in_ok-flush.ensures.law in
@@ -21,9 +21,9 @@ returns g c = λ some E told none steady.
 
 pub returns-in_err-n : goal.returns-in_err-n
 returns-in_err-n g c = λ some E told none steady.
-    let copied = c.in_err-n.ensures in
-    absurd (copies_steadily g.row.S c.in_err-n.field-0.0 copied.takes told none copied.ends steady)
+    let (side, is, copied) = copied_err c.in_err-n.ensures in
+    absurd (copies_steadily g.row.S side _ _ copied.takes told none copied.ends steady)
 
 pub returns-in_err-flush : goal.returns-in_err-flush
 returns-in_err-flush g c = λ some E told none steady.
-    absurd (Moves-steady (stays_steady steady c.in_ok-n.ensures.ends.3) c.in_err-flush.ensures.law.moves)
+    absurd (Moves-steady (stays_steady steady (copied_ok c.in_ok-n.ensures).ends.3) c.in_err-flush.ensures.law.moves)

@@ -5,9 +5,9 @@ use Rattle.std.proofs.lemmas.Result.{err_from_is_err_and}
 use Rattle.no_std_io2_base.specs.declared.error.Error.{Error}
 use Rattle.no_std_io2_base.specs.Writers.{Writer}
 use Rattle.no_std_io2_base.specs.Errors.{error_kind, IsFault}
-use Rattle.no_std_io2_base.specs.Write.{Moves}
+use Rattle.no_std_io2_base.specs.Write.{Moves, AllCalls}
 use Rattle.no_std_io2.specs.declared.buffered.buf_writer.BufWriter.{BufWriter}
-use Rattle.no_std_io2.specs.BufWriter.{writer_inner, writer_buffer, writer_told, TakesStep, WayCalls, OneWriteAll, Puts}
+use Rattle.no_std_io2.specs.BufWriter.{writer_inner, writer_buffer, writer_told, TakesStep, WayCalls, Puts}
 use Rattle.no_std_io2_base.proofs.MovesLemmas.{Moves-then}
 use Rattle.no_std_io2.proofs.BufWriterLemmas.{Moves-kept}
 use Rattle.no_std_io2.proofs.BufWriterCalls.{puts}
@@ -36,7 +36,7 @@ module _ {W : Type 0} {S : ℕ} (I : Writer W) {old : BufWriter W S} {n : ℕ} (
         fault = tt;
         calls = then_goes_on _ _ _ _
             (subst (λ k. TakesStep I writer_inner writer_buffer (WayCalls S k) old (Ok tt) mid) (is ∙ sym (length-append head tail)) way)
-            (puts S (head ++ tail) tt (OneWriteAll (head ++ tail)) (omega (arith, is, short, length-append head tail)) same whole);
+            (puts S (head ++ tail) tt (λ C. AllCalls C (head ++ tail)) (omega (arith, is, short, length-append head tail)) same whole);
       }
 
 pub returns-in_err-make_room : goal.returns-in_err-make_room

@@ -1,8 +1,8 @@
 -- The hot paths: there is room, or nothing is held, so nothing has to be sent.
+use Rattle.no_std_io2_base.specs.Write.{AllCalls}
 use Rattle.std.proofs.lemmas.Grind.{common_steps}
 use Rattle.std.proofs.Common.{arith}
 use Rattle.std.proofs.lemmas.List.{nil_from_length}
-use Rattle.no_std_io2.specs.BufWriter.{OneWriteAll}
 use Rattle.no_std_io2.proofs.StepLemmas.{then_goes_on}
 use Rattle.no_std_io2.proofs.BufWriterCalls.{way_kept, puts, buffered_past}
 use Rattle.no_std_io2.proofs.buffered.sender.Sender.write_all.Goals as goal
@@ -10,7 +10,7 @@ use Rattle.no_std_io2.proofs.buffered.sender.Sender.write_all.Goals as goal
 pub returns-then-hold_if_room : goal.returns-then-hold_if_room
 returns-then-hold_if_room g c =
     let put = c.if-hold_if_room.ensures.held in
-    then_goes_on _ _ _ _ (way_kept _ _ put.1) (puts _ _ _ (OneWriteAll c.args.buf.now) put.0 put.2 put.3)
+    then_goes_on _ _ _ _ (way_kept _ _ put.1) (puts _ _ _ (λ C. AllCalls C c.args.buf.now) put.0 put.2 put.3)
 
 pub returns-then-len-eq0 : goal.returns-then-len-eq0
 returns-then-len-eq0 g c = grind (arith, common_steps, nil_from_length, buffered_past)

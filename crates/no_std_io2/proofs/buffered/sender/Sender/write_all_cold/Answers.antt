@@ -1,7 +1,7 @@
 -- A `write_all` off the hot path: room is made, and then the bytes go past the buffer or into it.
+use Rattle.no_std_io2_base.specs.Write.{AllCalls}
 use Rattle.std.proofs.Common.{refl, arith, rules}
 use Rattle.std.proofs.lemmas.Result.{err_from_is_err_and}
-use Rattle.no_std_io2.specs.BufWriter.{OneWriteAll}
 use Rattle.no_std_io2.proofs.StepLemmas.{then_stops, then_goes_on}
 use Rattle.no_std_io2.proofs.BufWriterCalls.{way_none, way_room, puts, passes}
 use Rattle.no_std_io2.proofs.buffered.sender.Sender.write_all_cold.Goals as goal
@@ -15,11 +15,11 @@ pub returns-then-buf : goal.returns-then-buf
 returns-then-buf g c =
     let way = c.in_ok-send_if_no_room.ensures in
     let none = way_none _ _ c.if-buf.true way.2 in
-    then_goes_on _ _ _ _ way (passes _ _ _ (OneWriteAll c.args.buf.now) c.if-buf.true none none c.write_all.ensures.law.calls)
+    then_goes_on _ _ _ _ way (passes _ _ _ (λ C. AllCalls C c.args.buf.now) c.if-buf.true none none c.write_all.ensures.law.calls)
 
 pub push-requires : goal.push-requires
 push-requires g c = (search rules, way_room _ _ (omega (arith, c.if-buf.false)) c.in_ok-send_if_no_room.ensures.2)
 
 pub returns : goal.returns
-returns g c = then_goes_on _ _ _ _ c.in_ok-send_if_no_room.ensures (puts _ _ _ (OneWriteAll c.args.buf.now) (omega
+returns g c = then_goes_on _ _ _ _ c.in_ok-send_if_no_room.ensures (puts _ _ _ (λ C. AllCalls C c.args.buf.now) (omega
     (arith, c.if-buf.false)) refl c.push.ensures.held)

@@ -1,8 +1,8 @@
 -- A `write` off the hot path: room is made, and then the bytes go past the buffer or into it.
+use Rattle.no_std_io2.specs.BufWriter.{Only}
 use Rattle.std.proofs.Common.{refl, arith, rules}
 use Rattle.std.proofs.lemmas.Result.{err_from_is_err_and}
 use Rattle.no_std_io2_base.specs.Write.{Wrote}
-use Rattle.no_std_io2.specs.BufWriter.{OneWrite}
 use Rattle.no_std_io2.proofs.StepLemmas.{then_stops, then_goes_on}
 use Rattle.no_std_io2.proofs.BufWriterCalls.{way_none, way_room, puts, passes, one_made}
 use Rattle.no_std_io2.proofs.buffered.sender.Sender.write_cold.Goals as goal
@@ -16,12 +16,12 @@ pub returns-then-buf : goal.returns-then-buf
 returns-then-buf g c =
     let way = c.in_ok-send_if_no_room.ensures in
     let none = way_none _ _ c.if-buf.true way.2 in
-    then_goes_on _ _ _ _ way (passes _ _ _ (OneWrite c.args.buf.now) c.if-buf.true none none (one_made
+    then_goes_on _ _ _ _ way (passes _ _ _ (Only (Wrote c.args.buf.now)) c.if-buf.true none none (one_made
     (Wrote c.args.buf.now c.write.result) c.write.ensures.law))
 
 pub push-requires : goal.push-requires
 push-requires g c = (search rules, way_room _ _ (omega (arith, c.if-buf.false)) c.in_ok-send_if_no_room.ensures.2)
 
 pub returns : goal.returns
-returns g c = then_goes_on _ _ _ _ c.in_ok-send_if_no_room.ensures (puts _ _ _ (OneWrite c.args.buf.now) (omega
+returns g c = then_goes_on _ _ _ _ c.in_ok-send_if_no_room.ensures (puts _ _ _ (Only (Wrote c.args.buf.now)) (omega
     (arith, c.if-buf.false)) refl c.push.ensures.held)

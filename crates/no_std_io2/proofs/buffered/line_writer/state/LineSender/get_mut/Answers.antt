@@ -1,7 +1,6 @@
 use Rattle.std.proofs.Common.{refl, ap, ◌≡◌, List, ℕ}
 use Rattle.std.proofs.Props.{props}
 use Rattle.no_std_io2_base.specs.Lines.{IsLineState}
-use Rattle.no_std_io2.specs.BufWriter.{sender_with_inner}
 use Rattle.no_std_io2.proofs.buffered.line_writer.state.LineSender.get_mut.Goals as goal
 
 -- the ghost field is the same, whichever proof it came from
@@ -10,6 +9,6 @@ same xs = Prim.hlevel props
 
 pub returns : goal.returns
 returns g c = (
-  (refl, λ w. ap (λ line. record { buffered = sender_with_inner c.args.self.now.buffered w; line = line }) (same _ _ _)),
+  (refl, λ w. ap (λ line. record { buffered = record c.args.self.now.buffered { inner = w }; line = line }) (same _ _ _)),
   record { value = c.get_mut.ensures.value; writes_back = tt },
 )
