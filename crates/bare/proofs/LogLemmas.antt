@@ -5,7 +5,7 @@ use Rattle.std.proofs.Common.{inr}
 use Rattle.std.proofs.Common.{arith, refl, append_assoc, length-append, min, take, ◌∷◌}
 use Rattle.std.proofs.lemmas.List.{length-take}
 use Rattle.no_std_io2.specs.declared.io.Error.{Error}
-use Rattle.no_std_io2.specs.Write.{Told, IsFront, WriteCall, Made, CallLaw, Writes, took, again, stuck, fault, RestCalls}
+use Rattle.no_std_io2.specs.Write.{Told, IsFront, WriteCall, Made, CallLaw, Writes, took, again, stuck, fault}
 use Rattle.bare.specs.declared.queue.Queue.{Queue}
 use Rattle.bare.specs.Queue.{waiting, capacity, QueueMay}
 use Rattle.bare.specs.Status.{done, kept}
@@ -24,25 +24,17 @@ module _ (told : Queue → Told) (takes_all : Queue → Type 0) where
   blocked (fault some is) a b made =
       (some, ap length (subst (λ q. waiting q ≡ waiting a) (sym made.2) made.1.call.1) ∙ made.1.call.0)
 
-  rest_blocked : {C : List WriteCall} {x left : List ℕ} {e : Error} (a b : Queue) → Made Call a C b → RestCalls C x (Err e) left
-      → (0 < length left) × (length (waiting b) ≡ capacity)
-  rest_blocked a b made calls =
-      elim calls [
-        | inl own ↦ absurd (subst (λ K. Made Call a K b) own made).1.0
-        | inr writes ↦ blocked writes a b made
-      ]
-
   -- the status says how it ended
-  ends : (r : Result (Unit {0}) Error) {C : List WriteCall} {x left : List ℕ} (a b : Queue) → OnOk r (left ≡ []) → Made Call a C b
-      → RestCalls C x r left
+  ends : (r : Result (Unit {0}) Error) {text : List ℕ} {C : List WriteCall} {x left : List ℕ} (a b : Queue) → OnOk r (left ≡ [])
+      → Made Call a C b → Writes text C x r left
       → ((resume_status r ≡ done) × (left ≡ [])) ⊎ ((resume_status r ≡ kept) × (0 < length left) × (length (waiting b) ≡ capacity))
   ends (Ok u) a b whole made calls = inl (refl, whole)
-  ends (Err e) a b whole made calls = let full = rest_blocked a b made calls in inr (refl, full.0, full.1)
+  ends (Err e) a b whole made calls = let full = blocked calls a b made in inr (refl, full.0, full.1)
 
   -- the bytes that the port took are no longer kept
-  pub resumed : (r : Result (Unit {0}) Error) {C : List WriteCall} (a b : Queue) (before sent left after : List ℕ)
+  pub resumed : (r : Result (Unit {0}) Error) {text : List ℕ} {C : List WriteCall} (a b : Queue) (before sent left after : List ℕ)
       → before ≡ sent ++ left → after ≡ drop (length before - length left) before → IsFront (waiting a) (waiting b)
-      → waiting b ++ [] ≡ (waiting a ++ []) ++ sent → OnOk r (left ≡ []) → Made Call a C b → RestCalls C before r left
+      → waiting b ++ [] ≡ (waiting a ++ []) ++ sent → OnOk r (left ≡ []) → Made Call a C b → Writes text C before r left
       → Resumes before (waiting a) (resume_status r) after (waiting b)
   resumed r a b before sent left after split gone front bytes whole made calls =
       let rest : after ≡ left = grind (arith, common_steps, split, gone) in

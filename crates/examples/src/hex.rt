@@ -1,6 +1,6 @@
 //! [`Hex`], an adaptor that writes other bytes than it accepts: two hexadecimal digits for each byte.
 ghost use Rattle.std.specs.Prelude.{◌≡◌, ◌<◌, [], None, OnOk, IfOk};
-ghost use Rattle.no_std_io2.specs.Write.{CallAdds, Moves, WroteRest, call_mishap};
+ghost use Rattle.no_std_io2.specs.Write.{CallAdds, Moves, RestAdds, call_mishap};
 ghost use Rattle.examples.specs.Hex.{digit as digit_of, hex, hex_inner, half, hex_told, written, Encodes};
 
 use no_std_io2::ghost_bytes::GhostBytes;
@@ -91,7 +91,7 @@ impl<W: Write> Write for Hex<W> {
 
 /// Writes the bytes of `rest` in hexadecimal. The digits of those that are gone from `rest` were written, also after an error.
 pub fn write_hex<W: Write>(w: &mut Hex<W>, rest: &mut &[u8]) -> Result<()>
-    ensures { CallAdds (Encodes W.told) w.old (WroteRest rest.old.now result rest.new.now) w.new }
+    ensures { RestAdds (Encodes W.told) w.old rest.old.now result w.new rest.new.now }
 {
     w.write_rest(rest)
 }

@@ -4,7 +4,7 @@ ghost use Rattle.std.specs.Prelude.{◌≡◌, ℕ, List, ◌++◌, ◌+◌, ◌
 ghost use Rattle.no_std_io2.specs.BufWriter.{writer_inner, writer_buffer};
 ghost use Rattle.no_std_io2.specs.Read.{tells};
 ghost use Rattle.no_std_io2.specs.Takes.{to_come};
-ghost use Rattle.no_std_io2.specs.Write.{CallAdds, WroteRest};
+ghost use Rattle.no_std_io2.specs.Write.{CallAdds, RestAdds};
 ghost use Rattle.examples.specs.Summed.{summed_inner, summed_sum, Sums, ReadSums};
 
 use no_std_io2::io::{BufWriter, Read, Result, Stored, Write};
@@ -57,7 +57,7 @@ impl<W: Write> Write for Summed<W> {
 /// Writes the bytes of `rest` by the trait's loop. The bytes that are gone from `rest` are in the sum, also after
 /// an error.
 pub fn write_summed<W: Write>(w: &mut Summed<W>, rest: &mut &[u8]) -> Result<()>
-    ensures { CallAdds Sums w.old (WroteRest rest.old.now result rest.new.now) w.new }
+    ensures { RestAdds Sums w.old rest.old.now result w.new rest.new.now }
 {
     w.write_rest(rest)
 }
@@ -65,7 +65,7 @@ pub fn write_summed<W: Write>(w: &mut Summed<W>, rest: &mut &[u8]) -> Result<()>
 /// Flushes a buffer in front of a checksum. The bytes that are no longer held are in the sum; after `Ok` these are
 /// all bytes.
 pub fn flush_summed<W: Write + Drop, const S: usize>(w: &mut BufWriter<Summed<W>, S>) -> Result<()>
-    ensures { CallAdds Sums (writer_inner w.old) (WroteRest (writer_buffer w.old) result (writer_buffer w.new)) (writer_inner w.new) }
+    ensures { RestAdds Sums (writer_inner w.old) (writer_buffer w.old) result (writer_inner w.new) (writer_buffer w.new) }
 {
     w.flush()
 }

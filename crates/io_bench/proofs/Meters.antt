@@ -1,5 +1,5 @@
 -- A `Tally` counts its calls.
-use Rattle.no_std_io2.specs.Write.{Wrote, WroteAll, WroteRest, Flushed}
+use Rattle.no_std_io2.specs.Write.{Wrote, WroteAll, Flushed}
 use Rattle.no_std_io2.specs.Read.{Reader}
 use Rattle.no_std_io2.specs.Writers.{Writer}
 use Rattle.no_std_io2.specs.Meter.{IsMeter}
@@ -12,7 +12,6 @@ pub tally_meters : {T : Type 0} (I : Writer T) → IsMeter (TallyMay I) tally_wr
 tally_meters I old new (Wrote x reply) made = made.writes
 tally_meters I old new (Flushed reply) made = made.writes
 tally_meters I old new (WroteAll x reply) made = absurd made
-tally_meters I old new (WroteRest x reply left) made = absurd made
 
 -- and its reads
 pub tally_meters_reads : {T : Type 0} (I : Reader T) → IsReadMeter (ReadsCounted I) tally_reads

@@ -5,7 +5,7 @@ use Rattle.std.proofs.Common.{refl, sym, subst, ap, ap₂, ◌∙◌, arith, inl
 use Rattle.std.proofs.Common.{take-append-drop}
 use Rattle.no_std_io2.specs.declared.io.Error.{Error}
 use Rattle.no_std_io2.specs.Writers.{Writer, TakesAll, CallOf}
-use Rattle.no_std_io2.specs.Write.{WriteCall, Wrote, WroteAll, WroteRest, Flushed, Made, Writes, none, took, again, calls_for, taken}
+use Rattle.no_std_io2.specs.Write.{WriteCall, Wrote, WroteAll, Flushed, Made, Writes, none, took, again, calls_for, taken}
 use Rattle.no_std_io2.specs.Write.{AllCalls}
 use Rattle.no_std_io2.specs.Meter.{IsMeter}
 use Rattle.no_std_io2.specs.BufWriter.{BufferMay, WriteCalls, WriteAllCalls, FlushCalls, SendCalls, Only, InnerCalls}
@@ -28,7 +28,6 @@ use Rattle.io_bench.proofs.PaidLemmas.{Paid, Paid-same, Paid-write, Paid-flush, 
 abbrev call_bytes : WriteCall → List ℕ
 call_bytes (Wrote x reply) = taken reply x
 call_bytes (WroteAll x reply) = x
-call_bytes (WroteRest x reply left) = x
 call_bytes (Flushed reply) = []
 
 -- 1 for a flush
@@ -62,8 +61,7 @@ op_took (Write x) (Took n) C is whole = (
   ap all_flushes is,
 )
 op_took (WriteAll x) Done C (inl own) whole = (ap all_bytes own ∙ append-nil x.now, ap all_flushes own)
-op_took (WriteAll x) Done C (inr (left, inl own)) whole = (ap all_bytes own ∙ append-nil x.now, ap all_flushes own)
-op_took (WriteAll x) Done C (inr (left, inr writes)) whole = writes_took writes
+op_took (WriteAll x) Done C (inr (left, writes)) whole = writes_took writes
 op_took Flush Done C is whole = (ap all_bytes is, ap all_flushes is)
 op_took (Write x) Done C is whole = absurd is
 op_took (Write x) (Failed e) C is whole = absurd whole
@@ -151,7 +149,6 @@ module _ {W B : Type 0} (I : Writer W) (cost : W → ℕ) (meter : IsMeter I.may
       (done.0, done.1, omega (arith, done.2, writing_all-is S x (buffer a) some))
       (buffered_leaves S x tt (λ C. AllCalls C x) _ _ _ _ made.2)
       (Paid-same refl (omega arith) refl refl (Paid-write S paid.1.0 f n (buffer a) x some (fits a) paid.1.2))
-  call_paid f n a b (WroteRest x reply left) made paid = absurd made.2
   call_paid f n a b (Flushed reply) made paid =
       let done = step_cost I cost meter inner buffer FlushCalls calls_for (flush_counts I) a b {reply = reply} made paid.0 in
       paid_on f n a b reply (calls_for (buffer a)) [] paid (f + 1) (n + 0) done (flush_empties reply made.2)

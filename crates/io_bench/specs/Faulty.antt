@@ -8,7 +8,7 @@ use Rattle.no_std_io2.specs.declared.io.ErrorKind.{ErrorKind}
 use Rattle.no_std_io2.specs.declared.io.ErrorKind.TheVariants.{WriteZero}
 use Rattle.no_std_io2.specs.Writers.{Writer}
 use Rattle.no_std_io2.specs.Errors.{is_interruption}
-use Rattle.no_std_io2.specs.Write.{Told, WriteCall, Wrote, WroteAll, WroteRest, Flushed}
+use Rattle.no_std_io2.specs.Write.{Told, WriteCall, Wrote, WroteAll, Flushed}
 use Rattle.io_bench.specs.Calls.{FailsWith}
 use Rattle.io_bench.specs.declared.faulty.Act.{Act}
 use Rattle.io_bench.specs.declared.faulty.Act.TheVariants.{Take, Zero, Fail}
@@ -53,7 +53,6 @@ FaultyMay I old (Wrote x reply) new =
 FaultyMay I old (Flushed reply) new =
     (acts_left new ≡ drop 1 (acts_left old)) × FlushesBehind I (next_act old) (faulty_inner old) reply (faulty_inner new)
 FaultyMay I old (WroteAll x reply) new = ⊥
-FaultyMay I old (WroteRest x reply left) new = ⊥
 
 -- the mishap that an act causes
 abbrev pub act_mishap : Act → List ErrorKind

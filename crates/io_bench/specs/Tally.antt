@@ -2,7 +2,7 @@
 use Rattle.no_std_io2.specs.Writers.{CallOf}
 use Rattle.std.specs.Prelude.{◌≡◌, ℕ, ◌+◌, min, List, length, Result}
 use Rattle.no_std_io2.specs.Writers.{Writer}
-use Rattle.no_std_io2.specs.Write.{WriteCall, Wrote, WroteAll, WroteRest, Flushed}
+use Rattle.no_std_io2.specs.Write.{WriteCall, Wrote, WroteAll, Flushed}
 use Rattle.no_std_io2.specs.declared.io.Error.{Error}
 use Rattle.no_std_io2.specs.Read.{Reader, ReadCall, ReadCallLaw, Gave}
 use Rattle.io_bench.specs.declared.tally.Tally.{Tally}
@@ -30,7 +30,6 @@ abbrev pub TallyMay : {T : Type 0} → Writer T → Tally T → WriteCall → Ta
 TallyMay I old (Wrote x reply) new = HandsCounted I old (Wrote x reply) 1 new
 TallyMay I old (Flushed reply) new = HandsCounted I old (Flushed reply) 0 new
 TallyMay I old (WroteAll x reply) new = ⊥
-TallyMay I old (WroteRest x reply left) new = ⊥
 
 -- A `read` makes the same `read` of the inner reader, once, with the same result, and counts if it has room for a byte.
 pub record ReadCounted {T : Type 0} (I : Reader T) (old : Tally T) (room : ℕ) (answer : Result (List ℕ) Error) (new : Tally T)

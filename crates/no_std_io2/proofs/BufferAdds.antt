@@ -3,7 +3,7 @@ use Rattle.std.proofs.lemmas.Bool.Decides.{nat_tests}
 use Rattle.std.proofs.Common.{arith}
 use Rattle.std.proofs.Common.{ℕ, List, Result, append-nil}
 use Rattle.no_std_io2_base.specs.declared.error.Error.{Error}
-use Rattle.no_std_io2_base.specs.Write.{WriteCall, WroteRest, CallAdds, Made}
+use Rattle.no_std_io2_base.specs.Write.{WriteCall, CallAdds, RestAdds, Made}
 use Rattle.no_std_io2_base.proofs.CallsLemmas.{made_split}
 use Rattle.no_std_io2_base.proofs.CallsAdd.{Joins, writes_add}
 use Rattle.no_std_io2.specs.BufWriter.{FlushCalls}
@@ -13,9 +13,9 @@ module _ {W : Type 0} {may : W → WriteCall → W → Type 0} {Adds : W → Lis
     (each : (a b : W) (call : WriteCall) → may a call b → CallAdds Adds a call b) where
   -- those of a `flush`: the bytes that are no longer held were added, after `Ok` all held bytes
   flushed_adds : {C : List WriteCall} {held left : List ℕ} {reply : Result (Unit {0}) Error} → FlushCalls held C reply left
-      → (a b : W) → Made may a C b → CallAdds Adds a (WroteRest held reply left) b
+      → (a b : W) → Made may a C b → RestAdds Adds a held reply b left
   flushed_adds = grind (arith, nat_tests, writes_add, made_split, after_ok, append-nil)
 
   pub flush_adds : (C : List WriteCall) (held left : List ℕ) (reply : Result (Unit {0}) Error) (a b : W)
-      → Made may a C b → FlushCalls held C reply left → CallAdds Adds a (WroteRest held reply left) b
+      → Made may a C b → FlushCalls held C reply left → RestAdds Adds a held reply b left
   flush_adds C held left reply a b made calls = flushed_adds calls a b made

@@ -1,7 +1,7 @@
 -- Which errors a writer with a buffer returns, if each call of its inner writer fails with such errors only.
 use Rattle.std.proofs.Common.{◌≡◌, ℕ, ◌<◌, List, ◌∷◌, [], Result, Ok, Err, IfErr, IfOk, length, arith, subst, sym, inl, inr}
 use Rattle.no_std_io2_base.specs.declared.error.Error.{Error}
-use Rattle.no_std_io2_base.specs.Write.{WriteCall, Wrote, WroteAll, WroteRest, Flushed, Made, AllCalls}
+use Rattle.no_std_io2_base.specs.Write.{WriteCall, Wrote, WroteAll, Flushed, Made, AllCalls}
 use Rattle.no_std_io2_base.specs.Writers.{Writer}
 use Rattle.no_std_io2_base.specs.Fails.{FailsBy, FailsOnly}
 use Rattle.no_std_io2_base.proofs.CallsLemmas.{made_split}
@@ -79,7 +79,6 @@ module _ {W : Type 0} (I : Writer W) (Q : Error → Type 0) (fails : FailsOnly Q
       write_some S x _ _ _ _ may.2 (inner old) (inner new) (bare I may.0 (inner old) (inner new) may.1)
   buffer_fails S inner buffer old new (WroteAll x reply) may =
       write_all_fails S x _ _ _ _ may.2 (inner old) (inner new) (bare I may.0 (inner old) (inner new) may.1)
-  buffer_fails S inner buffer old new (WroteRest x reply left) may = absurd may.2
   buffer_fails S inner buffer old new (Flushed reply) may =
       flush_fails _ _ _ _ may.2 (inner old) (inner new) (bare I may.0 (inner old) (inner new) may.1)
 
@@ -133,6 +132,5 @@ module _ {W : Type 0} (I : Writer W) (Q : Error → Type 0) (fails : FailsOnly Q
       line_write_some S x _ _ _ _ may.2 (inner old) (inner new) (bare I may.0 (inner old) (inner new) may.1)
   line_fails S inner buffer old new (WroteAll x reply) may =
       line_write_all_fails S x _ _ _ _ may.2 (inner old) (inner new) (bare I may.0 (inner old) (inner new) may.1)
-  line_fails S inner buffer old new (WroteRest x reply left) may = absurd may.2
   line_fails S inner buffer old new (Flushed reply) may =
       flush_fails _ _ _ _ may.2 (inner old) (inner new) (bare I may.0 (inner old) (inner new) may.1)

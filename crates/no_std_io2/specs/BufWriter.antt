@@ -4,7 +4,7 @@ use Rattle.std.specs.Prelude.{◌≡◌, ℕ, ◌+◌, List, [], ◌++◌, lengt
 use Rattle.std.specs.Prelude.{Result, Ok, Err, IsOk, IsOkAnd, IfOk, IfErr, OnOk, codes, Option, None}
 use Rattle.no_std_io2_base.specs.declared.error.Error.{Error}
 use Rattle.no_std_io2_base.specs.Write.{Told, Moves, call_mishap}
-use Rattle.no_std_io2_base.specs.Write.{WriteCall, Wrote, WroteAll, WroteRest, Flushed, Made, Writes, AllCalls}
+use Rattle.no_std_io2_base.specs.Write.{WriteCall, Wrote, WroteAll, Flushed, Made, Writes, AllCalls}
 use Rattle.no_std_io2_base.specs.Writers.{Writer, TakesAll, CallOf}
 use Rattle.no_std_io2.specs.Buffer.{buffer_held}
 use Rattle.no_std_io2.specs.declared.buffered.sender.Sender.{Sender}
@@ -128,7 +128,6 @@ TakesStep I inner buffer step old reply new =
 abbrev pub InnerCalls : ℕ → List ℕ → WriteCall → List WriteCall → List ℕ → Type 0
 InnerCalls S held (Wrote x reply) C left = WriteCalls S x held C reply left
 InnerCalls S held (WroteAll x reply) C left = WriteAllCalls S x held C reply left
-InnerCalls S held (WroteRest x reply rest) C left = ⊥
 InnerCalls S held (Flushed reply) C left = FlushCalls held C reply left
 
 -- what a call may do to a writer B with a buffer: inner calls that `level` lists, with the bytes held before and after it

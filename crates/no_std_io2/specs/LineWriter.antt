@@ -4,7 +4,7 @@ use Rattle.std.specs.Prelude.{ℕ, List, ◌≡◌, ◌+◌, ◌<◌, ◌≤◌,
 use Rattle.std.specs.Prelude.{if◌then◌else◌}
 use Rattle.std.specs.Prelude.{Result, Ok, Err, IsOk}
 use Rattle.no_std_io2_base.specs.declared.error.Error.{Error}
-use Rattle.no_std_io2_base.specs.Write.{WriteCall, Wrote, WroteAll, WroteRest, Flushed, AllCalls}
+use Rattle.no_std_io2_base.specs.Write.{WriteCall, Wrote, WroteAll, Flushed, AllCalls}
 use Rattle.no_std_io2.specs.declared.buffered.line_writer.LineWriter.{LineWriter}
 use denote.Param.{param, number}
 use denote.RattleType.{RattleType}
@@ -72,7 +72,6 @@ LineWriteAllCalls S x held C reply left = (Lacks newline x × Then SendLineCalls
 abbrev pub LineCalls : ℕ → List ℕ → WriteCall → List WriteCall → List ℕ → Type 0
 LineCalls S held (Wrote x reply) C left = LineWriteCalls S x held C reply left
 LineCalls S held (WroteAll x reply) C left = LineWriteAllCalls S x held C reply left
-LineCalls S held (WroteRest x reply rest) C left = ⊥
 LineCalls S held (Flushed reply) C left = FlushCalls held C reply left
 
 -- the buffer after a `write_all(x)` that returned `Ok`: the unfinished line, if it is shorter than S

@@ -8,8 +8,8 @@ use Rattle.no_std_io2_base.specs.BufRead.{Lender, ConsumeLaw, FillBufLaw, AfterL
 use Rattle.no_std_io2_base.proofs.CallsLemmas.{made_map}
 use Rattle.no_std_io2_base.proofs.Forwards.{ReadsThrough, read_through, exact_through, LendsThrough, consume_through, fill_through}
 use Rattle.no_std_io2_base.proofs.Forwards.{loan_through}
-use Rattle.no_std_io2_base.specs.Write.{WriteCall, Wrote, WroteAll, WroteRest, Flushed, Made, BoxMay}
-use Rattle.no_std_io2_base.specs.Writers.{Writer, CallOf, WriteAllOf, WriteRestOf}
+use Rattle.no_std_io2_base.specs.Write.{WriteCall, Wrote, WroteAll, Flushed, Made, BoxMay}
+use Rattle.no_std_io2_base.specs.Writers.{Writer, CallOf, WriteAllOf}
 
 module _ {I A : Type 0} {V : I → Type 0} (box : DynBox I A V) where
   -- the box with another value
@@ -129,7 +129,6 @@ module _ {I A : Type 0} {V : I → Type 0} (o : (p : (x : I) × V x) → Writer 
     call = (new, refl, law.call);
   }
   call_box i old new (WroteAll x reply) law = ((new, refl, law.0), law.1, law.2, law.3)
-  call_box i old new (WroteRest x reply left) law = ((new, refl, law.0), law.1, law.2, law.3, law.4)
 
   -- and so did many
   made_box : (i : I) (C : List WriteCall) (old new : V i) → Made (CallOf (value_writer i)) old C new
@@ -148,19 +147,6 @@ module _ {I A : Type 0} {V : I → Type 0} (o : (p : (x : I) × V x) → Writer 
       (λ new law. record {
         never_interrupted = law.never_interrupted;
         moves = law.moves;
-        all = law.all;
-        calls = (law.calls.0, made_box box.vtable law.calls.0 box.value new law.calls.1, law.calls.2);
-      })
-
-  pub write_rest_box : (x : List ℕ) (reply : Result (Unit {0}) Error) (left : List ℕ) (lent : (i : I) × V i)
-      → lent ≡ (box.vtable, box.value) → (new : V lent.0) → WriteRestOf (value_writer lent.0) lent.1 x reply new left
-      → WriteRestOf box_writer box x reply (holding box lent.0 new) left
-  write_rest_box x reply left = in_box box (λ i a b. WriteRestOf (value_writer i) a x reply b left)
-      (λ b. WriteRestOf box_writer box x reply b left)
-      (λ new law. record {
-        never_interrupted = law.never_interrupted;
-        sends = law.sends;
-        done = law.done;
         all = law.all;
         calls = (law.calls.0, made_box box.vtable law.calls.0 box.value new law.calls.1, law.calls.2);
       })

@@ -2,8 +2,8 @@
 use Rattle.std.proofs.Common.{◌≡◌, ℕ, List, [], ◌++◌, Result, Ok, Err, OnOk, refl, sym, ap, subst, ◌∙◌, inl, inr}
 use Rattle.std.proofs.Common.{take, append_assoc, append-nil, take-append-drop}
 use Rattle.no_std_io2_base.specs.declared.error.Error.{Error}
-use Rattle.no_std_io2_base.specs.Write.{WriteCall, Wrote, WroteAll, WroteRest, CallAdds, Made}
-use Rattle.no_std_io2_base.specs.Write.{Writes, none, took, again, stuck, fault, AllCalls, RestCalls}
+use Rattle.no_std_io2_base.specs.Write.{WriteCall, Wrote, WroteAll, CallAdds, RestAdds, Made}
+use Rattle.no_std_io2_base.specs.Write.{Writes, none, took, again, stuck, fault, AllCalls}
 
 -- No bytes add nothing, and bytes that were added one after another were added joined.
 pub record Joins {W : Type 0} (Adds : W → List ℕ → W → Type 0) : Type 0 where
@@ -12,9 +12,9 @@ pub record Joins {W : Type 0} (Adds : W → List ℕ → W → Type 0) : Type 0 
 
 module _ {W : Type 0} {may : W → WriteCall → W → Type 0} {Adds : W → List ℕ → W → Type 0} (joins : Joins Adds)
     (each : (a b : W) (call : WriteCall) → may a call b → CallAdds Adds a call b) where
-  -- the calls that write x
+  -- the writes of a loop: what is gone from x was added, after an error too
   pub writes_add : {text : List ℕ} {C : List WriteCall} {x left : List ℕ} {reply : Result (Unit {0}) Error}
-      → Writes text C x reply left → (a b : W) → Made may a C b → CallAdds Adds a (WroteRest x reply left) b
+      → Writes text C x reply left → (a b : W) → Made may a C b → RestAdds Adds a x reply b left
   writes_add none a b made = ([], refl, refl, subst (Adds a []) (sym made) (joins.none a))
   writes_add (took {x = x} {n = n} some more w) a b made =
       let rest = writes_add w made.0 b made.2 in (
@@ -31,18 +31,7 @@ module _ {W : Type 0} {may : W → WriteCall → W → Type 0} {Adds : W → Lis
   writes_add (fault {x = x} {e = e} some is) a b made =
       ([], refl, tt, subst (Adds a []) (sym made.2) (each a made.0 (Wrote x (Err e)) made.1))
 
-  -- those of a `write_rest`: what is gone from x was added, after an error too
-  pub rest_adds : (C : List WriteCall) (x left : List ℕ) (reply : Result (Unit {0}) Error) (a b : W)
-      → Made may a C b → RestCalls C x reply left → CallAdds Adds a (WroteRest x reply left) b
-  rest_adds C x left reply a b made calls =
-      elim calls [
-        | inl own ↦
-            let one = subst (λ K. Made may a K b) own made in
-            subst (CallAdds Adds a (WroteRest x reply left)) (sym one.2) (each a one.0 (WroteRest x reply left) one.1)
-        | inr writes ↦ writes_add writes a b made
-      ]
-
-  -- those of a `write_all`: all of x was added after `Ok`, and some front of x after an error
+  -- the calls of a `write_all`: all of x was added after `Ok`, and some front of x after an error
   pub all_adds : (C : List WriteCall) (x : List ℕ) (reply : Result (Unit {0}) Error) (a b : W)
       → Made may a C b → AllCalls C x reply → CallAdds Adds a (WroteAll x reply) b
   all_adds C x reply a b made calls =
@@ -51,7 +40,7 @@ module _ {W : Type 0} {may : W → WriteCall → W → Type 0} {Adds : W → Lis
             let one = subst (λ K. Made may a K b) own made in
             subst (CallAdds Adds a (WroteAll x reply)) (sym one.2) (each a one.0 (WroteAll x reply) one.1)
         | inr rest ↦
-            let added = rest_adds C x rest.0 reply a b made rest.1 in
+            let added = writes_add rest.1 a b made in
             (added.0, (rest.0, added.1), whole x rest.0 added.0 reply added.1 added.2, added.3)
       ]
     where

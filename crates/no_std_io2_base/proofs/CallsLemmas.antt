@@ -1,9 +1,9 @@
 -- Calls one after another.
 use Rattle.std.proofs.Common.{◌≡◌, ℕ, List, [], ◌∷◌, ◌++◌, Result, OnOk, refl, sym, ap, subst, append_assoc, inl}
 use Rattle.no_std_io2_base.specs.declared.error.Error.{Error}
-use Rattle.no_std_io2_base.specs.Write.{WriteCall, Made, WroteAll, WroteRest, Wrote, Flushed, Writes, none, took, again}
+use Rattle.no_std_io2_base.specs.Write.{WriteCall, Made, WroteAll, Wrote, Flushed, Writes, none, took, again}
 use Rattle.no_std_io2_base.specs.Writers.{Writer, CallOf}
-use Rattle.no_std_io2_base.specs.Write.{stuck, fault, RestCalls, AllCalls}
+use Rattle.no_std_io2_base.specs.Write.{stuck, fault, AllCalls}
 
 -- one call more
 pub made_more : {W A : Type 0} (may : W → A → W → Type 0) (C : List A) (a : W) {b c : W} {call : A}
@@ -55,7 +55,6 @@ pub law_of_part : {W V : Type 0} (I : Writer W) (get : V → W) (old new : V) (c
 law_of_part I get old new (Wrote x reply) law = record { bound = law.bound; moves = law.moves; all = law.all; call = law.call }
 law_of_part I get old new (Flushed reply) law = record { empty = law.empty; moves = law.moves; all = law.all; call = law.call }
 law_of_part I get old new (WroteAll x reply) law = law
-law_of_part I get old new (WroteRest x reply left) law = law
 
 -- and so did many
 pub calls_of_part : {W V : Type 0} (I : Writer W) (get : V → W) (put : W → V) → ((a : W) → get (put a) ≡ a)
@@ -71,17 +70,11 @@ pub law_may : {W : Type 0} (I : Writer W) (old new : W) (call : WriteCall) → C
 law_may I old new (Wrote x reply) law = law.call
 law_may I old new (Flushed reply) law = law.call
 law_may I old new (WroteAll x reply) law = law.0
-law_may I old new (WroteRest x reply left) law = law.0
 
 -- the `write_all` of a type that has a body of its own for it is one call
 pub all_own : {W : Type 0} {may : W → WriteCall → W → Type 0} {a : W} (b : W) (x : List ℕ) (reply : Result (Unit {0}) Error)
     → may a (WroteAll x reply) b → (C : List WriteCall) × Made may a C b × AllCalls C x reply
 all_own b x reply own = (WroteAll x reply ∷ [], (b, own, refl), inl refl)
-
--- the `write_rest` of such a type is one call
-pub rest_own : {W : Type 0} {may : W → WriteCall → W → Type 0} {a : W} (b : W) (x : List ℕ) (reply : Result (Unit {0}) Error)
-    (left : List ℕ) → may a (WroteRest x reply left) b → (C : List WriteCall) × Made may a C b × RestCalls C x reply left
-rest_own b x reply left own = (WroteRest x reply left ∷ [], (b, own, refl), inl refl)
 
 -- So far the calls C were made to write `start`: with those that write `left` they write all of it.
 abbrev pub WritesOn : List ℕ → List WriteCall → List ℕ → List ℕ → Type 0

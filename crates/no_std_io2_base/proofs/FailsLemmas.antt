@@ -2,7 +2,7 @@
 use Rattle.std.proofs.Common.{ℕ, List, Result, Ok, Err, IfErr, arith, subst, sym, true≢false, inl, inr}
 use Rattle.no_std_io2_base.specs.declared.error.Error.{Error}
 use Rattle.no_std_io2_base.specs.Errors.{IsOutOfMemory}
-use Rattle.no_std_io2_base.specs.Write.{WriteCall, Wrote, WroteAll, WroteRest, Flushed, Made, AllCalls}
+use Rattle.no_std_io2_base.specs.Write.{WriteCall, Wrote, WroteAll, Flushed, Made, AllCalls}
 use Rattle.no_std_io2_base.specs.Write.{Writes, none, took, again, stuck, fault}
 use Rattle.no_std_io2_base.specs.Writers.{Writer, CallOf, WriteAllOf, FlushOf}
 use Rattle.no_std_io2_base.proofs.CallsLemmas.{made_map, law_may}
@@ -21,7 +21,6 @@ appends_fails items len capacity old new (Wrote x (Ok n)) made = (tt, λ some. o
 appends_fails items len capacity old new (Wrote x (Err e)) made = (made.1.0, tt)
 appends_fails items len capacity old new (WroteAll x reply) made =
     whole_fails (items old) (items new) x (len old) (capacity old) reply made.0
-appends_fails items len capacity old new (WroteRest x reply left) made = absurd made
 appends_fails items len capacity old new (Flushed (Ok u)) made = tt
 appends_fails items len capacity old new (Flushed (Err e)) made = absurd (true≢false (sym made.0))
 
@@ -49,10 +48,7 @@ module _ {W : Type 0} (Q : Error → Type 0) (may : W → WriteCall → W → Ty
       → IfErr reply Q
   all_fails {x = x} reply calls a b made = elim calls [
     | inl own ↦ fails a _ (WroteAll x reply) (subst (λ K. Made may a K b) own made).1
-    | inr rest ↦ elim rest.1 [
-      | inl own ↦ fails a _ (WroteRest x reply rest.0) (subst (λ K. Made may a K b) own made).1
-      | inr writes ↦ writes_fail writes a b made
-    ]
+    | inr writes ↦ writes_fail writes.1 a b made
   ]
 
 -- so the laws say which errors are returned

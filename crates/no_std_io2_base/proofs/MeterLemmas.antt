@@ -51,9 +51,6 @@ module _ {W : Type 0} (I : Writer W) where
         all.1,
         elim calls [
           | inl own ↦ ap charges own ∙ omega arith
-          | inr rest ↦ elim rest.1 [
-            | inl own ↦ ap charges own ∙ omega arith
-            | inr writes ↦ (writes_count writes a b made takes).2
-          ]
+          | inr writes ↦ (writes_count writes.1 a b made takes).2
         ],
       )

@@ -1,5 +1,5 @@
 -- What follows from the calls that were made.
-use Rattle.std.proofs.Common.{◌≡◌, ℕ, ◌<◌, List, [], ◌∷◌, ◌++◌, Result, Ok, Err, OnErr, IsOk, length, take, drop, codes, inr}
+use Rattle.std.proofs.Common.{◌≡◌, ℕ, ◌<◌, List, [], ◌∷◌, ◌++◌, Result, Ok, Err, OnErr, IsOk, length, take, drop, codes}
 use Rattle.std.proofs.Common.{refl, sym, ap, subst, ◌∙◌, arith, append_assoc, take-append-drop, length-drop}
 use Rattle.std.proofs.lemmas.Bool.Decides.{nat_tests}
 use Rattle.no_std_io2_base.specs.declared.error.Error.{Error}
@@ -115,5 +115,5 @@ module _ {S : Type 0} (I : Writer S) where
         sends = writes_sends w a b calls.1;
         done = writes_whole w;
         all = λ t. let all = writes_all w a b calls.1 t in (all.0, all.1);
-        calls = (calls.0, calls.1, inr w);
+        calls = calls;
       }

@@ -2,7 +2,7 @@
 use Rattle.std.specs.Prelude.{◌≡◌, ℕ, ◌+◌, ◌<◌, ◌≤◌, List, ◌++◌, length, Result, Ok, Err, IsOk, IfOk}
 use Rattle.no_std_io2_base.specs.declared.error.Error.{Error}
 use Rattle.no_std_io2_base.specs.Errors.{IsOutOfMemory}
-use Rattle.no_std_io2_base.specs.Write.{WriteCall, Wrote, WroteAll, WroteRest, Flushed}
+use Rattle.no_std_io2_base.specs.Write.{WriteCall, Wrote, WroteAll, Flushed}
 
 -- All of x was appended; or the capacity was too small for the length and x, the allocation failed, and nothing was appended.
 abbrev pub AppendsWhole : {A : Type 0} → List ℕ → ℕ → ℕ → List ℕ → Result A Error → List ℕ → Type 0
@@ -15,5 +15,4 @@ AppendsMay items len capacity old (Wrote x reply) new =
     IfOk reply (λ n. n ≡ length x) × AppendsWhole (items old) (len old) (capacity old) x reply (items new) × (capacity old ≤ capacity new)
 AppendsMay items len capacity old (WroteAll x reply) new =
     AppendsWhole (items old) (len old) (capacity old) x reply (items new) × (capacity old ≤ capacity new)
-AppendsMay items len capacity old (WroteRest x reply left) new = ⊥
 AppendsMay items len capacity old (Flushed reply) new = IsOk reply × (new ≡ old)

@@ -5,7 +5,7 @@ use Rattle.no_std_io2_base.specs.declared.cursor.Cursor.{Cursor}
 use Rattle.no_std_io2_base.specs.declared.error.Error.{Error}
 use Rattle.no_std_io2_base.specs.declared.error.ErrorKind.TheVariants.{InvalidInput, OutOfMemory}
 use Rattle.no_std_io2_base.specs.Errors.{error_kind, error_text, IsUnwritten}
-use Rattle.no_std_io2_base.specs.Write.{WriteCall, Wrote, WroteAll, WroteRest, Flushed}
+use Rattle.no_std_io2_base.specs.Write.{WriteCall, Wrote, WroteAll, Flushed}
 
 -- the position of a cursor
 abbrev pub cursor_position : {T : Type 0} → Cursor T → ℕ
@@ -79,7 +79,6 @@ PutsMay items capacity old (Wrote x reply) new = PutsWhole (items old.inner) old
     × OnErr reply (capacity old.inner < old.pos + length x) × (capacity old.inner ≤ capacity new.inner)
 PutsMay items capacity old (WroteAll x reply) new = PutsAll (items old.inner) old.pos x reply (items new.inner) new.pos
     × OnErr reply (capacity old.inner < old.pos + length x) × (capacity old.inner ≤ capacity new.inner)
-PutsMay items capacity old (WroteRest x reply left) new = ⊥
 PutsMay items capacity old (Flushed reply) new = IsOk reply × (new ≡ old)
 
 -- `write_all` of x over a slice: as many bytes as fit are written; it fails if and only if these are not all
@@ -94,7 +93,6 @@ abbrev pub FitsMay : {T : Type 0} → (T → List ℕ) → Cursor T → WriteCal
 FitsMay items old (Wrote x reply) new = IsOkAnd reply (λ n. n ≡ min (length x) (length (items old.inner) - old.pos))
     × PutsFitting (items old.inner) old.pos x (items new.inner) new.pos
 FitsMay items old (WroteAll x reply) new = PutsAllFitting (items old.inner) old.pos x reply (items new.inner) new.pos
-FitsMay items old (WroteRest x reply left) new = ⊥
 FitsMay items old (Flushed reply) new = IsOk reply × (new ≡ old)
 
 -- The contract of a private function that puts x at `place`: x is there, or the capacity was too small, and nothing changed.

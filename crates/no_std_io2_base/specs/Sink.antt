@@ -1,7 +1,7 @@
 -- What a `Sink` tells; an `Empty` tells what its sink tells.
 use Rattle.std.specs.Prelude.{◌≡◌, ℕ, List, [], ◌++◌, length, Some, Ok}
 use Rattle.no_std_io2_base.specs.Seek.{SeekCall, Sought}
-use Rattle.no_std_io2_base.specs.Write.{Told, WriteCall, Wrote, WroteAll, WroteRest, Flushed}
+use Rattle.no_std_io2_base.specs.Write.{Told, WriteCall, Wrote, WroteAll, Flushed}
 use Rattle.no_std_io2_base.specs.declared.sinks.Sink.{Sink}
 
 -- the bytes that it took
@@ -17,7 +17,6 @@ abbrev pub SinkMay : Sink → WriteCall → Sink → Type 0
 SinkMay old (Wrote x reply) new = (reply ≡ Ok (length x)) × (sink_taken new ≡ sink_taken old ++ x)
 SinkMay old (Flushed reply) new = (reply ≡ Ok tt) × (new ≡ old)
 SinkMay old (WroteAll x reply) new = ⊥
-SinkMay old (WroteRest x reply left) new = ⊥
 
 -- a seek of an `Empty` stays at 0
 abbrev pub StaysAtStart : {X : Type 0} → X → SeekCall → X → Type 0

@@ -91,8 +91,6 @@ pub data WriteCall : Type 0 where
   Wrote : List ℕ → Result ℕ Error → WriteCall
   -- a `write_all` of a type that has a body of its own for it
   WroteAll : List ℕ → Result (Unit {0}) Error → WriteCall
-  -- a `write_rest` of such a type, and what it left
-  WroteRest : List ℕ → Result (Unit {0}) Error → List ℕ → WriteCall
   Flushed : Result (Unit {0}) Error → WriteCall
 
 -- the calls of the list were made, one after another, and led from old to new
@@ -111,8 +109,11 @@ abbrev pub CallAdds : {W : Type 0} → (W → List ℕ → W → Type 0) → W �
 CallAdds Adds old (Wrote x reply) new = Adds old (taken reply x) new
 CallAdds Adds old (WroteAll x reply) new =
     (accepted : List ℕ) × IsFront accepted x × OnOk reply (accepted ≡ x) × Adds old accepted new
-CallAdds Adds old (WroteRest x reply left) new = (sent : List ℕ) × (x ≡ sent ++ left) × OnOk reply (left ≡ []) × Adds old sent new
 CallAdds Adds old (Flushed reply) new = Adds old [] new
+
+-- So did a loop that wrote x and left `left`: with exactly the bytes that are gone from the front of x.
+abbrev pub RestAdds : {W : Type 0} → (W → List ℕ → W → Type 0) → W → List ℕ → Result (Unit {0}) Error → W → List ℕ → Type 0
+RestAdds Adds old x reply new left = (sent : List ℕ) × (x ≡ sent ++ left) × OnOk reply (left ≡ []) × Adds old sent new
 
 -- C are the writes of a loop that writes x, with its result and what it left of x. `text` is the message of its error if a write takes no
 -- byte.
@@ -130,13 +131,9 @@ pub data Writes (text : List ℕ) : List WriteCall → List ℕ → Result (Unit
   -- a fault ends the loop, and is the result
   fault : {x : List ℕ} {e : Error} → 0 < length x → IsFault e → Writes text (Wrote x (Err e) ∷ []) x (Err e) x
 
--- C are the calls of a `write_rest(&mut x)`: the writes of a loop, or the `write_rest` of a type that has a body of its own for it
-abbrev pub RestCalls : List WriteCall → List ℕ → Result (Unit {0}) Error → List ℕ → Type 0
-RestCalls C x reply left = (C ≡ WroteRest x reply left ∷ []) ⊎ Writes (codes "failed to write whole buffer") C x reply left
-
--- C are the calls of a `write_all(x)`: those of a `write_rest`, or the `write_all` of a type that has a body of its own for it
+-- C are the calls of a `write_all(x)`: the writes of a `write_rest`, or the `write_all` of a type that has a body of its own for it
 abbrev pub AllCalls : List WriteCall → List ℕ → Result (Unit {0}) Error → Type 0
-AllCalls C x reply = (C ≡ WroteAll x reply ∷ []) ⊎ ((left : List ℕ) × RestCalls C x reply left)
+AllCalls C x reply = (C ≡ WroteAll x reply ∷ []) ⊎ ((left : List ℕ) × Writes (codes "failed to write whole buffer") C x reply left)
 
 -- The writer takes all: it says so, and no mishap is to come.
 abbrev pub AcceptsAll : {W : Type 0} → (W → Told) → (W → Type 0) → W → Type 0
@@ -173,9 +170,6 @@ CallLaw told takes_all may old (Flushed reply) new = FlushLaw told takes_all may
 CallLaw told takes_all may old (WroteAll x reply) new = may old (WroteAll x reply) new
     × IsNoInterruption reply × MovesFront (told old) x reply (told new)
     × (AcceptsAll told takes_all old → AcceptsAll told takes_all new)
-CallLaw told takes_all may old (WroteRest x reply left) new = may old (WroteRest x reply left) new
-    × IsNoInterruption reply × Sends (told old) x reply (told new) left × OnOk reply (left ≡ [])
-    × (AcceptsAll told takes_all old → AcceptsAll told takes_all new)
 
 -- `write_all(x)`
 pub record WriteAllLaw {W : Type 0} (told : W → Told) (takes_all : W → Type 0) (may : W → WriteCall → W → Type 0)
@@ -200,5 +194,6 @@ pub record WriteRestLaw {W : Type 0} (told : W → Told) (takes_all : W → Type
   pub done : OnOk reply (left ≡ [])
   -- if the writer takes all, it accepted all of x, and it still takes all
   pub all : AcceptsAll told takes_all old → AcceptsAll told takes_all new × IsOk reply
-  -- which calls it made
-  pub calls : (C : List WriteCall) × Made (CallLaw told takes_all may) old C new × RestCalls C x reply left
+  -- which writes it made
+  pub calls : (C : List WriteCall) × Made (CallLaw told takes_all may) old C new
+      × Writes (codes "failed to write whole buffer") C x reply left

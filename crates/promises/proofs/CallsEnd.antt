@@ -1,7 +1,7 @@
 -- Which call of a buffer's inner writer is the last.
 use Rattle.std.proofs.Common.{ℕ, List, [], ◌∷◌, ◌++◌, Result, Ok, Err, IfOk, IfErr, length, refl, subst, sym, inl, inr}
 use Rattle.no_std_io2.specs.declared.io.Error.{Error}
-use Rattle.no_std_io2.specs.Write.{WriteCall, Wrote, WroteAll, WroteRest, Flushed, Writes, none, took, again, stuck, fault}
+use Rattle.no_std_io2.specs.Write.{WriteCall, Wrote, WroteAll, Flushed, Writes, none, took, again, stuck, fault}
 use Rattle.no_std_io2.specs.BufWriter.{stops, goes_on, WayCalls, FlushCalls, WriteCalls, PutCalls, Only}
 use Rattle.promises.specs.Promises.{HasNoFlush, FailedWith, EndsIn}
 
@@ -39,7 +39,6 @@ both_only : (C D : List WriteCall) → HasNoFlush C → HasNoFlush D → HasNoFl
 both_only [] D c d = d
 both_only (Wrote x reply ∷ C) D c d = both_only C D c d
 both_only (WroteAll x reply ∷ C) D c d = both_only C D c d
-both_only (WroteRest x reply left ∷ C) D c d = both_only C D c d
 both_only (Flushed reply ∷ C) D c d = absurd c
 
 -- a `flush`

@@ -3,7 +3,7 @@ use Rattle.std.specs.Prelude.{◌≡◌, ℕ, List, [], ◌∷◌, ◌++◌, ⊤
 use Rattle.no_std_io2.specs.declared.io.Error.{Error}
 use Rattle.no_std_io2.specs.declared.io.ErrorKind.TheVariants.{WriteZero}
 use Rattle.no_std_io2.specs.Errors.{error_kind}
-use Rattle.no_std_io2.specs.Write.{Told, WriteCall, Wrote, WroteAll, WroteRest, Flushed}
+use Rattle.no_std_io2.specs.Write.{Told, WriteCall, Wrote, WroteAll, Flushed}
 use Rattle.no_std_io2.specs.declared.buffered.buf_writer.BufWriter.{BufWriter}
 use Rattle.no_std_io2.specs.declared.buffered.line_writer.LineWriter.{LineWriter}
 use Rattle.no_std_io2.specs.BufWriter.{writer_inner, writer_buffer}
@@ -22,7 +22,6 @@ abbrev pub HasNoFlush : List WriteCall → Type 0
 HasNoFlush [] = ⊤
 HasNoFlush (Wrote x reply ∷ C) = HasNoFlush C
 HasNoFlush (WroteAll x reply ∷ C) = HasNoFlush C
-HasNoFlush (WroteRest x reply left ∷ C) = HasNoFlush C
 HasNoFlush (Flushed reply ∷ C) = ⊥
 
 -- the call failed with this error, or it took none of its bytes, which fails with `WriteZero`
@@ -31,8 +30,6 @@ FailedWith (Wrote x (Ok n)) e = (n ≡ 0) × (error_kind e ≡ WriteZero)
 FailedWith (Wrote x (Err f)) e = f ≡ e
 FailedWith (WroteAll x (Ok u)) e = ⊥
 FailedWith (WroteAll x (Err f)) e = f ≡ e
-FailedWith (WroteRest x (Ok u) left) e = ⊥
-FailedWith (WroteRest x (Err f) left) e = f ≡ e
 FailedWith (Flushed (Ok u)) e = ⊥
 FailedWith (Flushed (Err f)) e = f ≡ e
 

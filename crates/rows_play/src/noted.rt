@@ -57,11 +57,6 @@ impl<W: Write> Write for Noted<W> {
         note_bytes(&self.journal, "write_all ", buf);
         self.inner.write_all(buf)
     }
-
-    fn write_rest(&mut self, rest: &mut &[u8]) -> Result<()> {
-        note_bytes(&self.journal, "write_rest ", rest);
-        self.inner.write_rest(rest)
-    }
 }
 
 impl<T: Stored> Stored for Noted<T> {

@@ -9,7 +9,7 @@ use Rattle.no_std_io2.specs.declared.io.SeekFrom.{SeekFrom}
 use Rattle.no_std_io2.specs.declared.io.SeekFrom.TheVariants.{Start, End, Current}
 use Rattle.no_std_io2.specs.Read.{ReadCall, Gave, gave}
 use Rattle.no_std_io2.specs.Seek.{SeekCall, Sought, Measured, Moved}
-use Rattle.no_std_io2.specs.Write.{Told, WriteCall, Wrote, WroteAll, WroteRest, Flushed, taken}
+use Rattle.no_std_io2.specs.Write.{Told, WriteCall, Wrote, WroteAll, Flushed, taken}
 use Rattle.system_streams.specs.declared.patient.Patient.{Patient}
 use Rattle.system_streams.specs.declared.system.SystemWrite.{Ghosts as Device}
 use Rattle.system_streams.specs.declared.system.SystemRead.{Ghosts as Source}
@@ -58,7 +58,6 @@ PatientMay I old (Flushed reply) new =
     × AnswersFor answer reply (patient_turns old) (patient_turns new) × (patient_taken new ≡ patient_taken old)
     × Remembers answer (patient_error old) (patient_error new)
 PatientMay I old (WroteAll x reply) new = ⊥
-PatientMay I old (WroteRest x reply left) new = ⊥
 
 -- One read of the device was made, into the buffer buf, and the result is made from the device's result.
 pub record AsksDevice {D : Type 0} (I : Source D) (old : Patient D) (reply : Result ℕ Error) (buf : List ℕ) (new : Patient D) : Type 0

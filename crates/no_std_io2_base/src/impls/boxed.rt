@@ -21,10 +21,6 @@ impl<W: Write, A: Allocator> Write for Box<W, A> {
     fn write_all(&mut self, buf: &[u8]) -> Result<()> {
         self.as_mut().write_all(buf)
     }
-
-    fn write_rest(&mut self, rest: &mut &[u8]) -> Result<()> {
-        self.as_mut().write_rest(rest)
-    }
 }
 
 impl<T: Stored, A: Allocator> Stored for Box<T, A> {

@@ -21,10 +21,6 @@ impl<W: Write> Write for &mut W {
     fn write_all(&mut self, buf: &[u8]) -> Result<()> {
         Write::write_all(&mut **self, buf)
     }
-
-    fn write_rest(&mut self, rest: &mut &[u8]) -> Result<()> {
-        Write::write_rest(&mut **self, rest)
-    }
 }
 
 impl<T: Stored> Stored for &mut T {

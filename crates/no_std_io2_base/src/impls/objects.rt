@@ -23,10 +23,6 @@ impl<A: Allocator> Write for Box<dyn Write + Drop, A> {
     fn write_all(&mut self, buf: &[u8]) -> Result<()> {
         (**self).write_all(buf)
     }
-
-    fn write_rest(&mut self, rest: &mut &[u8]) -> Result<()> {
-        (**self).write_rest(rest)
-    }
 }
 
 impl<A: Allocator> Stored for Box<dyn Seek + Drop, A> {

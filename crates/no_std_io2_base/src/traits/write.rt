@@ -96,7 +96,8 @@ pub trait Write {
     /// Writes the bytes of `rest`, and removes those that were accepted from its front. So after an
     /// error `rest` is exactly what is still to be written; the same call continues there, and no
     /// byte goes out twice. It ignores interruptions; an empty `rest` makes no call. Rust's std has
-    /// no such call.
+    /// no such call. Its law allows this loop of writes alone, also to a type with a `write_all` of
+    /// its own.
     ///
     /// # Errors
     /// Returns `WriteZero` if the device takes no byte, and the device's first fault if it fails.

@@ -1,5 +1,5 @@
 use Rattle.std.proofs.Common.{◌-◌, length, drop, sym, ap, subst, ◌∙◌}
-use Rattle.no_std_io2.specs.Write.{RestCalls}
+use Rattle.no_std_io2.specs.Write.{Writes}
 use Rattle.bare.specs.Queue.{waiting}
 use Rattle.bare.proofs.LogLemmas.{resumed}
 use Rattle.bare.proofs.log.send.Goals as goal
@@ -13,4 +13,4 @@ returns c =
     (sym c.waiting-rest.ensures ∙ law.sends.split)
     (c.advance.ensures ∙ ap (λ l. drop (length l - length left) before) c.waiting.ensures)
     law.sends.moves.front law.sends.moves.bytes law.done law.calls.1
-    (subst (λ x. RestCalls law.calls.0 x c.write_rest-sent.result left) c.waiting-rest.ensures law.calls.2)
+    (subst (λ x. Writes _ law.calls.0 x c.write_rest-sent.result left) c.waiting-rest.ensures law.calls.2)

@@ -1,10 +1,10 @@
 -- The calls of the trait's loop write the digits of what they accepted.
 use Rattle.no_std_io2.proofs.CallsLemmas.{law_may}
-use Rattle.no_std_io2.proofs.CallsAdd.{rest_adds}
+use Rattle.no_std_io2.proofs.CallsAdd.{writes_add}
 use Rattle.examples.proofs.HexLemmas.{encodes_join}
 use Rattle.examples.proofs.hex.write_hex.Goals as goal
 
 pub returns : goal.returns
 returns g c =
     let made = c.write_rest.ensures.law.calls in
-    rest_adds (encodes_join g.W.Write.told) (law_may _) made.0 _ _ _ _ _ made.1 made.2
+    writes_add (encodes_join g.W.Write.told) (law_may _) made.2 _ _ made.1
