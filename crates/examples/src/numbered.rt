@@ -1,7 +1,11 @@
 // [`Numbered`], a wrapper that passes each call on.
-use no_std_io2::io::{Read, Result, Stored, Write};
+ghost use Rattle.no_std_io2.specs.Write.{PartMay};
 
-/// A stream with a number, for messages. It passes `read_exact` and `write_all` on too, so that the stream's own bodies of these run.
+use no_std_io2::io::{Read, Result, Stored, Write};
+use std::alloc::Allocator;
+
+/// A stream with a number, for messages. It passes `write_all`, `read_exact` and `read_to_end` on too, so that the stream's own bodies of
+/// these run.
 #[derive(Drop)]
 pub struct Numbered<T> {
     /// The number.
@@ -15,7 +19,7 @@ impl<W: Write> Write for Numbered<W> {
 
     ghost takes_all = { λ n. W.takes_all n.stream };
 
-    ghost may = { λ old call new. W.may old.stream call new.stream };
+    ghost may = { PartMay W.may (λ n. n.stream) (λ n s. record n { stream = s }) };
 
     fn write(&mut self, buf: &[u8]) -> Result<usize> {
         self.stream.write(buf)
@@ -25,6 +29,7 @@ impl<W: Write> Write for Numbered<W> {
         self.stream.flush()
     }
 
+    #[tactic(auto, using(no_std_io2::proofs::Wrappers::passes_on))]
     fn write_all(&mut self, buf: &[u8]) -> Result<()> {
         self.stream.write_all(buf)
     }
@@ -39,13 +44,19 @@ impl<R: Read> Read for Numbered<R> {
 
     ghost events = { λ n. R.events n.stream };
 
-    ghost may = { λ old call new. R.may old.stream call new.stream };
+    ghost may = { PartMay R.may (λ n. n.stream) (λ n s. record n { stream = s }) };
 
     fn read(&mut self, buf: &mut [u8]) -> Result<usize> {
         self.stream.read(buf)
     }
 
+    #[tactic(auto, using(no_std_io2::proofs::Wrappers::passes_on))]
     fn read_exact(&mut self, buf: &mut [u8]) -> Result<()> {
         self.stream.read_exact(buf)
+    }
+
+    #[tactic(auto, using(no_std_io2::proofs::Wrappers::passes_on))]
+    fn read_to_end<A: Allocator>(&mut self, buf: &mut Vec<u8, A>) -> Result<usize> {
+        self.stream.read_to_end(buf)
     }
 }

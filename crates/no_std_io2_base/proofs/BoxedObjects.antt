@@ -5,10 +5,9 @@ use Rattle.no_std_io2_base.specs.declared.error.Error.{Error}
 use Rattle.std.specs.Borrow.{Bor}
 use Rattle.no_std_io2_base.specs.Read.{Reader, ReadLaw, ReadExactLaw}
 use Rattle.no_std_io2_base.specs.BufRead.{Lender, ConsumeLaw, FillBufLaw, AfterLoan}
-use Rattle.no_std_io2_base.proofs.CallsLemmas.{made_map}
 use Rattle.no_std_io2_base.proofs.Forwards.{ReadsThrough, read_through, exact_through, LendsThrough, consume_through, fill_through}
-use Rattle.no_std_io2_base.proofs.Forwards.{loan_through}
-use Rattle.no_std_io2_base.specs.Write.{WriteCall, Wrote, WroteAll, Flushed, Made, BoxMay}
+use Rattle.no_std_io2_base.proofs.Forwards.{loan_through, wrote_through, write_all_through}
+use Rattle.no_std_io2_base.specs.Write.{WriteCall, BoxMay}
 use Rattle.no_std_io2_base.specs.Writers.{Writer, CallOf, WriteAllOf}
 
 module _ {I A : Type 0} {V : I → Type 0} (box : DynBox I A V) where
@@ -113,40 +112,14 @@ module _ {I A : Type 0} {V : I → Type 0} (o : (p : (x : I) × V x) → Writer 
     may = λ b. BoxMay b (value_writer b.vtable).may;
   }
 
-  -- what a call did to a value, it did to the box
-  call_box : (i : I) (old new : V i) (call : WriteCall) → CallOf (value_writer i) old call new
-      → CallOf box_writer (holding box i old) call (holding box i new)
-  call_box i old new (Wrote x reply) law = record {
-    bound = law.bound;
-    moves = law.moves;
-    all = law.all;
-    call = (new, refl, law.call);
-  }
-  call_box i old new (Flushed reply) law = record {
-    empty = law.empty;
-    moves = law.moves;
-    all = law.all;
-    call = (new, refl, law.call);
-  }
-  call_box i old new (WroteAll x reply) law = ((new, refl, law.0), law.1, law.2, law.3)
-
-  -- and so did many
-  made_box : (i : I) (C : List WriteCall) (old new : V i) → Made (CallOf (value_writer i)) old C new
-      → Made (CallOf box_writer) (holding box i old) C (holding box i new)
-  made_box i = made_map (CallOf (value_writer i)) (CallOf box_writer) (holding box i) (call_box i)
-
   -- the value that was lent is that in the box
   pub lent_call : (call : WriteCall) (lent : (i : I) × V i) → lent ≡ (box.vtable, box.value)
       → (new : V lent.0) → CallOf (value_writer lent.0) lent.1 call new → CallOf box_writer box call (holding box lent.0 new)
   lent_call call = in_box box (λ i a b. CallOf (value_writer i) a call b) (CallOf box_writer box call)
-      (λ new law. call_box box.vtable box.value new call law)
+      (λ new law. wrote_through box_writer.told box_writer.takes_all (value_writer box.vtable).may box_writer.may (holding box box.vtable)
+      (λ a b call did. (b, refl, did)) box.value new call law)
 
   pub write_all_box : (x : List ℕ) (reply : Result (Unit {0}) Error) (lent : (i : I) × V i) → lent ≡ (box.vtable, box.value)
       → (new : V lent.0) → WriteAllOf (value_writer lent.0) lent.1 x reply new → WriteAllOf box_writer box x reply (holding box lent.0 new)
   write_all_box x reply = in_box box (λ i a b. WriteAllOf (value_writer i) a x reply b) (WriteAllOf box_writer box x reply)
-      (λ new law. record {
-        never_interrupted = law.never_interrupted;
-        moves = law.moves;
-        all = law.all;
-        calls = (law.calls.0, made_box box.vtable law.calls.0 box.value new law.calls.1, law.calls.2);
-      })
+      (λ new law. write_all_through (holding box box.vtable) (λ a b call did. (b, refl, did)) law)

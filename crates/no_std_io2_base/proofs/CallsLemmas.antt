@@ -41,30 +41,6 @@ writes_whole (again some interrupted w) = writes_whole w
 writes_whole (stuck some says) = tt
 writes_whole (fault some is) = tt
 
--- a writer that tells and does what a part of it tells and does
-abbrev pub of_part : {W V : Type 0} → (V → W) → Writer W → Writer V
-of_part get I = record {
-  told = λ v. I.told (get v);
-  takes_all = λ v. I.takes_all (get v);
-  may = λ old call new. I.may (get old) call (get new);
-}
-
--- what a call did to the part, it did to the whole
-pub law_of_part : {W V : Type 0} (I : Writer W) (get : V → W) (old new : V) (call : WriteCall) → CallOf I (get old) call (get new)
-    → CallOf (of_part get I) old call new
-law_of_part I get old new (Wrote x reply) law = record { bound = law.bound; moves = law.moves; all = law.all; call = law.call }
-law_of_part I get old new (Flushed reply) law = record { empty = law.empty; moves = law.moves; all = law.all; call = law.call }
-law_of_part I get old new (WroteAll x reply) law = law
-
--- and so did many
-pub calls_of_part : {W V : Type 0} (I : Writer W) (get : V → W) (put : W → V) → ((a : W) → get (put a) ≡ a)
-    → {P : List WriteCall → Type 0} {a b : W} → (C : List WriteCall) × Made (CallOf I) a C b × P C
-    → (C : List WriteCall) × Made (CallOf (of_part get I)) (put a) C (put b) × P C
-calls_of_part {W} I get put back {a = a} {b = b} calls =
-    let each = λ (a b : W) (call : WriteCall) (law : CallOf I a call b). law_of_part I get (put a) (put b) call
-    (subst (λ v. CallOf I (get (put a)) call v) (sym (back b)) (subst (λ v. CallOf I v call b) (sym (back a)) law)) in
-    (calls.0, made_map _ _ put each calls.0 a b calls.1, calls.2)
-
 -- a call as its law says is one that the writer may make
 pub law_may : {W : Type 0} (I : Writer W) (old new : W) (call : WriteCall) → CallOf I old call new → I.may old call new
 law_may I old new (Wrote x reply) law = law.call

@@ -1,15 +1,17 @@
 -- A reader behind a reference, or in a box: what a call did to the reader, it did to the reference or the box.
-use Rattle.std.proofs.Common.{◌≡◌, ℕ, ◌+◌, ◌<◌, List, [], Result, length, take, sym, ap, subst, Vec, String, IfOk, IfSome}
+use Rattle.std.proofs.Common.{◌≡◌, ℕ, ◌+◌, ◌<◌, List, [], Result, length, take, refl, sym, ap, subst, Vec, String, IfOk, IfSome}
+use Rattle.std.proofs.Common.{Option}
 use Rattle.std.proofs.Common.{vec_len, vec_capacity}
 use Rattle.std.specs.Borrow.{Bor}
 use Rattle.no_std_io2_base.specs.declared.error.Error.{Error}
 use Rattle.no_std_io2_base.specs.Events.{Event, events_of, bytes, BeginsWith}
-use Rattle.no_std_io2_base.specs.Takes.{Tells, Takes, to_come, IsAtEnd}
+use Rattle.no_std_io2_base.specs.Takes.{Store, Tells, Takes, to_come, IsAtEnd}
 use Rattle.no_std_io2_base.specs.Read.{Reader, tells, ReadCall, Gave, GaveExactly, GaveAll, Filled, Consumed, ReadCallLaw, gave, gave_whole}
 use Rattle.no_std_io2_base.specs.Read.{answered, fault_of, FillsOrEnds, DrainsOrStops, ReadLaw, ReadExactLaw, ToEndLaw}
 use Rattle.no_std_io2_base.specs.BufRead.{Lender, as_reader, lent_bytes, FillBufLaw, AfterLoan, ConsumeLaw}
 use Rattle.no_std_io2_base.specs.BufRead.{LendCallLaw, ReadUntilLaw, ReadLineLaw, line_room}
 use Rattle.no_std_io2_base.specs.Pieces.{PieceEnds, newline}
+use Rattle.no_std_io2_base.specs.Write.{Told, WriteCall, Wrote, WroteAll, Flushed, Made, CallLaw, WriteAllLaw, AllCalls, PartMay}
 use Rattle.no_std_io2_base.proofs.CallsLemmas.{made_map}
 
 -- R' tells what R tells, whose values are put into its own, and may make its calls
@@ -171,3 +173,79 @@ fill_through put through {a} {reply} law = record {
   front = subst (λ t. IfOk reply (λ s. IfSome (to_come t) (λ E. BeginsWith E s.now))) (sym (through.reads.told a)) law.front;
   end = subst (λ t. IfOk reply (λ s. s.now ≡ [] → IsAtEnd t)) (sym (through.reads.told a)) law.end;
 }
+
+-- a writer that a part is put into: what a call did to the part, it did to the whole
+pub wrote_through : {W V : Type 0} (told : V → Told) (takes_all : V → Type 0) (may : W → WriteCall → W → Type 0)
+    (may' : V → WriteCall → V → Type 0) (put : W → V) → ((a b : W) (call : WriteCall) → may a call b → may' (put a) call (put b))
+    → (a b : W) (call : WriteCall) → CallLaw (λ w. told (put w)) (λ w. takes_all (put w)) may a call b
+    → CallLaw told takes_all may' (put a) call (put b)
+wrote_through told takes_all may may' put each a b (Wrote x reply) law =
+    record { bound = law.bound; moves = law.moves; all = law.all; call = each a b _ law.call }
+wrote_through told takes_all may may' put each a b (Flushed reply) law =
+    record { empty = law.empty; moves = law.moves; all = law.all; call = each a b _ law.call }
+wrote_through told takes_all may may' put each a b (WroteAll x reply) law = (each a b _ law.0, law.1, law.2, law.3)
+
+module _ {W V : Type 0} {told : V → Told} {takes_all : V → Type 0} {may : W → WriteCall → W → Type 0} {may' : V → WriteCall → V → Type 0}
+    (put : W → V) (each : (a b : W) (call : WriteCall) → may a call b → may' (put a) call (put b)) where
+  pub write_all_through : {a b : W} {x : List ℕ} {reply : Result (Unit {0}) Error}
+      → WriteAllLaw (λ w. told (put w)) (λ w. takes_all (put w)) may a x reply b
+      → WriteAllLaw told takes_all may' (put a) x reply (put b)
+  write_all_through {a} {b} law = record {
+    never_interrupted = law.never_interrupted;
+    moves = law.moves;
+    all = law.all;
+    calls = (law.calls.0, made_map _ _ put (wrote_through told takes_all may may' put each) law.calls.0 a b law.calls.1, law.calls.2);
+  }
+
+-- a wrapper that passes each call on to a part of it, and leaves the rest as it is
+passed_on : {W V A : Type 0} {may : W → A → W → Type 0} {get : V → W} {put : V → W → V} (old : V) → ((w : W) → get (put old w) ≡ w)
+    → ((w u : W) → put (put old w) u ≡ put old u) → (a b : W) (call : A) → may a call b → PartMay may get put (put old a) call (put old b)
+passed_on {may = may} old back twice a b call did =
+    record { part = b; rest = sym (twice a b); does = subst (λ w. may w call b) (sym (back a)) did }
+
+-- the calls of its `write_all`
+module _ {W V : Type 0} {told : V → Told} {takes_all : V → Type 0} {may : W → WriteCall → W → Type 0} {get : V → W} {put : V → W → V} where
+  pub passes_write_all : {old new : V} {x : List ℕ} {reply : Result (Unit {0}) Error}
+      → WriteAllLaw (λ w. told (put old w)) (λ w. takes_all (put old w)) may (get old) x reply (get new)
+      → put old (get old) ≡ old → put old (get new) ≡ new → ((w : W) → get (put old w) ≡ w)
+      → ((w u : W) → put (put old w) u ≡ put old u)
+      → (C : List WriteCall) × Made (CallLaw told takes_all (PartMay may get put)) old C new × AllCalls C x reply
+  passes_write_all {old} {new} {x} {reply} law was is back twice =
+      let all : WriteAllLaw told takes_all (PartMay may get put) old x reply new =
+      subst (λ v. WriteAllLaw told takes_all (PartMay may get put) v x reply new) was
+      (subst (λ v. WriteAllLaw told takes_all (PartMay may get put) (put old (get old)) x reply v) is
+      (write_all_through (put old) (passed_on old back twice) law)) in
+      all.calls
+
+-- its `read_exact` and its `read_to_end`
+module _ {W V : Type 0} {store : V → Option Store} {turns : V → ℕ} {events : V → Option (List Event)} {may : W → ReadCall → W → Type 0}
+    {get : V → W} {put : V → W → V} where
+  pub passes_read_exact : {old new : V} {buf buf' : List ℕ} {reply : Result (Unit {0}) Error}
+      → ReadExactLaw
+      (record { store = λ w. store (put old w); turns = λ w. turns (put old w); events = λ w. events (put old w); may = may })
+      (get old) buf reply buf' (get new)
+      → put old (get old) ≡ old → put old (get new) ≡ new → ((w : W) → get (put old w) ≡ w)
+      → ((w u : W) → put (put old w) u ≡ put old u)
+      → ReadExactLaw (record { store = store; turns = turns; events = events; may = PartMay may get put }) old buf reply buf' new
+  passes_read_exact {old} {new} {buf} {buf'} {reply} law was is back twice =
+      let whole : Reader V = record { store = store; turns = turns; events = events; may = PartMay may get put } in
+      let part : Reader W =
+      record { store = λ w. store (put old w); turns = λ w. turns (put old w); events = λ w. events (put old w); may = may } in
+      let through : ReadsThrough part whole (put old) = record { told = λ w. refl; may = passed_on old back twice } in
+      subst (λ v. ReadExactLaw whole v buf reply buf' new) was
+      (subst (λ v. ReadExactLaw whole (put old (get old)) buf reply buf' v) is (exact_through {R = part} {R' = whole} (put old) through law))
+
+  pub passes_read_to_end : {A : Type 0} {lacks : ℕ → Type 0} {old new : V} {buf buf' : Vec ℕ A} {reply : Result ℕ Error}
+      → ToEndLaw lacks
+      (record { store = λ w. store (put old w); turns = λ w. turns (put old w); events = λ w. events (put old w); may = may })
+      (get old) buf reply buf' (get new)
+      → put old (get old) ≡ old → put old (get new) ≡ new → ((w : W) → get (put old w) ≡ w)
+      → ((w u : W) → put (put old w) u ≡ put old u)
+      → ToEndLaw lacks (record { store = store; turns = turns; events = events; may = PartMay may get put }) old buf reply buf' new
+  passes_read_to_end {lacks = lacks} {old} {new} {buf} {buf'} {reply} law was is back twice =
+      let whole : Reader V = record { store = store; turns = turns; events = events; may = PartMay may get put } in
+      let part : Reader W =
+      record { store = λ w. store (put old w); turns = λ w. turns (put old w); events = λ w. events (put old w); may = may } in
+      let through : ReadsThrough part whole (put old) = record { told = λ w. refl; may = passed_on old back twice } in
+      subst (λ v. ToEndLaw lacks whole v buf reply buf' new) was
+      (subst (λ v. ToEndLaw lacks whole (put old (get old)) buf reply buf' v) is (to_end_through {R = part} {R' = whole} (put old) through law))

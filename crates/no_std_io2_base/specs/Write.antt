@@ -104,6 +104,12 @@ abbrev pub BoxMay : {I A C : Type 0} {V : I → Type 0} → (old : DynBox I A V)
 BoxMay {I} {A} {C} {V} old may call new = (value : V old.vtable)
     × (new ≡ record { ptr = old.ptr; vtable = old.vtable; alloc = old.alloc; value = value }) × may old.value call value
 
+-- A call may do to a whole what it may do to its part, by `may`, and nothing else. `get` is the part of a whole, and `put` replaces it.
+pub record PartMay {W V A : Type 0} (may : W → A → W → Type 0) (get : V → W) (put : V → W → V) (old : V) (call : A) (new : V) : Type 0 where
+  pub part : W
+  pub rest : new ≡ put old part
+  pub does : may (get old) call part
+
 -- `Adds old bytes new` says what a writer does if it accepts these bytes. A call did this with the bytes that it accepted.
 abbrev pub CallAdds : {W : Type 0} → (W → List ℕ → W → Type 0) → W → WriteCall → W → Type 0
 CallAdds Adds old (Wrote x reply) new = Adds old (taken reply x) new

@@ -1,6 +1,8 @@
 // A stream that logs the name of each call that has a default body, such as `write_all`, and passes
 // the call on.
 
+ghost use Rattle.no_std_io2.specs.Write.{PartMay};
+
 use super::journal::Journal;
 use no_std_io2::io::{BufRead, Read, Result, Seek, SeekFrom, Stored, Write};
 use std::alloc::Allocator;
@@ -45,6 +47,8 @@ impl<W: Write> Write for Noted<W> {
 
     ghost takes_all = { λ n. W.takes_all n.inner };
 
+    ghost may = { PartMay W.may (λ n. n.inner) (λ n s. record n { inner = s }) };
+
     fn write(&mut self, buf: &[u8]) -> Result<usize> {
         self.inner.write(buf)
     }
@@ -53,6 +57,7 @@ impl<W: Write> Write for Noted<W> {
         self.inner.flush()
     }
 
+    #[tactic(auto, using(no_std_io2::proofs::Wrappers::passes_on))]
     fn write_all(&mut self, buf: &[u8]) -> Result<()> {
         note_bytes(&self.journal, "write_all ", buf);
         self.inner.write_all(buf)
@@ -68,15 +73,19 @@ impl<T: Read> Read for Noted<T> {
 
     ghost events = { λ n. T.events n.inner };
 
+    ghost may = { PartMay T.may (λ n. n.inner) (λ n s. record n { inner = s }) };
+
     fn read(&mut self, buf: &mut [u8]) -> Result<usize> {
         self.inner.read(buf)
     }
 
+    #[tactic(auto, using(no_std_io2::proofs::Wrappers::passes_on))]
     fn read_exact(&mut self, buf: &mut [u8]) -> Result<()> {
         note_number(&self.journal, "read_exact ", buf.len());
         self.inner.read_exact(buf)
     }
 
+    #[tactic(auto, using(no_std_io2::proofs::Wrappers::passes_on))]
     fn read_to_end<B: Allocator>(&mut self, buf: &mut Vec<u8, B>) -> Result<usize> {
         note(&self.journal, "read_to_end");
         self.inner.read_to_end(buf)

@@ -1,10 +1,12 @@
--- What the call did to the inner reader, it did to this one; of the calls nothing more is said.
+-- What the call did to the inner reader, it did to this one.
 use Rattle.std.proofs.Common.{refl}
 use Rattle.no_std_io2.proofs.Forwards.{until_through}
 use Rattle.rows_play.proofs.noted.NotedBufRead.read_until.Goals as goal
 
 pub returns : goal.returns
 returns g c = record {
-  law = until_through (λ v. record c.args.self.now { inner = v })
-      (record { reads = record { told = λ x. refl; may = λ x y call may. tt }; held = λ x. refl }) c.read_until.ensures.law;
+  law = until_through (λ v. record c.args.self.now { inner = v }) (record {
+    reads = record { told = λ x. refl; may = λ x y call may. record { part = y; rest = refl; does = may } };
+    held = λ x. refl;
+  }) c.read_until.ensures.law;
 }
