@@ -26,6 +26,16 @@ pub fn holds_no_newline_in_a_tower<W: Write + Drop, const S: usize, const T: usi
     w.write_all(x)
 }
 
+/// The same holds in a box, if the call is made on the value in the box.
+pub fn holds_no_newline_in_a_box<W: Write + Drop, const S: usize>(
+    w: &mut Box<LineWriter<W, S>>,
+    x: &[u8],
+) -> Result<()>
+    ensures { OnOk result (Lacks newline (line_buffer w.new.value)) }
+{
+    w.as_mut().write_all(x)
+}
+
 /// After every call, also a failed one, the buffer of a `LineWriter` has no newline or ends in one.
 pub fn keeps_a_line_state<W: Write + Drop, const S: usize>(
     w: &mut LineWriter<W, S>,
