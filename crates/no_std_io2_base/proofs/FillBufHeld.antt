@@ -1,6 +1,6 @@
 -- The events begin with the held bytes.
-use Rattle.std.proofs.Common.{◌≡◌, ℕ, zero, suc, ◌≤◌, ◌==◌, true, List, [], ◌∷◌, ◌++◌, length, take, refl, sym, ap, ◌∙◌, arith}
-use Rattle.std.proofs.Common.{append_assoc, append-nil, Option, None, Some, IfSome}
+use Rattle.std.proofs.Common.{ℕ, zero, suc, ◌≤◌, List, [], ◌∷◌, ◌++◌, take, refl, sym, ap, ◌∙◌, arith}
+use Rattle.std.proofs.Common.{append-nil, Option, None, Some, IfSome}
 use Rattle.no_std_io2_base.specs.Events.{Event, byte, events_of, cut, BeginsWith}
 
 -- the events that are these bytes begin with all of them
@@ -11,18 +11,6 @@ begins_whole bs = record { rest = []; is = sym (append-nil (events_of bs)) }
 pub begins_nothing : (E : Option (List Event)) → IfSome E (λ l. BeginsWith l [])
 begins_nothing None = tt
 begins_nothing (Some E) = record { rest = E; is = refl }
-
--- events that begin with these bytes still do if more events follow
-pub begins_append : {E : List Event} {bs : List ℕ} (F : List Event) → BeginsWith E bs → BeginsWith (E ++ F) bs
-begins_append {E} {bs} F b = record { rest = b.rest ++ F; is = ap (λ l. l ++ F) b.is ∙ append_assoc (events_of bs) b.rest F }
-
--- if no event is to come, the bytes at the front are none
-pub begins_none : {E : List Event} (bs : List ℕ) → BeginsWith E bs → E ≡ [] → (length bs == 0) ≡ true
-begins_none [] b none = refl
-begins_none (x ∷ bs) b none = absurd (byte_stands (sym b.is ∙ none))
-  where
-    byte_stands : {R : List Event} → byte x ∷ R ≡ [] → ⊥
-    byte_stands is = cc
 
 -- bs and then R, cut at k, begin with the first n of bs, if n is at most k
 begins_cut-bytes : (n k : ℕ) (bs : List ℕ) (R : List Event) → n ≤ k → BeginsWith (cut k (events_of bs ++ R)) (take n bs)

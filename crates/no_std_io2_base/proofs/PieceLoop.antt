@@ -13,17 +13,10 @@ use Rattle.no_std_io2_base.specs.BufRead.{lent_bytes}
 use Rattle.no_std_io2_base.specs.Pieces.{Lacks, EndsPiece, EndsAt, FindsPiece, PieceEnds, PartCalls, no_part, and_part, and_waited}
 use Rattle.no_std_io2_base.specs.Pieces.{PieceMade}
 use Rattle.no_std_io2_base.specs.Write.{Made}
-use Rattle.no_std_io2_base.proofs.CallsLemmas.{made_more, made_then, made_map}
+use Rattle.no_std_io2_base.proofs.CallsLemmas.{made_more, made_then}
 use Rattle.no_std_io2_base.proofs.EventLemmas.{events_of-append, HasNoFault-append, HasNoFault-events_of, length-events_of}
 use Rattle.no_std_io2_base.proofs.PieceLemmas.{bytes_more, bytes_still, Lacks-append, found_part, comes_behind}
 use Rattle.no_std_io2_base.proofs.TakesLemmas.{takes_none, takes_then, takes_still, takes_turns, takes_all, spends}
-
--- the calls of a part are calls of the whole
-pub piece_map : {S T may_refuse : Type 0} {may : S → ReadCall → S → Type 0} {may' : T → ReadCall → T → Type 0} {old new : S} {d : ℕ}
-    {reply : Result ℕ Error} {x : List ℕ} (put : S → T) → ((a b : S) (call : ReadCall) → may a call b → may' (put a) call (put b))
-    → PieceMade may_refuse may old d reply x new → PieceMade may_refuse may' (put old) d reply x (put new)
-piece_map {may = may} {may' = may'} put each m =
-    record { calls = m.calls; made = made_map may may' put each m.calls _ _ m.made; are = m.are }
 
 -- a `fill_buf` and its loan are a call
 fill_law : {X : Type 0} {R : Lender X} {old new : X} (reply : Result (Bor (List ℕ)) Error) → FillBufLaw R old reply
