@@ -1,6 +1,6 @@
 // What values print, and that each reports the error of a writer without room for its text, wherever
 // the room ends.
-use no_std_io2::io::{BufWriter, Cursor, Error, ErrorKind, Write};
+use no_std_io2::io::{BufWriter, Cursor, Error, ErrorKind, Read, Write};
 use std::alloc::Global;
 use std::fmt::{Display, Write as _};
 use std::test::Fail;
@@ -48,6 +48,9 @@ fn an_error_of_the_systems_prints_its_text(rt: HostRuntime) -> Result<(), Fail> 
     let mut r = ToStd::new(Patient::new(b"a".as_slice(), 1));
     let refusal = io::Read::read(&mut r, &mut [0u8; 1]).err().ok_or("read")?;
     assert!(rt; is_display(rt.alloc(), &refusal, "no turns left")?);
+    let mut p = Patient::new(b"a".as_slice(), 1);
+    let fault = p.read(&mut [0u8; 1]).err().ok_or("read")?;
+    assert!(rt; is_display(rt.alloc(), &p.reason(fault), "no turns left")?);
     Ok(())
 }
 

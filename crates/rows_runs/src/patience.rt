@@ -2,7 +2,7 @@
 //
 // A line `new` says the turns, and after a colon the device's results. A row is a call; then its result, for a read the
 // bytes that it gave, and the calls that reached the device.
-use rows_play::calls::{Call, make_call, new_journal, show_calls};
+use rows_play::calls::{Call, make_call, make_seek, new_journal, show_calls};
 use rows_play::fault::{Fault, Made};
 use rows_play::journal::Journal;
 use rows_play::line::{Line, cut};
@@ -25,7 +25,7 @@ impl Stream for Patience {
     fn play(&mut self, alloc: Global, call: &Call<'_>, line: &mut Line) {
         if call.word.starts_with("read") {
             make_read(alloc, &mut self.patient, call, line);
-        } else {
+        } else if !make_seek(&mut self.patient, call, line) {
             make_call(&mut self.patient, call, line);
         }
         show_calls(&self.journal, line);

@@ -15,7 +15,7 @@ use Rattle.no_std_io2.specs.declared.io.ErrorKind.TheVariants.{Other, Unexpected
 use Rattle.no_std_io2.specs.declared.io.ErrorKind.TheVariants.{Uncategorized}
 use Rattle.no_std_io2.specs.Errors.{error_kind}
 use Rattle.no_std_io2.specs.Events.{bytes}
-use Rattle.no_std_io2.specs.Takes.{Tells, to_come}
+use Rattle.no_std_io2.specs.Takes.{Store, Tells, to_come}
 use Rattle.no_std_io2.specs.Write.{Told}
 use Rattle.system_streams.specs.declared.to_std.ToStd.{ToStd}
 
@@ -26,6 +26,13 @@ std_inner s = s.inner
 -- the bytes to come, if events are told
 abbrev pub bytes_to_come : Tells → Option (List ℕ)
 bytes_to_come t = option_map bytes (to_come t)
+
+-- the content and the position of a told store
+abbrev pub content_of : Option Store → Option (List ℕ)
+content_of store = option_map (λ s. s.content) store
+
+abbrev pub position_of : Option Store → Option ℕ
+position_of store = option_map (λ s. s.position) store
 
 -- the kind of the same name
 abbrev pub std_kind : ErrorKind → StdKind.ErrorKind

@@ -6,7 +6,7 @@ ghost use Rattle.no_std_io2.specs.Read.{tells, ReadCall, ReadCallLaw, ExactMade}
 ghost use Rattle.system_streams.specs.Patient.{patient_turns, patient_told, PatientMay, PatientReads, PatientSeeks, Fills};
 ghost use Rattle.no_std_io2.specs.Seek.{SeekCall};
 ghost use Rattle.no_std_io2.specs.Write.{WriteCall};
-ghost use Rattle.system_streams.specs.ToStd.{std_inner, bytes_to_come, accepted};
+ghost use Rattle.system_streams.specs.ToStd.{std_inner, bytes_to_come, content_of, position_of, accepted};
 
 use crate::patient::Patient;
 use crate::system::{SystemRead, SystemSeek, SystemWrite};
@@ -60,4 +60,10 @@ pub fn to_std_reader_tells<R: Read>(s: &ToStd<R>)
 /// A `ToStd` tells `std::io` the bytes that its writer accepted.
 pub fn to_std_writer_tells<W: Write>(s: &ToStd<W>)
     ensures { ⟦<ToStd<W> as io::Write>⟧.contents s.now ≡ Some (accepted (W.told (std_inner s.now))) }
+{}
+
+/// A `ToStd` tells `std::io` the content and the position of a told store.
+pub fn to_std_seeker_tells<S: Seek>(s: &ToStd<S>)
+    ensures position { ⟦<ToStd<S> as io::Seek>⟧.stream_position s.now ≡ position_of (S.store (std_inner s.now)) }
+    ensures bytes { ⟦<ToStd<S> as io::Seek>⟧.stream_bytes s.now ≡ content_of (S.store (std_inner s.now)) }
 {}

@@ -1,23 +1,27 @@
 // [`ToStd`], which makes a stream of this library one of Rust's `std::io`.
 ghost use Rattle.std.specs.Prelude.{◌≡◌, ℕ, Some, Result};
 ghost use Rattle.std.specs.Io.{ReadsAtMost};
-ghost use Rattle.std.specs.Io.KnownBytes.{ReadConsumes};
+ghost use Rattle.std.specs.Io.KnownBytes.{ReadConsumes, Keeps};
+ghost use Rattle.std.specs.Io.Seek.{SeekMoves};
 ghost use Rattle.std.specs.IoError.{error_kind as std_error_kind};
 ghost use Rattle.no_std_io2.specs.declared.io.Error.{Error};
 ghost use Rattle.no_std_io2.specs.Errors.{error_kind};
+ghost use Rattle.no_std_io2.specs.declared.io.SeekFrom.{SeekFrom};
 ghost use Rattle.no_std_io2.specs.Read.{tells, ReadLaw};
+ghost use Rattle.no_std_io2.specs.Seek.{SeekLaw};
 ghost use Rattle.no_std_io2.specs.Writers.{FlushOf, WriteOf};
-ghost use Rattle.system_streams.specs.ToStd.{std_inner, std_kind, bytes_to_come, SameAnswer, accepted};
+ghost use Rattle.system_streams.specs.Patient.{std_place};
+ghost use Rattle.system_streams.specs.ToStd.{std_inner, std_kind, bytes_to_come, content_of, position_of, SameAnswer, accepted};
 
-use no_std_io2::io::{Error, ErrorKind, Read, Write};
+use no_std_io2::io::{Error, ErrorKind, Read, Seek, SeekFrom, Write};
 use std::io;
 use std::io::ErrorKind as StdKind;
 
-/// Makes a reader or writer of this library one of Rust's `std::io`, for code that needs those.
+/// Makes a reader, writer or seeker of this library one of Rust's `std::io`, for code that needs those.
 ///
 /// Each call is one call of the stream. In contracts of `std::io`, a writer has the bytes that it
 /// accepted. A reader that tells its events has the bytes among them left; about the bytes of any
-/// other reader nothing is known.
+/// other reader nothing is known. A seeker that tells its store has that content and that position.
 ///
 /// # Errors
 /// A call returns the stream's error, with the kind of the same name and at most the first 80 bytes
@@ -135,6 +139,37 @@ impl<W: Write> io::Write for ToStd<W> {
     {
         match self.inner.flush() {
             Ok(()) => Ok(()),
+            Err(e) => Err(std_error(e)),
+        }
+    }
+}
+
+fn own_place(place: io::SeekFrom) -> SeekFrom
+    ensures { std_place result ≡ place }
+{
+    match place {
+        io::SeekFrom::Start(n) => SeekFrom::Start(n),
+        io::SeekFrom::End(offset) => SeekFrom::End(offset),
+        io::SeekFrom::Current(offset) => SeekFrom::Current(offset),
+    }
+}
+
+impl<S: Seek> io::Seek for ToStd<S> {
+    ghost stream_position = { λ s. position_of (S.store (std_inner s)) };
+
+    ghost stream_bytes = { λ s. content_of (S.store (std_inner s)) };
+
+    fn seek(&mut self, to: io::SeekFrom) -> io::Result<u64>
+        ensures moves { SeekMoves (⟦<Self as io::Seek>⟧.stream_position self.old) (⟦<Self as io::Seek>⟧.stream_position self.new)
+            (⟦<Self as io::Seek>⟧.stream_bytes self.old) to result }
+        ensures bytes { Keeps (⟦<Self as io::Seek>⟧.stream_bytes self.old) (⟦<Self as io::Seek>⟧.stream_bytes self.new) }
+
+        // It makes one call of the seeker, and returns its result.
+        ensures law { (place : SeekFrom) × (reply : Result ℕ Error) × (std_place place ≡ to) × SameAnswer reply result
+            × SeekLaw S.Seek (std_inner self.old) place reply (std_inner self.new) }
+    {
+        match self.inner.seek(own_place(to)) {
+            Ok(at) => Ok(at),
             Err(e) => Err(std_error(e)),
         }
     }
