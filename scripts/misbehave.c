@@ -1,5 +1,6 @@
 // Makes one call of a program fail: LD_PRELOAD of this, and in the environment
-//   MISBEHAVE=memory, read or write   of what kind the call is: an allocation, a read of standard input, a write to standard output
+//   MISBEHAVE=memory, read, write or open   of what kind the call is: an allocation, a read of standard input, a write to standard
+//                                     output, the opening of a file
 //   MISBEHAVE=large                   each allocation of more than MISBEHAVE_AT bytes fails
 //   MISBEHAVE=sizes                   none fails: the sizes that are asked for are written to MISBEHAVE_TOLD, a line up to each write
 //   MISBEHAVE_AT=N                    which of them
@@ -35,7 +36,7 @@ __attribute__((constructor)) static void begin(void)
     left = at ? atol(at) : 0;
     times = getenv("MISBEHAVE_TIMES") ? atol(getenv("MISBEHAVE_TIMES")) : 1;
     if (path && strcmp(kind, "sizes") == 0)
-        noted = open(path, O_WRONLY | O_CREAT | O_TRUNC, 0644);
+        noted = creat(path, 0644);
 }
 
 static int has_come(const char *of)
@@ -48,7 +49,7 @@ static int has_come(const char *of)
     }
     times--;
     if (path)
-        close(open(path, O_WRONLY | O_CREAT, 0644));
+        close(creat(path, 0644));
     path = NULL;
     return 1;
 }
@@ -96,3 +97,11 @@ void *realloc(void *pointer, size_t size)
     }
 CALL(read, 0, void *)
 CALL(write, 1, const void *)
+
+// An opening that makes no file.
+int open(const char *name, int flags, ...)
+{
+    if (!has_come("open")) return openat(AT_FDCWD, name, flags);
+    errno = number;
+    return -1;
+}
