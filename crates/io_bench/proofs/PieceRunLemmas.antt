@@ -14,6 +14,11 @@ use Rattle.no_std_io2.specs.BufRead.{Lender, NextPieceLaw}
 use Rattle.no_std_io2.proofs.GivenPieces.{GivesNext, GivesNone, next_turns}
 use Rattle.io_bench.specs.Appended.{appended}
 use Rattle.io_bench.proofs.AppendedLemmas.{appended-one}
+use Rattle.no_std_io2.proofs.CallsLemmas.{made_more}
+use Rattle.no_std_io2.specs.Write.{Made}
+use Rattle.no_std_io2.specs.Pieces.{newline, line_text, without, ends_at, split_reader, split_delim, split_is_ended, lines_reader, lines_is_ended}
+use Rattle.no_std_io2.specs.declared.io.Split.{Split}
+use Rattle.no_std_io2.specs.declared.io.Lines.{Lines}
 use Rattle.io_bench.specs.PieceRuns.{AllPieces, GathersPieces}
 
 -- the first pieces were gathered, trimmed, and the others are to come
@@ -28,6 +33,36 @@ pub record GatheredSoFar (trim : List ℕ → List ℕ) (d : ℕ) (E : List Even
 abbrev pub GatheredToldSoFar : (List ℕ → List ℕ) → ℕ → Tells → List (List ℕ) → Tells → Type 0
 GatheredToldSoFar trim d old items now =
     (E : List Event) → to_come old ≡ Some E → (after : List Event) × (to_come now ≡ Some after) × GatheredSoFar trim d E items after
+
+-- what one `next` of a `split` does, as its iterator says it
+abbrev pub split_next : {X T : Type 0} → Lender X → (T → List ℕ) → Split X → Option (Result T Error) → Split X → Type 0
+split_next R view s r t = (split_is_ended s ≡ true → (r ≡ None) × (t ≡ s))
+    × (split_is_ended s ≡ false → (split_is_ended t ≡ ends_at r)
+    × NextPieceLaw R (split_reader s) view (without (split_delim s)) (λ _ _. ⊥) (split_delim s) r (split_reader t))
+    × (split_delim t ≡ split_delim s)
+
+-- and one of a `lines`
+abbrev pub lines_next : {X T : Type 0} → Lender X → (T → List ℕ) → Lines X → Option (Result T Error) → Lines X → Type 0
+lines_next R view s r t = (lines_is_ended s ≡ true → (r ≡ None) × (t ≡ s))
+    × (lines_is_ended s ≡ false → (lines_is_ended t ≡ ends_at r)
+    × NextPieceLaw R (lines_reader s) view line_text RefusesLine newline r (lines_reader t))
+
+-- each item so far was yielded by one `next`
+abbrev pub Yielded : {S T : Type 0} → (S → Option (Result T Error) → S → Type 0) → S → List T → S → Type 0
+Yielded next old items now = Made (λ s x t. next s (Some (Ok x)) t) old items now
+
+-- and so was one more
+pub one_yielded : {S T : Type 0} (next : S → Option (Result T Error) → S → Type 0) (from mid now : S) (old : List T) {items items' : List T}
+    {x : T} {r : Option (Result T Error)} → items ≡ old ++ appended old items → items' ≡ items ++ x ∷ []
+    → Yielded next from (appended old items) mid → next mid r now → r ≡ Some (Ok x) → Yielded next from (appended old items') now
+one_yielded next from mid now old {items} {items'} {x} h pushed made one is =
+    subst (λ l. Yielded next from l now) (sym (appended-one old items items' x h pushed))
+    (made_more (λ s x t. next s (Some (Ok x)) t) (appended old items) from made (subst (λ r. next mid r now) is one))
+
+-- the same items were yielded
+pub still_yielded : {S T : Type 0} (next : S → Option (Result T Error) → S → Type 0) (from now : S) (old : List T) {items items' : List T}
+    → items' ≡ items → Yielded next from (appended old items) now → Yielded next from (appended old items') now
+still_yielded next from now old same made = subst (λ l. Yielded next from (appended old l) now) (sym same) made
 
 -- at the start no piece was gathered, and all are to come
 pub none_gathered : (trim : List ℕ → List ℕ) (d : ℕ) (t : Tells) → GatheredToldSoFar trim d t [] t

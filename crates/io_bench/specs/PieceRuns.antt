@@ -1,9 +1,10 @@
 -- The items of a whole `split` or `lines`.
-use Rattle.std.specs.Prelude.{◌≡◌, ℕ, ◌⊎◌, ◌<◌, List, ◌∷◌, ◌++◌, length, map, filter, Result, Ok, Err}
+use Rattle.std.specs.Prelude.{◌≡◌, ℕ, ◌⊎◌, ◌<◌, List, ◌∷◌, ◌++◌, length, map, filter, Option, None, Some, Result, Ok, Err}
 use Rattle.std.specs.List.{concat}
 use Rattle.no_std_io2.specs.declared.io.Error.{Error}
 use Rattle.no_std_io2.specs.Errors.{IsFault, IsOutOfMemory}
 use Rattle.no_std_io2.specs.Events.{Event, fails, bytes, bytes_to_fault, HasNoFault}
+use Rattle.no_std_io2.specs.Write.{Made}
 use Rattle.no_std_io2.specs.Pieces.{ends_in, pieces, pieces_given}
 
 -- no fault was to come, and these are the pieces of all bytes, trimmed
@@ -47,3 +48,10 @@ abbrev pub GathersPieces : {A : Type 0} → (List ℕ → List ℕ) → (List �
 GathersPieces trim refuses full d E (Ok _) items = AllPieces trim d E items
 GathersPieces trim refuses full d E (Err e) items =
     PiecesToFault trim d E e items ⊎ (PiecesToRefused trim refuses d E e items ⊎ PiecesToMemory trim full d E e items)
+
+-- Each of these items was yielded by one `next`, in order. The `next` that ended the run was the last call; if an allocation of the run
+-- failed, there was none.
+abbrev pub RunsNexts : {S T A : Type 0} → (S → Option (Result T Error) → S → Type 0) → S → List T → Result A Error → S → Type 0
+RunsNexts {S} next old items (Ok _) new = (mid : S) × Made (λ s x t. next s (Some (Ok x)) t) old items mid × next mid None new
+RunsNexts {S} next old items (Err e) new = (mid : S) × Made (λ s x t. next s (Some (Ok x)) t) old items mid
+    × (next mid (Some (Err e)) new ⊎ (IsOutOfMemory e × (new ≡ mid)))

@@ -6,7 +6,7 @@ ghost use Rattle.no_std_io2.specs.Takes.{to_come};
 ghost use Rattle.no_std_io2.specs.Read.{tells};
 ghost use Rattle.no_std_io2.specs.Pieces.{newline, line_text, without};
 ghost use Rattle.no_std_io2.specs.Pieces.{split_reader, split_delim, split_is_ended, lines_reader, lines_is_ended, RefusesLine};
-ghost use Rattle.io_bench.specs.PieceRuns.{GathersPieces};
+ghost use Rattle.io_bench.specs.PieceRuns.{GathersPieces, RunsNexts};
 ghost use Rattle.io_bench.specs.Appended.{appended};
 
 use no_std_io2::io::{BufRead, Lines, Read, Result, Split};
@@ -23,7 +23,8 @@ fn make_room<T>(items: &mut Vec<T>) -> Result<()>
     Ok(())
 }
 
-/// Takes all items of a `split`, and appends them to `items`.
+/// Takes all items of a `split`, and appends them to `items`. It makes no call after the `next` that returned `None` or an
+/// error.
 ///
 /// The items are the pieces of all bytes that were to come, in order and without their delimiter,
 /// for every reader and whatever portions the bytes arrive in.
@@ -32,11 +33,12 @@ fn make_room<T>(items: &mut Vec<T>) -> Result<()>
 /// Returns the reader's first fault; the items are then the pieces that a delimiter ended before it.
 /// Returns `OutOfMemory` if an allocation failed; the items are then the first pieces. Either `items`
 /// was full, or the next piece had no room for a byte.
-pub fn run_split<R: BufRead + Drop>(mut split: Split<R>, items: &mut Vec<Vec<u8>>) -> Result<()>
-    ensures told { split_is_ended split ≡ false → IfSome (to_come (tells ⟦<R as Read>⟧ (split_reader split)))
-        (λ E. GathersPieces (without (split_delim split)) (λ _ _. ⊥) (vec_capacity items.new < vec_len items.new + 1) (split_delim split)
-        E result (map vec_items (appended items.old.items items.new.items))) }
+pub fn run_split<R: BufRead + Drop>(split: &mut Split<R>, items: &mut Vec<Vec<u8>>) -> Result<()>
+    ensures told { split_is_ended split.old ≡ false → IfSome (to_come (tells ⟦<R as Read>⟧ (split_reader split.old)))
+        (λ E. GathersPieces (without (split_delim split.old)) (λ _ _. ⊥) (vec_capacity items.new < vec_len items.new + 1)
+        (split_delim split.old) E result (map vec_items (appended items.old.items items.new.items))) }
     ensures appends { items.new.items ≡ items.old.items ++ appended items.old.items items.new.items }
+    ensures calls { RunsNexts ⟦<Split<R> as Iterator>⟧.next_gives split.old (appended items.old.items items.new.items) result split.new }
     ensures never_interrupted { IfErr result IsFault }
 {
     'items: loop {
@@ -49,7 +51,8 @@ pub fn run_split<R: BufRead + Drop>(mut split: Split<R>, items: &mut Vec<Vec<u8>
     }
 }
 
-/// Takes all items of a `lines`, and appends them to `items`.
+/// Takes all items of a `lines`, and appends them to `items`. It makes no call after the `next` that returned `None` or an
+/// error.
 ///
 /// The items are the lines of all bytes that were to come, in order and without their line ends, for
 /// every reader and whatever portions the bytes arrive in.
@@ -59,11 +62,12 @@ pub fn run_split<R: BufRead + Drop>(mut split: Split<R>, items: &mut Vec<Vec<u8>
 /// Returns `InvalidData` if a line is not UTF-8; the items are the lines before it. Returns
 /// `OutOfMemory` if an allocation failed; the items are the first lines. Either `items` was full, or
 /// the next line had no room for a byte.
-pub fn run_lines<R: BufRead + Drop>(mut lines: Lines<R>, items: &mut Vec<String>) -> Result<()>
-    ensures told { lines_is_ended lines ≡ false → IfSome (to_come (tells ⟦<R as Read>⟧ (lines_reader lines)))
+pub fn run_lines<R: BufRead + Drop>(lines: &mut Lines<R>, items: &mut Vec<String>) -> Result<()>
+    ensures told { lines_is_ended lines.old ≡ false → IfSome (to_come (tells ⟦<R as Read>⟧ (lines_reader lines.old)))
         (λ E. GathersPieces line_text RefusesLine (vec_capacity items.new < vec_len items.new + 1) newline
         E result (map string_bytes (appended items.old.items items.new.items))) }
     ensures appends { items.new.items ≡ items.old.items ++ appended items.old.items items.new.items }
+    ensures calls { RunsNexts ⟦<Lines<R> as Iterator>⟧.next_gives lines.old (appended items.old.items items.new.items) result lines.new }
     ensures never_interrupted { IfErr result IsFault }
 {
     'items: loop {

@@ -35,7 +35,7 @@ fn judge<R: Read>(alloc: Global, ended: &Result<()>, text: &[u8], r: &mut R) -> 
 
 fn split<R: BufRead>(alloc: Global, r: &mut R) -> Outcome {
     let mut pieces = Vec::new(alloc);
-    let ended = run_split(r.by_ref().split(alloc, b'\n'), &mut pieces);
+    let ended = run_split(&mut r.by_ref().split(alloc, b'\n'), &mut pieces);
     let mut text = TEXT;
     'pieces: for piece in &pieces {
         match behind_item(text, piece) {
@@ -48,7 +48,7 @@ fn split<R: BufRead>(alloc: Global, r: &mut R) -> Outcome {
 
 fn lines<R: BufRead>(alloc: Global, r: &mut R) -> Outcome {
     let mut lines = Vec::new(alloc);
-    let ended = run_lines(r.by_ref().lines(alloc), &mut lines);
+    let ended = run_lines(&mut r.by_ref().lines(alloc), &mut lines);
     let mut text = TEXT;
     'lines: for line in &lines {
         match behind_item(text, line.as_bytes()) {

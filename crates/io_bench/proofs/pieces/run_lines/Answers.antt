@@ -1,9 +1,11 @@
-use Rattle.std.proofs.Common.{◌≡◌, ◌∙◌, ap, refl, string_bytes, Global, [], ◌∷◌, ◌++◌, Some, Ok, Err}
+use Rattle.std.proofs.Common.{◌≡◌, ◌∙◌, ap, refl, string_bytes, Global, [], ◌∷◌, ◌++◌, Some, Ok, Err, inl, inr, subst}
+use Rattle.std.proofs.lemmas.Result.{err_from_is_err_and}
 use Rattle.no_std_io2.specs.Pieces.{newline, line_text, RefusesLine, ends_at}
 use Rattle.io_bench.proofs.AppendedLemmas.{appended-more}
 use Rattle.no_std_io2.proofs.GivenPieces.{next_item, next_none, next_error, next_fault}
 use Rattle.io_bench.proofs.PieceRunLemmas.{one_gathered, all_gathered, gathered_to, shown-one, shown-same}
-use Rattle.io_bench.proofs.PieceRunLemmas.{law_at, if_told, not_ended, fewer_left, refused_fault}
+use Rattle.no_std_io2.proofs.Readers.{lends}
+use Rattle.io_bench.proofs.PieceRunLemmas.{one_yielded, still_yielded, lines_next, law_at, if_told, not_ended, fewer_left, refused_fault}
 use Rattle.io_bench.proofs.pieces.run_lines.Goals as goal
 
 pub items-preserved : goal.items-preserved
@@ -12,8 +14,10 @@ items-preserved g c =
     let item = c.in-Some-Ok.item in
     let is : c.next.result ≡ Some (Ok item) = c.in-Some-Ok.is ∙ ap Some c.in-Some-Ok.field-0-is in
     let pushed = c.push_reserved.ensures.items ∙ ap (λ l. l ++ item ∷ []) c.make_room.ensures.items in
+    let next = lines_next (lends g.R.Stored g.R.Read g.R.BufRead) string_bytes in
     record {
       appends = appended-more _ _ before.appends pushed;
+      calls = one_yielded next _ c.items.lines c.next.new.self _ before.appends pushed before.calls c.next.ensures.steps is;
       told = λ fresh.
           let so_far = before.told fresh in
           let next = c.next.ensures.steps.1 so_far.0 in (
@@ -57,3 +61,30 @@ returns-in-Some-Err-clause-never_interrupted g c =
     let is : c.next.result ≡ Some (Err c.in-Some-Err.e) = c.in-Some-Err.is ∙ ap Some c.in-Some-Err.field-0-is in
     let next = c.next.ensures.steps.1 (not_ended _ c.next.ensures.steps.0 is) in
     next_fault (Some (Err c.in-Some-Err.e)) refused_fault (law_at (λ _. line_text) refl is next.1)
+
+pub returns-in-None-clause-calls : goal.returns-in-None-clause-calls
+returns-in-None-clause-calls g c = (
+  c.items.lines,
+  still_yielded (lines_next (lends g.R.Stored g.R.Read g.R.BufRead) string_bytes) _ c.items.lines _
+      c.make_room.ensures.items c.items.invariant.calls,
+  subst (λ r. lines_next (lends g.R.Stored g.R.Read g.R.BufRead) string_bytes c.items.lines r c.next.new.self) c.in-None.is c.next.ensures.steps,
+)
+
+pub returns-in-Some-Err-clause-calls : goal.returns-in-Some-Err-clause-calls
+returns-in-Some-Err-clause-calls g c =
+    let is : c.next.result ≡ Some (Err c.in-Some-Err.e) = c.in-Some-Err.is ∙ ap Some c.in-Some-Err.field-0-is in (
+      c.items.lines,
+      still_yielded (lines_next (lends g.R.Stored g.R.Read g.R.BufRead) string_bytes) _ c.items.lines _
+          c.make_room.ensures.items c.items.invariant.calls,
+      inl (subst (λ r. lines_next (lends g.R.Stored g.R.Read g.R.BufRead) string_bytes c.items.lines r c.next.new.self) is c.next.ensures.steps),
+    )
+
+pub returns-in_err-make_room-clause-calls : goal.returns-in_err-make_room-clause-calls
+returns-in_err-make_room-clause-calls g c =
+    let p = err_from_is_err_and c.from_residual.result c.from_residual.ensures.1 in
+    rw (p.1, p.2) (
+      c.items.lines,
+      still_yielded (lines_next (lends g.R.Stored g.R.Read g.R.BufRead) string_bytes) _ c.items.lines _
+          c.make_room.ensures.items c.items.invariant.calls,
+      inr (c.in_err-make_room.ensures.refused, refl),
+    )
