@@ -1,5 +1,6 @@
 -- An entry of a file with an index, found by two numbers of it.
 use Rattle.std.proofs.Common.{◌≡◌, ℕ, ◌+◌, ◌-◌, ◌*◌, List, length, take, drop, Option, None, Some, Result, Ok, Err, IfSome, IsSomeAnd, OnOk}
+use Rattle.std.specs.Prelude.{⊤}
 use Rattle.std.proofs.Common.{negsuc, refl, ap, subst, ◌∙◌, arith}
 use Rattle.no_std_io2.specs.declared.io.Error.{Error}
 use Rattle.no_std_io2.specs.declared.io.SeekFrom.TheVariants.{Start, End}
@@ -9,7 +10,9 @@ use Rattle.no_std_io2.specs.BufReader.{is_before, step_back, store_if, store_bef
 use Rattle.no_std_io2.proofs.StoreLemmas.{fits_at}
 use Rattle.no_std_io2.proofs.BufferedReads.{before_decides, IsBefore}
 use Rattle.no_std_io2.specs.ReadAt.{ReadsAt}
-use Rattle.examples.specs.Indexed.{u32_at, IsNumberAt, entry_place}
+use Rattle.no_std_io2.specs.Seek.{Seeker}
+use Rattle.no_std_io2.specs.Read.{Reader}
+use Rattle.examples.specs.Indexed.{u32_at, IsNumberAt, ReadsNumber, ReadsEntry, no_place, entry_place}
 
 -- the place of the index, the place of the entry, and the entry itself were read, one after another
 pub entry_read : (a b c d : Option Store) (i index slot place found_at : ℕ) (old entry : List ℕ) (reply : Result (Unit {0}) Error)
@@ -46,6 +49,21 @@ entry_read (Some a) (Some b) (Some c) (Some d) i index slot place found_at old e
         ∙ ap (λ n. take (length old) (drop n c.content)) (reads.target ∙ there_at ∙ place_is)
         ∙ ap (λ l. take (length old) (drop (entry_place i a.content) l)) same
     found (Err e) reads = tt
+
+-- the content stays through two calls
+pub content_stays : (X Y : Store → Type 0) (a b c : Option Store) → IfSome a (λ s. IsSomeAnd b (λ t. (t.content ≡ s.content) × X s))
+    → IfSome b (λ s. IsSomeAnd c (λ t. (t.content ≡ s.content) × Y s)) → IfSome a (λ s. IsSomeAnd c (λ t. (t.content ≡ s.content) × ⊤))
+content_stays X Y None b c first second = tt
+content_stays X Y (Some a) None c first second = absurd first
+content_stays X Y (Some a) (Some b) None first second = absurd second
+content_stays X Y (Some a) (Some b) (Some c) first second = (second.0 ∙ first.0, tt)
+
+-- the read of the place failed, at this slot of the index
+pub no_place_at : {X : Type 0} {S : Seeker X} {R : Reader X} {i : ℕ} {old new : X} {entry : List ℕ} {e : Error} (index slot : ℕ) (mid : X)
+    → slot ≡ index + 4 * i → ReadsNumber S R old (End (negsuc 3)) (Ok index) mid → ReadsNumber S R mid (Start slot) (Err e) new
+    → ReadsEntry S R i old entry (Err e) entry new
+no_place_at {S = S} {R = R} {new = new} {e = e} index slot mid is first second =
+    no_place first (subst (λ n. ReadsNumber S R mid (Start n) (Err e) new) is second)
 
 -- a content and a position that fit are the store
 stored_at : (content : List ℕ) (position : ℕ) → length content < 2 ^ 64 → position < 2 ^ 64

@@ -1,9 +1,13 @@
 -- The numbers in a file with an index.
-use Rattle.std.specs.Prelude.{◌≡◌, ℕ, ◌+◌, ◌-◌, ◌*◌, List, length, take, drop}
+use Rattle.std.specs.Prelude.{◌≡◌, ℕ, ◌+◌, ◌-◌, ◌*◌, negsuc, List, length, take, drop, replicate, Result, Ok, Err}
 use Rattle.std.specs.Int.{w32, from_le_bytes}
-use Rattle.no_std_io2.specs.Seek.{IsTarget}
+use Rattle.no_std_io2.specs.Read.{Reader}
+use Rattle.no_std_io2.specs.ReadAt.{ReadAtLaw}
+use Rattle.no_std_io2.specs.Seek.{IsTarget, Seeker}
 use Rattle.no_std_io2.specs.Takes.{Store}
+use Rattle.no_std_io2.specs.declared.io.Error.{Error}
 use Rattle.no_std_io2.specs.declared.io.SeekFrom.{SeekFrom}
+use Rattle.no_std_io2.specs.declared.io.SeekFrom.TheVariants.{Start, End}
 
 -- the number at a place
 abbrev pub u32_at : ℕ → List ℕ → ℕ
@@ -16,3 +20,18 @@ IsNumberAt s at n = (p : ℕ) × IsTarget (length s.content) s.position at p × 
 -- where entry i starts
 abbrev pub entry_place : ℕ → List ℕ → ℕ
 entry_place i content = u32_at (u32_at (length content - 4) content + 4 * i) content
+
+-- four bytes were read at a place, and the result is their number
+abbrev pub ReadsNumber : {X : Type 0} → Seeker X → Reader X → X → SeekFrom → Result ℕ Error → X → Type 0
+ReadsNumber S R old at (Ok n) new = (bs : List ℕ) × ReadAtLaw S R old at (replicate 4 0) (Ok tt) bs new × (n ≡ from_le_bytes w32 bs)
+ReadsNumber S R old at (Err e) new = (bs : List ℕ) × ReadAtLaw S R old at (replicate 4 0) (Err e) bs new
+
+-- The place of the index was read, then the place of entry i, then the entry. The first error ended it.
+pub data ReadsEntry {X : Type 0} (S : Seeker X) (R : Reader X) (i : ℕ) (old : X) (entry : List ℕ)
+    : Result (Unit {0}) Error → List ℕ → X → Type 0 where
+  no_index : {e : Error} {new : X} → ReadsNumber S R old (End (negsuc 3)) (Err e) new → ReadsEntry S R i old entry (Err e) entry new
+  no_place : {index : ℕ} {e : Error} {mid new : X} → ReadsNumber S R old (End (negsuc 3)) (Ok index) mid
+      → ReadsNumber S R mid (Start (index + 4 * i)) (Err e) new → ReadsEntry S R i old entry (Err e) entry new
+  found : {index place : ℕ} {reply : Result (Unit {0}) Error} {entry' : List ℕ} {mid late new : X}
+      → ReadsNumber S R old (End (negsuc 3)) (Ok index) mid → ReadsNumber S R mid (Start (index + 4 * i)) (Ok place) late
+      → ReadAtLaw S R late (Start place) entry reply entry' new → ReadsEntry S R i old entry reply entry' new

@@ -1,14 +1,20 @@
 //! Reads an entry of a file with an index. The last four bytes of the file are the place of the index. The index has the place of
 //! each entry, in four bytes each. All numbers are little-endian.
-ghost use Rattle.std.specs.Prelude.{◌≡◌, length, take, drop, IfOk, OnOk, IfSome, IsSomeAnd};
-ghost use Rattle.examples.specs.Indexed.{IsNumberAt, entry_place};
+ghost use Rattle.std.specs.Prelude.{◌≡◌, length, take, drop, Ok, IfOk, OnOk, IfSome, IsSomeAnd};
+ghost use Rattle.examples.specs.Indexed.{IsNumberAt, ReadsEntry, ReadsNumber, entry_place};
+ghost use Rattle.system_streams.specs.Patient.{IsFresh};
+ghost use Rattle.system_streams.specs.declared.patient.Patient.{Patient};
 
 use no_std_io2::io::{BufReader, Cursor, Read, Result, Seek, SeekFrom, read_exact_at};
+use std::io;
+use std::rt::Files;
+use system_streams::{Patient, open};
 
 // Returns the number at a place.
 fn read_u32_at<R: Read + Seek>(r: &mut R, at: SeekFrom) -> Result<u32>
     ensures store { IfSome (R.store r.old) (λ s. IsSomeAnd (R.store r.new) (λ t. (t.content ≡ s.content)
         × IfOk result (IsNumberAt s at))) }
+    ensures reads { ReadsNumber R.Seek R.Read r.old at result r.new }
 {
     let mut bytes = [0u8; 4];
     read_exact_at(r, at, &mut bytes)?;
@@ -22,6 +28,8 @@ fn read_u32_at<R: Read + Seek>(r: &mut R, at: SeekFrom) -> Result<u32>
 pub fn read_entry<R: Read + Seek>(r: &mut R, i: u32, entry: &mut [u8]) -> Result<()>
     ensures store { IfSome (R.store r.old) (λ s. IsSomeAnd (R.store r.new) (λ t. (t.content ≡ s.content)
         × OnOk result (entry.new ≡ take (length entry.old) (drop (entry_place i s.content) s.content)))) }
+    // Without a store too, it makes these three reads, and no others.
+    ensures reads { ReadsEntry R.Seek R.Read i r.old entry.old result entry.new r.new }
 {
     let index = read_u32_at(r, SeekFrom::End(-4))?;
     let slot = u64::from(index) + 4 * u64::from(i);
@@ -38,4 +46,26 @@ pub fn entry_of(file: &[u8], i: u32, entry: &mut [u8]) -> Result<()>
 {
     let mut r = BufReader::<_, 64>::new(Cursor::new(file));
     read_entry(&mut r, i, entry)
+}
+
+/// Fills `entry` with the first bytes of entry number `i` of the file with this name.
+///
+/// # Errors
+/// Returns the system's error if the file cannot be opened, sought or read, and `UnexpectedEof` if it ends before the
+/// entry does.
+///
+/// ```rust
+/// let mut entry = [0u8; 3];
+/// entry_of_file(rt, "entries", 1, &mut entry)?;
+/// ```
+pub fn entry_of_file<R: Files>(rt: &R, name: &str, i: u32, entry: &mut [u8]) -> io::Result<()>
+    // No contract knows what the file has. After `Ok` the bytes are those that it gave at the places that it told.
+    ensures { OnOk result ((opened : Patient R.File) × (after : Patient R.File) × IsFresh opened
+        × ReadsEntry ⟦<Patient<R::File> as Seek>⟧ ⟦<Patient<R::File> as Read>⟧ i opened entry.old (Ok tt) entry.new after) }
+{
+    let mut file = open(rt, name)?;
+    match read_entry(&mut file, i, entry) {
+        Ok(()) => Ok(()),
+        Err(e) => Err(file.reason(e)),
+    }
 }

@@ -1,7 +1,5 @@
-//! First proofs and devices to copy, which the gate proves. They use no crate except `no_std_io2`. PROVING shows functions of
-//! `one_retry`, `readings`, `retries`, `indexed`, `messages`, `narrow`, `lengths` and this file. The CALLING page of
-//! `no_std_io2` shows `narrow` and `one_retry`, and names the other devices: `serial`, `inbox`, `broken`, `flash`, `numbered`,
-//! `summed` and `hex`. No page shows `records`.
+//! First proofs and devices to copy, which the gate proves. Only `indexed` uses another crate than `no_std_io2`. PROVING and
+//! the CALLING pages of `no_std_io2` and `system_streams` show or name all modules except `records`.
 #![tactic(auto)]
 
 ghost use Rattle.std.specs.Prelude.{◌≡◌, ◌++◌, IfOk};
@@ -26,7 +24,7 @@ pub use broken::Broken;
 pub use flash::{Flash, FlashFile};
 pub use hex::{Hex, hex_of, write_hex};
 pub use inbox::{Inbox, Source};
-pub use indexed::{entry_of, read_entry};
+pub use indexed::{entry_of, entry_of_file, read_entry};
 pub use lengths::pass_records;
 pub use messages::read_message;
 pub use narrow::Narrow;

@@ -1,15 +1,16 @@
 // The examples in the comments of `framing`, `line_log`, `system_streams` and `io_bench`, one function for each of their modules.
-use examples::save;
+use examples::{entry_of_file, save};
 use framing::{FrameReader, FrameWriter};
-use io_bench::{Op, Reply, joined};
+use io_bench::{Act, Faulty, Op, Reply, joined};
 use line_log::LineLog;
-use no_std_io2::io::{Cursor, Read, SeekFrom, read_exact_at};
+use no_std_io2::io::{BufWriter, Cursor, ErrorKind, Read, SeekFrom, Write, read_exact_at};
+use std::fs::remove_file;
 use std::io;
 use std::test::Fail;
-use system_streams::{Patient, copy_through, open};
+use system_streams::{Patient, copy_through, create, open};
 
 #[test]
-fn framing(rt: HostRuntime) -> std::result::Result<(), Fail> {
+fn framing(rt: HostRuntime) -> Result<(), Fail> {
     let mut w = FrameWriter::<Vec<u8>, 64>::new(Vec::new(rt.alloc()));
     w.send(b"ab")?;
     w.flush()?;
@@ -23,7 +24,7 @@ fn framing(rt: HostRuntime) -> std::result::Result<(), Fail> {
 }
 
 #[test]
-fn frame_writer(rt: HostRuntime) -> std::result::Result<(), Fail> {
+fn frame_writer(rt: HostRuntime) -> Result<(), Fail> {
     let payloads = [b"hello".as_slice(), b"ab".as_slice()];
     let mut w = FrameWriter::<Vec<u8>, 64>::new(Vec::new(rt.alloc()));
     let mut rest = payloads.as_slice();
@@ -37,7 +38,7 @@ fn frame_writer(rt: HostRuntime) -> std::result::Result<(), Fail> {
 }
 
 #[test]
-fn frame_reader(rt: HostRuntime) -> std::result::Result<(), Fail> {
+fn frame_reader(rt: HostRuntime) -> Result<(), Fail> {
     let wire = Cursor::new(*b"\x02\0\0\0ab\x01\0\0\0c");
     let mut r = FrameReader::<_, 64>::new(wire);
     let mut room = [0u8; 16];
@@ -50,7 +51,7 @@ fn frame_reader(rt: HostRuntime) -> std::result::Result<(), Fail> {
 }
 
 #[test]
-fn line_log(rt: HostRuntime) -> std::result::Result<(), Fail> {
+fn line_log(rt: HostRuntime) -> Result<(), Fail> {
     let mut log = LineLog::<Vec<u8>, 64>::new(Vec::new(rt.alloc()));
     log.log("started")?;
     assert!(rt; log.get_ref().as_slice() == b"started\n".as_slice());
@@ -72,7 +73,7 @@ fn line_log(rt: HostRuntime) -> std::result::Result<(), Fail> {
 }
 
 #[test]
-fn copy(rt: HostRuntime) -> std::result::Result<(), Fail> {
+fn copy(rt: HostRuntime) -> Result<(), Fail> {
     let (count, out) = copy_through(&b"abc\nde"[..], Vec::<u8>::new(rt.alloc()), true)?;
     assert!(rt; count == 6);
     assert!(rt; out.as_slice() == b"abc\nde".as_slice());
@@ -80,7 +81,7 @@ fn copy(rt: HostRuntime) -> std::result::Result<(), Fail> {
 }
 
 #[test]
-fn patient(rt: HostRuntime) -> std::result::Result<(), Fail> {
+fn patient(rt: HostRuntime) -> Result<(), Fail> {
     let mut p = Patient::new(&b"abcdef"[..], 3);
     let mut buf = [0u8; 4];
     assert!(rt; p.read(&mut buf)? == 4);
@@ -95,7 +96,7 @@ fn patient(rt: HostRuntime) -> std::result::Result<(), Fail> {
 }
 
 #[test]
-fn streams(rt: HostRuntime) -> std::result::Result<(), Fail> {
+fn streams(rt: HostRuntime) -> Result<(), Fail> {
     let rt = &rt;
     let mut program = open(rt, "/proc/self/exe")?;
     let mut magic = [0u8; 4];
@@ -109,7 +110,7 @@ fn streams(rt: HostRuntime) -> std::result::Result<(), Fail> {
 }
 
 #[test]
-fn accepted(rt: HostRuntime) -> std::result::Result<(), Fail> {
+fn accepted(rt: HostRuntime) -> Result<(), Fail> {
     let ops = [Op::Write(b"abc"), Op::Flush];
     let replies = [Reply::Took(2), Reply::Done];
     let accepted = joined(rt.alloc(), &ops, &replies)?;
@@ -119,8 +120,53 @@ fn accepted(rt: HostRuntime) -> std::result::Result<(), Fail> {
 
 // The first example of CALLING.md of `no_std_io2`.
 #[test]
-fn saved(rt: HostRuntime) -> std::result::Result<(), Fail> {
+fn saved(rt: HostRuntime) -> Result<(), Fail> {
     let device = save(Vec::new(rt.alloc()), b"a record")?;
     assert!(rt; device.as_slice() == b"a record".as_slice());
+    Ok(())
+}
+
+// The test of CALLING.md of `io_bench`.
+// The device takes three bytes, and then fails twice: no byte is lost, and none is sent again.
+#[test]
+fn a_record_outlives_faults(rt: HostRuntime) -> Result<(), Fail> {
+    let acts = vec![in rt.alloc(); Act::Take(3), Act::Fail(ErrorKind::WouldBlock), Act::Zero]?;
+    let device = Faulty::new(Vec::<u8>::new(rt.alloc()), acts);
+    let mut w = BufWriter::<_, 16>::new(device);
+    w.write_all(b"a record")?;
+    assert!(rt; w.flush().is_err());
+    assert!(rt; w.get_ref().get_ref().as_slice() == b"a r".as_slice());
+    assert!(rt; w.flush().is_err());
+    w.flush()?;
+    assert!(rt; w.get_ref().get_ref().as_slice() == b"a record".as_slice());
+    Ok(())
+}
+
+// The example of `indexed` of `examples`, over a file with three entries and their index. An entry of another place; one that is not there,
+// or cut off, taken for one; an error of the system without its kind.
+#[test]
+fn indexed(rt: HostRuntime) -> Result<(), Fail> {
+    let file = b"onetwosix\0\0\0\0\x03\0\0\0\x06\0\0\0\x09\0\0\0".as_slice();
+    let rt = &rt;
+    create(rt, "entries")?.write_all(file)?;
+    let mut entry = [0u8; 3];
+    entry_of_file(rt, "entries", 1, &mut entry)?;
+    assert!(rt; entry == *b"two");
+    entry_of_file(rt, "entries", 2, &mut entry)?;
+    assert!(rt; entry == *b"six");
+    let absent = entry_of_file(rt, "entries", 5, &mut entry)
+        .err()
+        .ok_or("found")?;
+    assert!(rt; absent.kind() == io::ErrorKind::UnexpectedEof);
+    create(rt, "entries")?.write_all(&file[..20])?;
+    let cut = entry_of_file(rt, "entries", 1, &mut entry)
+        .err()
+        .ok_or("found")?;
+    assert!(rt; cut.kind() == io::ErrorKind::UnexpectedEof);
+    remove_file(rt, "entries")?;
+    let missing = entry_of_file(rt, "entries", 1, &mut entry)
+        .err()
+        .ok_or("found")?;
+    assert!(rt; missing.kind() == io::ErrorKind::NotFound);
     Ok(())
 }

@@ -1,4 +1,4 @@
-//! Tests of what no clause and no row of a table can show: printed texts, kinds as keys, a long stream. The comment above each
+//! Tests of what no clause and no row of a table can show: printed texts, kinds as keys, files. The comment above each
 //! names the mistake that it would find.
 //!
 //! And the examples of comments, one test for each module: those of the library are in `base` and `buffers`, and those of its

@@ -1,22 +1,7 @@
-// A stream that is longer than the zeros that a `read_to_end` adds at once, and copies to a vector.
-use no_std_io2::io::{ErrorKind, Read};
+// Copies to a vector.
+use no_std_io2::io::ErrorKind;
 use std::test::Fail;
 use system_streams::{Patient, copy_through};
-
-// A growth that loses or repeats bytes.
-#[test]
-fn two_halves_of_a_mebibyte_are_the_whole(rt: HostRuntime) -> Result<(), Fail> {
-    let mut all = Vec::new(rt.alloc());
-    'bytes: for i in 0..1_048_576_usize {
-        all.push((i / 3 % 256) as u8)?;
-    }
-    let mut v = Vec::new(rt.alloc());
-    let (mut first, mut second) = all.as_slice().split_at(all.len() / 2);
-    assert!(rt; first.read_to_end(&mut v)? == 524_288);
-    assert!(rt; second.read_to_end(&mut v)? == 524_288);
-    assert!(rt; v.as_slice() == all.as_slice());
-    Ok(())
-}
 
 // A turn too few or too many, and bytes that are lost with the turns.
 #[test]
