@@ -170,7 +170,7 @@ piece_fault lacks d t P (Ok n) ends = tt
 piece_fault lacks d t P (Err e) ends = ⊎_elim (λ fault. fault.3) (λ memory. memory_fault e memory.1) ends.1
 
 -- there are no more bytes than events
-few_bytes : (P : List Event) → length (bytes P) ≤ length P
+pub few_bytes : (P : List Event) → length (bytes P) ≤ length P
 few_bytes [] = omega arith
 few_bytes (byte b ∷ P) = omega (arith, few_bytes P)
 few_bytes (fails e ∷ P) = omega (arith, few_bytes P)

@@ -1,5 +1,5 @@
 -- The calls of a reader, one after another.
-use Rattle.std.proofs.Common.{◌≡◌, ℕ, List, [], ◌∷◌, ◌++◌, Result, Ok, Err, length}
+use Rattle.std.proofs.Common.{◌≡◌, ℕ, List, [], ◌∷◌, ◌++◌, ◌+◌, Result, Ok, Err, length, length-append}
 use Rattle.std.proofs.Common.{refl, sym, ap, subst, ◌∙◌, append_assoc, append-nil, inl, inr}
 use Rattle.no_std_io2_base.specs.declared.error.Error.{Error}
 use Rattle.no_std_io2_base.specs.Write.{Made}
@@ -18,28 +18,29 @@ pub to_end_by : {S : Type 0} {may : S → ReadCall → S → Type 0} {old new : 
 to_end_by {new = new} x grown own =
     record { calls = _; given = x; made = (new, own, refl); appended = grown; are = inl ([], [], x, no_read, refl, refl) }
 
--- reads and then others
-pub gathers_then : {C D : List ReadCall} {x y : List ℕ} → Gathers IsRoom C x → Gathers IsRoom D y → Gathers IsRoom (C ++ D) (x ++ y)
-gathers_then {C} {x = x} first no_read =
-    subst (Gathers IsRoom (C ++ [])) (sym (append-nil x)) (subst (λ c. Gathers IsRoom c x) (sym (append-nil C)) first)
-gathers_then {C} {x = x} first (and_gave D y z room second some gives) =
-    subst (Gathers IsRoom (C ++ (D ++ Gave room (Ok z) ∷ []))) (append_assoc x y z)
-    (subst (λ c. Gathers IsRoom c ((x ++ y) ++ z)) (append_assoc C D (Gave room (Ok z) ∷ []))
-    (and_gave (C ++ D) (x ++ y) z room (gathers_then first second) some gives))
-gathers_then {C} {x = x} first (and_again D y room e second some interrupted) =
-    subst (λ c. Gathers IsRoom c (x ++ y)) (append_assoc C D (Gave room (Err e) ∷ []))
-    (and_again (C ++ D) (x ++ y) room e (gathers_then first second) some interrupted)
+module _ {asks : ℕ → ℕ → Type 0} {C : List ReadCall} {x : List ℕ} (first : Gathers asks C x) where
+  -- reads and then others
+  pub gathers_then : {D : List ReadCall} {y : List ℕ} → Gathers (λ at room. asks (length x + at) room) D y → Gathers asks (C ++ D) (x ++ y)
+  gathers_then no_read =
+      subst (λ l. Gathers asks l (x ++ [])) (sym (append-nil C)) (subst (Gathers asks C) (sym (append-nil x)) first)
+  gathers_then (and_gave D y z room so_far into some) =
+      subst (λ l. Gathers asks l (x ++ (y ++ z))) (append_assoc C D (Gave room (Ok z) ∷ []))
+      (subst (Gathers asks ((C ++ D) ++ Gave room (Ok z) ∷ [])) (append_assoc x y z)
+      (and_gave (C ++ D) (x ++ y) z room (gathers_then so_far) (subst (λ n. asks n room) (sym (length-append x y)) into) some))
+  gathers_then (and_again D y room e so_far into again) =
+      subst (λ l. Gathers asks l (x ++ y)) (append_assoc C D (Gave room (Err e) ∷ []))
+      (and_again (C ++ D) (x ++ y) room e (gathers_then so_far) (subst (λ n. asks n room) (sym (length-append x y)) into) again)
 
--- and until one ends them
-pub until_then : {C D : List ReadCall} {x y : List ℕ} {answer : Result (List ℕ) Error} → Gathers IsRoom C x → GathersUntil IsRoom D y answer
-    → GathersUntil IsRoom (C ++ D) (x ++ y) answer
-until_then {C} {answer = answer} first then = (
-  C ++ then.0,
-  then.1,
-  gathers_then first then.2,
-  then.3,
-  ap (λ d. C ++ d) then.4 ∙ sym (append_assoc C then.0 (Gave then.1 answer ∷ [])),
-)
+  -- and until one ends them
+  pub until_then : {D : List ReadCall} {y : List ℕ} {answer : Result (List ℕ) Error}
+      → GathersUntil (λ at room. asks (length x + at) room) D y answer → GathersUntil asks (C ++ D) (x ++ y) answer
+  until_then {y = y} {answer = answer} (E, room, so_far, into, is) = (
+    C ++ E,
+    room,
+    gathers_then so_far,
+    subst (λ n. asks n room) (sym (length-append x y)) into,
+    ap (λ l. C ++ l) is ∙ sym (append_assoc C E (Gave room answer ∷ [])),
+  )
 
 -- reads, and then a `read_to_end` whose result counts only the bytes that it appended itself
 pub to_end_then : {C D : List ReadCall} {x y : List ℕ} (reply reply' : Result ℕ Error) → ended reply ≡ ended reply' → Gathers IsRoom C x

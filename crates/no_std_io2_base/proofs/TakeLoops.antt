@@ -5,12 +5,13 @@ use Rattle.std.proofs.Common.{arith, Option, None, Some, inl, inr, ◌⊎◌, le
 use Rattle.std.proofs.lemmas.List.{append_cancel_right}
 use Rattle.no_std_io2_base.specs.declared.error.Error.{Error}
 use Rattle.no_std_io2_base.specs.declared.traits.take.Take.{Take}
-use Rattle.no_std_io2_base.specs.Events.{Event, byte, fails, events_of, bytes, cut}
+use Rattle.no_std_io2_base.specs.Events.{Event, events_of, bytes, cut}
 use Rattle.no_std_io2_base.specs.Takes.{Tells, Takes, to_come, AreTaken, KeepsContent}
 use Rattle.no_std_io2_base.specs.Read.{Reader, tells, ReadCallLaw, ReadExactLaw, ToEndLaw, answered, fault_of}
 use Rattle.no_std_io2_base.specs.BufRead.{Lender, as_reader, ReadUntilLaw, ReadLineLaw}
 use Rattle.no_std_io2_base.specs.Take.{take_inner, take_limit, cut_to_come, TakeTakes}
 use Rattle.no_std_io2_base.proofs.EventLemmas.{bytes-append, bytes-events_of, length-events_of}
+use Rattle.no_std_io2_base.proofs.GivenPieces.{few_bytes}
 use Rattle.no_std_io2_base.proofs.ReadLoop.{ReadsSoFar}
 use Rattle.no_std_io2_base.proofs.ReadsAdd.{EachAdds, each_of, gathers_add, exact_adds, to_end_adds, piece_adds, line_appended}
 use Rattle.no_std_io2_base.proofs.TakesLemmas.{cut-fitting, lend_law}
@@ -55,12 +56,6 @@ pub take_fell : {T : Type 0} {inner : Reader T} {asks : ℕ → ℕ → Type 0} 
 take_fell {inner = inner} {old = old} {now} reads =
     let took = gathers_add (take_each {inner = inner}) reads.gathers old now reads.made in omega (arith, took.1, took.2.limit)
 
--- there are no more bytes than events
-bytes-within : (P : List Event) → length (bytes P) ≤ length P
-bytes-within [] = omega arith
-bytes-within (byte b ∷ P) = omega (arith, bytes-within P)
-bytes-within (fails e ∷ P) = omega (arith, bytes-within P)
-
 -- what the cut events lost, the inner events lost; or these are not told
 lost : (E E' : Option (List Event)) (k k' : ℕ) (P Q : List Event) → AreTaken (cut_to_come k E) P (cut_to_come k' E') → AreTaken E Q E'
     → cut k Q ≡ Q → k' + length (bytes Q) ≡ k → (Q ≡ P) ⊎ (E ≡ None)
@@ -93,7 +88,7 @@ take_taken {inner = inner} {old} {new} P Q above below same = elim (lost (to_com
             bytes-events_of x,
             record {
               takes = untold (events_of x) none (omega (arith, long, same))
-                  (omega (arith, same, length-events_of x, bytes-within Q)) below.takes;
+                  (omega (arith, same, length-events_of x, few_bytes Q)) below.takes;
               within = cut-fitting (take_limit old) x (omega (arith, same, below.limit));
               limit = omega (arith, below.limit, same, long);
               len = below.len;
