@@ -13,10 +13,11 @@ use Rattle.no_std_io2_base.specs.Write.{Made, IsFront}
 use Rattle.no_std_io2_base.specs.Read.{Reader, ReadCall, Gave, Gathers, no_read, and_gave, and_again, IsRest, GathersUntil}
 use Rattle.no_std_io2_base.specs.Read.{FillCalls}
 use Rattle.no_std_io2_base.specs.Read.{ExactCalls, tells, FillsOrEnds}
-use Rattle.no_std_io2_base.specs.Read.{ReadCallLaw, ReadExactLaw, bytes_given}
+use Rattle.no_std_io2_base.specs.Read.{ReadCallLaw, GaveLaw, ReadExactLaw, bytes_given}
 use Rattle.no_std_io2_base.proofs.CallsLemmas.{made_more, made_split}
 use Rattle.no_std_io2_base.proofs.ReadCalls.{exact_own}
-use Rattle.no_std_io2_base.proofs.TakesLemmas.{gives_whole}
+use Rattle.no_std_io2_base.proofs.ReadLoop.{ReadsSoFar, reads_none, reads_until}
+use Rattle.no_std_io2_base.proofs.TakesLemmas.{gives_whole, bytes_more, bytes_still}
 use Rattle.no_std_io2.specs.declared.buffered.buf_reader.BufReader.{BufReader}
 use Rattle.no_std_io2.specs.Buffer.{IsSuffix}
 use Rattle.no_std_io2.specs.BufReader.{reader_held, reader_behind, reader_inner, HasNoBuffer, PassesOn, AsksExact, ExactBelow}
@@ -25,39 +26,38 @@ use Rattle.no_std_io2.proofs.BufferedReads.{takes_held}
 use Rattle.no_std_io2.proofs.BufReaderCalls.{buf_reader}
 use Rattle.no_std_io2.proofs.BufReaderRoom.{held-le}
 
-module _ {R : Type 0} {S : ℕ} (inner : Reader R) (old : BufReader R S) (room : ℕ) (past : length (reader_held old) < room) where
+module _ {R : Type 0} {S : ℕ} (inner : Reader R) (old : BufReader R S) (room : ℕ) where
   -- x was given so far: no call was made yet; or the held bytes were given; or a read was made
-  data Stage (x given : List ℕ) (now : BufReader R S) : Type 0 where
+  pub data Stage (x given : List ℕ) (now : BufReader R S) : Type 0 where
     at_start : x ≡ [] → given ≡ [] → now ≡ old → Stage x given now
     past_held : x ≡ reader_held old → reader_held now ≡ [] → Stage x given now
     past_read : (reader_held now ≡ []) ⊎ (length x ≡ room) → IsSuffix x (reader_behind now) → length (reader_behind now) < S
         → Stage x given now
 
-  record Below (x : List ℕ) (now : BufReader R S) : Type 0 where
-    pub reads : List ReadCall
+  -- x was given so far: the held bytes and then those that these inner reads gave are x, and what is held now
+  pub record Below (x : List ℕ) (now : BufReader R S) : Type 0 where
     pub given : List ℕ
-    pub made : Made (ReadCallLaw inner) (reader_inner old) reads (reader_inner now)
-    pub gathers : Gathers (AsksExact S room (length (reader_held old))) reads given
+    pub reads : ReadsSoFar inner (AsksExact S room (length (reader_held old))) (reader_inner old) given (reader_inner now)
     pub split : reader_held old ++ given ≡ x ++ reader_held now
-    pub stage : Stage x given now
+    pub stage : length (reader_held old) < room → Stage x given now
 
   -- a last read had this result
-  record Ends (x : List ℕ) (answer : Result (List ℕ) Error) (new : BufReader R S) : Type 0 where
-    pub reads : List ReadCall
+  pub record Ends (x : List ℕ) (answer : Result (List ℕ) Error) (new : BufReader R S) : Type 0 where
     pub given : List ℕ
-    pub made : Made (ReadCallLaw inner) (reader_inner old) reads (reader_inner new)
-    pub are : GathersUntil (AsksExact S room (length (reader_held old))) reads given answer
+    pub mid : R
+    pub reads : ReadsSoFar inner (AsksExact S room (length (reader_held old))) (reader_inner old) given mid
+    pub part : ℕ
+    pub asked : AsksExact S room (length (reader_held old)) (length given) part
+    pub last : GaveLaw inner mid part answer (reader_inner new)
     pub all : reader_held old ++ given ≡ x
     pub empty : HasNoBuffer new
 
   below_none : {now : BufReader R S} → now ≡ old → Below [] now
   below_none same = record {
-    reads = [];
     given = [];
-    made = ap reader_inner same;
-    gathers = no_read;
+    reads = subst (ReadsSoFar inner _ (reader_inner old) []) (ap reader_inner (sym same)) (reads_none (reader_inner old));
     split = append-nil (reader_held old) ∙ ap reader_held (sym same);
-    stage = at_start refl refl same;
+    stage = λ past. at_start refl refl same;
   }
 
   module _ {x : List ℕ} {now : BufReader R S} {size : ℕ} (before : Below x now) (into : IsRest room (length x) size) where
@@ -72,8 +72,8 @@ module _ {R : Type 0} {S : ℕ} (inner : Reader R) (old : BufReader R S) (room :
         (omega (arith, long, none, into.0, into.1), is ∙ ap (max S) rest)
 
     -- bytes are held only before the first call
-    first : 0 < length (reader_held now) → (x ≡ []) × (before.given ≡ []) × (now ≡ old)
-    first some = by before.stage
+    first : length (reader_held old) < room → 0 < length (reader_held now) → (x ≡ []) × (before.given ≡ []) × (now ≡ old)
+    first past some = by (before.stage past)
       where
         by : Stage x before.given now → (x ≡ []) × (before.given ≡ []) × (now ≡ old)
         by (at_start none unread same) = (none, unread, same)
@@ -88,21 +88,22 @@ module _ {R : Type 0} {S : ℕ} (inner : Reader R) (old : BufReader R S) (room :
       where
         held : 0 < length (reader_held now) → Below (x ++ y) new
         held h =
-            let start = first h in
             let call = law.call.held h in
             let is : y ≡ take size (reader_held now) = ap bytes_given call.1.0 in
-            let fits : length (reader_held now) ≤ size =
-            omega (arith, past, into.0, ap length start.0, ap (λ r. length (reader_held r)) start.2) in
-            let whole : y ≡ reader_held now = is ∙ take_all size (reader_held now) fits in
-            let empty : reader_held new ≡ [] =
-            nil_from_length (reader_held new) (omega (arith, ap length call.1.1.1, length-drop size (reader_held now), fits)) in
             record {
-              reads = before.reads;
               given = before.given;
-              made = subst (Made (ReadCallLaw inner) (reader_inner old) before.reads) (sym call.0) before.made;
-              gathers = before.gathers;
-              split = before.split ∙ ap (λ l. x ++ l) (sym whole) ∙ sym (append-nil (x ++ y)) ∙ ap (λ l. (x ++ y) ++ l) (sym empty);
-              stage = past_held (ap (λ l. l ++ y) start.0 ∙ whole ∙ ap reader_held start.2) empty;
+              reads = subst (ReadsSoFar inner _ (reader_inner old) before.given) (sym call.0) before.reads;
+              split = before.split ∙ ap (λ l. x ++ l) (sym (take-append-drop size (reader_held now))
+                  ∙ ap (λ l. l ++ drop size (reader_held now)) (sym is) ∙ ap (λ l. y ++ l) (sym call.1.1.1))
+                  ∙ sym (append_assoc x y (reader_held new));
+              stage = λ past.
+                  let start = first past h in
+                  let fits : length (reader_held now) ≤ size =
+                  omega (arith, past, into.0, ap length start.0, ap (λ r. length (reader_held r)) start.2) in
+                  let whole : y ≡ reader_held now = is ∙ take_all size (reader_held now) fits in
+                  let empty : reader_held new ≡ [] =
+                  nil_from_length (reader_held new) (omega (arith, ap length call.1.1.1, length-drop size (reader_held now), fits)) in
+                  past_held (ap (λ l. l ++ y) start.0 ∙ whole ∙ ap reader_held start.2) empty;
             }
 
         -- an inner read that gave r
@@ -111,16 +112,19 @@ module _ {R : Type 0} {S : ℕ} (inner : Reader R) (old : BufReader R S) (room :
             → (reader_held new ≡ []) ⊎ (length (x ++ y) ≡ room) → IsSuffix (x ++ y) (reader_behind new) → length (reader_behind new) < S
             → Below (x ++ y) new
         put r n unheld is inner_law whole state front short = record {
-          reads = before.reads ++ Gave n (Ok r) ∷ [];
           given = before.given ++ r;
-          made = made_more (ReadCallLaw inner) before.reads (reader_inner old) before.made inner_law;
-          gathers = and_gave before.reads before.given r n before.gathers (asks n unheld is)
-              (omega (arith, some, ap length whole, length-append y (reader_held new)));
+          reads = record {
+            took = bytes_more r before.reads.took inner_law.takes;
+            calls = before.reads.calls ++ Gave n (Ok r) ∷ [];
+            made = made_more (ReadCallLaw inner) before.reads.calls (reader_inner old) before.reads.made inner_law;
+            gathers = and_gave before.reads.calls before.given r n before.reads.gathers (asks n unheld is)
+                (omega (arith, some, ap length whole, length-append y (reader_held new)));
+          };
           split = sym (append_assoc (reader_held old) before.given r) ∙ ap (λ l. l ++ r) before.split
               ∙ ap (λ l. (x ++ l) ++ r) (nil_from_length (reader_held now) unheld) ∙ ap (λ l. l ++ r) (append-nil x)
               ∙ ap (λ l. x ++ l) whole
               ∙ sym (append_assoc x y (reader_held new));
-          stage = past_read state front short;
+          stage = λ past. past_read state front short;
         }
 
         filled : (answer : Result (List ℕ) Error) → length (reader_held now) ≡ 0 → size < S
@@ -198,12 +202,15 @@ module _ {R : Type 0} {S : ℕ} (inner : Reader R) (old : BufReader R S) (room :
     below_again {new} e law again =
         let stop = stops (Err e) law refl in
         record {
-          reads = before.reads ++ Gave stop.part (Err e) ∷ [];
           given = before.given;
-          made = made_more (ReadCallLaw inner) before.reads (reader_inner old) before.made stop.law;
-          gathers = and_again before.reads before.given stop.part e before.gathers stop.asked again;
+          reads = record {
+            took = bytes_still before.reads.took stop.law.takes again;
+            calls = before.reads.calls ++ Gave stop.part (Err e) ∷ [];
+            made = made_more (ReadCallLaw inner) before.reads.calls (reader_inner old) before.reads.made stop.law;
+            gathers = and_again before.reads.calls before.given stop.part e before.reads.gathers stop.asked again;
+          };
           split = before.split ∙ ap (λ l. x ++ l) (stop.none ∙ sym stop.empty.1);
-          stage = past_read (inl stop.empty.1) (x, sym (append-nil x) ∙ ap (λ l. x ++ l) (sym stop.empty.0))
+          stage = λ past. past_read (inl stop.empty.1) (x, sym (append-nil x) ∙ ap (λ l. x ++ l) (sym stop.empty.0))
               (omega (arith, ap length stop.empty.0, old.some_room));
         }
 
@@ -213,16 +220,18 @@ module _ {R : Type 0} {S : ℕ} (inner : Reader R) (old : BufReader R S) (room :
     below_until answer law nothing =
         let stop = stops answer law nothing in
         record {
-          reads = before.reads ++ Gave stop.part answer ∷ [];
           given = before.given;
-          made = made_more (ReadCallLaw inner) before.reads (reader_inner old) before.made stop.law;
-          are = (before.reads, stop.part, before.gathers, stop.asked, refl);
+          mid = reader_inner now;
+          reads = before.reads;
+          part = stop.part;
+          asked = stop.asked;
+          last = stop.law;
           all = before.split ∙ ap (λ l. x ++ l) stop.none ∙ append-nil x;
           empty = stop.empty;
         }
 
   -- any reads
-  below : {C : List ReadCall} {x : List ℕ} → Gathers (IsRest room) C x → (now : BufReader R S)
+  pub below : {C : List ReadCall} {x : List ℕ} → Gathers (IsRest room) C x → (now : BufReader R S)
       → Made (ReadCallLaw (buf_reader inner)) old C now
       → Below x now
   below no_read now made = below_none made
@@ -235,7 +244,7 @@ module _ {R : Type 0} {S : ℕ} (inner : Reader R) (old : BufReader R S) (room :
       let before = below gathers parts.0 parts.1 in
       subst (Below x) (sym parts.2.2) (below_again before asks e parts.2.1 again)
 
-  below_end : {C : List ReadCall} {x : List ℕ} (now : BufReader R S) (answer : Result (List ℕ) Error)
+  pub below_end : {C : List ReadCall} {x : List ℕ} (now : BufReader R S) (answer : Result (List ℕ) Error)
       → GathersUntil (IsRest room) C x answer
       → Made (ReadCallLaw (buf_reader inner)) old C now → bytes_given answer ≡ [] → Ends x answer now
   below_end {x = x} now answer (D, size, gathers, into, is) made nothing =
@@ -244,33 +253,40 @@ module _ {R : Type 0} {S : ℕ} (inner : Reader R) (old : BufReader R S) (room :
       subst (Ends x answer) (sym parts.2.2) (below_until (below gathers parts.0 parts.1) into answer parts.2.1 nothing)
 
   -- these are the reads of an exact read
-  pub exact_below : {buf : List ℕ} {now : BufReader R S} (reply : Result (Unit {0}) Error) (C : List ReadCall) → FillCalls C reply buf
+  pub exact_below : (past : length (reader_held old) < room) {buf : List ℕ} {now : BufReader R S} (reply : Result (Unit {0}) Error) (C : List ReadCall) → FillCalls C reply buf
       → Made (ReadCallLaw (buf_reader inner)) old C now → length buf ≡ room → ExactBelow inner old room reply buf now
-  exact_below {buf} {now} (Ok u) C calls made long =
+  exact_below past {buf} {now} (Ok u) C calls made long =
       let all = below (subst (λ n. Gathers (IsRest n) C buf) long calls) now made in
-      let end = by all.stage in
-      record { reads = all.reads; given = all.given; made = all.made; are = all.gathers; leaves = (all.split, end.0, end.1) }
+      let end = by (all.stage past) in record {
+        reads = all.reads.calls;
+        given = all.given;
+        made = all.reads.made;
+        are = all.reads.gathers;
+        leaves = (all.split, end.0, end.1);
+      }
     where
       by : {given : List ℕ} → Stage buf given now → IsSuffix buf (reader_behind now) × (length (reader_behind now) < S)
       by (at_start none unread same) = absurd (omega (arith, past, long, ap length none))
       by (past_held all none) = absurd (omega (arith, past, long, ap length all))
       by (past_read state front short) = (front, short)
-  exact_below {buf} {now} (Err e) C (x, front, inl (end, calls)) made long =
+  exact_below past {buf} {now} (Err e) C (x, front, inl (end, calls)) made long =
       let last = below_end now (Ok []) (subst (λ n. GathersUntil (IsRest n) C x (Ok [])) long calls) made refl in
+      let made = reads_until last.reads last.last last.asked in
       record {
-        reads = last.reads;
+        reads = made.0;
         given = last.given;
-        made = last.made;
-        are = inl (end, last.are);
+        made = made.1;
+        are = inl (end, made.2);
         leaves = (subst (λ l. IsFront l buf) (sym last.all) front, last.empty);
       }
-  exact_below {buf} {now} (Err e) C (x, front, inr (fault, calls)) made long =
+  exact_below past {buf} {now} (Err e) C (x, front, inr (fault, calls)) made long =
       let last = below_end now (Err e) (subst (λ n. GathersUntil (IsRest n) C x (Err e)) long calls) made refl in
+      let made = reads_until last.reads last.last last.asked in
       record {
-        reads = last.reads;
+        reads = made.0;
         given = last.given;
-        made = last.made;
-        are = inr (fault, last.are);
+        made = made.1;
+        are = inr (fault, made.2);
         leaves = (subst (λ l. IsFront l buf) (sym last.all) front, last.empty);
       }
 

@@ -4,11 +4,13 @@ use Rattle.std.proofs.Common.{None, Some, refl, sym, ap, subst, ◌∙◌, arith
 use Rattle.std.proofs.lemmas.List.{nil_from_length}
 use Rattle.no_std_io2_base.specs.declared.error.Error.{Error}
 use Rattle.no_std_io2_base.specs.Errors.{IsFault, IsInterruption}
-use Rattle.no_std_io2_base.specs.Events.{Event, byte, fails, bytes}
+use Rattle.no_std_io2_base.specs.Events.{Event, fails, bytes}
 use Rattle.no_std_io2_base.specs.Takes.{Store, KeepsContent}
 use Rattle.no_std_io2_base.specs.Read.{Reader, GaveLaw, ReadCallLaw, Gave, and_gave, and_again, bytes_given}
 use Rattle.no_std_io2_base.proofs.CallsLemmas.{made_more}
-use Rattle.no_std_io2_base.proofs.EventLemmas.{bytes-append, length-events_of}
+use Rattle.no_std_io2_base.proofs.EventLemmas.{length-events_of}
+use Rattle.no_std_io2_base.proofs.GivenPieces.{few_bytes}
+use Rattle.no_std_io2_base.proofs.PieceLemmas.{bytes_still as bytes_same}
 use Rattle.no_std_io2_base.proofs.ReadExactExits.{some_bytes}
 use Rattle.no_std_io2_base.proofs.ReadLoop.{ReadsSoFar, reads_none, reads_until}
 use Rattle.no_std_io2_base.proofs.TakesLemmas.{takes_then, takes_still, bytes_more, bytes_still, spends}
@@ -26,6 +28,7 @@ pub record FilledSoFar {R : Type 0} {S : ℕ} (I : Reader R) (n : ℕ) (old now 
   pub holds : reader_held now ≡ reader_held old ++ given
   pub front : List ℕ
   pub behind : reader_behind old ≡ front ++ reader_behind now
+  pub still : n ≤ length (reader_held old) → now ≡ old
 
 -- before the first read
 pub filled_none : {R : Type 0} {S n : ℕ} {I : Reader R} (old : BufReader R S) → FilledSoFar I n old old
@@ -35,6 +38,7 @@ filled_none old = record {
   holds = sym (append-nil (reader_held old));
   front = [];
   behind = refl;
+  still = λ enough. refl;
 }
 
 -- after a read none lie behind
@@ -83,13 +87,8 @@ module _ {R : Type 0} {S n : ℕ} {I : Reader R} {old now : BufReader R S} (befo
     holds = before.holds ∙ ap (λ l. reader_held old ++ l) (sym before.reads.are);
     enough = enough;
     ends = before.reads.no_fault;
-    calls = record {
-      calls = before.reads.calls;
-      given = before.given;
-      made = before.reads.made;
-      holds = before.holds;
-      are = before.reads.gathers;
-    };
+    calls = (before.reads.calls, before.reads.made, rw before.reads.are before.reads.gathers);
+    still = before.still;
   }
 
   module _ (below : length (reader_held now) < n) (within : n ≤ S) where
@@ -98,6 +97,10 @@ module _ {R : Type 0} {S n : ℕ} {I : Reader R} {old now : BufReader R S} (befo
     asks =
         let all = ap length before.holds ∙ length-append (reader_held old) before.given in
         (omega (arith, all, below), omega (arith, all, below, within))
+
+    -- so fewer than n bytes were held
+    not_still : {X : Type 0} → n ≤ length (reader_held old) → X
+    not_still enough = absurd (omega (arith, ap (λ r. length (reader_held r)) (before.still enough), below, enough))
 
     -- a read gave some bytes more
     pub filled_more : {new : BufReader R S} {k : ℕ}
@@ -115,6 +118,7 @@ module _ {R : Type 0} {S n : ℕ} {I : Reader R} {old now : BufReader R S} (befo
           holds = got.3 ∙ ap (λ l. l ++ got.0) before.holds ∙ append_assoc (reader_held old) before.given got.0;
           front = reader_behind old;
           behind = none_behind (reader_behind old) clear;
+          still = not_still;
         }
 
     -- a read was interrupted
@@ -133,6 +137,7 @@ module _ {R : Type 0} {S n : ℕ} {I : Reader R} {old now : BufReader R S} (befo
           holds = got.1 ∙ before.holds;
           front = reader_behind old;
           behind = none_behind (reader_behind old) clear;
+          still = not_still;
         }
 
     -- a fault came before n bytes were held
@@ -142,14 +147,15 @@ module _ {R : Type 0} {S n : ℕ} {I : Reader R} {old now : BufReader R S} (befo
     fills_fault {e} read fault =
         let got = failed_on read in
         let until = reads_until before.reads got.0 asks in
+        let are = bytes_same before.reads.taken e ∙ before.reads.are in
         record {
           taken = before.reads.taken ++ fails e ∷ [];
           takes = takes_then before.reads.takes got.0.takes;
-          holds = got.1 ∙ before.holds ∙ ap (λ l. reader_held old ++ l) (sym before.reads.are ∙ sym (append-nil (bytes before.reads.taken))
-              ∙ sym (bytes-append before.reads.taken (fails e ∷ [])));
+          holds = got.1 ∙ before.holds ∙ ap (λ l. reader_held old ++ l) (sym are);
           enough = omega (arith, ap length got.1, below);
           ends = (before.reads.taken, refl, before.reads.no_fault, fault);
-          calls = record { calls = until.0; given = before.given; made = until.1; holds = got.1 ∙ before.holds; are = until.2 };
+          calls = (until.0, until.1, rw are until.2);
+          still = not_still;
         }
 
     -- so did the end
@@ -171,7 +177,8 @@ module _ {R : Type 0} {S n : ℕ} {I : Reader R} {old now : BufReader R S} (befo
           holds = same ∙ before.holds ∙ ap (λ l. reader_held old ++ l) (sym before.reads.are);
           enough = omega (arith, ap length same, below);
           ends = (before.reads.no_fault, law.end refl (omega (arith, below, within)));
-          calls = record { calls = until.0; given = before.given; made = until.1; holds = same ∙ before.holds; are = until.2 };
+          calls = (until.0, until.1, rw before.reads.are until.2);
+          still = not_still;
         }
 
 -- a store that stays where it is
@@ -179,12 +186,6 @@ stays_put : (s s' : Option Store) → KeepsContent s (λ len was now. now ≡ wa
 stays_put None s' keeps = tt
 stays_put (Some s) None keeps = keeps
 stays_put (Some s) (Some s') keeps = (keeps.0, omega (arith, keeps.1))
-
--- there are no more bytes than events
-bytes-le : (P : List Event) → length (bytes P) ≤ length P
-bytes-le [] = omega arith
-bytes-le (byte b ∷ P) = omega (arith, bytes-le P)
-bytes-le (fails e ∷ P) = omega (arith, bytes-le P)
 
 module _ {R : Type 0} {S n : ℕ} {I : Reader R} {old new : BufReader R S} {reply : Result Bool Error}
     (fills : FillsTo I n old reply new) where
@@ -200,7 +201,7 @@ module _ {R : Type 0} {S n : ℕ} {I : Reader R} {old new : BufReader R S} {repl
   pub fills_turns : reader_turns I.turns new ≤ reader_turns I.turns old
   fills_turns =
       let more : I.turns (reader_inner new) + min 1 (length (bytes fills.taken)) ≤ I.turns (reader_inner old) =
-      omega (arith, fills.takes.turns, bytes-le fills.taken) in
+      omega (arith, fills.takes.turns, few_bytes fills.taken) in
       let all = turns_behind S (length (reader_held old)) (length (reader_held new)) 0 (length (bytes fills.taken))
       (I.turns (reader_inner old)) (I.turns (reader_inner new))
       (omega (arith, ap length fills.holds, length-append (reader_held old) (bytes fills.taken))) (held-le new) more in

@@ -24,20 +24,11 @@ HasTo n (Err e) len = len < n
 abbrev pub AsksOn : ℕ → ℕ → List ℕ → ℕ → ℕ → Type 0
 AsksOn S n held at room = (length held + at < n) × (length held + at + room ≡ S)
 
--- C are the reads of a `fill_to(n)` that gave x
-abbrev pub FillToCalls : ℕ → ℕ → List ℕ → List ReadCall → List ℕ → Result Bool Error → Type 0
-FillToCalls S n held C x (Ok true) = Gathers (AsksOn S n held) C x
-FillToCalls S n held C x (Ok false) = GathersUntil (AsksOn S n held) C x (Ok [])
-FillToCalls S n held C x (Err e) = GathersUntil (AsksOn S n held) C x (Err e)
-
--- The inner reads that a `fill_to(n)` made, and the bytes that they gave, which are held after the others.
-pub record FillToMade {R : Type 0} {S : ℕ} (inner : Reader R) (n : ℕ) (old : BufReader R S) (reply : Result Bool Error)
-    (new : BufReader R S) : Type 0 where
-  pub calls : List ReadCall
-  pub given : List ℕ
-  pub made : Made (ReadCallLaw inner) (reader_inner old) calls (reader_inner new)
-  pub holds : reader_held new ≡ reader_held old ++ given
-  pub are : FillToCalls S n (reader_held old) calls given reply
+-- C are reads in a row that gave x, and ended like this: with enough bytes, at the end, or with a fault
+abbrev pub ReadsTo : (ℕ → ℕ → Type 0) → List ReadCall → List ℕ → Result Bool Error → Type 0
+ReadsTo asks C x (Ok true) = Gathers asks C x
+ReadsTo asks C x (Ok false) = GathersUntil asks C x (Ok [])
+ReadsTo asks C x (Err e) = GathersUntil asks C x (Err e)
 
 -- `fill_to(n)`
 pub record FillsTo {R : Type 0} {S : ℕ} (inner : Reader R) (n : ℕ) (old : BufReader R S) (reply : Result Bool Error) (new : BufReader R S)
@@ -51,4 +42,7 @@ pub record FillsTo {R : Type 0} {S : ℕ} (inner : Reader R) (n : ℕ) (old : Bu
   pub enough : HasTo n reply (length (reader_held new))
   pub ends : GathersTo taken reply (tells inner (reader_inner new))
   -- which reads it made
-  pub calls : FillToMade inner n old reply new
+  pub calls : (C : List ReadCall) × Made (ReadCallLaw inner) (reader_inner old) C (reader_inner new)
+      × ReadsTo (AsksOn S n (reader_held old)) C (bytes taken) reply
+  -- if n bytes are held already, nothing changes
+  pub still : n ≤ length (reader_held old) → new ≡ old
