@@ -9,12 +9,13 @@ use Rattle.std.proofs.lemmas.List.{take-append-le}
 use Rattle.std.proofs.lemmas.List.Elements.{All-head}
 use Rattle.no_std_io2.specs.declared.io.Error.{Error}
 use Rattle.no_std_io2.specs.Errors.{IsFault}
-use Rattle.no_std_io2.specs.Events.{Event, byte, fails, bytes, events_of, HasNoFault, EndsInFault, first_fault}
+use Rattle.no_std_io2.specs.Events.{Event, fails, bytes, events_of, HasNoFault, EndsInFault, first_fault}
 use Rattle.no_std_io2.specs.Takes.{AreTaken, to_come}
 use Rattle.no_std_io2.specs.Read.{Reader, tells}
 use Rattle.no_std_io2.specs.Write.{Told}
 use Rattle.no_std_io2.specs.BufReader.{behind_held}
-use Rattle.no_std_io2.proofs.EventLemmas.{bytes-append, bytes-events_of, HasNoFault-append, HasNoFault-events_of}
+use Rattle.no_std_io2.proofs.EventLemmas.{bytes-append, bytes-behind, HasNoFault-append, HasNoFault-events_of}
+use Rattle.no_std_io2.proofs.GivenPieces.{first_fault-append}
 use Rattle.framing.specs.Frames.{frame, frames, told_length, IsPart}
 use Rattle.framing.specs.Taking.{seen_bytes, reads_from, frame_to_come, given_frame, EndsFrame, EndsInside, IsTooLong, TakesFrame}
 use Rattle.framing.specs.Back.{AreToCome, GivesBack, RefusesFirst, WentOut}
@@ -75,16 +76,9 @@ first_long limit seen left (p ∷ ps) e small four above =
     ∙ told_frame p (frames ps) (All-head (λ q. length q < 2 ^ 32) p ps small) in
     (p, ps, refl, omega (arith, is, above))
 
--- bytes behind held ones
-bytes_behind : (seen : List ℕ) (E : List Event) → bytes (events_of seen ++ E) ≡ seen ++ bytes E
-bytes_behind seen E = bytes-append (events_of seen) E ∙ ap (λ l. l ++ bytes E) (bytes-events_of seen)
-
 -- the first fault of events that have none before it
 fault_first : (P E : List Event) (e : Error) → HasNoFault P → IsFault e → first_fault (P ++ fails e ∷ E) ≡ Some e
-fault_first [] E e none fault = ap (λ t. if t then first_fault E else Some e) fault
-fault_first (byte b ∷ P) E e none fault = fault_first P E e none fault
-fault_first (fails f ∷ P) E e none fault = ap (λ t. if t then first_fault (P ++ fails e ∷ E) else Some f) none.0
-    ∙ fault_first P E e none.1 fault
+fault_first P E e none fault = first_fault-append P (fails e ∷ E) none ∙ ap (λ t. if t then first_fault E else Some e) fault
 
 -- a frame that begins the bytes of frames is the first of them
 first_frame : (sent : List (List ℕ)) (room : List ℕ) (n : ℕ) (after : List ℕ) → All (λ p. length p < 2 ^ 32) sent → n < 2 ^ 32
@@ -122,11 +116,11 @@ module _ {R : Type 0} {S : ℕ} {I : Reader R} {old new : FrameReader R S} {room
       by None E' taken = tt
       by (Some E) None taken = absurd taken
       by (Some E) (Some E') taken =
-          bytes_behind (seen_bytes old room) E ∙ ap (λ l. seen_bytes old room ++ bytes l) taken
+          bytes-behind (seen_bytes old room) E ∙ ap (λ l. seen_bytes old room ++ bytes l) taken
           ∙ ap (λ l. seen_bytes old room ++ l) (bytes-append law.taken E')
           ∙ sym (append_assoc (seen_bytes old room) (bytes law.taken) (bytes E')) ∙ ap (λ l. l ++ bytes E') law.order
           ∙ append_assoc (given_frame reply room') (seen_bytes new room') (bytes E')
-          ∙ ap (λ l. given_frame reply room' ++ l) (sym (bytes_behind (seen_bytes new room') E'))
+          ∙ ap (λ l. given_frame reply room' ++ l) (sym (bytes-behind (seen_bytes new room') E'))
 
   -- If the frames of `sent` are told to come, a call gives the first payload, and the others are still to come.
   pub gives_back : (reply : Result (Option ℕ) Error) → TakesFrame I old room reply new room' → (sent : List (List ℕ))
@@ -152,13 +146,13 @@ module _ {R : Type 0} {S : ℕ} {I : Reader R} {old new : FrameReader R S} {room
           of (Ok None) whole ends =
               let end : E' ≡ [] = subst (λ o. IfSome o (λ l. l ≡ [])) is ends.2 in
               let none : bytes (events_of (seen_bytes new room') ++ E') ≡ [] =
-              bytes_behind (seen_bytes new room') E' ∙ ap (λ l. l ++ bytes E') ends.1 ∙ ap bytes end in
+              bytes-behind (seen_bytes new room') E' ∙ ap (λ l. l ++ bytes E') ends.1 ∙ ap bytes end in
               (no_frames sent (whole ∙ none), none)
           of (Err e) whole ends = (
             sym whole,
             subst (λ l. (first_fault (events_of (seen_bytes old room) ++ l) ≡ Some e) ⊎ RefusesFirst (length room) sent e) (sym taken)
                 (why_none sent (length room) (seen_bytes old room) law.taken (seen_bytes new room') E' e small
-                (sym (bytes_behind (seen_bytes new room') E') ∙ sym whole) (at_end ends)),
+                (sym (bytes-behind (seen_bytes new room') E') ∙ sym whole) (at_end ends)),
           )
             where
               at_end : EndsFrame (length room) law.taken (Err e) (seen_bytes new room') (tells I (reads_from new))

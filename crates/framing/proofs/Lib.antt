@@ -1,5 +1,4 @@
 pub mod SendingLemmas
-pub mod PartLemmas
 pub mod RestLemmas
 pub mod BelowLemmas
 pub mod SeenLemmas

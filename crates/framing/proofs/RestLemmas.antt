@@ -3,7 +3,7 @@ use Rattle.std.proofs.Common.{◌≡◌, ℕ, ◌+◌, ◌-◌, ◌<◌, ◌≤�
 use Rattle.std.proofs.Common.{refl, sym, ap, ◌∙◌, arith, le_refl, append_assoc, append-nil, length-append, length-take, length-drop}
 use Rattle.std.proofs.Common.{length-take-le}
 use borrow.Rule.Slice.PartMut.{put_mid, same_len_mid}
-use Rattle.std.proofs.lemmas.Slice.{take-put_mid_below}
+use Rattle.std.proofs.lemmas.Slice.{take-put_mid_below, drop-put_mid}
 use Rattle.no_std_io2.specs.declared.io.Error.{Error}
 use Rattle.no_std_io2.specs.Errors.{IsFault, IsInterruption}
 use Rattle.no_std_io2.specs.Read.{Reader, ReadLaw, IsRest}
@@ -20,6 +20,7 @@ pub record RestSoFar {R : Type 0} (I : Reader R) (want : ℕ) (old : R) (room : 
   pub given : List ℕ
   pub count : at' ≡ at + length given
   pub filled : take at' room' ≡ take at room ++ given
+  pub behind : drop want room' ≡ drop want room
   pub reads : ReadsSoFar I (IsRest (want - at)) old given now
 
 -- before the first read
@@ -31,6 +32,7 @@ rest_none {at = at} old room within = record {
   given = [];
   count = omega arith;
   filled = sym (append-nil (take at room));
+  behind = refl;
   reads = reads_none old;
 }
 
@@ -40,6 +42,7 @@ pub rest_all : {R : Type 0} {I : Reader R} {want at at' : ℕ} {old now : R} {ro
 rest_all before all = record {
   given = before.given;
   filled = before.filled;
+  behind = before.behind;
   within = before.within;
   enough = all;
   fault = tt;
@@ -59,6 +62,11 @@ module _ {R : Type 0} {I : Reader R} {want at at' : ℕ} {old now : R} {room roo
   long : length (put_mid at' (want - at') room' ys) ≡ length room
   long = same_len_mid _ _ room' ys part ∙ before.long
 
+  behind : drop want (put_mid at' (want - at') room' ys) ≡ drop want room
+  behind =
+      drop-put_mid at' (want - at') room' ys want (omega (arith, below)) (omega (arith, before.long, below, fits))
+      (omega (arith, into.0, into.1, before.count, below)) ∙ before.behind
+
   -- a read gave some bytes more
   pub rest_more : {new : R} {buf : List ℕ} {n : ℕ} → ReadLaw I now buf (Ok n) ys new → (n ≡ 0 → ⊥)
       → RestSoFar I want old room at new (put_mid at' (want - at') room' ys) (at' + n)
@@ -74,6 +82,7 @@ module _ {R : Type 0} {I : Reader R} {want at at' : ℕ} {old now : R} {room roo
         filled =
             take-put_mid at' (want - at') n room' ys fit read.bound ∙ ap (λ l. l ++ take n ys) before.filled
             ∙ append_assoc (take at room) before.given (take n ys);
+        behind = behind;
         reads = reads_more before.reads read some into;
       }
 
@@ -93,6 +102,7 @@ module _ {R : Type 0} {I : Reader R} {want at at' : ℕ} {old now : R} {room roo
     given = before.given;
     count = before.count;
     filled = still;
+    behind = behind;
     reads = reads_again before.reads read again into;
   }
 
@@ -102,6 +112,7 @@ module _ {R : Type 0} {I : Reader R} {want at at' : ℕ} {old now : R} {room roo
   rest_end read is zero = record {
     given = before.given;
     filled = still;
+    behind = behind;
     within = before.within;
     enough = below;
     fault = tt;
@@ -114,6 +125,7 @@ module _ {R : Type 0} {I : Reader R} {want at at' : ℕ} {old now : R} {room roo
   rest_fault {e = e} read fault = record {
     given = before.given;
     filled = still;
+    behind = behind;
     within = before.within;
     enough = below;
     fault = fault;

@@ -14,12 +14,12 @@ use Rattle.no_std_io2.specs.Read.{Reader, tells, ReadCall, ReadCallLaw}
 use Rattle.no_std_io2.specs.Takes.{Takes}
 use Rattle.no_std_io2.specs.Write.{Made}
 use Rattle.no_std_io2.specs.BufReader.{reader_held, AsksExact}
-use Rattle.no_std_io2.specs.FillTo.{FillsTo, FillToCalls, AsksOn, HasTo}
+use Rattle.no_std_io2.specs.FillTo.{FillsTo, ReadsTo, AsksOn, HasTo}
+use Rattle.no_std_io2.proofs.BufReaderCalls.{buf_reader}
 use Rattle.framing.specs.Frames.{frame, told_length, HasHeader}
-use Rattle.framing.specs.Taking.{begun, seen_bytes, reads_from, part_room, AsksPart, PartReads, SeesTo, FillsRest}
+use Rattle.framing.specs.Taking.{begun, seen_bytes, reads_from, part_room, AsksPart, SeesTo, FillsRest}
 use Rattle.framing.specs.declared.reader.FrameReader.{FrameReader}
-use Rattle.framing.proofs.PartLemmas.{part_takes, part_map}
-use Rattle.framing.proofs.BelowLemmas.{buffered, IfShort, PartBelow, part_below}
+use Rattle.framing.proofs.BelowLemmas.{reads_map, IfShort, PartBelow, part_below}
 
 -- the part of a long frame, by its length
 pub begun_none : (n : ℕ) (more : List ℕ) → n ≡ 0 → begun n more ≡ []
@@ -105,23 +105,6 @@ room_within S size k fits = ap (λ b. if b then S - k else max S (size - k)) (le
 room_past : (S size k : ℕ) → S < size → part_room S size k ≡ max S (size - k)
 room_past S size k long = ap (λ b. if b then S - k else max S (size - k)) (lt-leb size S long)
 
--- the reads of a `fill_to` are reads for a part that fits the buffer
-fill_reads : (S n : ℕ) (held : List ℕ) (C : List ReadCall) (x : List ℕ) (reply : Result Bool Error) → n ≤ S → FillToCalls S n held C x reply
-    → PartReads (AsksPart S n (length held)) C x reply
-fill_reads S n held C x reply fits calls = part_map C x reply each (by reply calls)
-  where
-    each : (at room : ℕ) → AsksOn S n held at room → AsksPart S n (length held) at room
-    each at room asks = (asks.0, let is : room ≡ S - (length held + at) = omega (arith, asks.1) in is ∙ sym (room_within S n _ fits))
-
-    by : (reply : Result Bool Error) → FillToCalls S n held C x reply → PartReads (AsksOn S n held) C x reply
-    by (Ok true) calls = calls
-    by (Ok false) calls = calls
-    by (Err e) calls = calls
-
--- two lists that make one behind the same front are one
-same_rest : (front a b : List ℕ) → front ++ a ≡ front ++ b → a ≡ b
-same_rest front a b is = sym (drop-append_seam front a) ∙ ap (drop (length front)) is ∙ drop-append_seam front b
-
 module _ {R : Type 0} {S : ℕ} (I : Reader R) (old new : FrameReader R S) (room room' : List ℕ) where
   -- bytes that are held were seen
   pub fills_sees : (n : ℕ) (reply : Result Bool Error) → old.len ≡ 0 → new.len ≡ 0 → n ≤ S → FillsTo I n old.inner reply new.inner
@@ -129,8 +112,6 @@ module _ {R : Type 0} {S : ℕ} (I : Reader R) (old new : FrameReader R S) (room
   fills_sees n reply was is fits fills =
       let before = seen_between old room was in
       let after = seen_between new room' is in
-      let given : fills.calls.given ≡ bytes fills.taken =
-      same_rest (reader_held old.inner) fills.calls.given (bytes fills.taken) (sym fills.calls.holds ∙ fills.holds) in
       record {
         taken = fills.taken;
         takes = fills.takes;
@@ -138,20 +119,24 @@ module _ {R : Type 0} {S : ℕ} (I : Reader R) (old new : FrameReader R S) (room
         enough = subst (λ l. HasTo n reply (length l)) (sym after) fills.enough;
         ends = fills.ends;
         calls = (
-          fills.calls.calls,
-          fills.calls.made,
-          subst (λ l. PartReads (AsksPart S n (length l)) fills.calls.calls (bytes fills.taken) reply) (sym before)
-              (subst (λ x. PartReads (AsksPart S n (length (reader_held old.inner))) fills.calls.calls x reply) given
-              (fill_reads S n (reader_held old.inner) fills.calls.calls fills.calls.given reply fits fills.calls.are)),
+          fills.calls.0,
+          fills.calls.1,
+          subst (λ l. ReadsTo (AsksPart S n (length l)) fills.calls.0 (bytes fills.taken) reply) (sym before)
+              (reads_map each _ _ reply fills.calls.2),
         );
       }
+    where
+      -- the reads of a `fill_to` are reads for a part that fits the buffer
+      each : (at size : ℕ) → AsksOn S n (reader_held old.inner) at size → AsksPart S n (length (reader_held old.inner)) at size
+      each at size asks =
+          (asks.0, let is : size ≡ S - (length (reader_held old.inner) + at) = omega (arith, asks.1) in is ∙ sym (room_within S n _ fits))
 
   -- so were bytes that were read into the room
   module _ (is : new.len ≡ old.len) (some : 0 < old.len) (fits : old.len ≤ length room)
       (size : length room' ≡ length room) (reply : Result Bool Error)
-      (fills : FillsRest (buffered I) old.len old.inner room old.given reply new.inner room' new.given) where
+      (fills : FillsRest (buf_reader I) old.len old.inner room old.given reply new.inner room' new.given) where
     below : PartBelow I (old.len - old.given) old.inner fills.given reply new.inner
-    below = part_below I (old.len - old.given) fills.calls.0 fills.given reply old.inner new.inner fills.calls.2 fills.calls.1
+    below = part_below I (old.len - old.given) _ _ reply old.inner new.inner fills.fault fills.calls.2 fills.calls.1
 
     before : seen_bytes old room ≡ (to_le_bytes w32 old.len ++ take old.given room) ++ reader_held old.inner
     before = seen_inside old room some
@@ -179,14 +164,14 @@ module _ {R : Type 0} {S : ℕ} (I : Reader R) (old new : FrameReader R S) (room
       length-take-le new.given room' (omega (arith, fills.within, fits, size)),
     )
 
-    seen : seen_bytes new room' ≡ seen_bytes old room ++ below.given
+    seen : seen_bytes new room' ≡ seen_bytes old room ++ bytes below.taken
     seen =
         let header = to_le_bytes w32 old.len in
         let front = take old.given room in
         after ∙ ap (λ l. (header ++ l) ++ reader_held new.inner) fills.filled
         ∙ ap (λ l. l ++ reader_held new.inner) (sym (append_assoc header front fills.given))
         ∙ append_assoc (header ++ front) fills.given (reader_held new.inner) ∙ ap (λ l. (header ++ front) ++ l) (sym below.split)
-        ∙ sym (append_assoc (header ++ front) (reader_held old.inner) below.given) ∙ ap (λ l. l ++ below.given) (sym before)
+        ∙ sym (append_assoc (header ++ front) (reader_held old.inner) (bytes below.taken)) ∙ ap (λ l. l ++ bytes below.taken) (sym before)
 
     enough : (r : Result Bool Error) → HasTo old.len r new.given → IfShort r (reader_held new.inner ≡ [])
         → HasTo (4 + old.len) r (length (seen_bytes new room'))
@@ -205,22 +190,14 @@ module _ {R : Type 0} {S : ℕ} (I : Reader R) (old new : FrameReader R S) (room
         )
 
     pub rest_sees : SeesTo I (4 + old.len) old room reply new room'
-    rest_sees =
-        let took = part_takes I below.calls below.given (reads_from old) (reads_from new) reply
-        (λ at size a. let some : 0 < size = omega (arith, a.0, a.1) in some) fills.fault below.reads below.made in
-        record {
-          taken = took.0;
-          takes = took.1;
-          seen = seen ∙ ap (λ l. seen_bytes old room ++ l) (sym took.2);
-          enough = enough reply fills.enough below.none;
-          ends = took.3;
-          calls = (
-            below.calls,
-            below.made,
-            subst (λ x. PartReads (AsksPart S (4 + old.len) (length (seen_bytes old room))) below.calls x reply) (sym took.2)
-                (part_map below.calls below.given reply asks below.reads),
-          );
-        }
+    rest_sees = record {
+      taken = below.taken;
+      takes = below.takes;
+      seen = seen;
+      enough = enough reply fills.enough below.none;
+      ends = below.ends;
+      calls = (below.calls.0, below.calls.1, reads_map asks _ _ reply below.calls.2);
+    }
 
 -- what was seen after the header was taken
 pub sees_from : {R : Type 0} {S : ℕ} {I : Reader R}
@@ -236,7 +213,7 @@ sees_from {R} {S} {I} len {old} {mid} {new} {room} {room'} {reply} size same is 
   calls = (
     sees.calls.0,
     subst (λ w. Made (ReadCallLaw I) w sees.calls.0 (reads_from new)) same sees.calls.1,
-    subst (λ n. PartReads (AsksPart S (4 + n) (length (seen_bytes old room))) sees.calls.0 (bytes sees.taken) reply) size
-        (subst (λ l. PartReads (AsksPart S (4 + mid.len) (length l)) sees.calls.0 (bytes sees.taken) reply) is sees.calls.2),
+    subst (λ n. ReadsTo (AsksPart S (4 + n) (length (seen_bytes old room))) sees.calls.0 (bytes sees.taken) reply) size
+        (subst (λ l. ReadsTo (AsksPart S (4 + mid.len) (length l)) sees.calls.0 (bytes sees.taken) reply) is sees.calls.2),
   );
 }

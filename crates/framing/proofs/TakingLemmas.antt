@@ -1,6 +1,6 @@
 -- What a call of a reader of frames takes.
-use Rattle.std.proofs.Common.{◌≡◌, ℕ, ◌+◌, ◌<◌, ◌≤◌, ◌^◌, List, [], ◌++◌, Bool, true, false, Some, None, Result, Ok, Err, length}
-use Rattle.std.proofs.Common.{take}
+use Rattle.std.proofs.Common.{◌≡◌, ℕ, ◌+◌, ◌<◌, ◌≤◌, ◌^◌, List, [], ◌++◌, Bool, true, false, Some, None, Option, Result, Ok, Err, length}
+use Rattle.std.proofs.Common.{take, drop}
 use Rattle.std.proofs.Common.{◌||◌, nat_lt, if◌then◌else◌, refl, sym, ap, ap₂, subst, ◌∙◌, inl, inr, arith, append_assoc, append-nil}
 use Rattle.std.proofs.Common.{length-append}
 use Rattle.std.proofs.lemmas.Bool.{lt-ltb, le-ltb}
@@ -10,15 +10,16 @@ use Rattle.no_std_io2.specs.Events.{Event, bytes}
 use Rattle.no_std_io2.specs.Takes.{Takes}
 use Rattle.no_std_io2.specs.Read.{Reader, tells, ReadCall, ReadCallLaw, no_read, Gathers, GathersUntil}
 use Rattle.no_std_io2.specs.Write.{Made}
-use Rattle.no_std_io2.specs.FillTo.{GathersTo}
+use Rattle.no_std_io2.specs.FillTo.{GathersTo, ReadsTo}
 use Rattle.no_std_io2.proofs.CallsLemmas.{made_then}
 use Rattle.no_std_io2.proofs.EventLemmas.{bytes-append, HasNoFault-append}
 use Rattle.no_std_io2.proofs.TakesLemmas.{takes_none, takes_then}
-use Rattle.framing.specs.Frames.{frame, told_length, IsPart, HasHeader, SaysEnded}
-use Rattle.framing.specs.Taking.{seen_bytes, reads_from, part_room, wanted, AsksPart, AsksFrame, PartReads, SeesTo, SaysNoRoom}
-use Rattle.framing.specs.Taking.{TakesFrame}
+use Rattle.framing.specs.Frames.{frame, told_length, IsPart, HasHeader}
+use Rattle.framing.specs.Taking.{seen_bytes, reads_from, part_room, wanted, AsksPart, AsksFrame, SeesTo}
+use Rattle.framing.specs.Taking.{TakesFrame, KeepsRoom, FrameReads, EndsFrame, given_frame}
 use Rattle.framing.specs.declared.reader.FrameReader.{FrameReader}
-use Rattle.framing.proofs.PartLemmas.{part_map, gathers_map, gathers_then, until_then}
+use Rattle.framing.proofs.BelowLemmas.{gathers_map, reads_map}
+use Rattle.no_std_io2.proofs.ReadCalls.{gathers_then, until_then}
 use Rattle.framing.proofs.SeenLemmas.{header_stays}
 
 -- While k bytes are seen, fewer than four, the header is wanted.
@@ -40,7 +41,7 @@ pub record SeesFrame {R : Type 0} {S : ℕ} (I : Reader R) (limit : ℕ) (old : 
   pub seen : seen_bytes new room' ≡ seen_bytes old room ++ bytes taken
   pub ends : GathersTo taken reply (tells I (reads_from new))
   pub calls : (C : List ReadCall) × Made (ReadCallLaw I) (reads_from old) C (reads_from new)
-      × PartReads (AsksFrame S limit (seen_bytes old room ++ bytes taken) (length (seen_bytes old room))) C (bytes taken) reply
+      × ReadsTo (AsksFrame S limit (seen_bytes old room ++ bytes taken) (length (seen_bytes old room))) C (bytes taken) reply
 
 module _ {R : Type 0} {S : ℕ} (I : Reader R) (limit : ℕ) {old : FrameReader R S} {room : List ℕ} where
   -- for the header alone
@@ -51,7 +52,7 @@ module _ {R : Type 0} {S : ℕ} (I : Reader R) (limit : ℕ) {old : FrameReader 
     takes = sees.takes;
     seen = sees.seen;
     ends = sees.ends;
-    calls = (sees.calls.0, sees.calls.1, part_map sees.calls.0 (bytes sees.taken) reply each sees.calls.2);
+    calls = (sees.calls.0, sees.calls.1, reads_map each _ _ reply sees.calls.2);
   }
     where
       each : (at size : ℕ) → AsksPart S 4 (length (seen_bytes old room)) at size
@@ -96,16 +97,16 @@ module _ {R : Type 0} {S : ℕ} (I : Reader R) (limit : ℕ) {old : FrameReader 
         subst (λ n. AsksPart S n (length (seen_bytes old room)) (length x + at) size) (sym want)
         (omega (arith, asks.0, from), asks.1 ∙ ap (λ k. part_room S (4 + len) k) from)
 
-    reads : (r : Result Bool Error) → PartReads (AsksPart S (4 + len) (length (seen_bytes mid room))) rest.calls.0 y r
-        → PartReads (AsksFrame S limit all (length (seen_bytes old room))) (header.calls.0 ++ rest.calls.0) (x ++ y) r
-    reads r calls = by r (part_map rest.calls.0 y r next calls)
+    reads : (r : Result Bool Error) → ReadsTo (AsksPart S (4 + len) (length (seen_bytes mid room))) rest.calls.0 y r
+        → ReadsTo (AsksFrame S limit all (length (seen_bytes old room))) (header.calls.0 ++ rest.calls.0) (x ++ y) r
+    reads r calls = by r (reads_map next _ _ r calls)
       where
         front : Gathers (AsksFrame S limit all (length (seen_bytes old room))) header.calls.0 x
-        front = part_map header.calls.0 x (Ok true) first header.calls.2
+        front = gathers_map first header.calls.2
 
         by : (r : Result Bool Error)
-            → PartReads (λ at size. AsksFrame S limit all (length (seen_bytes old room)) (length x + at) size) rest.calls.0 y r
-            → PartReads (AsksFrame S limit all (length (seen_bytes old room))) (header.calls.0 ++ rest.calls.0) (x ++ y) r
+            → ReadsTo (λ at size. AsksFrame S limit all (length (seen_bytes old room)) (length x + at) size) rest.calls.0 y r
+            → ReadsTo (AsksFrame S limit all (length (seen_bytes old room))) (header.calls.0 ++ rest.calls.0) (x ++ y) r
         by (Ok true) c = gathers_then front c
         by (Ok false) c = until_then front c
         by (Err e) c = until_then front c
@@ -132,7 +133,7 @@ module _ {R : Type 0} {S : ℕ} (I : Reader R) (limit : ℕ) {old : FrameReader 
         made_then (ReadCallLaw I) header.calls.0 (reads_from old) rest.calls.0 (reads_from mid)
             (reads_from new) header.calls.1 rest.calls.1,
         subst
-            (λ l. PartReads (AsksFrame S limit (seen_bytes old room ++ l) (length (seen_bytes old room))) (header.calls.0 ++ rest.calls.0) l
+            (λ l. ReadsTo (AsksFrame S limit (seen_bytes old room ++ l) (length (seen_bytes old room))) (header.calls.0 ++ rest.calls.0) l
             reply) (sym both) (reads reply rest.calls.2),
       );
     }
@@ -150,8 +151,9 @@ part_of len seen header short = inr (omega (arith, header.1, short))
 module _ {R : Type 0} {S : ℕ} {I : Reader R} {old new : FrameReader R S} {room room' : List ℕ} where
   -- a frame that was held was given
   pub takes_held : (n : ℕ) → reads_from new ≡ reads_from old → seen_bytes old room ≡ frame (take n room') ++ seen_bytes new room'
-      → n ≤ length room → n < 2 ^ 32 → TakesFrame I old room (Ok (Some n)) new room'
-  takes_held n same gives fits small = record {
+      → n ≤ length room → n < 2 ^ 32 → drop n room' ≡ drop n room → TakesFrame I old room (Ok (Some n)) new room'
+  takes_held n same gives fits small kept = record {
+    keeps = kept;
     taken = [];
     takes = subst (λ w. Takes (tells I (reads_from old)) [] (tells I w)) (sym same) (takes_none (tells I (reads_from old)));
     order = append-nil (seen_bytes old room) ∙ gives;
@@ -162,8 +164,9 @@ module _ {R : Type 0} {S : ℕ} {I : Reader R} {old new : FrameReader R S} {room
   -- a frame was seen, and then given
   pub takes_given : {mid : FrameReader R S} {room₁ : List ℕ} (n : ℕ) → SeesFrame I (length room) old room (Ok true) mid room₁
       → reads_from new ≡ reads_from mid → seen_bytes mid room₁ ≡ frame (take n room') ++ seen_bytes new room' → n ≤ length room → n < 2 ^ 32
-      → TakesFrame I old room (Ok (Some n)) new room'
-  takes_given n sees same gives fits small = record {
+      → drop n room' ≡ drop n room → TakesFrame I old room (Ok (Some n)) new room'
+  takes_given n sees same gives fits small kept = record {
+    keeps = kept;
     taken = sees.taken;
     takes = subst (λ w. Takes (tells I (reads_from old)) sees.taken (tells I w)) (sym same) sees.takes;
     order = sym sees.seen ∙ gives;
@@ -171,43 +174,19 @@ module _ {R : Type 0} {S : ℕ} {I : Reader R} {old new : FrameReader R S} {room
     calls = (sees.calls.0, subst (Made (ReadCallLaw I) (reads_from old) sees.calls.0) (sym same) sees.calls.1, sees.calls.2);
   }
 
-  -- the bytes ended before a frame
-  pub takes_none_left : SeesFrame I (length room) old room (Ok false) new room' → seen_bytes new room' ≡ []
-      → TakesFrame I old room (Ok None) new room'
-  takes_none_left sees none =
-      record { taken = sees.taken; takes = sees.takes; order = sym sees.seen; ends = (sees.ends.0, none, sees.ends.1); calls = sees.calls }
-
-  -- or inside one
-  pub takes_end : (e : Error) → SeesFrame I (length room) old room (Ok false) new room' → 0 < length (seen_bytes new room')
-      → IsPart (seen_bytes new room') → SaysEnded e → TakesFrame I old room (Err e) new room'
-  takes_end e sees some part says = record {
+  -- what was seen is kept, since no frame is given
+  pub takes_seen : {seen : Result Bool Error} (reply : Result (Option ℕ) Error) (sees : SeesFrame I (length room) old room seen new room')
+      → given_frame reply room' ≡ [] → KeepsRoom S reply (seen_bytes new room') room room'
+      → EndsFrame (length room) sees.taken reply (seen_bytes new room') (tells I (reads_from new))
+      → ((asks : ℕ → ℕ → Type 0) (C : List ReadCall) (x : List ℕ) → ReadsTo asks C x seen → FrameReads asks C x reply)
+      → TakesFrame I old room reply new room'
+  takes_seen reply sees none keeps how reads_are = record {
     taken = sees.taken;
     takes = sees.takes;
-    order = sym sees.seen;
-    ends = inr (sees.ends.0, inl ((some, part, says), sees.ends.1));
-    calls = (sees.calls.0, sees.calls.1, inr (inl (says, sees.calls.2)));
-  }
-
-  -- a fault came
-  pub takes_fault : (e : Error) → SeesFrame I (length room) old room (Err e) new room' → IsPart (seen_bytes new room')
-      → TakesFrame I old room (Err e) new room'
-  takes_fault e sees part = record {
-    taken = sees.taken;
-    takes = sees.takes;
-    order = sym sees.seen;
-    ends = inl (sees.ends, part);
-    calls = (sees.calls.0, sees.calls.1, inr (inr (sees.ends.3, sees.calls.2)));
-  }
-
-  -- the payload is longer than the room
-  pub takes_refused : (e : Error) (len : ℕ) → SeesFrame I (length room) old room (Ok true) new room' → HasHeader len (seen_bytes new room')
-      → length room < len → SaysNoRoom e → TakesFrame I old room (Err e) new room'
-  takes_refused e len sees header above says = record {
-    taken = sees.taken;
-    takes = sees.takes;
-    order = sym sees.seen;
-    ends = inr (sees.ends, inr (header.0, omega (arith, above, header.1), says));
-    calls = (sees.calls.0, sees.calls.1, inl (says, sees.calls.2));
+    order = sym sees.seen ∙ ap (λ l. l ++ seen_bytes new room') (sym none);
+    keeps = keeps;
+    ends = how;
+    calls = (sees.calls.0, sees.calls.1, reads_are _ _ _ sees.calls.2);
   }
 
 -- If a payload is longer than the room, no more than its header is wanted.

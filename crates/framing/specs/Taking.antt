@@ -1,6 +1,6 @@
 -- What a reader of frames has, what its calls take from the reader below, and which reads they make. I are the ghost members of that
 -- reader.
-use Rattle.std.specs.Prelude.{◌≡◌, ◌⊎◌, ℕ, zero, suc, ◌+◌, ◌-◌, ◌<◌, ◌≤◌, ◌^◌, List, [], ◌++◌, length, take, min, max, codes}
+use Rattle.std.specs.Prelude.{◌≡◌, ◌⊎◌, ℕ, zero, suc, ◌+◌, ◌-◌, ◌<◌, ◌≤◌, ◌^◌, List, [], ◌++◌, length, take, drop, min, max, codes}
 use Rattle.std.specs.Prelude.{◌||◌, nat_lt, nat_le, if◌then◌else◌, Bool, true, false, Option, Some, None, Result, Ok, Err, IfErr}
 use Rattle.std.specs.Int.{w32, to_le_bytes}
 use Rattle.no_std_io2.specs.Errors.{IsFault, SaysError}
@@ -9,7 +9,7 @@ use Rattle.no_std_io2.specs.Takes.{Tells, Takes, to_come, IsAtEnd}
 use Rattle.no_std_io2.specs.Read.{Reader, tells, ReadCall, ReadCallLaw, Gathers, GathersUntil, IsRest}
 use Rattle.no_std_io2.specs.Write.{Made}
 use Rattle.no_std_io2.specs.BufReader.{reader_held, reader_inner, reader_turns, behind_held}
-use Rattle.no_std_io2.specs.FillTo.{GathersTo, HasTo}
+use Rattle.no_std_io2.specs.FillTo.{GathersTo, HasTo, ReadsTo}
 use Rattle.no_std_io2.specs.declared.io.Error.{Error}
 use Rattle.no_std_io2.specs.declared.io.BufReader.{BufReader}
 use Rattle.no_std_io2.specs.declared.io.ErrorKind.TheVariants.{InvalidInput}
@@ -54,12 +54,6 @@ part_room S size k = if nat_le size S then S - k else max S (size - k)
 abbrev pub AsksPart : ℕ → ℕ → ℕ → ℕ → ℕ → Type 0
 AsksPart S size seen at room = (seen + at < size) × (room ≡ part_room S size (seen + at))
 
--- C are such reads, which gave x: as many as were wanted; or the last met the end, or a fault
-abbrev pub PartReads : (ℕ → ℕ → Type 0) → List ReadCall → List ℕ → Result Bool Error → Type 0
-PartReads asks C x (Ok true) = Gathers asks C x
-PartReads asks C x (Ok false) = GathersUntil asks C x (Ok [])
-PartReads asks C x (Err e) = GathersUntil asks C x (Err e)
-
 -- Reads until `size` bytes of the next frame are seen. None of them is given yet.
 pub record SeesTo {R : Type 0} {S : ℕ} (I : Reader R) (size : ℕ) (old : FrameReader R S) (room : List ℕ) (reply : Result Bool Error)
     (new : FrameReader R S) (room' : List ℕ) : Type 0 where
@@ -73,7 +67,7 @@ pub record SeesTo {R : Type 0} {S : ℕ} (I : Reader R) (size : ℕ) (old : Fram
   pub ends : GathersTo taken reply (tells I (reads_from new))
   -- which reads it made
   pub calls : (C : List ReadCall) × Made (ReadCallLaw I) (reads_from old) C (reads_from new)
-      × PartReads (AsksPart S size (length (seen_bytes old room))) C (bytes taken) reply
+      × ReadsTo (AsksPart S size (length (seen_bytes old room))) C (bytes taken) reply
 
 -- Reads into a room, behind its first `at` bytes, until `want` are in it.
 pub record FillsRest {R : Type 0} (I : Reader R) (want : ℕ) (old : R) (room : List ℕ) (at : ℕ) (reply : Result Bool Error) (new : R)
@@ -81,13 +75,15 @@ pub record FillsRest {R : Type 0} (I : Reader R) (want : ℕ) (old : R) (room : 
   -- what the reads gave is there
   pub given : List ℕ
   pub filled : take at' room' ≡ take at room ++ given
+  -- what is behind all of it is unchanged
+  pub behind : drop want room' ≡ drop want room
   -- whether all of it is full
   pub within : at' ≤ want
   pub enough : HasTo want reply at'
   -- the error is never an interruption
   pub fault : IfErr reply IsFault
   -- which reads they are
-  pub calls : (C : List ReadCall) × Made (ReadCallLaw I) old C new × PartReads (IsRest (want - at)) C given reply
+  pub calls : (C : List ReadCall) × Made (ReadCallLaw I) old C new × ReadsTo (IsRest (want - at)) C given reply
 
 -- how many bytes a call wants to see of a frame that begins with bs, while it has seen k: its header; and then all of it, if its payload
 -- has at most `limit` bytes
@@ -131,6 +127,17 @@ EndsFrame limit P (Ok None) seen new = HasNoFault P × (seen ≡ []) × IsAtEnd 
 EndsFrame limit P (Err e) seen new = (EndsInFault P e × IsPart seen)
     ⊎ (HasNoFault P × ((EndsInside seen e × IsAtEnd new) ⊎ IsTooLong limit seen e))
 
+-- the room is unchanged; or a payload of n bytes is read past a buffer of S bytes into it, and it is unchanged behind that
+abbrev pub KeepsBehind : ℕ → ℕ → List ℕ → List ℕ → Type 0
+KeepsBehind S n room room' = (room' ≡ room) ⊎ ((S < 4 + n) × (n ≤ length room) × (drop n room' ≡ drop n room))
+
+-- what a call with this result, with these bytes still to be given, leaves unchanged: the room behind the payload that it gave; the whole
+-- room; or after an error that, or the room behind a payload that is not whole
+abbrev pub KeepsRoom : ℕ → Result (Option ℕ) Error → List ℕ → List ℕ → List ℕ → Type 0
+KeepsRoom S (Ok (Some n)) seen room room' = drop n room' ≡ drop n room
+KeepsRoom S (Ok None) seen room room' = room' ≡ room
+KeepsRoom S (Err e) seen room room' = KeepsBehind S (told_length seen) room room'
+
 -- `next(room)`
 pub record TakesFrame {R : Type 0} {S : ℕ} (I : Reader R) (old : FrameReader R S) (room : List ℕ) (reply : Result (Option ℕ) Error)
     (new : FrameReader R S) (room' : List ℕ) : Type 0 where
@@ -139,6 +146,8 @@ pub record TakesFrame {R : Type 0} {S : ℕ} (I : Reader R) (old : FrameReader R
   pub takes : Takes (tells I (reads_from old)) taken (tells I (reads_from new))
   -- no byte is lost, repeated or moved: the seen bytes and then those of `taken` are the frame, if one was given, and then what is seen now
   pub order : seen_bytes old room ++ bytes taken ≡ given_frame reply room' ++ seen_bytes new room'
+  -- the room behind the payload is unchanged
+  pub keeps : KeepsRoom S reply (seen_bytes new room') room room'
   -- how it ended
   pub ends : EndsFrame (length room) taken reply (seen_bytes new room') (tells I (reads_from new))
   -- which reads it made

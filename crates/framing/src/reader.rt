@@ -1,5 +1,5 @@
 //! [`FrameReader`], which reads frames. A fault loses no frame, and no frame is given twice.
-ghost use Rattle.std.specs.Prelude.{◌≡◌, ◌+◌, ◌<◌, ◌≤◌, ◌^◌, ℕ, List, [], ◌++◌, All, true, take, length, Ok, IfOk, IfSome, IfNone};
+ghost use Rattle.std.specs.Prelude.{◌≡◌, ◌+◌, ◌<◌, ◌≤◌, ◌^◌, ℕ, List, [], ◌++◌, All, true, take, drop, length, Ok, IfOk, IfSome, IfNone};
 ghost use Rattle.std.specs.Prelude.{IsSomeAnd};
 ghost use Rattle.no_std_io2.specs.Events.{bytes};
 ghost use Rattle.no_std_io2.specs.Takes.{to_come};
@@ -43,7 +43,7 @@ pub struct FrameReader<R, const S: usize> {
 }
 
 impl<R: Read, const S: usize> FrameReader<R, S> {
-    ghost use Rattle.framing.specs.Taking.{frame_reader, reads_from, seen_bytes, frame_to_come, frame_turns, SeesTo, TakesFrame};
+    ghost use Rattle.framing.specs.Taking.{frame_reader, reads_from, seen_bytes, frame_to_come, frame_turns, SeesTo, TakesFrame, KeepsBehind};
     ghost use Rattle.framing.specs.Back.{AreToCome, GivesBack, WentOut};
 
     /// Makes a reader of the frames of `inner`. `S` is from 4 to 2^63 - 1.
@@ -78,7 +78,8 @@ impl<R: Read, const S: usize> FrameReader<R, S> {
     /// Returns the first fault of the reader below; the next call continues after it. Returns `UnexpectedEof` if the
     /// bytes end inside a frame. Returns `InvalidInput` if the payload is longer than `room`; no read is made for it
     /// once its header is seen. After each of these errors the frame is still to come, with all its bytes, if the next
-    /// call gets the same room, or a longer one that begins with the same bytes. Never returns `Interrupted`.
+    /// call gets the same room, or a longer one that begins with the same bytes. The room behind the payload is unchanged,
+    /// and so is the whole room after an error, unless the frame is longer than the buffer. Never returns `Interrupted`.
     pub fn next(&mut self, room: &mut [u8]) -> Result<Option<usize>>
         ensures takes { TakesFrame R.Read self.old room.old result self.new room.new }
         // If the frames of these payloads are told to come, they come back, one after another.
@@ -104,6 +105,7 @@ impl<R: Read, const S: usize> FrameReader<R, S> {
     fn give_held(&mut self, room: &mut [u8]) -> Option<usize>
         ensures gives { IfSome result (λ n. (seen_bytes self.old room.old ≡ frame (take n room.new) ++ seen_bytes self.new room.new)
             × (n ≤ length room.old) × (n < 2 ^ 32)) }
+        ensures behind { IfSome result (λ n. drop n room.new ≡ drop n room.old) }
         ensures within { IfSome result (λ n. n ≤ length room.new) }
         ensures inner { IfSome result (λ n. reads_from self.new ≡ reads_from self.old) }
         ensures spends_turn { IfSome result (λ n. frame_turns R.turns self.new < frame_turns R.turns self.old) }
@@ -129,6 +131,7 @@ impl<R: Read, const S: usize> FrameReader<R, S> {
         requires held { 4 + len ≤ length (reader_held (frame_reader self.old)) }
         requires fits { len ≤ length room.old }
         ensures gives { seen_bytes self.old room.old ≡ frame (take len room.new) ++ seen_bytes self.new room.new }
+        ensures behind { drop len room.new ≡ drop len room.old }
         ensures inner { reads_from self.new ≡ reads_from self.old }
         ensures long { length room.new ≡ length room.old }
         ensures spends_turn { frame_turns R.turns self.new < frame_turns R.turns self.old }
@@ -192,6 +195,7 @@ impl<R: Read, const S: usize> FrameReader<R, S> {
         requires small { len < 2 ^ 32 }
         requires fits { len ≤ length room.old }
         ensures sees { SeesTo R.Read (4 + len) self.old room.old result self.new room.new }
+        ensures room { KeepsBehind S len room.old room.new }
         ensures full { IfOk result (λ seen. seen ≡ true → self.new.given ≡ self.new.len) }
         ensures turns_never_rise { frame_turns R.turns self.new ≤ frame_turns R.turns self.old }
     {
@@ -227,6 +231,7 @@ impl<R: Read, const S: usize> FrameReader<R, S> {
         requires full { self.old.given ≡ self.old.len }
         requires fits { len ≤ length room.old }
         ensures gives { seen_bytes self.old room.old ≡ frame (take len room.new) ++ seen_bytes self.new room.new }
+        ensures behind { drop len room.new ≡ drop len room.old }
         ensures inner { reads_from self.new ≡ reads_from self.old }
         ensures long { length room.new ≡ length room.old }
         ensures spends_turn { frame_turns R.turns self.new < frame_turns R.turns self.old }

@@ -5,7 +5,7 @@ use Rattle.framing.proofs.reader.FrameReader.next.Goals as goal
 
 pub returns-in-Some-clause-takes : goal.returns-in-Some-clause-takes
 returns-in-Some-clause-takes g c =
-    let gave = c.in-Some.ensures in takes_held c.in-Some.len gave.inner gave.gives.0 gave.gives.1 gave.gives.2
+    let gave = c.in-Some.ensures in takes_held c.in-Some.len gave.inner gave.gives.0 gave.gives.1 gave.gives.2 gave.behind
 
 pub returns-in-Some-clause-back : goal.returns-in-Some-clause-back
 returns-in-Some-clause-back g c = gives_back (Ok (Some c.in-Some.len)) (returns-in-Some-clause-takes g c)
