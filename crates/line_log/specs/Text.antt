@@ -1,5 +1,5 @@
 -- The printing of a text into an array.
-use Rattle.std.specs.Prelude.{◌≡◌, ◌⊎◌, ℕ, ◌<◌, List, length, take, true, false, codes, Option, IfSome, Result, Ok, Err}
+use Rattle.std.specs.Prelude.{◌≡◌, ◌⊎◌, ℕ, ◌<◌, List, length, take, true, false, codes, Option, IfSome}
 use Rattle.no_std_io2.specs.Errors.{SaysError}
 use Rattle.no_std_io2.specs.Text.{IsTextError}
 use Rattle.no_std_io2.specs.declared.io.Error.{Error}
@@ -25,8 +25,3 @@ IsPrintRefusal S output e = IsTextError e ⊎ (SaysLong e × IfSome output (λ b
 -- a text with this output was printed into an array of S bytes, or its own `fmt` failed
 abbrev pub PrintsText : {S : ℕ} → Option (List ℕ) → Printed S → Type 0
 PrintsText output p = (p.failed ≡ true) ⊎ IfSome output (λ bs. IsPrinted 0 bs p)
-
--- the result says whether a text was printed whole
-abbrev pub ChecksPrinted : {S : ℕ} → Printed S → Result (Unit {0}) Error → Type 0
-ChecksPrinted p (Ok u) = (p.failed ≡ false) × (p.fits ≡ true)
-ChecksPrinted p (Err e) = ((p.failed ≡ true) × IsTextError e) ⊎ ((p.failed ≡ false) × (p.fits ≡ false) × SaysLong e)

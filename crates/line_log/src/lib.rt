@@ -22,7 +22,7 @@ use no_std_io2::io::{
     Answers, BufWriter, Error, ErrorKind, IntoInnerError, Result, Write, write_with_retries,
 };
 use std::fmt::Display;
-use text::{check_printed, print_text, too_long};
+use text::{print_text, too_long};
 
 /// A log of lines, with a buffer of `S` bytes in front of any writer. A line with its newline has to be shorter than
 /// the buffer.
@@ -106,7 +106,12 @@ impl<W: Write + Drop, const S: usize> LineLog<W, S> {
         ensures logs { LogsText W.Write (D.output text) self.old result self.new }
     {
         let printed = print_text::<D, S>(text);
-        check_printed(&printed)?;
+        if printed.failed {
+            return Err(Error::new(ErrorKind::Other, "formatter error"));
+        }
+        if !printed.fits {
+            return Err(too_long());
+        }
         self.log_bytes(printed.as_slice())
     }
 

@@ -1,9 +1,9 @@
 //! The printing of a value into an array.
 ghost use Rattle.std.specs.Prelude.{◌<◌, ◌^◌, ◌++◌, ℕ, List};
-ghost use Rattle.line_log.specs.Text.{IsPrinted, PrintsText, ChecksPrinted, SaysLong};
+ghost use Rattle.line_log.specs.Text.{IsPrinted, PrintsText, SaysLong};
 
 use crate::printed::Printed;
-use no_std_io2::io::{Error, ErrorKind, Result};
+use no_std_io2::io::{Error, ErrorKind};
 use std::fmt;
 use std::fmt::{Display, Formatter};
 
@@ -37,17 +37,4 @@ pub(crate) fn print_text<D: Display + Drop, const S: usize>(text: D) -> Printed<
     let mut printed = f.into_inner();
     printed.failed = formatted.is_err();
     printed
-}
-
-/// Returns the error of a text that could not be printed.
-pub(crate) fn check_printed<const S: usize>(printed: &Printed<S>) -> Result<()>
-    ensures { ChecksPrinted printed.now result }
-{
-    if printed.failed {
-        return Err(Error::new(ErrorKind::Other, "formatter error"));
-    }
-    if !printed.fits {
-        return Err(too_long());
-    }
-    Ok(())
 }
