@@ -1,22 +1,13 @@
 -- Frames are sent one after another.
 use Rattle.std.proofs.Common.{◌==◌, ◌<◌, ◌-◌, Bool, true, false, true≢false, length, take, drop, get_or, take_all, arith, Bor, eqb-true}
-use Rattle.std.proofs.Common.{◌≡◌, ℕ, List, [], ◌∷◌, ◌++◌, Ok, Err, map, refl, sym, ap, subst, ◌∙◌, append_assoc, append-nil, inl, inr}
+use Rattle.std.proofs.Common.{◌≡◌, ℕ, List, [], ◌∷◌, ◌++◌, Ok, map, refl, sym, ap, subst, ◌∙◌, append_assoc, append-nil, inl, inr}
 use Rattle.std.proofs.lemmas.List.{nil_from_length}
-use Rattle.no_std_io2.specs.declared.io.Error.{Error}
 use Rattle.no_std_io2.specs.Writers.{Writer}
 use Rattle.no_std_io2.specs.Write.{Moves}
 use Rattle.no_std_io2.proofs.MovesLemmas.{Moves-refl, Moves-trans}
 use Rattle.framing.specs.declared.writer.FrameWriter.{FrameWriter}
 use Rattle.framing.specs.Frames.{frame, frames}
-use Rattle.framing.specs.Sending.{writer_tells, PutsEach, Ends, SendsFrame, SendsFrames}
-
--- The payloads that are gone were sent.
-pub record SentSoFar {W : Type 0} {S : ℕ} (I : Writer W) (old : FrameWriter W S) (payloads : List (List ℕ)) (now : FrameWriter W S)
-    (left : List (List ℕ)) : Type 0 where
-  pub sent : List (List ℕ)
-  pub split : payloads ≡ sent ++ left
-  pub each : PutsEach I old sent now
-  pub moves : Moves (writer_tells I.told old) (frames sent) [] (writer_tells I.told now)
+use Rattle.framing.specs.Sending.{writer_tells, PutsEach, SendsFrame, SentSoFar}
 
 -- one frame more
 frames_more : (ps : List (List ℕ)) (p : List ℕ) → frames (ps ++ p ∷ []) ≡ frames ps ++ frame p
@@ -46,29 +37,6 @@ module _ {W : Type 0} {S : ℕ} (I : Writer W) where
     each = each_more old before.sent before.each sends;
     moves = subst (λ l. Moves (writer_tells I.told old) l [] (writer_tells I.told new)) (sym (frames_more before.sent p))
         (Moves-trans before.moves (frame_moves sends));
-  }
-
-  pub sends_done : {old now : FrameWriter W S} {payloads left : List (List ℕ)} → SentSoFar I old payloads now left → left ≡ []
-      → SendsFrames I old payloads (Ok tt) now left
-  sends_done {now = now} before none = record {
-    sent = before.sent;
-    split = before.split;
-    mid = now;
-    each = before.each;
-    moves = before.moves;
-    ends = (none, refl);
-  }
-
-  pub sends_stops : {old now new : FrameWriter W S} {payloads left : List (List ℕ)} (p : List ℕ) (others : List (List ℕ)) (e : Error)
-      → SentSoFar I old payloads now left → left ≡ p ∷ others → SendsFrame I p now (Err e) new
-      → SendsFrames I old payloads (Err e) new left
-  sends_stops {now = now} {new = new} p others e before is sends = record {
-    sent = before.sent;
-    split = before.split;
-    mid = now;
-    each = before.each;
-    moves = before.moves;
-    ends = subst (λ l. Ends I now l (Err e) new) (sym is) sends;
   }
 
 -- whether a slice has elements

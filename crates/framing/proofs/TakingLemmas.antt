@@ -13,7 +13,7 @@ use Rattle.no_std_io2.specs.Write.{Made}
 use Rattle.no_std_io2.specs.FillTo.{GathersTo, ReadsTo}
 use Rattle.no_std_io2.proofs.CallsLemmas.{made_then}
 use Rattle.no_std_io2.proofs.EventLemmas.{bytes-append, HasNoFault-append}
-use Rattle.no_std_io2.proofs.TakesLemmas.{takes_none, takes_then}
+use Rattle.no_std_io2.proofs.TakesLemmas.{takes_none, takes_then, EndsInFault-behind}
 use Rattle.framing.specs.Frames.{frame, told_length, IsPart, HasHeader}
 use Rattle.framing.specs.Taking.{seen_bytes, reads_from, part_room, wanted, AsksPart, AsksFrame, SeesTo}
 use Rattle.framing.specs.Taking.{TakesFrame, KeepsRoom, FrameReads, EndsFrame, given_frame}
@@ -115,12 +115,7 @@ module _ {R : Type 0} {S : ℕ} (I : Reader R) (limit : ℕ) {old : FrameReader 
         → GathersTo (header.taken ++ rest.taken) r (tells I (reads_from new))
     ends (Ok true) none = HasNoFault-append header.taken rest.taken header.ends none
     ends (Ok false) end = (HasNoFault-append header.taken rest.taken header.ends end.0, end.1)
-    ends (Err e) (Q, is, none, fault) = (
-      header.taken ++ Q,
-      ap (λ l. header.taken ++ l) is ∙ sym (append_assoc header.taken Q _),
-      HasNoFault-append header.taken Q header.ends none,
-      fault,
-    )
+    ends (Err e) fault = EndsInFault-behind header.taken rest.taken header.ends fault
 
     pub sees_both : SeesFrame I limit old room reply new room'
     sees_both = record {

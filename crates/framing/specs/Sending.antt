@@ -58,13 +58,16 @@ Ends I mid left (Ok u) new = (left ≡ []) × (new ≡ mid)
 Ends I mid [] (Err e) new = ⊥
 Ends I mid (p ∷ ps) (Err e) new = SendsFrame I p mid (Err e) new
 
--- The payloads that are gone from the front were sent, and the last call ended like this.
-pub record SendsFrames {W : Type 0} {S : ℕ} (I : Writer W) (old : FrameWriter W S) (payloads : List (List ℕ))
-    (reply : Result (Unit {0}) Error)
-    (new : FrameWriter W S) (left : List (List ℕ)) : Type 0 where
+-- The payloads that are gone from the front were sent.
+pub record SentSoFar {W : Type 0} {S : ℕ} (I : Writer W) (old : FrameWriter W S) (payloads : List (List ℕ)) (now : FrameWriter W S)
+    (left : List (List ℕ)) : Type 0 where
   pub sent : List (List ℕ)
   pub split : payloads ≡ sent ++ left
-  pub mid : FrameWriter W S
-  pub each : PutsEach I old sent mid
-  pub moves : Moves (writer_tells I.told old) (frames sent) [] (writer_tells I.told mid)
-  pub ends : Ends I mid left reply new
+  pub each : PutsEach I old sent now
+  pub moves : Moves (writer_tells I.told old) (frames sent) [] (writer_tells I.told now)
+
+-- they were, and the last call ended like this
+abbrev pub SendsFrames : {W : Type 0} {S : ℕ} → Writer W → FrameWriter W S → List (List ℕ) → Result (Unit {0}) Error → FrameWriter W S
+    → List (List ℕ) → Type 0
+SendsFrames {W} {S} I old payloads reply new left =
+    (mid : FrameWriter W S) × SentSoFar I old payloads mid left × Ends I mid left reply new

@@ -1,6 +1,6 @@
-use Rattle.std.proofs.Common.{map, ap}
+use Rattle.std.proofs.Common.{map, ap, refl}
 use Rattle.std.proofs.lemmas.Result.{err_from_is_err_and}
-use Rattle.framing.proofs.SendingLemmas.{sent_none, sent_more, sends_done, sends_stops, some_there, none_there, first_there}
+use Rattle.framing.proofs.SendingLemmas.{sent_none, sent_more, some_there, none_there, first_there}
 use Rattle.framing.proofs.writer.FrameWriter.send_all.Goals as goal
 
 pub frames-init : goal.frames-init
@@ -14,14 +14,14 @@ frames-preserved g c =
 pub returns-in_err-send : goal.returns-in_err-send
 returns-in_err-send g c =
     let p = err_from_is_err_and c.from_residual.result c.from_residual.ensures.1 in
-    rw (p.1, p.2) (record {
-      sends = sends_stops g.W.Write _ _ _ c.frames.invariant
-          (first_there c.frames.rest.now _ (some_there _ c.frames.rest.now c.is_empty.ensures c.frames-test.true))
-          c.in_err-send.ensures.sends;
-    })
+    let first = first_there c.frames.rest.now _ (some_there _ c.frames.rest.now c.is_empty.ensures c.frames-test.true) in
+    rw (p.1, p.2) (record { sends = (_, c.frames.invariant, rw first c.in_err-send.ensures.sends) })
 
 pub returns : goal.returns
 returns g c = record {
-  sends = sends_done g.W.Write c.frames.invariant
-      (ap (map (λ p. p.now)) (none_there _ c.frames.rest.now c.is_empty.ensures c.frames-test.false));
+  sends = (
+    _,
+    c.frames.invariant,
+    (ap (map (λ p. p.now)) (none_there _ c.frames.rest.now c.is_empty.ensures c.frames-test.false), refl),
+  );
 }

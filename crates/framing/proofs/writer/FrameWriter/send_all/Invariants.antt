@@ -1,6 +1,6 @@
 -- The payloads that are gone were sent.
 use Rattle.std.proofs.Common.{map, length}
-use Rattle.framing.proofs.SendingLemmas.{SentSoFar}
+use Rattle.framing.specs.Sending.{SentSoFar}
 use Rattle.framing.proofs.writer.FrameWriter.send_all.Given as goal
 
 abbrev pub invariant-frames : goal.invariant-frames
