@@ -43,7 +43,8 @@ pub struct FrameReader<R, const S: usize> {
 }
 
 impl<R: Read, const S: usize> FrameReader<R, S> {
-    ghost use Rattle.framing.specs.Taking.{frame_reader, reads_from, seen_bytes, frame_to_come, frame_turns, SeesTo, TakesFrame, KeepsBehind};
+    ghost use Rattle.framing.specs.Taking.{frame_reader, reads_from, seen_bytes, frame_to_come, frame_turns, SeesTo, TakesFrame};
+    ghost use Rattle.framing.specs.Taking.{KeepsBehind};
     ghost use Rattle.framing.specs.Back.{AreToCome, GivesBack, WentOut};
 
     /// Makes a reader of the frames of `inner`. `S` is from 4 to 2^63 - 1.

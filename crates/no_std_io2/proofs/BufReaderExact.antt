@@ -253,7 +253,8 @@ module _ {R : Type 0} {S : ℕ} (inner : Reader R) (old : BufReader R S) (room :
       subst (Ends x answer) (sym parts.2.2) (below_until (below gathers parts.0 parts.1) into answer parts.2.1 nothing)
 
   -- these are the reads of an exact read
-  pub exact_below : (past : length (reader_held old) < room) {buf : List ℕ} {now : BufReader R S} (reply : Result (Unit {0}) Error) (C : List ReadCall) → FillCalls C reply buf
+  pub exact_below : (past : length (reader_held old) < room) {buf : List ℕ} {now : BufReader R S} (reply : Result (Unit {0}) Error)
+      (C : List ReadCall) → FillCalls C reply buf
       → Made (ReadCallLaw (buf_reader inner)) old C now → length buf ≡ room → ExactBelow inner old room reply buf now
   exact_below past {buf} {now} (Ok u) C calls made long =
       let all = below (subst (λ n. Gathers (IsRest n) C buf) long calls) now made in

@@ -16,7 +16,8 @@ returns-in_err-see_header-clause-takes g c =
     let sees = c.in_err-see_header.ensures.sees room in
     let e = c.in_err-see_header.field-0.0 in
     let seen = sees_header R (length room) {reply = Err e} sees in
-    rw (p.1, p.2) (takes_seen (Err e) seen refl (inl refl) (inl (seen.ends, inl sees.enough)) (λ asks C x reads. inr (inr (seen.ends.3, reads))))
+    rw (p.1, p.2) (takes_seen (Err e) seen refl (inl refl) (inl (seen.ends, inl sees.enough))
+    (λ asks C x reads. inr (inr (seen.ends.3, reads))))
 
 pub returns-then-is_empty-clause-takes : goal.returns-then-is_empty-clause-takes
 returns-then-is_empty-clause-takes g c =
@@ -86,7 +87,8 @@ returns-then-not-branch-2-clause-takes g c =
     let sees = sees_both R (length room) len (Ok false) header has (omega (arith, c.if-len-room.false)) rest in
     let says = c.ended_inside-then-not-branch-2.ensures in
     takes_seen (Err c.ended_inside-then-not-branch-2.result) sees refl (rw after.1 c.in_ok-see_frame.ensures.room)
-    (inr (sees.ends.0, inl ((omega (arith, after.0), part_of len _ after rest.enough, says), sees.ends.1))) (λ asks C x reads. inr (inl (says, reads)))
+    (inr (sees.ends.0, inl ((omega (arith, after.0), part_of len _ after rest.enough, says), sees.ends.1)))
+    (λ asks C x reads. inr (inl (says, reads)))
 
 pub give_seen-requires : goal.give_seen-requires
 give_seen-requires g c =
