@@ -1,7 +1,6 @@
 -- Asks in a row.
 use Rattle.std.proofs.Common.{◌≡◌, ℕ, zero, suc, ◌+◌, ◌<◌, ◌≤◌, min, Bool, if◌then◌else◌, List, [], ◌∷◌, ◌++◌, length, take, get_or}
 use Rattle.std.proofs.Common.{Result, Ok, is_err, refl, sym, ap, subst, arith, take_all}
-use Rattle.std.proofs.lemmas.List.{take_more}
 use Rattle.no_std_io2.specs.declared.io.Error.{Error}
 use Rattle.no_std_io2.specs.Events.{Event}
 use Rattle.no_std_io2.specs.Takes.{Takes}
@@ -18,20 +17,9 @@ fits_at room [] i d h f = absurd (omega arith)
 fits_at room (ask ∷ asks) zero d h f = f.0
 fits_at room (ask ∷ asks) (suc i) d h f = fits_at room asks i d (omega arith) f.1
 
--- a read into a room of this size
-pub gave_into : {X : Type 0} {R : Reader X} {a b : X} {answer : Result (List ℕ) Error} {room room' : ℕ} → room ≡ room'
-    → GaveLaw R a room answer b → GaveLaw R a room' answer b
-gave_into {R = R} {a} {b} {answer} same law = subst (λ room. GaveLaw R a room answer b) same law
-
--- a `consume` of at most `most` of the lent bytes
-pub consumed_by : {B : Type 0} {L : Lender B} {a mid b : B} {lent : List ℕ} {n : ℕ} (most : ℕ) → FilledLaw L a (Ok lent) mid
-    → n ≡ min most (length lent) → ConsumeLaw L mid n b → LendCallLaw L mid (Consumed (min most (length lent))) b
-consumed_by {L = L} {mid = mid} {b} most filled same law =
-    (omega (arith, ap length filled.lends), subst (λ n. ConsumeLaw L mid n b) same law)
-
 module _ {B : Type 0} (L : Lender B) where
   -- the asks so far, and then one more
-  came_then : (asks : List Ask) (ask : Ask) (answer : Result Bool Error) (old mid new : B) (at_end failed : ℕ)
+  pub came_then : (asks : List Ask) (ask : Ask) (answer : Result Bool Error) (old mid new : B) (at_end failed : ℕ)
       {ends failures : ℕ} → CameTo L asks old at_end failed mid → Answered L ask mid answer new
       → ends ≡ at_end + (if met_end answer then 1 else 0) → failures ≡ failed + (if is_err answer then 1 else 0)
       → CameTo L (asks ++ ask ∷ []) old ends failures new
@@ -41,20 +29,6 @@ module _ {B : Type 0} (L : Lender B) where
   came_then (o ∷ asks) ask answer old mid new at_end failed (first, next, ends, failures, now, later, e, f) one e' f' =
       let more = came_then asks ask answer next mid new ends failures later one refl refl in
       (first, next, _, _, now, more, omega (arith, e, e'), omega (arith, f, f'))
-
-  -- the first i asks, and then the next one
-  pub came_more : (asks : List Ask) (i : ℕ) (d : Ask) (answer : Result Bool Error) (old mid new : B) (at_end failed : ℕ)
-      {ends failures : ℕ} → i < length asks → CameTo L (take i asks) old at_end failed mid
-      → Answered L (get_or asks i d) mid answer new
-      → ends ≡ at_end + (if met_end answer then 1 else 0) → failures ≡ failed + (if is_err answer then 1 else 0)
-      → CameTo L (take (i + 1) asks) old ends failures new
-  came_more asks i d answer old mid new at_end failed within t one e f =
-      rw (take_more asks i d within) (came_then (take i asks) (get_or asks i d) answer old mid new at_end failed t one e f)
-
-  -- if there are no more than i asks, the first i are all
-  pub came_all : (asks : List Ask) (i : ℕ) (old new : B) (at_end failed : ℕ) → length asks ≤ i
-      → CameTo L (take i asks) old at_end failed new → CameTo L asks old at_end failed new
-  came_all asks i old new at_end failed all t = subst (λ made. CameTo L made old at_end failed new) (take_all i asks all) t
 
   -- what one ask takes
   answered_takes : (ask : Ask) (a b : B) (answer : Result Bool Error) → Answered L ask a answer b

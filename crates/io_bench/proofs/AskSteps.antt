@@ -5,6 +5,7 @@ use Rattle.std.proofs.Common.{refl, sym, ap, ap₂, subst, ◌∙◌}
 use Rattle.std.proofs.Common.{arith, ⊎_elim, inl, inr, append_assoc, append-nil, length-append, length-drop, length-take-le, le_refl}
 use Rattle.std.proofs.Common.{drop_of_length-le, take-append-drop}
 use Rattle.std.proofs.Math.Seq.{drop-append_seam}
+use Rattle.std.proofs.lemmas.Grind.{common_steps}
 use Rattle.std.proofs.lemmas.List.{nil_from_length}
 use Rattle.std.proofs.lemmas.Bool.{cases_lt}
 use Rattle.std.proofs.lemmas.Bool.Decides.{nat_tests}
@@ -30,47 +31,23 @@ use Rattle.io_bench.specs.Asks.{read_answer, end_or_error, exact_answer, fill_an
 use Rattle.io_bench.specs.Asks.{left_behind, DropsFront, AskStep, meets_end, Steps}
 use Rattle.io_bench.proofs.ReadsPaid.{ReadsPaid, OneCall, no_read as no_inner_read, one_read, paid_none, paid_held, paid_call, paid_bound}
 
--- what is taken of bytes to come
-events_taken : {a b : Tells} {P : List Event} (x y : List ℕ) → to_come a ≡ Some (events_of x) → to_come b ≡ Some (events_of y) → Takes a P b
-    → events_of x ≡ P ++ events_of y
-events_taken {b = b} {P} x y from to takes =
-    subst (AreTaken (Some (events_of x)) P) to (subst (λ E. AreTaken E P (to_come b)) from takes.events)
-
--- are bytes,
-bytes_taken : {a b : Tells} (x y z : List ℕ) → to_come a ≡ Some (events_of x) → to_come b ≡ Some (events_of y) → Takes a (events_of z) b
-    → x ≡ z ++ y
-bytes_taken x y z from to takes = sym (bytes-events_of x) ∙ ap bytes (events_taken x y from to takes)
-    ∙ bytes-append (events_of z) (events_of y) ∙ ap₂ (λ l m. l ++ m) (bytes-events_of z) (bytes-events_of y)
-
--- and no error
+-- bytes are no error
 none_fails : (x y : List ℕ) (e : Error) → events_of x ≡ fails e ∷ events_of y → ⊥
 none_fails [] y e is = cc
 none_fails (b ∷ x) y e is = cc
 
--- at the end no byte is to come
-none_left : (t : Tells) (x : List ℕ) → to_come t ≡ Some (events_of x) → IsAtEnd t → x ≡ []
-none_left t x from end = sym (bytes-events_of x) ∙ ap bytes (subst (λ E. IfSome E (λ l. l ≡ [])) from end)
-
 -- the held bytes are no more than those that were read
 passes_fits : {R : Type 0} {S : ℕ} (behind : List ℕ) (read : Result (List ℕ) Error) (room : ℕ) (answer : Result (List ℕ) Error)
     (new : BufReader R S) (x : List ℕ) → PassesOn behind read room answer new → read ≡ Ok x → length (reader_held new) ≤ length x
-passes_fits behind (Ok y) room answer new x passes is =
-    let same : y ≡ x = cc in omega (arith, ap length passes.1.1, length-drop room y, ap length same)
-passes_fits behind (Err e) room answer new x passes is = cc
+passes_fits behind read room answer new x passes is = grind (arith, common_steps)
 
 -- what an ask of at most `most` bytes took of those to come
 drops : (most : ℕ) (x left after : List ℕ) → left ≡ x ++ after → length x ≤ most → (x ≡ [] → 0 < most → after ≡ [])
     → DropsFront most left after
 drops most x left after split fits end = ⊎_elim
-    (λ few. let none : x ≡ [] = nil_from_length x (omega arith) in
-    let same : left ≡ after = split ∙ ap (λ l. l ++ after) none in ⊎_elim
-    (λ idle. (0, omega arith, omega arith, sym same))
-    (λ some. let over = end none some in (
-      most,
-      omega arith,
-      omega arith,
-      over ∙ sym (drop_of_length-le left (omega (arith, ap length (same ∙ over)))),
-    ))
+    (λ few. ⊎_elim
+    (λ idle. (0, omega arith, omega arith, grind (arith, common_steps)))
+    (λ some. (most, omega arith, omega arith, grind (arith, common_steps)))
     (cases_lt most 1))
     (λ some. (length x, omega arith, omega arith, sym (drop-append_seam x after) ∙ ap (drop (length x)) (sym split)))
     (cases_lt (length x) 1)
@@ -159,16 +136,21 @@ module _ {R : Type 0} {S : ℕ} (I : Reader R) (fills : FillsRoom I) (start : Bu
       ∙ ap Some (sym (events_of-append (reader_held r) (fills.left (reader_inner r))))
 
   -- of the bytes to come these were taken
+  taken : (a b : BufReader R S) (P : List Event) → Takes (lender_tells L a) P (lender_tells L b)
+      → events_of (all a) ≡ P ++ events_of (all b)
+  taken a b P takes =
+      subst (AreTaken (Some (events_of (all a))) P) (told b) (subst (λ E. AreTaken E P (to_come (lender_tells L b))) (told a) takes.events)
+
   took : (a b : BufReader R S) (x : List ℕ) → Takes (lender_tells L a) (events_of x) (lender_tells L b) → all a ≡ x ++ all b
-  took a b x takes = bytes_taken (all a) (all b) x (told a) (told b) takes
+  took a b x takes = simp (bytes-append, bytes-events_of) at (ap bytes (taken a b (events_of x) takes))
 
   -- no call fails
   no_error : {T : Type 0} (a b : BufReader R S) (e : Error) → Takes (lender_tells L a) (fails e ∷ []) (lender_tells L b) → T
-  no_error a b e takes = absurd (none_fails (all a) (all b) e (events_taken (all a) (all b) (told a) (told b) takes))
+  no_error a b e takes = absurd (none_fails (all a) (all b) e (taken a b (fails e ∷ []) takes))
 
   -- at the end no byte is to come
   ended : (b : BufReader R S) → IsAtEnd (lender_tells L b) → all b ≡ []
-  ended b end = none_left (lender_tells L b) (all b) (told b) end
+  ended b end = simp bytes-events_of at (ap bytes (subst (λ E. IfSome E (λ l. l ≡ [])) (told b) end))
 
   -- the calls so far are paid for, if z asks met the end
   abbrev pub Paid : ℕ → BufReader R S → Type 0

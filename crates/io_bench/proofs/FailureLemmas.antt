@@ -20,10 +20,9 @@ length-mishap_of op reply = grind (arith, common_steps)
 
 -- as many calls of a run failed as it had mishaps
 pub failures-length : (ops : List Op) (replies : List Reply) → failures ops replies ≡ length (mishaps_of ops replies)
-failures-length [] replies = refl
-failures-length (op ∷ ops) [] = refl
 failures-length (op ∷ ops) (reply ∷ replies) =
     omega (arith, failures-length ops replies, length-mishap_of op reply, length-append (mishap_of op reply) (mishaps_of ops replies))
+failures-length _ _ = refl
 
 -- told mishaps stay told, and there are fewer of them by at least as many as happened
 shorter : (old : Option (List ErrorKind)) (happened : List ErrorKind) (new : Option (List ErrorKind))

@@ -18,22 +18,19 @@ use Rattle.io_bench.specs.Feed.{all_to_come, leading_bytes, first_failure, feed_
 pub given_first : (n : ℕ) (left : List Event) → n ≤ length (leading_bytes left)
     → all_to_come left ≡ events_of (take n (leading_bytes left)) ++ all_to_come (drop n left)
 given_first zero left h = refl
-given_first (suc n) [] h = absurd (omega arith)
 given_first (suc n) (Byte b ∷ left) h = ap (λ E. byte b ∷ E) (given_first n left (omega arith))
-given_first (suc n) (Fail kind ∷ left) h = absurd (omega arith)
+given_first _ _ h = absurd (omega arith)
 
 -- if the first n leading bytes are gone, the others are the leading bytes now
 leading-drop : (n : ℕ) (left : List Event) → n ≤ length (leading_bytes left) → leading_bytes (drop n left) ≡ drop n (leading_bytes left)
 leading-drop zero left h = refl
-leading-drop (suc n) [] h = absurd (omega arith)
 leading-drop (suc n) (Byte b ∷ left) h = leading-drop n left (omega arith)
-leading-drop (suc n) (Fail kind ∷ left) h = absurd (omega arith)
+leading-drop _ _ h = absurd (omega arith)
 
 -- the leading bytes are no more than all events
 pub leading-le : (left : List Event) → length (leading_bytes left) ≤ length left
-leading-le [] = omega arith
 leading-le (Byte b ∷ left) = let rest = leading-le left in omega (arith, rest)
-leading-le (Fail kind ∷ left) = omega arith
+leading-le _ = omega arith
 
 -- if no byte and no failure comes first, nothing is left
 pub nothing_left : (left : List Event) → length (leading_bytes left) ≡ 0 → first_failure left ≡ None → left ≡ []

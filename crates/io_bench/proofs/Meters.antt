@@ -1,19 +1,10 @@
--- A `Tally` counts its calls.
-use Rattle.no_std_io2.specs.Write.{Wrote, WroteAll, Flushed}
+-- A `Tally` counts its reads.
 use Rattle.no_std_io2.specs.Read.{Reader}
-use Rattle.no_std_io2.specs.Writers.{Writer}
-use Rattle.no_std_io2.specs.Meter.{IsMeter}
 use Rattle.no_std_io2.specs.ReadMeter.{IsReadMeter, FillsRoom}
 use Rattle.io_bench.specs.declared.tally.Tally.{Tally}
-use Rattle.io_bench.specs.Tally.{tally_inner, tally_writes, tally_reads, TallyMay, ReadsCounted}
+use Rattle.io_bench.specs.Tally.{tally_inner, tally_reads, ReadsCounted}
 
--- its writes,
-pub tally_meters : {T : Type 0} (I : Writer T) → IsMeter (TallyMay I) tally_writes
-tally_meters I old new (Wrote x reply) made = made.writes
-tally_meters I old new (Flushed reply) made = made.writes
-tally_meters I old new (WroteAll x reply) made = absurd made
-
--- and its reads
+-- each read into some room is one more
 pub tally_meters_reads : {T : Type 0} (I : Reader T) → IsReadMeter (ReadsCounted I) tally_reads
 tally_meters_reads I old new room answer made = made.reads
 

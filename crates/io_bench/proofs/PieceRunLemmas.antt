@@ -3,6 +3,7 @@ use Rattle.std.proofs.Common.{◌≡◌, ℕ, true, false, Bool, if◌then◌els
 use Rattle.std.proofs.Common.{map, filter, refl, sym, ap, ◌∙◌, subst, append-nil, append_assoc, inl, inr, ◌<◌, ◌⊎◌, length, arith}
 use Rattle.std.proofs.Common.{length-append, IfSome}
 use Rattle.std.specs.List.{concat}
+use Rattle.std.proofs.lemmas.Grind.{common_steps}
 use Rattle.std.proofs.lemmas.List.{map-append}
 use Rattle.std.proofs.lemmas.List.Folds.{concat-append}
 use Rattle.no_std_io2.specs.declared.io.Error.{Error}
@@ -114,75 +115,39 @@ pub one_gathered : (trim : List ℕ → List ℕ) (d : ℕ) {E : List Event} {it
     → GivesNext d mid piece after → GatheredSoFar trim d E shown after
 one_gathered trim d {item = item} piece {after} same t trimmed next = record {
   before = t.before ++ piece ∷ [];
-  given = t.given ∙ ap (λ l. t.before ++ l) next.pieces ∙ sym (append_assoc t.before (piece ∷ []) (pieces_given d after));
+  given = grind (arith, common_steps, t.given, next.pieces);
   fault = t.fault ∙ next.fault;
-  bytes = t.bytes ∙ ap (λ l. concat t.before ++ l) next.bytes
-      ∙ sym (append_assoc (concat t.before) piece (bytes_to_fault after))
-      ∙ ap (λ l. l ++ bytes_to_fault after)
-      (sym (concat-append t.before (piece ∷ []) ∙ ap (λ l. concat t.before ++ l) (append-nil piece)));
-  are = same ∙ ap (λ l. l ++ item ∷ []) t.are
-      ∙ ap (λ x. map trim t.before ++ x ∷ []) trimmed ∙ sym (map-append trim t.before (piece ∷ []));
+  bytes = grind (arith, common_steps, concat-append, t.bytes, next.bytes);
+  are = grind (arith, common_steps, t.are);
 }
 
 -- if there is no first fault, there is no fault
 fault_free : (E : List Event) → first_fault E ≡ None → HasNoFault E × (bytes_to_fault E ≡ bytes E)
 fault_free [] h = (tt, refl)
 fault_free (byte b ∷ E) h = let rest = fault_free E h in (rest.0, ap (λ l. b ∷ l) rest.1)
-fault_free (fails e ∷ E) h = by_kind (is_interruption (error_kind e)) refl h (fault_free E)
-  where
-    by_kind : (t : Bool) → is_interruption (error_kind e) ≡ t → (if t then first_fault E else Some e) ≡ None
-        → (first_fault E ≡ None → HasNoFault E × (bytes_to_fault E ≡ bytes E))
-        → HasNoFault (fails e ∷ E) × (bytes_to_fault (fails e ∷ E) ≡ bytes (fails e ∷ E))
-    by_kind true is h rest = let r = rest h in ((is, r.0), ap (λ t. if t then bytes_to_fault E else []) is ∙ r.1)
-    by_kind false is h rest = cc
-
--- The bytes before the first fault.
-pub record BeforeFault (E : List Event) (e : Error) : Type 0 where
-  pub before : List Event
-  pub behind : List Event
-  pub split : E ≡ before ++ fails e ∷ behind
-  pub no_fault : HasNoFault before
-  pub fault : IsFault e
-  pub shown : bytes_to_fault E ≡ bytes before
+fault_free (fails e ∷ E) h = grind (arith, common_steps, fault_free E)
 
 -- if e is the first fault, E is a front without a fault, then e, then the rest; and the bytes before the first fault are those of that
 -- front
-fault_first : (E : List Event) (e : Error) → first_fault E ≡ Some e → BeforeFault E e
+fault_first : (E : List Event) (e : Error) → first_fault E ≡ Some e
+    → (before : List Event) × (behind : List Event) × (E ≡ before ++ fails e ∷ behind) × HasNoFault before × IsFault e
+    × (bytes_to_fault E ≡ bytes before)
 fault_first [] e h = cc
 fault_first (byte b ∷ E) e h =
-    let r = fault_first E e h in
-    record {
-      before = byte b ∷ r.before;
-      behind = r.behind;
-      split = ap (λ l. byte b ∷ l) r.split;
-      no_fault = r.no_fault;
-      fault = r.fault;
-      shown = ap (λ l. b ∷ l) r.shown;
-    }
+    let (before, behind, split, clean, fault, shown) = fault_first E e h in
+    (byte b ∷ before, behind, ap (λ l. byte b ∷ l) split, clean, fault, ap (λ l. b ∷ l) shown)
 fault_first (fails f ∷ E) e h = by_kind (is_interruption (error_kind f)) refl h (fault_first E e)
   where
     by_kind : (t : Bool) → is_interruption (error_kind f) ≡ t → (if t then first_fault E else Some f) ≡ Some e
-        → (first_fault E ≡ Some e → BeforeFault E e) → BeforeFault (fails f ∷ E) e
+        → (first_fault E ≡ Some e → (before : List Event) × (behind : List Event) × (E ≡ before ++ fails e ∷ behind) × HasNoFault before
+        × IsFault e × (bytes_to_fault E ≡ bytes before))
+        → (before : List Event) × (behind : List Event) × (fails f ∷ E ≡ before ++ fails e ∷ behind) × HasNoFault before × IsFault e
+        × (bytes_to_fault (fails f ∷ E) ≡ bytes before)
     by_kind true is h rest =
-        let r = rest h in
-        record {
-          before = fails f ∷ r.before;
-          behind = r.behind;
-          split = ap (λ l. fails f ∷ l) r.split;
-          no_fault = (is, r.no_fault);
-          fault = r.fault;
-          shown = ap (λ t. if t then bytes_to_fault E else []) is ∙ r.shown;
-        }
+        let (before, behind, split, clean, fault, shown) = rest h in
+        (fails f ∷ before, behind, ap (λ l. fails f ∷ l) split, (is, clean), fault, grind (arith, is, shown))
     by_kind false is h rest =
-        let same : f ≡ e = cc in
-        record {
-          before = [];
-          behind = E;
-          split = ap (λ x. fails x ∷ E) same;
-          no_fault = tt;
-          fault = subst IsFault same is;
-          shown = ap (λ t. if t then bytes_to_fault E else []) is;
-        }
+        let same : f ≡ e = cc in ([], E, ap (λ x. fails x ∷ E) same, tt, subst IsFault same is, grind (arith, is))
 
 -- at the end all pieces were gathered
 pub all_gathered : (trim : List ℕ → List ℕ) (d : ℕ) {E : List Event} {items shown : List (List ℕ)} {mid : List Event}
@@ -190,10 +155,7 @@ pub all_gathered : (trim : List ℕ → List ℕ) (d : ℕ) {E : List Event} {it
 all_gathered trim d {E} same t end =
     let none : first_fault E ≡ None = t.fault ∙ end.1 in
     let free = fault_free E none in
-    let given : pieces d (bytes E) ≡ t.before =
-    ap (pieces d) (sym free.1) ∙ sym (ap (λ f. pieces_before d f (bytes_to_fault E)) none) ∙ t.given
-    ∙ ap (λ l. t.before ++ l) end.0 ∙ append-nil t.before in
-    record { no_fault = free.0; are = same ∙ t.are ∙ ap (map trim) (sym given) }
+    record { no_fault = free.0; are = grind (arith, common_steps, none, free.1, t.given, t.are, end.0) }
 
 -- an error ends it
 pub gathered_to : (A : Type 0) (trim : List ℕ → List ℕ) (refuses : List ℕ → Error → Type 0) (full : Type 0) (d : ℕ) {E : List Event}
@@ -204,17 +166,14 @@ pub gathered_to : (A : Type 0) (trim : List ℕ → List ℕ) (refuses : List �
     → GathersPieces {A = A} trim refuses full d E (Err e) shown
 gathered_to A trim refuses full d {E} {e = e} same t (inl end) =
     let first = t.fault ∙ end.1 in
-    let r = fault_first E e first in
-    let given : filter (ends_in d) (pieces d (bytes r.before)) ≡ t.before =
-    ap (λ l. filter (ends_in d) (pieces d l)) (sym r.shown) ∙ sym (ap (λ f. pieces_before d f (bytes_to_fault E)) first)
-    ∙ t.given ∙ ap (λ l. t.before ++ l) end.0 ∙ append-nil t.before in
+    let (before, behind, split, clean, fault, shown) = fault_first E e first in
     inl (record {
-      before = r.before;
-      behind = r.behind;
-      split = r.split;
-      no_fault = r.no_fault;
-      fault = r.fault;
-      are = same ∙ t.are ∙ ap (map trim) (sym given);
+      before = before;
+      behind = behind;
+      split = split;
+      no_fault = clean;
+      fault = fault;
+      are = grind (arith, common_steps, shown, first, t.given, t.are, end.0);
     })
 gathered_to A trim refuses full d same t (inr (inl (piece, after, next, refused))) =
     inr (inl (record {

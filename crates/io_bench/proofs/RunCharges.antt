@@ -1,5 +1,6 @@
 -- The count of a whole run through a buffer, and its closing, from the calls that it made.
-use Rattle.std.proofs.lemmas.Grind.{common_steps}
+use Rattle.std.specs.List.{flat_map}
+use Rattle.std.proofs.lemmas.Grind.{common_steps, flat_map-append}
 use Rattle.std.proofs.Common.{◌≡◌, ◌+◌, ◌*◌, ◌/◌, ℕ, ◌<◌, ◌≤◌, List, [], ◌∷◌, ◌++◌, length, take, Result, Ok, Err, OnOk, IsOk}
 use Rattle.std.proofs.Common.{refl, sym, subst, ap, ap₂, ◌∙◌, arith, inl, inr, length-append, append_assoc, append-nil, take_all, le_refl}
 use Rattle.std.proofs.Common.{take-append-drop}
@@ -37,8 +38,7 @@ call_flushes _ = 0
 
 -- the bytes and the flushes of calls
 abbrev all_bytes : List WriteCall → List ℕ
-all_bytes [] = []
-all_bytes (call ∷ C) = call_bytes call ++ all_bytes C
+all_bytes C = flat_map call_bytes C
 
 abbrev all_flushes : List WriteCall → ℕ
 all_flushes [] = 0
@@ -63,19 +63,9 @@ op_took (Write x) (Took n) C is whole = (
 op_took (WriteAll x) Done C (inl own) whole = (ap all_bytes own ∙ append-nil x.now, ap all_flushes own)
 op_took (WriteAll x) Done C (inr (left, writes)) whole = writes_took writes
 op_took Flush Done C is whole = (ap all_bytes is, ap all_flushes is)
-op_took (Write x) Done C is whole = absurd is
-op_took (Write x) (Failed e) C is whole = absurd whole
-op_took (WriteAll x) (Took n) C is whole = absurd is
-op_took (WriteAll x) (Failed e) C is whole = absurd whole
-op_took Flush (Took n) C is whole = absurd is
-op_took Flush (Failed e) C is whole = absurd whole
+op_took _ _ C is whole = grind (arith, is, whole)
 
 -- calls and then others
-bytes-append : (C D : List WriteCall) → all_bytes (C ++ D) ≡ all_bytes C ++ all_bytes D
-bytes-append [] D = refl
-bytes-append (call ∷ C) D =
-    ap (λ l. call_bytes call ++ l) (bytes-append C D) ∙ sym (append_assoc (call_bytes call) (all_bytes C) (all_bytes D))
-
 flushes-append : (C D : List WriteCall) → all_flushes (C ++ D) ≡ all_flushes C + all_flushes D
 flushes-append [] D = omega arith
 flushes-append (call ∷ C) D = omega (arith, flushes-append C D)
@@ -87,11 +77,10 @@ run_took [] [] C idle whole = (ap all_bytes idle, ap all_flushes idle)
 run_took (op ∷ ops) (reply ∷ replies) C (first, rest, one, more, is) whole =
     let now = op_took op reply first one whole.0 in
     let later = run_took ops replies rest more whole.1 in (
-      ap all_bytes is ∙ bytes-append first rest ∙ ap₂ (λ l m. l ++ m) now.0 later.0,
+      ap all_bytes is ∙ flat_map-append call_bytes first rest ∙ ap₂ (λ l m. l ++ m) now.0 later.0,
       ap all_flushes is ∙ flushes-append first rest ∙ ap₂ (λ k m. k + m) now.1 later.1,
     )
-run_took [] (reply ∷ replies) C joined whole = absurd joined
-run_took (op ∷ ops) [] C joined whole = absurd joined
+run_took _ _ C joined whole = absurd joined
 
 -- what holds after `Ok` holds for a result that is `Ok`
 at_ok : {A P : Type 0} (r : Result A Error) → IsOk r → OnOk r P → P
@@ -101,11 +90,7 @@ at_ok = grind (arith, common_steps)
 flush_empties : {held left : List ℕ} {C : List WriteCall} (reply : Result (Unit {0}) Error) → FlushCalls held C reply left
     → OnOk reply (left ≡ [])
 flush_empties reply calls =
-    then_leaves SendCalls (PastEmpty (Only Flushed)) (λ _. []) (λ _. []) send_leaves (λ held C r left gone. after r gone.1) calls
-  where
-    after : {left : List ℕ} (r : Result (Unit {0}) Error) → left ≡ [] → OnOk r (left ≡ [])
-    after (Ok u) gone = gone
-    after (Err e) gone = tt
+    then_leaves SendCalls (PastEmpty (Only Flushed)) (λ _. []) (λ _. []) send_leaves (λ held C r left gone. grind (arith, gone.1)) calls
 
 module _ {W B : Type 0} (I : Writer W) (cost : W → ℕ) (meter : IsMeter I.may cost) (S : ℕ) (some : 0 < S) (inner : B → W)
     (buffer : B → List ℕ) (fits : (b : B) → length (buffer b) ≤ S) (old : B) where

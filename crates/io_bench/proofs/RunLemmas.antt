@@ -3,7 +3,7 @@ use Rattle.no_std_io2.specs.Writers.{CallOf}
 use Rattle.std.proofs.Common.{◌≡◌, ℕ, Bor, Ok, ◌+◌, ◌<◌, ◌≤◌, take_all, length, take, drop, get_or, List, [], ◌∷◌, ◌++◌}
 use Rattle.std.proofs.Common.{refl, sym, ap, ◌∙◌, subst, append_assoc, append-nil}
 use Rattle.std.proofs.Math.Seq.{drop-append_seam}
-use Rattle.std.proofs.lemmas.List.{take_more}
+use Rattle.std.specs.List.{AllZip}
 use Rattle.no_std_io2.specs.Writers.{Writer}
 use Rattle.no_std_io2.specs.Write.{Told, Moves, MovesFront, WriteCall, Made}
 use Rattle.no_std_io2.proofs.CallsLemmas.{made_then}
@@ -23,15 +23,9 @@ pub JoinsEach-more : {A : Type 0} (gives : Op → Reply → List A → Type 0) (
     (op : Op) (reply : Reply) (ys : List A) → JoinsEach gives ops replies xs → gives op reply ys
     → JoinsEach gives (ops ++ op ∷ []) (replies ++ reply ∷ []) (xs ++ ys)
 JoinsEach-more gives [] [] xs op reply ys r a = (ys, [], a, refl, ap (λ l. l ++ ys) r ∙ sym (append-nil ys))
-JoinsEach-more gives (o ∷ ops) (q ∷ replies) xs op reply ys r a = (
-  r.0,
-  r.1 ++ ys,
-  r.2,
-  JoinsEach-more gives ops replies r.1 op reply ys r.3 a,
-  ap (λ l. l ++ ys) r.4 ∙ append_assoc r.0 r.1 ys,
-)
-JoinsEach-more gives [] (q ∷ replies) xs op reply ys r a = absurd r
-JoinsEach-more gives (o ∷ ops) [] xs op reply ys r a = absurd r
+JoinsEach-more gives (o ∷ ops) (q ∷ replies) xs op reply ys r a =
+    (r.0, r.1 ++ ys, r.2, JoinsEach-more gives ops replies r.1 op reply ys r.3 a, ap (λ l. l ++ ys) r.4 ∙ append_assoc r.0 r.1 ys)
+JoinsEach-more gives _ _ xs op reply ys r a = absurd r
 
 -- the mishap of one more call, if it has one, follows those of the run
 mishaps_of-more : (ops : List Op) (replies : List Reply) (xs : List ℕ) (op : Op) (reply : Reply) → Run ops replies xs
@@ -40,31 +34,23 @@ mishaps_of-more [] [] xs op reply r = append-nil (mishap_of op reply)
 mishaps_of-more (o ∷ ops) (q ∷ replies) xs op reply r =
     ap (λ l. mishap_of o q ++ l) (mishaps_of-more ops replies r.1 op reply r.3)
     ∙ sym (append_assoc (mishap_of o q) (mishaps_of ops replies) (mishap_of op reply))
-mishaps_of-more [] (q ∷ replies) xs op reply r = absurd r
-mishaps_of-more (o ∷ ops) [] xs op reply r = absurd r
+mishaps_of-more _ _ xs op reply r = absurd r
 
 -- if a run with one more call ends in a flush that succeeded, that call is this flush
-EndsFlushed-more : (ops : List Op) (replies : List Reply) (xs : List ℕ) (op : Op) (reply : Reply) → Run ops replies xs
+pub EndsFlushed-more : (ops : List Op) (replies : List Reply) (xs : List ℕ) (op : Op) (reply : Reply) → Run ops replies xs
     → EndsFlushed (ops ++ op ∷ []) (replies ++ reply ∷ []) → IsFlushed op reply
 EndsFlushed-more [] [] xs op reply r e = e
 EndsFlushed-more (o ∷ []) (q ∷ []) xs op reply r e = e
 EndsFlushed-more (o ∷ p ∷ ops) (q ∷ s ∷ replies) xs op reply r e = EndsFlushed-more (p ∷ ops) (s ∷ replies) r.1 op reply r.3 e
-EndsFlushed-more (o ∷ []) (q ∷ s ∷ replies) xs op reply r e = absurd r.3
-EndsFlushed-more (o ∷ p ∷ ops) (q ∷ []) xs op reply r e = absurd r.3
-EndsFlushed-more [] (q ∷ replies) xs op reply r e = absurd r
-EndsFlushed-more (o ∷ ops) [] xs op reply r e = absurd r
+EndsFlushed-more (o ∷ _) (q ∷ _) xs op reply r e = absurd r.3
+EndsFlushed-more _ _ xs op reply r e = absurd r
 
--- if each call of a run is whole, and one more call is, all of them are
-pub AreWhole-more : (ops : List Op) (replies : List Reply) (op : Op) (reply : Reply) → AreWhole ops replies
-    → IsWhole op reply → AreWhole (ops ++ op ∷ []) (replies ++ reply ∷ [])
-AreWhole-more [] [] op reply r a = (a, tt)
-AreWhole-more (o ∷ ops) (q ∷ replies) op reply r a = (r.0, AreWhole-more ops replies op reply r.1 a)
-AreWhole-more [] (q ∷ replies) op reply r a = absurd r
-AreWhole-more (o ∷ ops) [] op reply r a = absurd r
-
--- no call at all is a run, and leaves what a writer tells as it is
-pub Ran-none : (a : Told) → Ran a [] [] a
-Ran-none a = record { accepted = []; run = refl; moves = Moves-refl a }
+-- what holds of each call and its reply, and of one more
+pub AllZip-more : (P : Op → Reply → Type 0) (ops : List Op) (replies : List Reply) (op : Op) (reply : Reply) → AllZip P ops replies
+    → P op reply → AllZip P (ops ++ op ∷ []) (replies ++ reply ∷ [])
+AllZip-more P [] [] op reply r a = (a, tt)
+AllZip-more P (o ∷ ops) (q ∷ replies) op reply r a = (r.0, AllZip-more P ops replies op reply r.1 a)
+AllZip-more P _ _ op reply r a = absurd r
 
 -- a run, and one more call from the state that it left, are a run together
 pub Ran-more : {a b c : Told} {op : Op} {reply : Reply} (ops : List Op) (replies : List Reply) → Ran a ops replies b
@@ -75,56 +61,15 @@ Ran-more ops replies r s = record {
   moves = rw (mishaps_of-more ops replies _ _ _ r.run) (Moves-trans r.moves s.moves);
 }
 
--- the next of a list of calls
-pub Ran-next : {a b c : Told} {reply : Reply} (ops : List Op) (i : ℕ) (d : Op) (replies : List Reply) → i < length ops
-    → Ran a (take i ops) replies b → CallReplies b (get_or ops i d) reply c
-    → Ran a (take (i + 1) ops) (replies ++ reply ∷ []) c
-Ran-next ops i d replies h r s = rw (take_more ops i d h) (Ran-more (take i ops) replies r s)
-
--- if the first i calls of a list are whole, and the next one is, the first i + 1 are
-pub AreWhole-next : (reply : Reply) (ops : List Op) (i : ℕ) (d : Op) (replies : List Reply) → i < length ops
-    → AreWhole (take i ops) replies → IsWhole (get_or ops i d) reply
-    → AreWhole (take (i + 1) ops) (replies ++ reply ∷ [])
-AreWhole-next reply ops i d replies h r s = rw (take_more ops i d h) (AreWhole-more (take i ops) replies _ reply r s)
-
--- a last flush that succeeded is the last call
-pub EndsFlushed-next : {a b c : Told} {reply : Reply} (ops : List Op) (i : ℕ) (d : Op) (replies : List Reply)
-    → i < length ops → Ran a (take i ops) replies b → CallReplies b (get_or ops i d) reply c
-    → EndsFlushed (take (i + 1) ops) (replies ++ reply ∷ []) → c.held ≡ []
-EndsFlushed-next ops i d replies h r s e =
-    s.flushed (EndsFlushed-more (take i ops) replies _ _ _ r.run (rw (take_more ops i d h) at e))
-
--- what holds of the calls made holds of all, once all are made
-pub all_made : (P : List Op → List Reply → Type 0) {ops : List Op} (i : ℕ) (old : List Reply) {new : List Reply} (more : List Reply)
-    → length ops ≤ i
-    → new ≡ old ++ more → P (take i ops) more → P ops (appended old new)
-all_made P {ops = ops} i old {new = new} more h e p =
-    subst (λ made. P made (appended old new)) (take_all i ops h)
-    (subst (P (take i ops)) (sym (ap (drop (length old)) e ∙ drop-append_seam old more)) p)
-
--- a `write_all` that returned `Ok`
-pub Answers-write_all : {a b : Told} (x : Bor (List ℕ)) (u : Unit {0}) → MovesFront a x.now (Ok u) b → CallReplies a (WriteAll x) Done b
-Answers-write_all {a} {b} x u moves = record {
-  accepted = x.now;
-  accepts = refl;
-  moves = subst (λ l. Moves a l [] b) moves.whole moves.moves;
-  flushed = λ no. absurd no;
-}
-
--- no call at all
-pub RunCalls-none : {W : Type 0} {I : Writer W} {a : W} → RunCalls I a [] [] a
-RunCalls-none = record { calls = []; made = refl; joined = refl }
-
 -- the calls of one more
-pub RunCalls-next : {W : Type 0} {I : Writer W} {a b c : W} (reply : Reply) (ops : List Op) (i : ℕ) (d : Op) (replies : List Reply)
-    → i < length ops → RunCalls I a (take i ops) replies b
-    → (C : List WriteCall) × Made (CallOf I) b C c × OpCalls (get_or ops i d) reply C
-    → RunCalls I a (take (i + 1) ops) (replies ++ reply ∷ []) c
-RunCalls-next {I = I} {a} {b} {c} reply ops i d replies h r s = rw (take_more ops i d h) (record {
+pub RunCalls-more : {W : Type 0} {I : Writer W} {a b c : W} (ops : List Op) (op : Op) (replies : List Reply) (reply : Reply)
+    → RunCalls I a ops replies b → (C : List WriteCall) × Made (CallOf I) b C c × OpCalls op reply C
+    → RunCalls I a (ops ++ op ∷ []) (replies ++ reply ∷ []) c
+RunCalls-more {I = I} {a} {b} {c} ops op replies reply r s = record {
   calls = r.calls ++ s.0;
   made = made_then (CallOf I) r.calls a s.0 b c r.made s.1;
-  joined = JoinsEach-more OpCalls (take i ops) replies r.calls _ reply s.0 r.joined s.2;
-})
+  joined = JoinsEach-more OpCalls ops replies r.calls op reply s.0 r.joined s.2;
+}
 
 -- a run is one of the writer itself
 pub below_none : {W : Type 0} {I : Writer W} {a b : W} {ops : List Op} {replies : List Reply} → RunCalls I a ops replies b

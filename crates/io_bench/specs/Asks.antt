@@ -86,9 +86,8 @@ AskStep (Exact len) left after = after ≡ drop len left
 
 -- whether an ask meets the end, with this many bytes to come
 abbrev pub meets_end : Ask → ℕ → Bool
-meets_end (Read len) all = nat_lt all 1
-meets_end (Fill most) all = nat_lt all 1
 meets_end (Exact len) all = nat_lt all len
+meets_end _ all = nat_lt all 1
 
 -- one step for each ask; `ends` of them meet the end
 abbrev pub Steps : List Ask → List ℕ → List ℕ → ℕ → Type 0

@@ -1,5 +1,6 @@
 -- The bytes and the flushes of a list of calls.
-use Rattle.std.specs.Prelude.{ℕ, ◌+◌, List, [], ◌∷◌, ◌++◌}
+use Rattle.std.specs.Prelude.{ℕ, ◌+◌, List, [], ◌∷◌}
+use Rattle.std.specs.List.{flat_map}
 use Rattle.io_bench.specs.declared.runs.Op.{Op}
 use Rattle.io_bench.specs.declared.runs.Op.TheVariants.{Write, WriteAll, Flush}
 
@@ -11,14 +12,12 @@ op_bytes Flush = []
 
 -- the bytes of all calls
 abbrev pub given_bytes : List Op → List ℕ
-given_bytes [] = []
-given_bytes (op ∷ ops) = op_bytes op ++ given_bytes ops
+given_bytes ops = flat_map op_bytes ops
 
 -- 1 for a flush, and 0 for any other call
 abbrev pub op_flushes : Op → ℕ
-op_flushes (Write x) = 0
-op_flushes (WriteAll x) = 0
 op_flushes Flush = 1
+op_flushes _ = 0
 
 -- how many calls are `Flush`
 abbrev pub flushes : List Op → ℕ

@@ -3,6 +3,7 @@ use Rattle.no_std_io2.specs.Writers.{CallOf}
 use Rattle.std.specs.Prelude.{◌≡◌, Some, None, Option, List, [], ◌∷◌, ◌++◌, drop, if◌then◌else◌, ◌==◌, ℕ, ◌+◌, ◌<◌}
 use Rattle.std.specs.Prelude.{count_by, take, Result, Ok}
 use Rattle.std.specs.Option.{option_map}
+use Rattle.std.specs.List.{flat_map}
 use Rattle.no_std_io2.specs.declared.io.Error.{Error}
 use Rattle.no_std_io2.specs.declared.io.ErrorKind.{ErrorKind}
 use Rattle.no_std_io2.specs.declared.io.ErrorKind.TheVariants.{WriteZero}
@@ -41,10 +42,8 @@ WritesBehind I (Some (Fail kind)) old x reply new = FailsWith kind reply × (new
 
 -- A `flush` with this act: it is passed on, or fails.
 abbrev pub FlushesBehind : {W : Type 0} → Writer W → Option Act → W → Result (Unit {0}) Error → W → Type 0
-FlushesBehind I None old reply new = CallOf I old (Flushed reply) new
-FlushesBehind I (Some (Take n)) old reply new = CallOf I old (Flushed reply) new
-FlushesBehind I (Some Zero) old reply new = CallOf I old (Flushed reply) new
 FlushesBehind I (Some (Fail kind)) old reply new = FailsWith kind reply × (new ≡ old)
+FlushesBehind I _ old reply new = CallOf I old (Flushed reply) new
 
 -- what one call does: it uses up an act, and does what the act says
 abbrev pub FaultyMay : {W : Type 0} → Writer W → Faulty W → WriteCall → Faulty W → Type 0
@@ -62,8 +61,7 @@ act_mishap (Fail kind) = kind ∷ []
 
 -- the mishaps of these acts
 abbrev pub act_mishaps : List Act → List ErrorKind
-act_mishaps [] = []
-act_mishaps (act ∷ acts) = act_mishap act ++ act_mishaps acts
+act_mishaps acts = flat_map act_mishap acts
 
 -- what is told with these acts in front of a writer: their mishaps are added, and a turn for each act that interrupts
 abbrev pub with_acts : Told → List Act → Told

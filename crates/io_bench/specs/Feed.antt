@@ -1,5 +1,5 @@
 -- What a `Feed` tells, and what its reads do.
-use Rattle.std.specs.Prelude.{◌≡◌, ℕ, List, [], ◌∷◌, take, drop, length, min, nat_lt, if◌then◌else◌, Option, Some, None, Result, Ok, Err}
+use Rattle.std.specs.Prelude.{◌≡◌, ℕ, List, [], ◌∷◌, map, take, drop, length, min, nat_lt, if◌then◌else◌, Option, Some, None, Result, Ok, Err}
 use Rattle.no_std_io2.specs.declared.io.Error.{Error}
 use Rattle.no_std_io2.specs.declared.io.ErrorKind.{ErrorKind}
 use Rattle.no_std_io2.specs.Errors.{error_of}
@@ -16,20 +16,17 @@ event_to_come (Fail kind) = fails (error_of kind)
 
 -- the events of a reader for these events of the script
 abbrev pub all_to_come : List Event → List ToCome
-all_to_come [] = []
-all_to_come (event ∷ events) = event_to_come event ∷ all_to_come events
+all_to_come events = map event_to_come events
 
 -- the bytes before the first failure
 abbrev pub leading_bytes : List Event → List ℕ
-leading_bytes [] = []
 leading_bytes (Byte b ∷ events) = b ∷ leading_bytes events
-leading_bytes (Fail kind ∷ events) = []
+leading_bytes _ = []
 
 -- the first event, if it is a failure
 abbrev pub first_failure : List Event → Option ErrorKind
-first_failure [] = None
-first_failure (Byte b ∷ events) = None
 first_failure (Fail kind ∷ events) = Some kind
+first_failure _ = None
 
 -- `f.left()`
 abbrev pub feed_left : Feed → List Event

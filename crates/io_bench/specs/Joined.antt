@@ -1,5 +1,6 @@
 -- The bytes that a run accepted, if its replies determine them.
 use Rattle.std.specs.Prelude.{◌≡◌, ◌⊎◌, ℕ, ◌≤◌, List, [], ◌∷◌, length, ⊤}
+use Rattle.std.specs.List.{AllZip}
 use Rattle.io_bench.specs.declared.runs.Op.{Op}
 use Rattle.io_bench.specs.declared.runs.Op.TheVariants.{Write, WriteAll, Flush}
 use Rattle.io_bench.specs.declared.runs.Reply.{Reply}
@@ -13,17 +14,11 @@ IsClear (Write x) (Failed e) = ⊤
 IsClear (WriteAll x) Done = ⊤
 IsClear Flush Done = ⊤
 IsClear Flush (Failed e) = ⊤
-IsClear (Write x) Done = ⊥
-IsClear (WriteAll x) (Took n) = ⊥
-IsClear (WriteAll x) (Failed e) = ⊥
-IsClear Flush (Took n) = ⊥
+IsClear _ _ = ⊥
 
 -- each call has one reply, and each says what was accepted
 abbrev pub AreClear : List Op → List Reply → Type 0
-AreClear [] [] = ⊤
-AreClear (op ∷ ops) (reply ∷ replies) = IsClear op reply × AreClear ops replies
-AreClear [] (reply ∷ replies) = ⊥
-AreClear (op ∷ ops) [] = ⊥
+AreClear ops replies = AllZip IsClear ops replies
 
 -- a run with these replies accepted these bytes, and no other bytes fit these replies
 abbrev pub IsJoined : List Op → List Reply → List ℕ → Type 0
@@ -32,13 +27,9 @@ IsJoined ops replies bytes = Run ops replies bytes × ((other : List ℕ) → Ru
 -- a `write_all` of no bytes failed: only of such a failed `write_all` it is known what it accepted
 abbrev pub IsIdleFailure : Op → Reply → Type 0
 IsIdleFailure (WriteAll x) (Failed e) = x.now ≡ []
-IsIdleFailure (WriteAll x) (Took n) = ⊥
-IsIdleFailure (WriteAll x) Done = ⊥
-IsIdleFailure (Write x) reply = ⊥
-IsIdleFailure Flush reply = ⊥
+IsIdleFailure _ _ = ⊥
 
 -- some call of the run was one
 abbrev pub HasIdleFailure : List Op → List Reply → Type 0
-HasIdleFailure [] replies = ⊥
-HasIdleFailure (op ∷ ops) [] = ⊥
 HasIdleFailure (op ∷ ops) (reply ∷ replies) = IsIdleFailure op reply ⊎ HasIdleFailure ops replies
+HasIdleFailure _ _ = ⊥

@@ -2,6 +2,7 @@
 use Rattle.no_std_io2.specs.Writers.{CallOf}
 use Rattle.std.specs.Prelude.{◌≡◌, ℕ, ◌+◌, ◌≤◌, ◌==◌, ◌&&◌, nat_lt, Bool, true, false, if◌then◌else◌, List, [], ◌∷◌}
 use Rattle.std.specs.Prelude.{◌++◌, length, take, count_by, ⊤, Option, None, Some, Ok, Err}
+use Rattle.std.specs.List.{AllZip}
 use Rattle.no_std_io2.specs.declared.io.ErrorKind.{ErrorKind}
 use Rattle.no_std_io2.specs.Errors.{error_kind, kind_number}
 use Rattle.no_std_io2.specs.Write.{Told, Moves, IsFront, zero_write, WriteCall, Wrote, Flushed, Made, AllCalls}
@@ -20,9 +21,7 @@ Accepts (WriteAll x) (Failed e) accepted = IsFront accepted x.now
 Accepts Flush Done accepted = accepted ≡ []
 Accepts Flush (Failed e) accepted = accepted ≡ []
 -- there is no other reply
-Accepts (Write x) Done accepted = ⊥
-Accepts (WriteAll x) (Took n) accepted = ⊥
-Accepts Flush (Took n) accepted = ⊥
+Accepts _ _ accepted = ⊥
 
 -- the calls that a call of the run makes of the writer: its own, with the result that the reply says
 abbrev pub OpCalls : Op → Reply → List WriteCall → Type 0
@@ -33,17 +32,14 @@ OpCalls (WriteAll x) (Failed e) calls = AllCalls calls x.now (Err e)
 OpCalls Flush Done calls = calls ≡ Flushed (Ok tt) ∷ []
 OpCalls Flush (Failed e) calls = calls ≡ Flushed (Err e) ∷ []
 -- there is no other reply
-OpCalls (Write x) Done calls = ⊥
-OpCalls (WriteAll x) (Took n) calls = ⊥
-OpCalls Flush (Took n) calls = ⊥
+OpCalls _ _ calls = ⊥
 
 -- the lists are equally long, and `whole` is the lists that each call and its reply give, joined
 abbrev pub JoinsEach : {A : Type 0} → (Op → Reply → List A → Type 0) → List Op → List Reply → List A → Type 0
 JoinsEach gives [] [] whole = whole ≡ []
 JoinsEach {A} gives (op ∷ ops) (reply ∷ replies) whole =
     (first : List A) × (rest : List A) × gives op reply first × JoinsEach gives ops replies rest × (whole ≡ first ++ rest)
-JoinsEach gives [] (reply ∷ replies) whole = ⊥
-JoinsEach gives (op ∷ ops) [] whole = ⊥
+JoinsEach gives _ _ whole = ⊥
 
 -- `accepted` are the bytes that the calls accepted by their replies, joined
 abbrev pub Run : List Op → List Reply → List ℕ → Type 0
@@ -67,16 +63,13 @@ pub record RunBelow {W : Type 0} (I : Writer W) (tower : List WriteCall → List
 -- the mishap that a reply counts as, if it is one
 abbrev pub mishap_of : Op → Reply → List ErrorKind
 mishap_of (Write x) (Took n) = zero_write n x.now
-mishap_of (WriteAll x) (Took n) = []
-mishap_of Flush (Took n) = []
-mishap_of op Done = []
 mishap_of op (Failed e) = error_kind e ∷ []
+mishap_of _ _ = []
 
 -- the mishaps of a run, in order
 abbrev pub mishaps_of : List Op → List Reply → List ErrorKind
-mishaps_of [] replies = []
-mishaps_of (op ∷ ops) [] = []
 mishaps_of (op ∷ ops) (reply ∷ replies) = mishap_of op reply ++ mishaps_of ops replies
+mishaps_of _ _ = []
 
 -- calls in a row and their replies, from old to new
 pub record Ran (old : Told) (ops : List Op) (replies : List Reply) (new : Told) : Type 0 where
@@ -87,16 +80,13 @@ pub record Ran (old : Told) (ops : List Op) (replies : List Reply) (new : Told) 
 -- whether a call failed: with an error, or because a write took none of its bytes
 abbrev pub is_failure : Op → Reply → Bool
 is_failure (Write x) (Took n) = (n == 0) && nat_lt 0 (length x.now)
-is_failure (WriteAll x) (Took n) = false
-is_failure Flush (Took n) = false
-is_failure op Done = false
 is_failure op (Failed e) = true
+is_failure _ _ = false
 
 -- how many calls failed
 abbrev pub failures : List Op → List Reply → ℕ
-failures [] replies = 0
-failures (op ∷ ops) [] = 0
 failures (op ∷ ops) (reply ∷ replies) = (if is_failure op reply then 1 else 0) + failures ops replies
+failures _ _ = 0
 
 -- how many of these kinds are this one
 abbrev pub count_of : ErrorKind → List ErrorKind → ℕ
@@ -121,35 +111,24 @@ HasFewer kind n (Some old) (Some new) = count_of kind new + n ≤ count_of kind 
 -- a flush that succeeded
 abbrev pub IsFlushed : Op → Reply → Type 0
 IsFlushed Flush Done = ⊤
-IsFlushed Flush (Took n) = ⊥
-IsFlushed Flush (Failed e) = ⊥
-IsFlushed (Write x) reply = ⊥
-IsFlushed (WriteAll x) reply = ⊥
+IsFlushed _ _ = ⊥
 
 -- the last call was a flush that succeeded
 abbrev pub EndsFlushed : List Op → List Reply → Type 0
-EndsFlushed [] replies = ⊥
-EndsFlushed (op ∷ ops) [] = ⊥
 EndsFlushed (op ∷ []) (reply ∷ []) = IsFlushed op reply
-EndsFlushed (op ∷ []) (reply ∷ next ∷ replies) = ⊥
 EndsFlushed (op ∷ next ∷ ops) (reply ∷ replies) = EndsFlushed (next ∷ ops) replies
+EndsFlushed _ _ = ⊥
 
 -- the call succeeded and accepted all its bytes
 abbrev pub IsWhole : Op → Reply → Type 0
 IsWhole (Write x) (Took n) = n ≡ length x.now
 IsWhole (WriteAll x) Done = ⊤
 IsWhole Flush Done = ⊤
-IsWhole (Write x) Done = ⊥
-IsWhole (WriteAll x) (Took n) = ⊥
-IsWhole Flush (Took n) = ⊥
-IsWhole op (Failed e) = ⊥
+IsWhole _ _ = ⊥
 
 -- each call has one reply, and each is whole
 abbrev pub AreWhole : List Op → List Reply → Type 0
-AreWhole [] [] = ⊤
-AreWhole (op ∷ ops) (reply ∷ replies) = IsWhole op reply × AreWhole ops replies
-AreWhole [] (reply ∷ replies) = ⊥
-AreWhole (op ∷ ops) [] = ⊥
+AreWhole ops replies = AllZip IsWhole ops replies
 
 -- one call and its reply, from old to new
 pub record CallReplies (old : Told) (op : Op) (reply : Reply) (new : Told) : Type 0 where

@@ -1,14 +1,16 @@
-use Rattle.std.proofs.Common.{arith, refl}
-use Rattle.io_bench.specs.Joined.{AreClear}
-use Rattle.io_bench.proofs.JoinedLemmas.{clear_next, all_through, clear_at, clear_length}
+use Rattle.std.proofs.Common.{arith, refl, sym}
+use Rattle.std.proofs.lemmas.Slice.Zip.{AllZip-long}
+use Rattle.io_bench.specs.Joined.{IsClear, AreClear}
+use Rattle.io_bench.proofs.RunLemmas.{AllZip-more}
+use Rattle.io_bench.proofs.JoinedLemmas.{one_more, all_through, clear_at}
 use Rattle.io_bench.proofs.accepted.are_clear.Goals as goal
 
 pub returns-then-ops-replies-clause-no : goal.returns-then-ops-replies-clause-no
-returns-then-ops-replies-clause-no c e clear = absurd (c.if-ops-replies.true (clear_length _ _ clear))
+returns-then-ops-replies-clause-no c e clear = absurd (c.if-ops-replies.true (sym (AllZip-long _ _ _ clear)))
 
 pub calls-preserved : goal.calls-preserved
-calls-preserved c =
-    clear_next _ _ _ _ c.calls-test.true (omega (arith, c.if-ops-replies.false)) c.calls.invariant c.in-Some.ensures.some.0
+calls-preserved c = one_more AreClear _ _ _ _ c.calls-test.true (omega (arith, c.if-ops-replies.false))
+    (AllZip-more IsClear _ _ _ _ c.calls.invariant c.in-Some.ensures.some.0)
 
 pub returns-in_default-clause-no : goal.returns-in_default-clause-no
 returns-in_default-clause-no c e clear = absurd (c.in_default.ensures.none refl (clear_at _ _ _ _ _ c.calls-test.true clear))

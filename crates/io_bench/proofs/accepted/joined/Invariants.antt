@@ -1,7 +1,7 @@
--- The bytes so far are what the calls so far accepted, and no others.
+-- The bytes so far are what the calls so far accepted.
 use Rattle.std.proofs.Common.{take}
-use Rattle.io_bench.specs.Joined.{IsJoined}
+use Rattle.io_bench.specs.Runs.{Run}
 use Rattle.io_bench.proofs.accepted.joined.Given as goal
 
 abbrev pub invariant-calls : goal.invariant-calls
-invariant-calls l = IsJoined (take l.i l.ops) (take l.i l.replies) l.bytes.items
+invariant-calls l = Run (take l.i l.ops) (take l.i l.replies) l.bytes.items

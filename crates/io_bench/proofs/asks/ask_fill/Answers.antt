@@ -1,7 +1,6 @@
-use Rattle.std.proofs.Common.{◌≡◌, min, length, Ok, Err, arith, refl}
+use Rattle.std.proofs.Common.{◌≡◌, min, length, Ok, Err, ap, arith, refl}
 use Rattle.std.proofs.lemmas.Result.{err_from_is_err_and}
 use Rattle.no_std_io2.proofs.PieceLoop.{filled_law}
-use Rattle.io_bench.proofs.AskLemmas.{consumed_by}
 use Rattle.io_bench.proofs.asks.ask_fill.Goals as goal
 
 pub returns-in_err-lent : goal.returns-in_err-lent
@@ -14,4 +13,5 @@ pub returns : goal.returns
 returns g c =
     let filled = filled_law c.in_ok-lent.was c.fill_buf.ensures.law c.fill_buf.follows.holds-at-none in
     let all : c.min.result ≡ min c.args.most (length c.in_ok-lent.field-0.now) = omega (arith, c.min.ensures) in
-    (Ok c.in_ok-lent.field-0.now, refl, (_, filled, (_, consumed_by c.args.most filled all c.consume.ensures.law, refl)))
+    let within = ap length filled.lends in
+    (Ok c.in_ok-lent.field-0.now, refl, (_, filled, (_, (omega arith, rw all at c.consume.ensures.law), refl)))

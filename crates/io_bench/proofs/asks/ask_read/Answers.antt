@@ -3,7 +3,6 @@ use Rattle.std.proofs.lemmas.Bool.Decides.{nat_tests}
 use Rattle.std.proofs.lemmas.Result.{err_from_is_err_and}
 use Rattle.no_std_io2.specs.BufReader.{reader_held}
 use Rattle.no_std_io2.proofs.TakesLemmas.{read_law}
-use Rattle.io_bench.proofs.AskLemmas.{gave_into}
 use Rattle.io_bench.proofs.asks.ask_read.Goals.{then-n-eq0, else-n-eq0}
 use Rattle.io_bench.proofs.asks.ask_read.Goals as goal
 
@@ -12,7 +11,7 @@ returns-in_err-n g c =
     let e = c.in_err-n.field-0.0 in
     let p = err_from_is_err_and c.from_residual.result c.from_residual.ensures.1 in
     let law = read_law (Err e) c.in_err-n.ensures.law in
-    rw (p.1, p.2) (Err e, refl, gave_into c.read.auto.buf law)
+    rw (p.1, p.2) (Err e, refl, rw c.read.auto.buf at law)
 
 pub returns : goal.returns
 returns g c =
@@ -24,4 +23,4 @@ returns g c =
       | then-n-eq0 w ↦ grind (arith, nat_tests, long, w.result-is, w.if-n-eq0, w.is_empty.ensures, ap length w.buffer.ensures.value)
       | else-n-eq0 w ↦ grind (arith, nat_tests, long, w.result-is, w.if-n-eq0)
     ] in
-    (Ok x, ap Ok ends, gave_into c.read.auto.buf law)
+    (Ok x, ap Ok ends, rw c.read.auto.buf at law)

@@ -1,8 +1,9 @@
 use Rattle.std.proofs.lemmas.Grind.{common_steps}
-use Rattle.std.proofs.Common.{Bool, true, false, Ok, Err, if◌then◌else◌, ◌≡◌, get_or, arith, refl, ◌∙◌}
+use Rattle.std.proofs.Common.{Bool, true, false, Ok, Err, if◌then◌else◌, ◌≡◌, get_or, take_all, arith, refl, ◌∙◌}
+use Rattle.std.proofs.lemmas.List.{take_more}
 use Rattle.io_bench.specs.declared.asks.Ask.TheVariants.{Read}
 use Rattle.no_std_io2.proofs.Readers.{reader}
-use Rattle.io_bench.proofs.AskLemmas.{fits_at, came_more, came_all, came_takes}
+use Rattle.io_bench.proofs.AskLemmas.{fits_at, came_then, came_takes}
 use Rattle.no_std_io2.proofs.BufReaderCalls.{buf_lender}
 use Rattle.io_bench.proofs.AskSteps.{run_went, few_reads}
 use mir.Val.{bool_byte}
@@ -27,8 +28,8 @@ asks-preserved g c =
       long = omega (arith, call.len, before.long);
       at_end = grind (arith, before.at_end, ends);
       failed = omega (arith, before.failed);
-      came = came_more (buf_lender (reader g.R.Stored g.R.Read)) c.args.asks.now c.asks.ask-index (Read 0) (Ok c.in-Ok.is_end) _ _ _ _ _
-          (omega arith) before.came call.answered (omega (arith, ends)) (omega arith);
+      came = rw (take_more c.args.asks.now c.asks.ask-index (Read 0) (omega arith)) (came_then (buf_lender (reader g.R.Stored g.R.Read))
+          _ _ (Ok c.in-Ok.is_end) _ _ _ _ _ before.came call.answered (omega (arith, ends)) (omega arith));
     }
 
 pub asks-preserved-in_default : goal.asks-preserved-in_default
@@ -39,14 +40,14 @@ asks-preserved-in_default g c =
       long = omega (arith, call.len, before.long);
       at_end = omega (arith, before.at_end);
       failed = omega (arith, before.failed);
-      came = came_more (buf_lender (reader g.R.Stored g.R.Read)) c.args.asks.now c.asks.ask-index (Read 0) (Err c.in_default.field-0)
-          _ _ _ _ _ (omega arith) before.came call.answered (omega arith) (omega arith);
+      came = rw (take_more c.args.asks.now c.asks.ask-index (Read 0) (omega arith)) (came_then (buf_lender (reader g.R.Stored g.R.Read))
+          _ _ (Err c.in_default.field-0) _ _ _ _ _ before.came call.answered (omega arith) (omega arith));
     }
 
 pub returns : goal.returns
 returns g c =
     let R = reader g.R.Stored g.R.Read in
-    let all = came_all (buf_lender R) c.args.asks.now c.asks.ask-index _ _ _ _ (omega arith) c.asks.invariant.came in
+    let all = rw (take_all c.asks.ask-index c.args.asks.now (omega arith)) at c.asks.invariant.came in
     let start = c.args.r.now in
     record {
       came_to = all;
