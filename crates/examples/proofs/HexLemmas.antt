@@ -1,25 +1,18 @@
 -- What a writer in hexadecimal wrote, one call after another.
-use Rattle.std.proofs.Common.{◌≡◌, ℕ, ◌/◌, ◌%◌, ◌≤◌, List, [], ◌∷◌, ◌++◌, take, Option, Some, None, Ok, refl, sym, ap, subst, ◌∙◌}
-use Rattle.std.proofs.Common.{arith}
-use Rattle.std.proofs.Common.{append_assoc, append-nil}
+use Rattle.std.proofs.Common.{◌≡◌, ℕ, ◌/◌, ◌≤◌, List, [], ◌∷◌, ◌++◌, take, Option, Some, None, Ok, sym, ap, subst, ◌∙◌, arith, append_assoc}
+use Rattle.std.proofs.Common.{append-nil}
+use Rattle.std.proofs.lemmas.Grind.{common_steps}
 use Rattle.std.specs.Option.{option_to_list}
 use Rattle.no_std_io2.specs.Write.{Told, Moves, CallAdds, WroteAll, Flushed, zero_write}
 use Rattle.no_std_io2.proofs.CallsAdd.{Joins}
 use Rattle.examples.specs.declared.hex.Hex.{Hex}
 use Rattle.examples.specs.Hex.{digit, hex, half, owed, hex_told, written, Encodes}
 
--- bytes joined have their digits joined
-hex-append : (x y : List ℕ) → hex (x ++ y) ≡ hex x ++ hex y
-hex-append [] y = refl
-hex-append (b ∷ x) y = ap (λ l. digit (b / 16) ∷ digit (b % 16) ∷ l) (hex-append x y)
-
--- so have those that were written one after another
+-- bytes that were written one after another have their digits joined
 pub encodes_join : {W : Type 0} (told : W → Told) → Joins (Encodes told)
 encodes_join told = record {
   none = λ a. sym (append-nil (written told a));
-  more = λ a b c x y first next.
-      next ∙ ap (λ l. l ++ hex y) first ∙ append_assoc (written told a) (hex x) (hex y)
-      ∙ ap (λ l. written told a ++ l) (sym (hex-append x y));
+  more = λ a b c x y first next. grind (arith, common_steps, first, next);
 }
 
 -- The first digit of a byte was written.
@@ -37,28 +30,19 @@ writes_half {told = told} old new b d n none some same first took within moves =
     one = omega (arith, within, took)
 
     whole : Moves (told old.inner) (d ∷ []) [] (told new.inner) → WritesHalf told old b new
-    whole m =
-        let before = (told old.inner).out ++ (told old.inner).held in
-        let now = (told new.inner).out ++ (told new.inner).held in
-        record {
-          moves = record {
-            front = ([], same ∙ sym (append-nil old.whole.bytes));
-            bytes = ap (λ l. l ++ option_to_list new.half) same ∙ ap (λ o. old.whole.bytes ++ option_to_list o) some
-                ∙ ap (λ l. l ++ b ∷ [])
-                (sym (append-nil old.whole.bytes) ∙ ap (λ o. old.whole.bytes ++ option_to_list o) (sym none));
-            mishaps = m.mishaps;
-            turns = m.turns;
-          };
-          encodes = ap (λ o. now ++ owed o) some ∙ ap (λ l. l ++ digit (b % 16) ∷ []) m.bytes
-              ∙ append_assoc before (d ∷ []) (digit (b % 16) ∷ []) ∙ ap (λ k. before ++ k ∷ digit (b % 16) ∷ []) first
-              ∙ ap (λ l. l ++ digit (b / 16) ∷ digit (b % 16) ∷ [])
-              (sym (append-nil before) ∙ ap (λ o. before ++ owed o) (sym none));
-        }
+    whole m = record {
+      moves = record {
+        front = ([], same ∙ sym (append-nil old.whole.bytes));
+        bytes = rw (none, some, same, append-nil);
+        mishaps = m.mishaps;
+        turns = m.turns;
+      };
+      encodes = rw (some, none, ← append_assoc, m.bytes, first) (simp (append_assoc, append-nil));
+    }
 
 -- nothing is owed
 none_held : (o : Option ℕ) → option_to_list o ≡ [] → owed o ≡ []
-none_held None none = refl
-none_held (Some b) none = absurd (let no : ⊥ = cc in no)
+none_held o none = grind (arith, common_steps)
 
 -- all was written, and no digit is owed
 pub hexed : {W : Type 0} (told : W → Told) (old mid new : Hex W) (x : List ℕ) → half old ≡ None

@@ -1,5 +1,6 @@
 -- What a writer in hexadecimal tells and passes on.
 use Rattle.std.specs.Prelude.{◌≡◌, ℕ, ◌+◌, ◌/◌, ◌%◌, nat_lt, if◌then◌else◌, List, [], ◌∷◌, ◌++◌, Option, None, Some}
+use Rattle.std.specs.List.{flat_map}
 use Rattle.std.specs.Option.{option_to_list}
 use Rattle.no_std_io2.specs.Write.{Told}
 use Rattle.examples.specs.declared.hex.Hex.{Hex}
@@ -10,8 +11,7 @@ digit n = if nat_lt n 10 then 48 + n else 87 + n
 
 -- two digits for each byte
 abbrev pub hex : List ℕ → List ℕ
-hex [] = []
-hex (b ∷ bs) = digit (b / 16) ∷ digit (b % 16) ∷ hex bs
+hex bytes = flat_map (λ b. digit (b / 16) ∷ digit (b % 16) ∷ []) bytes
 
 -- the inner writer
 abbrev pub hex_inner : {W : Type 0} → Hex W → W

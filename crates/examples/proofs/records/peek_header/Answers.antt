@@ -24,8 +24,8 @@ returns g c =
           let deep = given_behind 2 (reader_behind r) (reader_held r) _ _ held.0 enough held.2 in
           let moved = back.own.within (omega (arith, deep)) in
           let same = stepped_back 2 (reader_behind r) (reader_held r) held.0 enough held.1 held.2 moved.2.0 moved.2.1 in
-          (items ∙ held.0, (same.1, same.0), moved.1 ∙ held.3);
-      told = rw items (header_told buf read.law.takes given long);
+          (items ∙ held.0, same, moved.1 ∙ held.3);
+      told = rw items (header_told 2 buf read.law.takes given long);
       steps_back = rw items (⊎_elim
           (λ few. inr (mid, read.law, back.own.far (λ near. omega (arith, near, few))))
           (λ enough.
