@@ -1,6 +1,7 @@
 -- What a reader of frames takes of bytes.
 use Rattle.std.proofs.Common.{◌≡◌, ◌⊎◌, ℕ, ◌+◌, ◌<◌, ◌≤◌, List, [], ◌∷◌, ◌++◌, length, take, Option, None, Some, IfSome, Result, Ok, Err}
 use Rattle.std.proofs.Common.{refl, sym, ap, subst, ◌∙◌, inl, inr, true≢false, drop, arith, append_assoc, append-nil, length-append}
+use Rattle.std.proofs.lemmas.Grind.{common_steps}
 use Rattle.std.specs.Int.{w32, from_le_bytes, to_le_bytes}
 use Rattle.std.proofs.Math.Seq.{drop-append_seam}
 use Rattle.std.proofs.lemmas.List.{take-append-le, length-take-le}
@@ -24,8 +25,7 @@ pub record Left {R : Type 0} {S : ℕ} (I : Reader R) (bs : List ℕ) (P : List 
 
 -- with nothing seen, what is to come is to come below
 below : (seen : List ℕ) (E : Option (List Event)) {F : List Event} → seen ≡ [] → behind_held seen E ≡ Some F → E ≡ Some F
-below seen None none is = is
-below seen (Some E) none is = ap (λ l. Some (events_of l ++ E)) (sym none) ∙ is
+below seen E none is = grind (arith, common_steps)
 
 frame_left : {R : Type 0} {S : ℕ} {I : Reader R} {old new : FrameReader R S} {room room' : List ℕ} (bs : List ℕ)
     (reply : Result (Option ℕ) Error) → frame_to_come I old room ≡ Some (events_of bs) → seen_bytes old room ≡ []
@@ -42,8 +42,7 @@ frame_left {I = I} {old} {new} {room} {room'} bs reply is none law =
       left = E;
       told = told;
       events = taken;
-      order =
-          sym (bytes-events_of bs) ∙ ap bytes taken ∙ bytes-append law.taken E
+      order = simp (bytes-append, bytes-events_of) at (ap bytes taken)
           ∙ ap (λ l. l ++ bytes E) (ap (λ l. l ++ bytes law.taken) (sym none) ∙ law.order)
           ∙ append_assoc (given_frame reply room') (seen_bytes new room') (bytes E);
     }
@@ -54,8 +53,7 @@ at_end : {R : Type 0} {S : ℕ} {I : Reader R} {bs : List ℕ} {P : List Event} 
     → bs ≡ given_frame reply room' ++ seen_bytes new room'
 at_end reply new room' left end =
     let nothing : left.left ≡ [] = subst (λ o. IfSome o (λ l. l ≡ [])) left.told end in
-    left.order ∙ ap (λ l. given_frame reply room' ++ (seen_bytes new room' ++ bytes l)) nothing
-    ∙ ap (λ l. given_frame reply room' ++ l) (append-nil (seen_bytes new room'))
+    simp append-nil at (rw nothing at left.order)
 
 module _ {R : Type 0} {S : ℕ} {I : Reader R} {old new : FrameReader R S} {room room' : List ℕ} (bs : List ℕ)
     (is : frame_to_come I old room ≡ Some (events_of bs)) (none : seen_bytes old room ≡ []) where

@@ -1,8 +1,7 @@
 -- What a sending leaves.
 use Rattle.std.proofs.lemmas.Grind.{common_steps}
 use Rattle.std.proofs.Common.{◌≡◌, ℕ, ◌+◌, ◌-◌, ◌<◌, ◌⊎◌, List, [], ◌++◌, length, drop, Result, Ok, Err, OnOk, sym, ap, ◌∙◌, subst, inl}
-use Rattle.std.proofs.Common.{inr}
-use Rattle.std.proofs.Common.{arith, refl, append_assoc, length-append, min, take, ◌∷◌}
+use Rattle.std.proofs.Common.{inr, arith, refl, append_assoc, length-append, min, take, ◌∷◌}
 use Rattle.std.proofs.lemmas.List.{length-take}
 use Rattle.no_std_io2.specs.declared.io.Error.{Error}
 use Rattle.no_std_io2.specs.Write.{Told, IsFront, WriteCall, Made, CallLaw, Writes, took, again, stuck, fault}

@@ -1,8 +1,7 @@
 -- The text of one value more.
 use Rattle.std.proofs.Common.{◌≡◌, ℕ, ◌+◌, ◌<◌, List, [], ◌∷◌, ◌++◌, length, take, slice_index, sym, ap, ◌∙◌, arith, zero, suc}
-use Rattle.std.proofs.Common.{append_assoc}
+use Rattle.std.proofs.Common.{append_assoc, Result, Ok, Err, OnOk, IsErrAnd, ◌⊎◌, inl, inr, subst}
 use Rattle.std.proofs.lemmas.Grind.{common_steps}
-use Rattle.std.proofs.Common.{Result, Ok, Err, OnOk, IsErrAnd, ◌⊎◌, inl, inr, subst}
 use Rattle.no_std_io2.specs.declared.io.Error.{Error}
 use Rattle.no_std_io2.specs.Text.{IsTextError}
 use Rattle.no_std_io2.specs.Write.{Told, Moves, MovesFront, call_mishap}
@@ -11,26 +10,20 @@ use Rattle.bare.specs.Report.{texts_from}
 
 pub texts_more : (text : ℕ → ℕ → List ℕ) (i : ℕ) (xs : List ℕ) (k j : ℕ) → k < length xs → j ≡ i + k
     → texts_from text i (take (k + 1) xs) ≡ texts_from text i (take k xs) ++ text j (slice_index xs k)
-texts_more text i [] k j within at = absurd (omega (arith, within))
 texts_more text i (x ∷ xs) zero j within at = grind (arith, common_steps)
 texts_more text i (x ∷ xs) (suc k) j within at =
     let rest = texts_more text (i + 1) xs k j (omega (arith, within)) (omega (arith, at)) in
     ap (λ n. texts_from text i (take n (x ∷ xs))) (let one : suc k + 1 ≡ suc (k + 1) = omega arith in one)
     ∙ ap (λ l. text i x ++ l) rest ∙ sym (append_assoc (text i x) (texts_from text (i + 1) (take k xs)) _)
+texts_more text i _ k j within at = grind arith
 
 -- a front of the texts was printed, and then the next text
 pub printed_more : (text : ℕ → ℕ → List ℕ) (xs : List ℕ) (k : ℕ) {a b c : Told} {r : Result (Unit {0}) Error} {u : Unit {0}} → k < length xs
     → r ≡ Ok u → Moves a (texts_from text 0 (take k xs)) [] b
     → MovesFront b (text k (slice_index xs k)) r c ⊎ IsErrAnd r IsTextError → Moves a (texts_from text 0 (take (k + 1) xs)) [] c
-printed_more text xs k {a = a} {b = b} {c = c} {u = u} within is so_far printed =
-    subst (λ l. Moves a l [] c) (sym (texts_more text 0 xs k k within (omega arith)))
-    (Moves-then so_far (MovesFront-whole (text k (slice_index xs k)) u
-    (whole (subst (λ r. MovesFront b (text k (slice_index xs k)) r c ⊎ IsErrAnd r IsTextError) is printed))))
-  where
-    whole : MovesFront b (text k (slice_index xs k)) (Ok u) c ⊎ IsErrAnd {T = Unit {0}} (Ok u) IsTextError
-        → MovesFront b (text k (slice_index xs k)) (Ok u) c
-    whole (inl next) = next
-    whole (inr failed) = absurd failed
+printed_more text xs k {u = u} within is so_far (inl next) =
+    rw (texts_more text 0 xs k k within (omega arith)) (Moves-then so_far (MovesFront-whole (text k (slice_index xs k)) u (rw is at next)))
+printed_more text xs k within is so_far (inr failed) = absurd (rw is at failed)
 
 -- all texts were printed, and then the writer was flushed
 pub printed_all : (text : ℕ → ℕ → List ℕ) (xs : List ℕ) (k : ℕ) {a b c : Told} (r : Result (Unit {0}) Error) → take k xs ≡ xs
