@@ -1,15 +1,13 @@
 -- What a call does with its act, and the acts that are left.
-use Rattle.no_std_io2.specs.Writers.{CallOf}
+use Rattle.no_std_io2.specs.Writers.{CallOf, Writer}
 use Rattle.std.proofs.lemmas.Grind.{common_steps}
-use Rattle.std.proofs.Common.{◌≡◌, ℕ, ◌<◌, List, [], ◌∷◌, ◌++◌, drop, Option, None, Some}
-use Rattle.std.proofs.Common.{ap, ◌∙◌, subst, arith, append-nil, ◌≤◌, min, length, take, Result}
-use Rattle.std.proofs.Common.{IfOk, length-take, take-take, take_all}
+use Rattle.std.proofs.Common.{◌≡◌, ℕ, ◌<◌, List, [], ◌∷◌, ◌++◌, drop, Option, None, Some, ap, ◌∙◌, subst, arith, append-nil, ◌≤◌, min}
+use Rattle.std.proofs.Common.{length, take, Result, IfOk, length-take, take-take, take_all}
 use Rattle.no_std_io2.specs.declared.io.Error.{Error}
 use Rattle.no_std_io2.specs.declared.io.ErrorKind.TheVariants.{WriteZero}
 use Rattle.std.specs.Option.{option_map}
 use Rattle.no_std_io2.specs.declared.io.ErrorKind.{ErrorKind}
 use Rattle.no_std_io2.specs.Write.{Told, Moves, HasSpent, taken, write_mishap, zero_write, Wrote}
-use Rattle.no_std_io2.specs.Writers.{Writer}
 use Rattle.no_std_io2.proofs.MovesLemmas.{Moves-refl, Moves-forget, count_by-append}
 use Rattle.io_bench.specs.declared.faulty.Act.{Act}
 use Rattle.io_bench.specs.declared.faulty.Act.TheVariants.{Take}

@@ -1,11 +1,10 @@
 -- Asks in a row.
-use Rattle.std.proofs.Common.{◌≡◌, ℕ, zero, suc, ◌+◌, ◌<◌, ◌≤◌, min, Bool, if◌then◌else◌, List, [], ◌∷◌, ◌++◌, length, take, get_or}
-use Rattle.std.proofs.Common.{Result, Ok, is_err, refl, sym, ap, subst, arith, take_all}
+use Rattle.std.proofs.Common.{◌≡◌, ℕ, zero, suc, ◌+◌, ◌<◌, Bool, if◌then◌else◌, List, [], ◌∷◌, ◌++◌, length, get_or}
+use Rattle.std.proofs.Common.{Result, is_err, refl, sym, subst, arith}
 use Rattle.no_std_io2.specs.declared.io.Error.{Error}
 use Rattle.no_std_io2.specs.Events.{Event}
 use Rattle.no_std_io2.specs.Takes.{Takes}
-use Rattle.no_std_io2.specs.Read.{Reader, GaveLaw, Consumed}
-use Rattle.no_std_io2.specs.BufRead.{Lender, as_reader, lender_tells, FilledLaw, ConsumeLaw, LendCallLaw}
+use Rattle.no_std_io2.specs.BufRead.{Lender, as_reader, lender_tells}
 use Rattle.no_std_io2.proofs.TakesLemmas.{takes_none, takes_then, made_takes, made_lend}
 use Rattle.io_bench.specs.declared.asks.Ask.{Ask}
 use Rattle.io_bench.specs.declared.asks.Ask.TheVariants.{Read, Exact, Fill}

@@ -1,7 +1,6 @@
 -- Asks of a buffer in front of a filling reader: no ask fails, each takes its step, and the inner reads are few.
-use Rattle.std.proofs.Common.{◌≡◌, ℕ, ◌+◌, ◌-◌, ◌/◌, ◌<◌, ◌≤◌, ◌&&◌, min, nat_eq, nat_lt, Bool, true, false, if◌then◌else◌}
-use Rattle.std.proofs.Common.{List, [], ◌∷◌, ◌++◌, length, take, drop, Some, IfSome, is_err, add-zero, Result, Ok, Err}
-use Rattle.std.proofs.Common.{refl, sym, ap, ap₂, subst, ◌∙◌}
+use Rattle.std.proofs.Common.{◌≡◌, ℕ, ◌+◌, ◌-◌, ◌/◌, ◌<◌, ◌≤◌, ◌&&◌, min, nat_eq, nat_lt, Bool, true, false, if◌then◌else◌, List, [], ◌∷◌}
+use Rattle.std.proofs.Common.{◌++◌, length, take, drop, Some, IfSome, is_err, add-zero, Result, Ok, Err, refl, sym, ap, ap₂, subst, ◌∙◌}
 use Rattle.std.proofs.Common.{arith, ⊎_elim, inl, inr, append_assoc, append-nil, length-append, length-drop, length-take-le, le_refl}
 use Rattle.std.proofs.Common.{drop_of_length-le, take-append-drop}
 use Rattle.std.proofs.Math.Seq.{drop-append_seam}
@@ -11,7 +10,7 @@ use Rattle.std.proofs.lemmas.Bool.{cases_lt}
 use Rattle.std.proofs.lemmas.Bool.Decides.{nat_tests}
 use Rattle.no_std_io2.specs.declared.io.Error.{Error}
 use Rattle.no_std_io2.specs.Events.{Event, fails, events_of, bytes}
-use Rattle.no_std_io2.specs.Takes.{Tells, Takes, AreTaken, to_come, IsAtEnd}
+use Rattle.no_std_io2.specs.Takes.{Takes, AreTaken, to_come, IsAtEnd}
 use Rattle.no_std_io2.specs.Read.{Reader, tells, ReadCall, bytes_given, GaveLaw, ReadCallLaw, Gathers, no_read, and_gave, and_again}
 use Rattle.no_std_io2.specs.Read.{ExactCalls}
 use Rattle.no_std_io2.specs.ReadMeter.{FillsRoom, IsReadMeter}
@@ -192,13 +191,14 @@ module _ {R : Type 0} {S : ℕ} (I : Reader R) (fills : FillsRoom I) (start : Bu
   gathers_paid (and_again C x room e before asked interrupted) z a b made paid =
       let parts = made_last (ReadCallLaw (as_reader L)) C a b made in no_error parts.0 b e parts.2.takes
 
-  -- What one ask does.
-  pub record Went (ask : Ask) (z : ℕ) (a : BufReader R S) (answer : Result Bool Error) (b : BufReader R S) : Type 0 where
-    pub is_end : Bool
-    pub is : answer ≡ Ok is_end
-    pub step : AskStep ask (all a) (all b)
-    pub met : is_end ≡ meets_end ask (length (all a))
-    pub paid : Paid (z + (if is_end then 1 else 0)) b
+  -- what one ask does: it does not fail, and meets the end where it has to
+  abbrev Went : Ask → ℕ → BufReader R S → Result Bool Error → BufReader R S → Type 0
+  Went ask z a answer b = (answer ≡ Ok (meets_end ask (length (all a)))) × AskStep ask (all a) (all b)
+      × Paid (z + (if meets_end ask (length (all a)) then 1 else 0)) b
+
+  -- the calls are paid for by an equal count
+  paid_as : (z : ℕ) (b : BufReader R S) {t t' : Bool} → t ≡ t' → Paid (z + (if t then 1 else 0)) b → Paid (z + (if t' then 1 else 0)) b
+  paid_as z b same paid = subst (λ t. Paid (z + (if t then 1 else 0)) b) same paid
 
   -- a `read`
   read_went : (len z : ℕ) (a b : BufReader R S) (reply : Result (List ℕ) Error) (answer : Result Bool Error)
@@ -211,14 +211,11 @@ module _ {R : Type 0} {S : ℕ} (I : Reader R) (fills : FillsRoom I) (start : Bu
       let rest = length-append (reader_held b) (fills.left (reader_inner b)) in
       let met : (nat_eq (length x) 0 && nat_eq (length (reader_held b)) 0) ≡ nat_lt (length (all a)) 1 =
       read_ends (length x) (length (all a)) (some_room a) once.2 (omega (arith, ap length gave, length-append x (all b), whole, rest))
-      whole in
-      record {
-        is_end = nat_eq (length x) 0 && nat_eq (length (reader_held b)) 0;
-        is = is;
-        step = drops len x (all a) (all b) gave law.bound (λ none some. ended b (law.end (ap Ok none) some));
-        met = met;
-        paid = once_paid z _ a b (omega arith) (λ none. grind (arith, nat_tests, met, none)) once paid;
-      }
+      whole in (
+        is ∙ ap Ok met,
+        drops len x (all a) (all b) gave law.bound (λ none some. ended b (law.end (ap Ok none) some)),
+        once_paid z _ a b (omega arith) (λ none. grind (arith, nat_tests, none)) once paid,
+      )
 
   -- a `read_exact`
   exact_went : (len z : ℕ) (a b : BufReader R S) (reply : Result (Unit {0}) Error) (answer : Result Bool Error) (buf : List ℕ)
@@ -231,25 +228,16 @@ module _ {R : Type 0} {S : ℕ} (I : Reader R) (fills : FillsRoom I) (start : Bu
       ∙ append_assoc (take (length buf) (reader_held a)) (drop (length buf) (reader_held a)) (fills.left (reader_inner a))
       ∙ ap₂ (λ l r. take (length buf) (reader_held a) ++ (l ++ fills.left r)) (sym call.1.1.1.1) (sym call.1.0) in
       let many = length-take-le (length buf) (reader_held a) call.0 in
-      record {
-        is_end = false;
-        is = is;
-        step = rest_is (take (length buf) (reader_held a)) (all a) (all b) gave (many ∙ long);
-        met = grind (arith, nat_tests, long, many, ap length gave, length-append (take (length buf) (reader_held a)) (all b));
-        paid = rw add-zero
-            (kept_paid z a b (omega (arith, ap length call.1.1.1.1, length-drop (length buf) (reader_held a))) call.1.0 paid);
-      }
+      let met : false ≡ nat_lt (length (all a)) len =
+      grind (arith, nat_tests, long, many, ap length gave, length-append (take (length buf) (reader_held a)) (all b)) in
+      let kept = kept_paid z a b (omega (arith, ap length call.1.1.1.1, length-drop (length buf) (reader_held a))) call.1.0 paid in
+      (is ∙ ap Ok met, rest_is (take (length buf) (reader_held a)) (all a) (all b) gave (many ∙ long), paid_as z b met (rw add-zero kept))
   exact_went len z a b (Err e) answer buf long is C made (inl own) paid =
       let call = (made_one (ReadCallLaw (as_reader L)) a b own made).0 in absurd (let no : ⊥ = cc call.1.1.0 in no)
   exact_went len z a b (Ok u) answer buf long is C made (inr reads) paid =
       let gave = gathers_paid reads z a b made paid in
-      record {
-        is_end = false;
-        is = is;
-        step = rest_is buf (all a) (all b) gave.1 long;
-        met = grind (arith, nat_tests, long, ap length gave.1, length-append buf (all b));
-        paid = rw add-zero gave.0;
-      }
+      let met : false ≡ nat_lt (length (all a)) len = grind (arith, nat_tests, long, ap length gave.1, length-append buf (all b)) in
+      (is ∙ ap Ok met, rest_is buf (all a) (all b) gave.1 long, paid_as z b met (rw add-zero gave.0))
   exact_went len z a b (Err e) answer buf long is C made (inr (x, front, inl end)) paid =
       let until = end.1 in
       let parts = made_last (ReadCallLaw (as_reader L)) until.0 a b (subst (λ K. Made (ReadCallLaw (as_reader L)) a K b) until.4 made) in
@@ -257,13 +245,11 @@ module _ {R : Type 0} {S : ℕ} (I : Reader R) (fills : FillsRoom I) (start : Bu
       let last = read_paid z (z + 1) until.1 [] parts.0 b (omega arith) (λ none. omega arith) parts.2 first.0 in
       let over = ended b (parts.2.end refl until.3.1) in
       let whole : all a ≡ x = first.1 ∙ ap (λ l. x ++ l) (last.1 ∙ over) ∙ append-nil x in
-      record {
-        is_end = true;
-        is = is ∙ ap (λ k. end_or_error k e) end.0.0;
-        step = over ∙ sym (drop_of_length-le (all a) (omega (arith, ap length whole, until.3, long)));
-        met = grind (arith, nat_tests, ap length whole, until.3, long);
-        paid = last.0;
-      }
+      let met : true ≡ nat_lt (length (all a)) len = grind (arith, nat_tests, ap length whole, until.3, long) in (
+        is ∙ ap (λ k. end_or_error k e) end.0.0 ∙ ap Ok met,
+        over ∙ sym (drop_of_length-le (all a) (omega (arith, ap length whole, until.3, long))),
+        paid_as z b met last.0,
+      )
   exact_went len z a b (Err e) answer buf long is C made (inr (x, front, inr fault)) paid =
       let until = fault.1 in
       let parts = made_last (ReadCallLaw (as_reader L)) until.0 a b (subst (λ K. Made (ReadCallLaw (as_reader L)) a K b) until.4 made) in
@@ -287,17 +273,15 @@ module _ {R : Type 0} {S : ℕ} (I : Reader R) (fills : FillsRoom I) (start : Bu
       (λ some. grind (arith, nat_tests, long, ap length filled.lends))
       (cases_lt (length lent) 1) in
       let many = length-take-le n lent (omega arith) in
-      record {
-        is_end = nat_eq (length lent) 0;
-        is = is;
-        step = drops most (take n lent) (all a) (all b) gave (omega (arith, many)) (λ none some.
+      (
+        is ∙ ap Ok met,
+        drops most (take n lent) (all a) (all b) gave (omega (arith, many)) (λ none some.
             let over = ended a (filled.end (ap Ok (nil_from_length lent (omega (arith, many, ap length none))))) in
-            nil_from_length (all b) (omega (arith, ap length gave, length-append (take n lent) (all b), ap length over)));
-        met = met;
-        paid = kept_paid _ mid b (omega (arith, ap length law.held, length-drop n (reader_held mid))) law.call.0
-            (once_paid z _ a mid (omega arith) (λ none. grind (arith, nat_tests, met, none))
-            (once_fill I fills a mid (Ok lent) filled.call) paid);
-      }
+            nil_from_length (all b) (omega (arith, ap length gave, length-append (take n lent) (all b), ap length over))),
+        kept_paid _ mid b (omega (arith, ap length law.held, length-drop n (reader_held mid))) law.call.0
+            (once_paid z _ a mid (omega arith) (λ none. grind (arith, nat_tests, none))
+            (once_fill I fills a mid (Ok lent) filled.call) paid),
+      )
 
   -- any ask
   answered_went : (ask : Ask) (z : ℕ) (a b : BufReader R S) (answer : Result Bool Error) → Answered L ask a answer b → Paid z a
@@ -317,10 +301,11 @@ module _ {R : Type 0} {S : ℕ} (I : Reader R) (fills : FillsRoom I) (start : Bu
   )
   came_went (ask ∷ asks) z a b at_end failed (answer, next, ends, failures, now, later, counted, none) paid =
       let first = answered_went ask z a next answer now paid in
-      let rest = came_went asks _ next b ends failures later first.paid in
-      let count : at_end ≡ (if first.is_end then 1 else 0) + ends = counted ∙ ap (λ r. (if met_end r then 1 else 0) + ends) first.is in (
-        none ∙ ap₂ (λ r k. (if is_err r then 1 else 0) + k) first.is rest.0,
-        (all next, ends, first.step, rest.1, count ∙ ap (λ t. (if t then 1 else 0) + ends) first.met),
+      let rest = came_went asks _ next b ends failures later first.2 in
+      let count : at_end ≡ (if meets_end ask (length (all a)) then 1 else 0) + ends =
+      counted ∙ ap (λ r. (if met_end r then 1 else 0) + ends) first.0 in (
+        none ∙ ap₂ (λ r k. (if is_err r then 1 else 0) + k) first.0 rest.0,
+        (all next, ends, first.1, rest.1, count),
         subst (λ k. Paid k b) (omega (arith, count)) rest.2,
       )
 

@@ -1,8 +1,7 @@
 -- What a feed's events give to a reader.
 use Rattle.std.proofs.lemmas.Grind.{common_steps}
-use Rattle.std.proofs.Common.{◌≡◌, ℕ, zero, suc, ◌+◌, ◌<◌, ◌≤◌, List, [], ◌∷◌, ◌++◌, length, take, drop, set}
-use Rattle.std.proofs.Common.{true, false, ◌==◌, nat_lt, if◌then◌else◌, Some, None, Ok, refl, sym, ap, ap₂, ◌∙◌, arith}
-use Rattle.std.proofs.Common.{length-drop, length-take-le}
+use Rattle.std.proofs.Common.{◌≡◌, ℕ, zero, suc, ◌+◌, ◌<◌, ◌≤◌, List, [], ◌∷◌, ◌++◌, length, take, drop, set, true, false, ◌==◌, nat_lt}
+use Rattle.std.proofs.Common.{if◌then◌else◌, Some, None, Ok, refl, sym, ap, ap₂, ◌∙◌, arith, length-drop, length-take-le}
 use Rattle.std.proofs.Math.Seq.{take-add}
 use Rattle.std.proofs.lemmas.List.{take_more_set, drop-drop}
 use Rattle.std.proofs.lemmas.Bool.Decides.{nat_tests}
@@ -10,7 +9,7 @@ use Rattle.no_std_io2.specs.Events.{byte, events_of}
 use Rattle.no_std_io2.specs.Read.{Reader, ReadLaw}
 use Rattle.no_std_io2.proofs.EventLemmas.{length-events_of}
 use Rattle.io_bench.specs.declared.feed.Event.{Event}
-use Rattle.io_bench.specs.declared.feed.Event.TheVariants.{Byte, Fail}
+use Rattle.io_bench.specs.declared.feed.Event.TheVariants.{Byte}
 use Rattle.io_bench.specs.declared.feed.Feed.{Feed}
 use Rattle.io_bench.specs.Feed.{all_to_come, leading_bytes, first_failure, feed_left, feed_piece, feed_gives, failed_or_gave, FeedMay}
 

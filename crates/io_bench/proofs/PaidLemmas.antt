@@ -60,23 +60,20 @@ Paid-same c f n h (open_one p a b) = open_one p (omega arith) (omega arith)
 -- the calls that a write takes, and what it leaves in the buffer
 pub Paid-write : (S c f n : ℕ) (buffer x : List ℕ) → 0 < S → length buffer ≤ S → Paid S c f n (length buffer)
     → Paid S (c + writing_calls S buffer x) f (n + length x) (length (buffer_after S buffer x))
-Paid-write S c f n buffer x some fits paid = ⊎_elim short long (cases_lt (length x) S)
-  where
-    short : length x < S → Paid S (c + writing_calls S buffer x) f (n + length x) (length (buffer_after S buffer x))
-    short t = ⊎_elim
-        (λ over. Paid-same (grind (arith, nat_tests)) refl refl (grind (arith, nat_tests))
-        (Paid-sent S c f n (length buffer) (length x) (omega arith) t over paid))
-        (λ under. Paid-same (grind (arith, nat_tests)) refl refl (grind (arith, nat_tests, length-append))
-        (Paid-held S c f n (length buffer) (length x) paid))
-        (cases_lt S (length buffer + length x))
-
-    long : S ≤ length x → Paid S (c + writing_calls S buffer x) f (n + length x) (length (buffer_after S buffer x))
-    long t = ⊎_elim
-        (λ none. Paid-same (grind (arith, nat_tests)) refl refl (grind (arith, nat_tests))
-        (Paid-direct S c f n (length x) some t (Paid-same refl refl refl (omega arith) paid)))
-        (λ held. Paid-same (grind (arith, nat_tests)) refl refl (grind (arith, nat_tests))
-        (Paid-both S c f n (length buffer) (length x) some held t paid))
-        (cases_lt (length buffer) 1)
+Paid-write S c f n buffer x some fits paid = ⊎_elim
+    (λ short. ⊎_elim
+    (λ over. Paid-same (grind (arith, nat_tests)) refl refl (grind (arith, nat_tests))
+    (Paid-sent S c f n (length buffer) (length x) (omega arith) short over paid))
+    (λ under. Paid-same (grind (arith, nat_tests)) refl refl (grind (arith, nat_tests, length-append))
+    (Paid-held S c f n (length buffer) (length x) paid))
+    (cases_lt S (length buffer + length x)))
+    (λ long. ⊎_elim
+    (λ none. Paid-same (grind (arith, nat_tests)) refl refl (grind (arith, nat_tests))
+    (Paid-direct S c f n (length x) some long (Paid-same refl refl refl (omega arith) paid)))
+    (λ held. Paid-same (grind (arith, nat_tests)) refl refl (grind (arith, nat_tests))
+    (Paid-both S c f n (length buffer) (length x) some held long paid))
+    (cases_lt (length buffer) 1))
+    (cases_lt (length x) S)
 
 -- the calls that a flush takes, whatever is held
 pub Paid-flush : (S c f n : ℕ) (buffer : List ℕ) → Paid S c f n (length buffer) → Paid S (c + calls_for buffer) (f + 1) n 0

@@ -1,7 +1,6 @@
 -- How the items of a run of `split` or `lines` come to be all pieces, by what one `next` says of the events to come.
-use Rattle.std.proofs.Common.{◌≡◌, ℕ, true, false, Bool, if◌then◌else◌, Option, Some, None, Result, Ok, Err, List, [], ◌∷◌, ◌++◌}
-use Rattle.std.proofs.Common.{map, filter, refl, sym, ap, ◌∙◌, subst, append-nil, append_assoc, inl, inr, ◌<◌, ◌⊎◌, length, arith}
-use Rattle.std.proofs.Common.{length-append, IfSome}
+use Rattle.std.proofs.Common.{◌≡◌, ℕ, true, false, Bool, if◌then◌else◌, Option, Some, None, Result, Ok, Err, List, [], ◌∷◌, ◌++◌, map, refl}
+use Rattle.std.proofs.Common.{ap, ◌∙◌, subst, inl, inr, ◌<◌, ◌⊎◌, length, arith, length-append, IfSome}
 use Rattle.std.specs.List.{concat}
 use Rattle.std.proofs.lemmas.Grind.{common_steps}
 use Rattle.std.proofs.lemmas.List.{map-append}
@@ -10,7 +9,7 @@ use Rattle.no_std_io2.specs.declared.io.Error.{Error}
 use Rattle.no_std_io2.specs.Errors.{error_kind, is_interruption, IsFault, IsOutOfMemory}
 use Rattle.no_std_io2.specs.Events.{Event, byte, fails, bytes, HasNoFault, bytes_to_fault, first_fault}
 use Rattle.no_std_io2.specs.Takes.{Tells, to_come}
-use Rattle.no_std_io2.specs.Pieces.{ends_in, pieces, pieces_before, pieces_given, items_left, RefusesLine}
+use Rattle.no_std_io2.specs.Pieces.{pieces, pieces_given, items_left, RefusesLine}
 use Rattle.no_std_io2.specs.BufRead.{Lender, NextPieceLaw}
 use Rattle.no_std_io2.proofs.GivenPieces.{GivesNext, GivesNone, next_turns}
 use Rattle.io_bench.specs.Appended.{appended}
@@ -76,24 +75,19 @@ if_told (Some E) h = h E refl
 
 -- a `split` that yields an item had not ended before
 pub not_ended : {A X : Type 0} (was : Bool) {r : Option A} {item : A} → (was ≡ true → (r ≡ None) × X) → r ≡ Some item → was ≡ false
-not_ended true ended is = absurd (let none = (ended refl).0 in let no : ⊥ = cc in no)
-not_ended false ended is = refl
+not_ended was ended is = grind (arith, common_steps, ended)
 
 -- the law of a `next`, by an equal delimiter and an equal result
 pub law_at : {X T : Type 0} {R : Lender X} {old new : X} {view : T → List ℕ} (trim : ℕ → List ℕ → List ℕ)
     {refuses : List ℕ → Error → Type 0} {d' d : ℕ} {result r : Option (Result T Error)} → d' ≡ d → result ≡ r
     → NextPieceLaw R old view (trim d') refuses d' result new → NextPieceLaw R old view (trim d) refuses d r new
-law_at {R = R} {old} {new} {view} trim {refuses} {d'} {r = r} same is law =
-    subst (λ k. NextPieceLaw R old view (trim k) refuses k r new) same
-    (subst (λ q. NextPieceLaw R old view (trim d') refuses d' q new) is law)
+law_at trim same is law = rw (same, is) at law
 
 -- each item spends one of those that are left
 pub fewer_left : {X T : Type 0} {R : Lender X} {old new : X} {view : T → List ℕ} {trim : List ℕ → List ℕ}
     {refuses : List ℕ → Error → Type 0} {d : ℕ} {item : T} (was now : Bool) → was ≡ false → now ≡ false
     → NextPieceLaw R old view trim refuses d (Some (Ok item)) new → items_left now (R.turns new) < items_left was (R.turns old)
-fewer_left {R = R} {old} {new} {item = item} was now before after law =
-    subst (λ b. items_left now (R.turns new) < items_left b (R.turns old)) (sym before)
-    (subst (λ b. items_left b (R.turns new) < items_left false (R.turns old)) (sym after) (next_turns (Some (Ok item)) law))
+fewer_left {item = item} was now before after law = rw (before, after) (next_turns (Some (Ok item)) law)
 
 -- the error of a line that is not UTF-8 is a fault
 pub refused_fault : (piece : List ℕ) (e : Error) → RefusesLine piece e → IsFault e

@@ -1,9 +1,8 @@
 -- The count of a whole run through a buffer, and its closing, from the calls that it made.
 use Rattle.std.specs.List.{flat_map}
 use Rattle.std.proofs.lemmas.Grind.{common_steps, flat_map-append}
-use Rattle.std.proofs.Common.{◌≡◌, ◌+◌, ◌*◌, ◌/◌, ℕ, ◌<◌, ◌≤◌, List, [], ◌∷◌, ◌++◌, length, take, Result, Ok, Err, OnOk, IsOk}
-use Rattle.std.proofs.Common.{refl, sym, subst, ap, ap₂, ◌∙◌, arith, inl, inr, length-append, append_assoc, append-nil, take_all, le_refl}
-use Rattle.std.proofs.Common.{take-append-drop}
+use Rattle.std.proofs.Common.{◌≡◌, ◌+◌, ◌*◌, ◌/◌, ℕ, ◌<◌, ◌≤◌, List, [], ◌∷◌, ◌++◌, length, take, Result, Ok, Err, OnOk, IsOk, refl, sym}
+use Rattle.std.proofs.Common.{subst, ap, ap₂, ◌∙◌, arith, inl, inr, length-append, append-nil, take_all, le_refl, take-append-drop}
 use Rattle.no_std_io2.specs.declared.io.Error.{Error}
 use Rattle.no_std_io2.specs.Writers.{Writer, TakesAll, CallOf}
 use Rattle.no_std_io2.specs.Write.{WriteCall, Wrote, WroteAll, Flushed, Made, Writes, none, took, again, calls_for, taken}
@@ -20,7 +19,7 @@ use Rattle.no_std_io2.proofs.MeterLemmas.{meter_made}
 use Rattle.io_bench.specs.declared.runs.Op.{Op}
 use Rattle.io_bench.specs.declared.runs.Op.TheVariants.{Write, WriteAll, Flush}
 use Rattle.io_bench.specs.declared.runs.Reply.{Reply}
-use Rattle.io_bench.specs.declared.runs.Reply.TheVariants.{Took, Done, Failed}
+use Rattle.io_bench.specs.declared.runs.Reply.TheVariants.{Took, Done}
 use Rattle.io_bench.specs.Runs.{OpCalls, JoinsEach, RunCalls, IsWhole, AreWhole}
 use Rattle.io_bench.specs.Closed.{op_bytes, given_bytes, op_flushes, flushes}
 use Rattle.io_bench.proofs.PaidLemmas.{Paid, Paid-same, Paid-write, Paid-flush, Paid-bound, Paid-start, calls_for-min}

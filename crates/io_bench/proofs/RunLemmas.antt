@@ -1,22 +1,16 @@
 -- A run and one more call.
-use Rattle.no_std_io2.specs.Writers.{CallOf}
-use Rattle.std.proofs.Common.{◌≡◌, ℕ, Bor, Ok, ◌+◌, ◌<◌, ◌≤◌, take_all, length, take, drop, get_or, List, [], ◌∷◌, ◌++◌}
-use Rattle.std.proofs.Common.{refl, sym, ap, ◌∙◌, subst, append_assoc, append-nil}
-use Rattle.std.proofs.Math.Seq.{drop-append_seam}
+use Rattle.no_std_io2.specs.Writers.{CallOf, Writer}
+use Rattle.std.proofs.Common.{◌≡◌, ℕ, List, [], ◌∷◌, ◌++◌, refl, sym, ap, ◌∙◌, append_assoc, append-nil}
 use Rattle.std.specs.List.{AllZip}
-use Rattle.no_std_io2.specs.Writers.{Writer}
-use Rattle.no_std_io2.specs.Write.{Told, Moves, MovesFront, WriteCall, Made}
+use Rattle.no_std_io2.specs.Write.{Told, WriteCall, Made}
 use Rattle.no_std_io2.proofs.CallsLemmas.{made_then}
 use Rattle.no_std_io2.specs.Towers.{Through}
 use Rattle.no_std_io2.proofs.TowerCalls.{through}
-use Rattle.no_std_io2.proofs.MovesLemmas.{Moves-trans, Moves-refl}
+use Rattle.no_std_io2.proofs.MovesLemmas.{Moves-trans}
 use Rattle.io_bench.specs.declared.runs.Op.{Op}
-use Rattle.io_bench.specs.declared.runs.Op.TheVariants.{WriteAll}
 use Rattle.io_bench.specs.declared.runs.Reply.{Reply}
-use Rattle.io_bench.specs.declared.runs.Reply.TheVariants.{Done}
-use Rattle.io_bench.specs.Appended.{appended}
-use Rattle.io_bench.specs.Runs.{Accepts, Run, mishap_of, mishaps_of, IsFlushed, EndsFlushed, IsWhole}
-use Rattle.io_bench.specs.Runs.{AreWhole, CallReplies, Ran, JoinsEach, OpCalls, RunCalls, RunBelow}
+use Rattle.io_bench.specs.Runs.{Accepts, Run, mishap_of, mishaps_of, IsFlushed, EndsFlushed}
+use Rattle.io_bench.specs.Runs.{CallReplies, Ran, JoinsEach, OpCalls, RunCalls, RunBelow}
 
 -- one call more
 pub JoinsEach-more : {A : Type 0} (gives : Op → Reply → List A → Type 0) (ops : List Op) (replies : List Reply) (xs : List A)
@@ -32,8 +26,7 @@ mishaps_of-more : (ops : List Op) (replies : List Reply) (xs : List ℕ) (op : O
     → mishaps_of (ops ++ op ∷ []) (replies ++ reply ∷ []) ≡ mishaps_of ops replies ++ mishap_of op reply
 mishaps_of-more [] [] xs op reply r = append-nil (mishap_of op reply)
 mishaps_of-more (o ∷ ops) (q ∷ replies) xs op reply r =
-    ap (λ l. mishap_of o q ++ l) (mishaps_of-more ops replies r.1 op reply r.3)
-    ∙ sym (append_assoc (mishap_of o q) (mishaps_of ops replies) (mishap_of op reply))
+    simp (mishaps_of-more ops replies r.1 op reply r.3, append_assoc)
 mishaps_of-more _ _ xs op reply r = absurd r
 
 -- if a run with one more call ends in a flush that succeeded, that call is this flush

@@ -1,6 +1,5 @@
 -- How many calls a loop makes.
-use Rattle.std.specs.Prelude.{◌≡◌, ℕ, ◌+◌, ◌<◌, ◌≤◌, ◌⊎◌, min, None, Result, Ok, Err, IfErr}
-use Rattle.std.specs.Prelude.{OnOk, IsErrAnd}
+use Rattle.std.specs.Prelude.{◌≡◌, ℕ, ◌+◌, ◌<◌, ◌≤◌, ◌⊎◌, min, None, Result, Ok, Err, IfErr, OnOk, IsErrAnd}
 use Rattle.no_std_io2.specs.declared.io.Error.{Error}
 use Rattle.no_std_io2.specs.declared.io.ErrorKind.{ErrorKind}
 use Rattle.no_std_io2.specs.Errors.{error_kind, error_text, IsOutOfMemory}

@@ -1,5 +1,5 @@
 -- What a `Faulty` tells, and what its acts do to a call.
-use Rattle.no_std_io2.specs.Writers.{CallOf}
+use Rattle.no_std_io2.specs.Writers.{CallOf, Writer}
 use Rattle.std.specs.Prelude.{◌≡◌, Some, None, Option, List, [], ◌∷◌, ◌++◌, drop, if◌then◌else◌, ◌==◌, ℕ, ◌+◌, ◌<◌}
 use Rattle.std.specs.Prelude.{count_by, take, Result, Ok}
 use Rattle.std.specs.Option.{option_map}
@@ -7,7 +7,6 @@ use Rattle.std.specs.List.{flat_map}
 use Rattle.no_std_io2.specs.declared.io.Error.{Error}
 use Rattle.no_std_io2.specs.declared.io.ErrorKind.{ErrorKind}
 use Rattle.no_std_io2.specs.declared.io.ErrorKind.TheVariants.{WriteZero}
-use Rattle.no_std_io2.specs.Writers.{Writer}
 use Rattle.no_std_io2.specs.Errors.{is_interruption}
 use Rattle.no_std_io2.specs.Write.{Told, WriteCall, Wrote, WroteAll, Flushed}
 use Rattle.io_bench.specs.Calls.{FailsWith}

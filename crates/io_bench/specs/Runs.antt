@@ -1,12 +1,11 @@
 -- The bytes that replies accept, the calls that failed, and whole runs.
-use Rattle.no_std_io2.specs.Writers.{CallOf}
+use Rattle.no_std_io2.specs.Writers.{CallOf, Writer}
 use Rattle.std.specs.Prelude.{◌≡◌, ℕ, ◌+◌, ◌≤◌, ◌==◌, ◌&&◌, nat_lt, Bool, true, false, if◌then◌else◌, List, [], ◌∷◌}
 use Rattle.std.specs.Prelude.{◌++◌, length, take, count_by, ⊤, Option, None, Some, Ok, Err}
 use Rattle.std.specs.List.{AllZip}
 use Rattle.no_std_io2.specs.declared.io.ErrorKind.{ErrorKind}
 use Rattle.no_std_io2.specs.Errors.{error_kind, kind_number}
 use Rattle.no_std_io2.specs.Write.{Told, Moves, IsFront, zero_write, WriteCall, Wrote, Flushed, Made, AllCalls}
-use Rattle.no_std_io2.specs.Writers.{Writer}
 use Rattle.io_bench.specs.declared.runs.Op.{Op}
 use Rattle.io_bench.specs.declared.runs.Op.TheVariants.{Write, WriteAll, Flush}
 use Rattle.io_bench.specs.declared.runs.Reply.{Reply}

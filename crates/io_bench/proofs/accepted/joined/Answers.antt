@@ -1,4 +1,4 @@
-use Rattle.std.proofs.Common.{arith, rules, ◌<◌, ◌+◌, ◌++◌, take, length, refl, sym}
+use Rattle.std.proofs.Common.{arith, rules, ◌++◌, refl, sym}
 use Rattle.std.proofs.lemmas.Slice.Zip.{AllZip-long}
 use Rattle.std.proofs.lemmas.Result.{err_from_is_err_and}
 use Rattle.io_bench.specs.Runs.{Accepts, Run}

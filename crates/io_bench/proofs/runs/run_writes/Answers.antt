@@ -1,14 +1,11 @@
-use Rattle.no_std_io2.specs.Writers.{TakesAll}
-use Rattle.std.proofs.Common.{List, take, take_all, drop, ◌≡◌, ◌<◌, ◌++◌, ◌∷◌, [], length, rules, arith, refl, ap, ◌∙◌, sym, append-nil, append_assoc}
-use Rattle.io_bench.specs.declared.runs.Op.{Op}
-use Rattle.io_bench.specs.declared.runs.Reply.{Reply}
+use Rattle.std.proofs.Common.{take, take_all, drop, ◌≡◌, ◌++◌, ◌∷◌, [], length, rules, arith, refl, ap, ◌∙◌, sym, append-nil, append_assoc}
 use Rattle.io_bench.specs.Appended.{appended}
 use Rattle.std.proofs.lemmas.List.{take_more}
 use Rattle.std.proofs.Math.Seq.{drop-append_seam}
 use Rattle.io_bench.specs.declared.runs.Op.TheVariants.{Write}
 use Rattle.no_std_io2.proofs.MovesLemmas.{Moves-refl}
 use Rattle.io_bench.proofs.RunLemmas.{Ran-more, AllZip-more, EndsFlushed-more, RunCalls-more}
-use Rattle.io_bench.specs.Runs.{Ran, EndsFlushed, AreWhole, IsWhole, RunCalls, failures, failures_of, IsShorterBy, HasFewer}
+use Rattle.io_bench.specs.Runs.{IsWhole, failures}
 use Rattle.io_bench.proofs.FailureLemmas.{failures_told, failures_none, fewer_of}
 use Rattle.io_bench.proofs.runs.run_writes.Goals as goal
 
