@@ -6,12 +6,11 @@ use Rattle.tower_play.specs.declared.script.Step.{Step}
 use Rattle.tower_play.specs.Calls.{IsNext, AreOps}
 
 -- one call more
-pub ops_more : (steps : List Step) (texts : List ℕ) (ops : List Op) (rest : List ℕ) (step : Step) (op : Op) (next : List ℕ)
+ops_more : (steps : List Step) (texts : List ℕ) (ops : List Op) (rest : List ℕ) (step : Step) (op : Op) (next : List ℕ)
     → AreOps steps texts ops rest → IsNext step rest op next → AreOps (steps ++ step ∷ []) texts (ops ++ op ∷ []) next
 ops_more [] texts [] rest step op next are is = (next, subst (λ t. IsNext step t op next) are is, refl)
 ops_more (s ∷ steps) texts (o ∷ ops) rest step op next are is = (are.0, are.1, ops_more steps are.0 ops rest step op next are.2 is)
-ops_more [] texts (o ∷ ops) rest step op next are is = absurd are
-ops_more (s ∷ steps) texts [] rest step op next are is = absurd are
+ops_more _ texts _ rest step op next are is = absurd are
 
 -- the next step of a list makes the next call
 pub ops_go_on : (steps : List Step) (i : ℕ) (d : Step) (texts : List ℕ) (ops : List Op) (rest : List ℕ) (op : Op) (next : List ℕ)

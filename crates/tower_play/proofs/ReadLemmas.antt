@@ -2,6 +2,7 @@
 use Rattle.std.proofs.Common.{◌≡◌, ℕ, ◌+◌, ◌-◌, ◌^◌, List, [], ◌∷◌, ◌++◌}
 use Rattle.std.proofs.Common.{false, Option, None, Some, refl, sym, subst, ap, ◌∙◌, arith, ◌<◌, length, length-append, append_assoc}
 use Rattle.std.proofs.Common.{Err, inl, inr, ◌⊎◌}
+use Rattle.std.proofs.lemmas.Grind.{common_steps}
 use Rattle.std.specs.Prelude.{min, is_some}
 use Rattle.std.specs.Option.{IfSome}
 use Rattle.no_std_io2.specs.declared.io.Error.{Error}
@@ -31,16 +32,6 @@ pub adds_more : (lines : List (List ℕ)) (line : List ℕ) (old mid new : Scrip
     → AddsAll (lines ++ line ∷ []) old new
 adds_more [] line old mid new all one = (new, subst (λ s. Adds line s new) all one, refl)
 adds_more (l ∷ lines) line old mid new all one = (all.0, all.1, adds_more lines line all.0 mid new all.2 one)
-
--- one line more is counted, up to the greatest number
-pub count_more : (lines : List (List ℕ)) (line : List ℕ) (n next : ℕ) → n ≡ min (length lines) (2 ^ 64 - 1)
-    → next ≡ min (n + 1) (2 ^ 64 - 1) → next ≡ min (length (lines ++ line ∷ [])) (2 ^ 64 - 1)
-count_more lines line n next count is = omega (arith, length-append lines (line ∷ []))
-
--- the number of a line that follows others
-pub number_here : (lines : List (List ℕ)) (n next : ℕ) → n ≡ min (length lines) (2 ^ 64 - 1)
-    → next ≡ min (n + 1) (2 ^ 64 - 1) → next ≡ min (length lines + 1) (2 ^ 64 - 1)
-number_here lines n next count is = omega arith
 
 -- a first bad line stays the first
 pub first_more : (o : Option ℕ) (lines : List (List ℕ)) (line : List ℕ) → IfSome o (IsFirstBad lines)
@@ -73,7 +64,7 @@ first_here lines line n next start script fresh adds is count more = record {
   made = script;
   adds = adds;
   is = is;
-  number = number_here lines n next count more;
+  number = omega arith;
 }
 
 -- a line that could not be read: the reader had its first fault, or an allocation failed
@@ -102,5 +93,4 @@ if_stopped (Some E) why = why E refl
 
 -- what is not there
 pub is_none : (o : Option ℕ) → is_some o ≡ false → o ≡ None
-is_none None none = refl
-is_none (Some n) some = absurd (cc some)
+is_none o none = grind (arith, common_steps)

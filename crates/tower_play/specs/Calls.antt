@@ -14,19 +14,13 @@ IsNext (write_step n) texts (Write x) rest = (x.now ≡ take n texts) × (rest �
 IsNext (write_all_step n) texts (WriteAll x) rest = (x.now ≡ take n texts) × (rest ≡ drop n texts)
 IsNext flush_step texts Flush rest = rest ≡ texts
 -- a step is no other call
-IsNext (write_step n) texts (WriteAll x) rest = ⊥
-IsNext (write_step n) texts Flush rest = ⊥
-IsNext (write_all_step n) texts (Write x) rest = ⊥
-IsNext (write_all_step n) texts Flush rest = ⊥
-IsNext flush_step texts (Write x) rest = ⊥
-IsNext flush_step texts (WriteAll x) rest = ⊥
+IsNext _ texts _ rest = ⊥
 
 -- the calls of these steps, whose texts follow one another, and the rest of the texts
 abbrev pub AreOps : List Step → List ℕ → List Op → List ℕ → Type 0
 AreOps [] texts [] rest = rest ≡ texts
 AreOps (step ∷ steps) texts (op ∷ ops) rest = (next : List ℕ) × IsNext step texts op next × AreOps steps next ops rest
-AreOps [] texts (op ∷ ops) rest = ⊥
-AreOps (step ∷ steps) texts [] rest = ⊥
+AreOps _ texts _ rest = ⊥
 
 -- these are the calls of a script
 pub record AreCalls (calls : Calls) (ops : List Op) : Type 0 where

@@ -20,12 +20,8 @@ Says line Bad = ⊤
 
 -- a line that says something
 abbrev pub IsNoBad : Line → Type 0
-IsNoBad Empty = ⊤
-IsNoBad (Act act) = ⊤
-IsNoBad (Write text) = ⊤
-IsNoBad (WriteAll text) = ⊤
-IsNoBad Flush = ⊤
 IsNoBad Bad = ⊥
+IsNoBad _ = ⊤
 
 -- a line that is empty, an act or a call
 pub record IsGood (line : List ℕ) : Type 0 where

@@ -34,21 +34,18 @@ pub record Adds (line : List ℕ) (old new : Script) : Type 0 where
 
 -- a line that says something is bad all the same: an act after a call, or a text with a bad escape
 abbrev pub IsUnfit : Line → Script → Type 0
-IsUnfit Empty old = ⊥
 IsUnfit (Act act) old = 0 < vec_len old.calls.steps
 IsUnfit (Write text) old = unescaped text.now ≡ None
 IsUnfit (WriteAll text) old = unescaped text.now ≡ None
-IsUnfit Flush old = ⊥
-IsUnfit Bad old = ⊥
+IsUnfit _ old = ⊥
 
 -- there is no room for what a line that says this adds: an act before the first call, a text and a call, or a call
 abbrev pub LineLacksRoom : Line → Script → Type 0
-LineLacksRoom Empty old = ⊥
 LineLacksRoom (Act act) old = (vec_len old.calls.steps ≡ 0) × (vec_capacity old.acts < vec_len old.acts + 1)
 LineLacksRoom (Write text) old = IsFull (length text.now) old.calls
 LineLacksRoom (WriteAll text) old = IsFull (length text.now) old.calls
 LineLacksRoom Flush old = vec_capacity old.calls.steps < vec_len old.calls.steps + 1
-LineLacksRoom Bad old = ⊥
+LineLacksRoom _ old = ⊥
 
 -- the line is bad after those that made this script: it says nothing, or something that is bad there
 abbrev pub IsBadLine : List ℕ → Script → Type 0

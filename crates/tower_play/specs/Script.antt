@@ -4,13 +4,6 @@ use Rattle.std.specs.Prelude.{Option, Some, None, Bool, true, false}
 use Rattle.std.specs.List.{flat_map}
 use Rattle.std.specs.Str.Parse.{IsNumeral, digits_value}
 use Rattle.no_std_io2.specs.declared.io.ErrorKind.{ErrorKind}
-use Rattle.no_std_io2.specs.declared.io.ErrorKind.TheVariants.{NotFound, PermissionDenied, ConnectionRefused}
-use Rattle.no_std_io2.specs.declared.io.ErrorKind.TheVariants.{ConnectionReset, ConnectionAborted, NotConnected}
-use Rattle.no_std_io2.specs.declared.io.ErrorKind.TheVariants.{AddrInUse, AddrNotAvailable, BrokenPipe}
-use Rattle.no_std_io2.specs.declared.io.ErrorKind.TheVariants.{AlreadyExists, WouldBlock, InvalidInput}
-use Rattle.no_std_io2.specs.declared.io.ErrorKind.TheVariants.{InvalidData, TimedOut, WriteZero, Interrupted}
-use Rattle.no_std_io2.specs.declared.io.ErrorKind.TheVariants.{Other, UnexpectedEof, Unsupported, OutOfMemory}
-use Rattle.no_std_io2.specs.declared.io.ErrorKind.TheVariants.{Uncategorized}
 
 -- the escape of a byte: a newline is a backslash and `n`, a backslash is two backslashes, any other byte is itself
 abbrev pub escaped_byte : ℕ → List ℕ
@@ -41,27 +34,27 @@ IsAppended None good old new = good ≡ false
 
 -- the name of a kind
 abbrev pub kind_name : ErrorKind → List ℕ
-kind_name NotFound = codes "NotFound"
-kind_name PermissionDenied = codes "PermissionDenied"
-kind_name ConnectionRefused = codes "ConnectionRefused"
-kind_name ConnectionReset = codes "ConnectionReset"
-kind_name ConnectionAborted = codes "ConnectionAborted"
-kind_name NotConnected = codes "NotConnected"
-kind_name AddrInUse = codes "AddrInUse"
-kind_name AddrNotAvailable = codes "AddrNotAvailable"
-kind_name BrokenPipe = codes "BrokenPipe"
-kind_name AlreadyExists = codes "AlreadyExists"
-kind_name WouldBlock = codes "WouldBlock"
-kind_name InvalidInput = codes "InvalidInput"
-kind_name InvalidData = codes "InvalidData"
-kind_name TimedOut = codes "TimedOut"
-kind_name WriteZero = codes "WriteZero"
-kind_name Interrupted = codes "Interrupted"
-kind_name Other = codes "Other"
-kind_name UnexpectedEof = codes "UnexpectedEof"
-kind_name Unsupported = codes "Unsupported"
-kind_name OutOfMemory = codes "OutOfMemory"
-kind_name Uncategorized = codes "Uncategorized"
+kind_name ErrorKind.NotFound = codes "NotFound"
+kind_name ErrorKind.PermissionDenied = codes "PermissionDenied"
+kind_name ErrorKind.ConnectionRefused = codes "ConnectionRefused"
+kind_name ErrorKind.ConnectionReset = codes "ConnectionReset"
+kind_name ErrorKind.ConnectionAborted = codes "ConnectionAborted"
+kind_name ErrorKind.NotConnected = codes "NotConnected"
+kind_name ErrorKind.AddrInUse = codes "AddrInUse"
+kind_name ErrorKind.AddrNotAvailable = codes "AddrNotAvailable"
+kind_name ErrorKind.BrokenPipe = codes "BrokenPipe"
+kind_name ErrorKind.AlreadyExists = codes "AlreadyExists"
+kind_name ErrorKind.WouldBlock = codes "WouldBlock"
+kind_name ErrorKind.InvalidInput = codes "InvalidInput"
+kind_name ErrorKind.InvalidData = codes "InvalidData"
+kind_name ErrorKind.TimedOut = codes "TimedOut"
+kind_name ErrorKind.WriteZero = codes "WriteZero"
+kind_name ErrorKind.Interrupted = codes "Interrupted"
+kind_name ErrorKind.Other = codes "Other"
+kind_name ErrorKind.UnexpectedEof = codes "UnexpectedEof"
+kind_name ErrorKind.Unsupported = codes "Unsupported"
+kind_name ErrorKind.OutOfMemory = codes "OutOfMemory"
+kind_name ErrorKind.Uncategorized = codes "Uncategorized"
 
 -- these are one to five digits, their number is n, and n is below 2 ^ 16
 pub record IsCount (digits : List ℕ) (n : ℕ) : Type 0 where

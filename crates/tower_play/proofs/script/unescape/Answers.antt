@@ -20,9 +20,9 @@ bytes-preserved c =
       so =
           elim c.if-is_escaped.branch [
             | then-is_escaped+in-110 w ↦
-                ends_escape i 110 (10 ∷ []) in' (search rules) w.if-is_escaped.true w.is_escaped-is refl (search rules) so
+                ends_escape i in' 110 (10 ∷ []) (search rules) w.if-is_escaped.true w.is_escaped-is refl (search rules) so
             | then-is_escaped+in-92 w ↦
-                ends_escape i 92 (92 ∷ []) in' (search rules) w.if-is_escaped.true w.is_escaped-is refl (search rules) so
+                ends_escape i in' 92 (92 ∷ []) (search rules) w.if-is_escaped.true w.is_escaped-is refl (search rules) so
             | else-is_escaped+then-b-eq92 w ↦
                 begins_escape i in' (search rules) w.if-is_escaped.false w.is_escaped-is (search rules) so
             | else-is_escaped+else-b-eq92 w ↦

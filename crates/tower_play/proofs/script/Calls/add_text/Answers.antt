@@ -1,8 +1,8 @@
-use Rattle.std.proofs.Common.{◌≡◌, ◌-◌, ◌++◌, length, ap, ◌∙◌, arith}
+use Rattle.std.proofs.Common.{◌≡◌, ◌-◌, ◌++◌, length, length-append, ap, ◌∙◌, arith}
 use Rattle.tower_play.specs.declared.script.Step.TheVariants.{Write as write_step, WriteAll as write_all_step}
 use Rattle.tower_play.specs.Lines.{text_step}
 use Rattle.tower_play.specs.Script.{unescaped}
-use Rattle.tower_play.proofs.Unescaping.{is_meant, is_not_meant, appended_len}
+use Rattle.tower_play.proofs.Unescaping.{is_meant, is_not_meant}
 use Rattle.tower_play.proofs.script.Calls.add_text.Goals as goal
 use Rattle.tower_play.proofs.script.Calls.add_text.Goals.{then-is_whole, else-is_whole}
 
@@ -16,7 +16,7 @@ returns-clause-adds c = λ _.
     let meant = is_meant (unescaped c.args.text.now) _ _ (rw c.if-not-unescape.false at c.unescape.ensures.meant) in
     let bytes = meant.0 in
     let texts : c.unescape.new.bytes.items ≡ old ++ bytes = meant.2 ∙ ap (λ l. l ++ bytes) c.in_ok-reserve.ensures.items in
-    let long : c.len.result - c.len-start.result ≡ length bytes = omega (arith, appended_len old c.unescape.new.bytes.items bytes texts) in
+    let long : c.len.result - c.len-start.result ≡ length bytes = omega (arith, ap length texts, length-append old bytes) in
     let step : c.if-is_whole.add_step ≡ text_step c.args.is_whole (length bytes) =
     elim c.if-is_whole.branch [
       | then-is_whole w ↦ rw w.if-is_whole.true (w.add_step-is ∙ ap write_all_step long)

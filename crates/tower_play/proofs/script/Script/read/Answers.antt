@@ -1,4 +1,4 @@
-use Rattle.std.proofs.Common.{◌≡◌, ◌∙◌, ap, sym, subst, refl, true, false, not, [], ◌∷◌, ◌++◌, Some, Ok, arith}
+use Rattle.std.proofs.Common.{◌≡◌, ◌∙◌, ap, sym, subst, refl, true, false, not, [], ◌∷◌, ◌++◌, length-append, Some, Ok, arith}
 use Rattle.std.specs.Prelude.{is_some}
 use Rattle.std.proofs.lemmas.Result.{err_from_is_err_and}
 use Rattle.std.specs.Option.{IfSome}
@@ -8,7 +8,7 @@ use Rattle.no_std_io2.proofs.Readers.{reader}
 use Rattle.no_std_io2.proofs.GivenPieces.{next_item, next_none, next_error}
 use Rattle.io_bench.proofs.PieceRunLemmas.{none_gathered, one_gathered, all_gathered, law_at, if_told}
 use Rattle.tower_play.specs.Reading.{Adds, AddsAll, IsBadLine, IsFirstBad}
-use Rattle.tower_play.proofs.ReadLemmas.{adds_more, count_more, first_more, first_here, stopped, if_stopped, is_none}
+use Rattle.tower_play.proofs.ReadLemmas.{adds_more, first_more, first_here, stopped, if_stopped, is_none}
 use Rattle.tower_play.proofs.script.Script.read.Goals as goal
 use Rattle.tower_play.proofs.script.Script.read.Goals.{then-is_none+in_ok-add_line+then-not-branch, else-is_none}
 use Rattle.tower_play.proofs.script.Script.read.Goals.{else-is_none-via-then-is_none+in_ok-add_line+else-not-branch}
@@ -77,7 +77,7 @@ lines-preserved g c =
                           absurd (cc wrong)
                     ]
                   ];
-              count = count_more so.lines item.items c.lines.number _ so.count c.saturating_add-number.ensures;
+              count = omega (arith, so.count, c.saturating_add-number.ensures, length-append so.lines (item.items ∷ []));
               first =
                   elim c.if-is_none.branch [
                     | then-is_none+in_ok-add_line+then-not-branch w ↦
