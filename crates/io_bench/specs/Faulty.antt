@@ -1,15 +1,14 @@
 -- What a `Faulty` tells, and what its acts do to a call.
 use Rattle.no_std_io2.specs.Writers.{CallOf, Writer}
 use Rattle.std.specs.Prelude.{◌≡◌, Some, None, Option, List, [], ◌∷◌, ◌++◌, drop, if◌then◌else◌, ◌==◌, ℕ, ◌+◌, ◌<◌}
-use Rattle.std.specs.Prelude.{count_by, take, Result, Ok}
+use Rattle.std.specs.Prelude.{count_by, take, Result, Ok, IsErrAnd}
 use Rattle.std.specs.Option.{option_map}
 use Rattle.std.specs.List.{flat_map}
 use Rattle.no_std_io2.specs.declared.io.Error.{Error}
 use Rattle.no_std_io2.specs.declared.io.ErrorKind.{ErrorKind}
 use Rattle.no_std_io2.specs.declared.io.ErrorKind.TheVariants.{WriteZero}
-use Rattle.no_std_io2.specs.Errors.{is_interruption}
+use Rattle.no_std_io2.specs.Errors.{error_kind, error_text, is_interruption}
 use Rattle.no_std_io2.specs.Write.{Told, WriteCall, Wrote, WroteAll, Flushed}
-use Rattle.io_bench.specs.Calls.{FailsWith}
 use Rattle.io_bench.specs.declared.faulty.Act.{Act}
 use Rattle.io_bench.specs.declared.faulty.Act.TheVariants.{Take, Zero, Fail}
 use Rattle.io_bench.specs.declared.faulty.Faulty.{Faulty}
@@ -30,6 +29,10 @@ first_act (act ∷ acts) = Some act
 -- the next act, if one is left
 abbrev pub next_act : {W : Type 0} → Faulty W → Option Act
 next_act f = first_act (acts_left f)
+
+-- an error of this kind, without a text
+abbrev pub FailsWith : {T : Type 0} → ErrorKind → Result T Error → Type 0
+FailsWith kind reply = IsErrAnd reply (λ e. (error_kind e ≡ kind) × (error_text e ≡ None))
 
 -- A `write` of x with this act: a front of x is passed on, or nothing is.
 abbrev pub WritesBehind : {W : Type 0} → Writer W → Option Act → W → List ℕ → Result ℕ Error → W → Type 0

@@ -1,6 +1,5 @@
 pub mod Appended
 pub mod Asks
-pub mod Calls
 pub mod Closed
 pub mod Counts
 pub mod Faulty

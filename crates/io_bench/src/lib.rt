@@ -16,10 +16,8 @@ mod counts;
 mod faulty;
 mod feed;
 mod pieces;
-mod pins;
 mod runs;
 mod tally;
-mod towers;
 
 pub use accepted::joined;
 pub use asks::{Ask, ReadTotals, run_reads};

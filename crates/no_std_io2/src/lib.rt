@@ -13,8 +13,6 @@
 #![tactic(auto)]
 
 pub mod buffered;
-mod count_pins;
-mod pins;
 pub mod util;
 
 /// Re-exports the standard trait of errors.

@@ -79,7 +79,7 @@ fault-within k (Ok x) some = cut-none k
 fault-within k (Err e) some = cut-error k e some
 
 -- bytes that are cut are their first ones
-cut-events_of : (k : ℕ) (bs : List ℕ) → cut k (events_of bs) ≡ events_of (take k bs)
+pub cut-events_of : (k : ℕ) (bs : List ℕ) → cut k (events_of bs) ≡ events_of (take k bs)
 cut-events_of zero bs = refl
 cut-events_of (suc k) [] = refl
 cut-events_of (suc k) (b ∷ bs) = ap (λ l. byte b ∷ l) (cut-events_of k bs)

@@ -2,7 +2,6 @@
 //! memory. Users name only the crate `no_std_io2`, which exports all of this under `io`.
 #![tactic(auto)]
 
-mod adaptor_pins;
 pub mod cursor;
 pub mod empties;
 pub mod error;
@@ -10,8 +9,6 @@ pub mod ghost_bytes;
 mod impls;
 pub mod internal;
 pub mod makers;
-mod piece_pins;
-mod pins;
 pub mod repeats;
 pub mod sinks;
 pub mod traits;

@@ -1,3 +1,5 @@
 mod Nothing
 mod CallsEnd
 mod ToldAfter
+mod Levels
+mod InMemory

@@ -1,21 +1,44 @@
 -- The words of the promises.
-use Rattle.std.specs.Prelude.{◌≡◌, ℕ, List, [], ◌∷◌, ◌++◌, ⊤, Ok, Err}
+use Rattle.std.specs.Prelude.{◌≡◌, ◌+◌, ℕ, List, [], ◌∷◌, ◌++◌, ⊤, Ok, Err, None}
 use Rattle.no_std_io2.specs.declared.io.Error.{Error}
 use Rattle.no_std_io2.specs.declared.io.ErrorKind.TheVariants.{WriteZero}
 use Rattle.no_std_io2.specs.Errors.{error_kind}
 use Rattle.no_std_io2.specs.Write.{Told, WriteCall, Wrote, WroteAll, Flushed}
 use Rattle.no_std_io2.specs.declared.buffered.buf_writer.BufWriter.{BufWriter}
 use Rattle.no_std_io2.specs.declared.buffered.line_writer.LineWriter.{LineWriter}
-use Rattle.no_std_io2.specs.BufWriter.{writer_inner, writer_buffer}
+use Rattle.no_std_io2.specs.declared.buffered.buf_reader.BufReader.{BufReader}
+use Rattle.no_std_io2.specs.declared.io.Chain.{Chain}
+use Rattle.no_std_io2.specs.declared.io.Take.{Take}
+use Rattle.no_std_io2.specs.BufWriter.{writer_inner, writer_buffer, with_buffer}
+use Rattle.no_std_io2.specs.BufReader.{reader_told, reader_behind, reader_held, reader_inner}
+use Rattle.no_std_io2.specs.Takes.{Tells}
+use Rattle.no_std_io2.specs.Take.{take_inner, take_events}
+use Rattle.no_std_io2.specs.Chain.{chain_first, chain_second, chain_events}
 use Rattle.no_std_io2.specs.LineWriter.{line_inner, line_buffer}
 
 -- all accepted bytes, in order: those that are out, then those that are held
 abbrev pub bytes_in : Told → List ℕ
 bytes_in t = t.out ++ t.held
 
--- all bytes in a tower of two buffers over a device, in order: those that the device has accepted, then each buffer
-abbrev pub in_tower : {W : Type 0} {S T : ℕ} → (W → Told) → LineWriter (BufWriter W S) T → List ℕ
-in_tower told w = bytes_in (told (writer_inner (line_inner w))) ++ writer_buffer (line_inner w) ++ line_buffer w
+-- what a tower of two buffers tells: what its device tells, and as held also the bytes of each buffer
+abbrev pub in_tower : {W : Type 0} {S T : ℕ} → (W → Told) → LineWriter (BufWriter W S) T → Told
+in_tower told w = with_buffer (with_buffer (told (writer_inner (line_inner w))) (writer_buffer (line_inner w))) (line_buffer w)
+
+-- what a `Take` of a reader that tells this tells: the events up to and including the byte at the limit
+abbrev pub in_take : {R : Type 0} → (R → Tells) → Take R → Tells
+in_take told t = record { events = take_events told t; store = None; turns = (told (take_inner t)).turns }
+
+-- what a `Chain` of readers that tell this tells: the events of the first, and then those of the second
+abbrev pub in_chain : {R U : Type 0} → (R → Tells) → (U → Tells) → Chain R U → Tells
+in_chain first second c = record {
+  events = chain_events first second c;
+  store = None;
+  turns = (first (chain_first c)).turns + (second (chain_second c)).turns;
+}
+
+-- what a `BufReader` of a reader that tells this tells: the held bytes, and then those events
+abbrev pub in_reader : {R : Type 0} {S : ℕ} → (R → Tells) → BufReader R S → Tells
+in_reader {S = room} told r = reader_told room (reader_behind r) (reader_held r) (told (reader_inner r))
 
 -- none of these calls is a flush
 abbrev pub HasNoFlush : List WriteCall → Type 0

@@ -1,8 +1,10 @@
 // No accepted byte is lost, repeated or moved.
 ghost use Rattle.std.specs.Prelude.{◌≡◌, List, ℕ, ◌++◌, OnOk};
-ghost use Rattle.no_std_io2.specs.Write.{IsFront, taken};
+ghost use Rattle.no_std_io2.specs.Write.{IsFront, Moves, taken, write_mishap};
+ghost use Rattle.io_bench.specs.Tally.{tally_inner};
 ghost use Rattle.promises.specs.Promises.{bytes_in, in_tower};
 
+use io_bench::Tally;
 use no_std_io2::io::{BufWriter, LineWriter, Result, Write};
 
 /// A `write` adds exactly the bytes that its result reports, after all accepted bytes, and an error adds none. This holds for every
@@ -36,12 +38,14 @@ pub fn keeps_what_is_out<W: Write>(w: &mut W, x: &[u8]) -> Result<()>
     w.flush()
 }
 
-/// In a tower of two buffers the bytes of the device, of the inner buffer and of the outer one are all accepted bytes, in order.
+/// In a tower the bytes of the device, of the inner buffer and of the outer one are all accepted bytes, in order. What is out stays
+/// out, and the mishaps that the tower tells are those of the device.
 pub fn keeps_every_byte_in_a_tower<W: Write + Drop, const S: usize, const T: usize>(
-    w: &mut LineWriter<BufWriter<W, S>, T>,
+    w: &mut Box<LineWriter<BufWriter<Tally<W>, S>, T>>,
     x: &[u8],
 ) -> Result<usize>
-    ensures { in_tower W.told w.new ≡ in_tower W.told w.old ++ taken result x.now }
+    ensures { Moves (in_tower (λ t. W.told (tally_inner t)) w.old.value) (taken result x.now) (write_mishap result x.now)
+        (in_tower (λ t. W.told (tally_inner t)) w.new.value) }
 {
     w.write(x)
 }

@@ -1,14 +1,23 @@
-//! README's promises as proved callers. Nothing calls these functions. The contract of each one says a promise in the words of a
-//! user, and its body makes the calls that the promise is about. A contract is as strong as what a caller can prove from it: if a
-//! change makes a contract of the library say less, one of these functions is no longer proved.
+//! README's promises, and what docs/MODEL.md says in its tables, as proved callers. Nothing calls these functions. The contract of each
+//! one says a fact in the words of a user, and its body makes the calls that the fact is about. A contract is as strong as what a caller
+//! can prove from it: if a change makes a contract of the library, or a ghost member of an `impl`, say less, one of these functions is no
+//! longer proved. README names those that are public.
 #![tactic(auto)]
 
+mod adaptors;
 mod bytes;
 mod calls;
+mod counts;
 mod delivery;
+mod devices;
 mod lines;
+mod memory;
+mod objects;
 mod reads;
 mod runs;
+mod system;
+mod towers;
+mod values;
 
 pub use bytes::{
     continues_with_the_rest, keeps_every_byte, keeps_every_byte_in_a_tower,

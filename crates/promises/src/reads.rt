@@ -1,15 +1,19 @@
 // What readers give, and where seeks go.
-ghost use Rattle.std.specs.Prelude.{◌≡◌, ◌+◌, ◌<◌, ◌++◌, List, Some, IsOk, length, vec_len, vec_capacity};
-ghost use Rattle.no_std_io2.specs.BufReader.{reader_inner, reader_behind, reader_held};
+ghost use Rattle.std.specs.Prelude.{◌≡◌, ◌+◌, ◌<◌, ◌++◌, List, Some, IsOk, drop, length, vec_len, vec_capacity};
+ghost use Rattle.no_std_io2.specs.BufReader.{reader_inner, reader_behind, reader_held, TakesOver};
 ghost use Rattle.no_std_io2.specs.BufRead.{lender_tells};
-ghost use Rattle.no_std_io2.specs.Buffer.{IsInBuffer};
+ghost use Rattle.no_std_io2.specs.Buffer.{IsInBuffer, IsSuffix};
 ghost use Rattle.no_std_io2.specs.Events.{Event, bytes};
 ghost use Rattle.no_std_io2.specs.Pieces.{PieceEnds};
 ghost use Rattle.no_std_io2.specs.Read.{tells, answered, gave};
 ghost use Rattle.no_std_io2.specs.Seek.{Seeks};
 ghost use Rattle.no_std_io2.specs.Takes.{Store, Takes, to_come};
+ghost use Rattle.io_bench.specs.Tally.{tally_inner};
+ghost use Rattle.promises.specs.Promises.{in_chain, in_reader, in_take};
 
-use no_std_io2::io::{BufRead, BufReader, Read, Result, Seek, SeekFrom};
+use io_bench::Tally;
+use no_std_io2::io::{BufRead, BufReader, Chain, Read, Result, Seek, SeekFrom, Take};
+use std::alloc::Allocator;
 
 /// If it is known what a reader is going to give, a `read` gives what comes next, bytes or an error, and nothing else is gone.
 pub fn gives_what_comes_next<R: Read>(r: &mut R, buf: &mut [u8]) -> Result<usize>
@@ -19,16 +23,17 @@ pub fn gives_what_comes_next<R: Read>(r: &mut R, buf: &mut [u8]) -> Result<usize
     r.read(buf)
 }
 
-/// So it is through a `BufReader`, after any other calls.
-pub fn gives_what_comes_next_in_a_tower<R: Read + Drop, const S: usize, const T: usize>(
-    r: &mut BufReader<BufReader<R, S>, T>,
+/// In a tower the held bytes come first, then the events of the first reader up to the limit, and then those of the second. A `read` takes
+/// what comes next, bytes or an error, and nothing else.
+pub fn gives_what_comes_next_in_a_tower<R: Read, U: Read, const S: usize>(
+    r: &mut Box<BufReader<Chain<Take<Tally<R>>, U>, S>>,
     buf: &mut [u8],
 ) -> Result<usize>
-    ensures { (E : List Event) → to_come (tells ⟦<BufReader<BufReader<R, S>, T> as Read>⟧ r.old) ≡ Some E
-        → (after : List Event) × (to_come (tells ⟦<BufReader<BufReader<R, S>, T> as Read>⟧ r.new) ≡ Some after)
-        × (E ≡ answered (gave result buf.new) ++ after) }
+    ensures { Takes (in_reader (in_chain (in_take (λ t. tells R.Read (tally_inner t))) (tells U.Read)) r.old.value)
+        (answered (gave result buf.new))
+        (in_reader (in_chain (in_take (λ t. tells R.Read (tally_inner t))) (tells U.Read)) r.new.value) }
 {
-    gives_what_comes_next(r, buf)
+    r.read(buf)
 }
 
 /// `read_until` appends one piece: the bytes up to and including the next delimiter, or all if there is none. After an error it has
@@ -49,13 +54,25 @@ pub fn goes_to_its_target<S: Seek>(s: &mut S, target: SeekFrom) -> Result<u64>
     s.seek(target)
 }
 
-/// A `seek_relative` inside the buffer of a `BufReader` succeeds and makes no inner call.
+/// A `seek_relative` inside the buffer of a `BufReader` succeeds and makes no inner call, and the events to come move along.
 pub fn moves_inside_its_buffer<R: Read + Seek + Drop, const S: usize>(
     r: &mut BufReader<R, S>,
     offset: i64,
 ) -> Result<()>
     ensures { IsInBuffer offset (length (reader_behind r.old)) (length (reader_held r.old))
-        → IsOk result × (reader_inner r.new ≡ reader_inner r.old) }
+        → IsOk result × (reader_inner r.new ≡ reader_inner r.old) × TakesOver offset (reader_behind r.old) (reader_held r.old)
+        (in_reader (tells R.Read) r.old) (in_reader (tells R.Read) r.new) }
 {
     r.seek_relative(offset)
+}
+
+// After a piece, the bytes behind in the buffer are a suffix of those behind before, followed by the piece.
+fn keeps_the_last_bytes_behind<R: Read, const S: usize, A: Allocator>(
+    r: &mut BufReader<R, S>,
+    delim: u8,
+    buf: &mut Vec<u8, A>,
+) -> Result<usize>
+    ensures { IsSuffix (reader_behind r.old ++ drop (vec_len buf.old) buf.new.items) (reader_behind r.new) }
+{
+    r.read_until(delim, buf)
 }

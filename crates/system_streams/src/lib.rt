@@ -10,7 +10,6 @@
 
 mod copy;
 mod patient;
-mod pins;
 mod streams;
 mod system;
 mod to_std;

@@ -1,5 +1,5 @@
-use Rattle.promises.proofs.ToldAfter.{events_after}
+use Rattle.no_std_io2.proofs.ExactLemmas.{left_of}
 use Rattle.promises.proofs.reads.gives_what_comes_next.Goals as goal
 
 pub returns : goal.returns
-returns g c = λ E told. events_after c.read.ensures.law.takes told
+returns g c = λ E told. left_of c.read.ensures.law.takes told

@@ -1,5 +1,0 @@
-use Rattle.no_std_io2.proofs.CopyReads.{copy_cost}
-use Rattle.no_std_io2.proofs.count_pins.copy_counted.Goals as goal
-
-pub returns : goal.returns
-returns g c = λ cost meter some fills. copy_cost _ cost meter fills g.row.S some c.copy.result c.copy.ensures

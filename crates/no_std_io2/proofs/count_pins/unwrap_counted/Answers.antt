@@ -1,6 +1,0 @@
-use Rattle.no_std_io2.specs.BufWriter.{writer_inner, writer_buffer}
-use Rattle.no_std_io2.proofs.StepCosts.{unwrap_cost}
-use Rattle.no_std_io2.proofs.count_pins.unwrap_counted.Goals as goal
-
-pub returns : goal.returns
-returns g c = unwrap_cost g.W.Write (writer_inner {S = g.row.S}) writer_buffer c.args.w c.into_inner.result c.into_inner.ensures.law.calls

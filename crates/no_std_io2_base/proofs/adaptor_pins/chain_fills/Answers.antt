@@ -1,9 +1,0 @@
-use Rattle.no_std_io2_base.proofs.ReadsAdd.{exact_adds}
-use Rattle.no_std_io2_base.proofs.ChainTurns.{chain_each}
-use Rattle.no_std_io2_base.proofs.Readers.{reader}
-use Rattle.no_std_io2_base.proofs.adaptor_pins.chain_fills.Goals as goal
-
-pub returns : goal.returns
-returns g c =
-    (exact_adds (chain_each (reader g.T.Stored g.T.Read) (reader g.U.Stored g.U.Read)) c.read_exact.result _ _
-    c.read_exact.ensures.law.calls).2

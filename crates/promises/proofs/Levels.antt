@@ -1,0 +1,67 @@
+-- What streams in front of others are, as the laws take them.
+use Rattle.std.proofs.Common.{ℕ, List, Vec, Some, length}
+use Rattle.std.specs.Vec.{vec_len, vec_capacity}
+use Rattle.no_std_io2.specs.Appends.{AppendsMay}
+use Rattle.no_std_io2.specs.Write.{told_out}
+use Rattle.no_std_io2.specs.Writers.{Writer}
+use Rattle.no_std_io2.specs.declared.buffered.buf_writer.BufWriter.{BufWriter}
+use Rattle.no_std_io2.specs.declared.buffered.line_writer.LineWriter.{LineWriter}
+use Rattle.no_std_io2.specs.BufWriter.{writer_inner, writer_buffer, writer_told, BufferMay}
+use Rattle.no_std_io2.specs.LineWriter.{line_inner, line_buffer, line_told, LineMay}
+use Rattle.no_std_io2.specs.declared.io.Cursor.{Cursor}
+use Rattle.no_std_io2.specs.Cursor.{cursor_left}
+use Rattle.no_std_io2.specs.InMemory.{GivesLeft}
+use Rattle.no_std_io2.specs.Events.{events_of}
+use Rattle.no_std_io2.specs.Takes.{store_at}
+use Rattle.no_std_io2.specs.Read.{Reader}
+use Rattle.no_std_io2.specs.ReadMeter.{FillsRoom}
+use Rattle.io_bench.specs.declared.tally.Tally.{Tally}
+use Rattle.io_bench.specs.Tally.{tally_inner, TallyMay}
+
+-- a vector
+abbrev pub vector : (Z : Type 0) → Writer (Vec ℕ Z)
+vector Z = record { told = λ v. told_out v.items; takes_all = λ _. ⊥; may = AppendsMay (λ v. v.items) vec_len vec_capacity }
+
+-- a `Tally`, a `BufWriter` and a `LineWriter` in front of a writer
+abbrev pub tallied : {W : Type 0} → Writer W → Writer (Tally W)
+tallied I = record {
+  told = λ t. I.told (tally_inner t);
+  takes_all = λ t. I.takes_all (tally_inner t);
+  may = TallyMay I;
+}
+
+abbrev pub buffered : {W : Type 0} (S : ℕ) → Writer W → Writer (BufWriter W S)
+buffered S I = record {
+  told = writer_told I.told;
+  takes_all = λ w. I.takes_all (writer_inner w);
+  may = BufferMay I S writer_inner writer_buffer;
+}
+
+abbrev pub lines : {W : Type 0} (S : ℕ) → Writer W → Writer (LineWriter W S)
+lines S I = record { told = line_told I.told; takes_all = λ _. ⊥; may = LineMay I S line_inner line_buffer }
+
+-- what passes each call on to a reader, as a reference and a box do
+abbrev pub behind : {V R : Type 0} → (V → R) → Reader R → Reader V
+behind get I = record {
+  store = λ v. I.store (get v);
+  turns = λ v. I.turns (get v);
+  events = λ v. I.events (get v);
+  may = λ a call b. I.may (get a) call (get b);
+}
+
+-- it fills its room if that reader does
+abbrev pub fills_behind : {V R : Type 0} (get : V → R) {I : Reader R} → FillsRoom I → FillsRoom (behind get I)
+fills_behind get fills = record {
+  left = λ v. fills.left (get v);
+  told = λ v. fills.told (get v);
+  gives = λ a b. fills.gives (get a) (get b);
+}
+
+-- a cursor
+abbrev pub in_cursor : {T : Type 0} → (T → List ℕ) → Reader (Cursor T)
+in_cursor slice = record {
+  store = λ c. store_at (slice c.inner) c.pos;
+  turns = λ c. length (cursor_left slice c);
+  events = λ c. Some (events_of (cursor_left slice c));
+  may = GivesLeft (cursor_left slice);
+}

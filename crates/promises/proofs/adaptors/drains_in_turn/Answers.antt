@@ -1,0 +1,9 @@
+use Rattle.no_std_io2.proofs.ReadsAdd.{to_end_adds}
+use Rattle.no_std_io2.proofs.ChainTurns.{chain_each}
+use Rattle.no_std_io2.proofs.Readers.{reader}
+use Rattle.promises.proofs.adaptors.drains_in_turn.Goals as goal
+
+pub returns : goal.returns
+returns g c =
+    (to_end_adds (chain_each (reader g.T.Stored g.T.Read) (reader g.U.Stored g.U.Read)) c.read_to_end.result _ _
+    c.read_to_end.ensures.law.calls).2

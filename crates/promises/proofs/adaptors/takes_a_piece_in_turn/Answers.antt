@@ -1,0 +1,12 @@
+use Rattle.no_std_io2.proofs.ReadsAdd.{each_of, piece_adds}
+use Rattle.no_std_io2.proofs.ChainTurns.{chain_each}
+use Rattle.no_std_io2.proofs.ChainLends.{chain_lender}
+use Rattle.no_std_io2.proofs.TakesLemmas.{lend_law}
+use Rattle.no_std_io2.proofs.Readers.{reader, lends}
+use Rattle.promises.proofs.adaptors.takes_a_piece_in_turn.Goals as goal
+
+pub returns : goal.returns
+returns g c =
+    let chain = chain_lender (lends g.T.Stored g.T.Read g.T.BufRead) (lends g.U.Stored g.U.Read g.U.BufRead) in
+    let each = chain_each (reader g.T.Stored g.T.Read) (reader g.U.Stored g.U.Read) in
+    piece_adds (each_of (lend_law chain) each) c.read_until.result _ _ c.read_until.ensures.law.calls

@@ -1,0 +1,5 @@
+use Rattle.no_std_io2.proofs.CopyReads.{copy_cost}
+use Rattle.promises.proofs.counts.counts_a_copy.Goals as goal
+
+pub returns : goal.returns
+returns g c = λ cost meter some fills. copy_cost _ cost meter fills g.row.S some c.copy.result c.copy.ensures

@@ -1,0 +1,10 @@
+use Rattle.no_std_io2.specs.Write.{calls_for}
+use Rattle.no_std_io2.specs.BufWriter.{writer_inner, writer_buffer, FlushCalls}
+use Rattle.no_std_io2.proofs.BufWriterCalls.{flush_counts}
+use Rattle.no_std_io2.proofs.StepCosts.{step_cost}
+use Rattle.promises.proofs.counts.counts_a_flush.Goals as goal
+
+pub returns : goal.returns
+returns g c = λ cost meter takes.
+    (step_cost g.W.Write cost meter (writer_inner {S = g.row.S}) writer_buffer FlushCalls calls_for (flush_counts g.W.Write)
+    c.args.w.now c.flush.new.self c.flush.ensures.buffer.calls takes).2

@@ -1,0 +1,22 @@
+use Rattle.std.proofs.Common.{min, length, ap}
+use Rattle.no_std_io2.specs.BufReader.{reader_held, reader_inner}
+use Rattle.no_std_io2.proofs.BufReaderCounts.{held_or, read_cost, read_gives, gave_count}
+use Rattle.no_std_io2.proofs.Readers.{reader}
+use Rattle.io_bench.specs.Tally.{tally_reads}
+use Rattle.io_bench.proofs.Meters.{tally_fills, tally_meters_reads}
+use Rattle.promises.proofs.counts.counts_a_read.Goals as goal
+
+pub returns : goal.returns
+returns g c =
+    let law = c.read.ensures.law in
+    let old = c.args.r.now.value in
+    let new = c.read.new.self.value in
+    record {
+      takes = law.takes;
+      reads = read_cost old new tally_reads (tally_meters_reads (reader g.R.Stored g.R.Read)) _ _ law.call;
+      fills = λ fills.
+          let all = tally_fills fills in
+          gave_count c.read.result c.read.new.buf law.bound
+          (ap (λ n. min n (held_or (length (reader_held old)) (length (all.left (reader_inner old))))) c.read.auto.buf)
+          (read_gives old new all _ _ law.call);
+    }

@@ -1,0 +1,11 @@
+use Rattle.no_std_io2.specs.LineWriter.{line_inner, line_buffer, LineWriteAllCalls}
+use Rattle.no_std_io2.proofs.LineWriterCalls.{line_write_all_keeps}
+use Rattle.no_std_io2.proofs.StepCosts.{few_cost}
+use Rattle.promises.proofs.counts.counts_a_write_all_of_lines.Goals as goal
+
+pub returns : goal.returns
+returns g c = λ cost meter takes.
+    let t = c.write_all.ensures.calls in
+    few_cost g.W.Write cost meter (line_inner {S = g.row.S}) line_buffer
+    (LineWriteAllCalls g.row.S c.args.x.now) c.args.w.now c.write_all.new.self
+    t (line_write_all_keeps g.W.Write g.row.S t.2 (line_inner c.args.w.now) (line_inner c.write_all.new.self) t.1 takes).2

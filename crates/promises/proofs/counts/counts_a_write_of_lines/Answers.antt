@@ -1,0 +1,12 @@
+use Rattle.no_std_io2.specs.LineWriter.{line_inner, line_buffer, LineWriteCalls}
+use Rattle.no_std_io2.proofs.LineWriterCalls.{line_write_keeps}
+use Rattle.no_std_io2.proofs.StepCosts.{few_cost}
+use Rattle.promises.proofs.counts.counts_a_write_of_lines.Goals as goal
+
+pub returns : goal.returns
+returns g c = λ cost meter takes.
+    let old = c.args.w.now.value in
+    let new = c.write.new.self.value in
+    let t = c.write.ensures.law.call in
+    few_cost g.W.Write cost meter (line_inner {S = g.row.S}) line_buffer (LineWriteCalls g.row.S c.args.x.now) old new t
+    (line_write_keeps g.W.Write g.row.S t.2 (line_inner old) (line_inner new) t.1 takes).2

@@ -1,0 +1,6 @@
+use Rattle.no_std_io2.specs.BufWriter.{writer_inner, writer_buffer}
+use Rattle.no_std_io2.proofs.StepCosts.{unwrap_cost}
+use Rattle.promises.proofs.counts.counts_an_into_inner.Goals as goal
+
+pub returns : goal.returns
+returns g c = unwrap_cost g.W.Write (writer_inner {S = g.row.S}) writer_buffer c.args.w c.into_inner.result c.into_inner.ensures.law.calls

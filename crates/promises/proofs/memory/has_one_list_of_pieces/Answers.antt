@@ -1,0 +1,8 @@
+use Rattle.no_std_io2.proofs.PieceLaws.{pieces_are, pieces_only}
+use Rattle.promises.proofs.memory.has_one_list_of_pieces.Goals as goal
+
+pub returns-clause-hold : goal.returns-clause-hold
+returns-clause-hold c = pieces_are
+
+pub returns-clause-determine : goal.returns-clause-determine
+returns-clause-determine c = pieces_only

@@ -1,0 +1,22 @@
+use Rattle.std.proofs.Common.{◌≡◌, ◌++◌, ap, ap₂, ◌∙◌}
+use Rattle.no_std_io2.specs.Events.{events_of, bytes, cut}
+use Rattle.no_std_io2.specs.Cursor.{cursor_left}
+use Rattle.no_std_io2.specs.Chain.{both_to_come}
+use Rattle.no_std_io2.specs.Take.{cut_to_come}
+use Rattle.no_std_io2.proofs.EventLemmas.{bytes-append, bytes-events_of}
+use Rattle.no_std_io2.proofs.StoreLemmas.{told_at}
+use Rattle.promises.proofs.InMemory.{drained}
+use Rattle.promises.proofs.memory.joins_readers.Goals as goal
+
+pub returns : goal.returns
+returns g c = λ E told.
+    let slice = g.T.AsSlice.slice in
+    let head = cut c.args.limit E in
+    let q = events_of c.args.q.items in
+    let left = events_of (cursor_left slice c.args.c) in
+    let first = c.take.ensures.events ∙ ap (cut_to_come c.args.limit) told in
+    let both = c.chain.ensures.events ∙ ap (λ o. both_to_come o _) first in
+    drained c.read_to_end.result c.read_to_end.ensures.law
+    (c.chain-2.ensures.events ∙ ap₂ both_to_come both (told_at (slice c.args.c.inner) c.args.c.pos))
+    (bytes-append (head ++ q) left ∙ ap₂ (λ x y. x ++ y) (bytes-append head q ∙ ap (λ l. bytes head ++ l) (bytes-events_of c.args.q.items))
+    (bytes-events_of (cursor_left slice c.args.c)))

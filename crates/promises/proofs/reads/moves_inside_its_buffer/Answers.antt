@@ -1,0 +1,28 @@
+-- Within the buffer no inner call is made, and the border moves.
+use Rattle.std.proofs.Common.{ℤ, refl, subst}
+use Rattle.std.proofs.lemmas.Int.{to_z-of_z}
+use Rattle.std.specs.Int.{w64}
+use Rattle.no_std_io2.specs.Read.{tells}
+use Rattle.no_std_io2.proofs.Readers.{reader}
+use Rattle.no_std_io2.specs.BufReader.{reader_held, reader_behind, reader_inner, MovesBelow}
+use Rattle.no_std_io2.proofs.BufferedReads.{steps_over}
+use Rattle.no_std_io2.proofs.BufReaderRoom.{held-le}
+use Rattle.no_std_io2.proofs.BufReaderSeeks.{seeker}
+use Rattle.promises.proofs.reads.moves_inside_its_buffer.Goals as goal
+
+pub returns : goal.returns
+returns g c = λ within.
+    let old = c.args.r.now in
+    let new = c.seek_relative.new.self in
+    let same = to_z-of_z w64 c.args.offset c.ranges.offset in
+    let own = subst (λ (o : ℤ). MovesBelow (seeker g.R.Stored g.R.Seek) old o c.seek_relative.result new) same c.seek_relative.ensures.own
+    in
+    let moves = own.within within in
+    let inner = tells (reader g.R.Stored g.R.Read) (reader_inner old) in
+    rw moves.0 (
+      refl,
+      moves.1,
+      rw moves.1 (steps_over g.row.S c.args.offset (reader_behind old) (reader_held old) (reader_behind new)
+          (reader_held new) inner within moves.2
+          (held-le old) (held-le new)),
+    )

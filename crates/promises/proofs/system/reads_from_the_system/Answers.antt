@@ -1,0 +1,5 @@
+use Rattle.system_streams.proofs.LoopLemmas.{fills}
+use Rattle.promises.proofs.system.reads_from_the_system.Goals as goal
+
+pub returns : goal.returns
+returns g c = fills g.D.SystemRead c.read_exact.result c.read_exact.ensures.law.calls

@@ -1,0 +1,4 @@
+use Rattle.promises.proofs.towers.reads_through.Goals as goal
+
+pub returns : goal.returns
+returns g c = let law = c.read.ensures.law in record { bound = law.bound; takes = law.takes; end = law.end; call = law.call }

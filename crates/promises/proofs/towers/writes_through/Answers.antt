@@ -1,0 +1,4 @@
+use Rattle.promises.proofs.towers.writes_through.Goals as goal
+
+pub returns : goal.returns
+returns g c = let law = c.write.ensures.law in record { bound = law.bound; moves = law.moves; all = law.all; call = law.call }

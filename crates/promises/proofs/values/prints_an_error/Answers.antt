@@ -1,0 +1,5 @@
+use Rattle.no_std_io2.proofs.MovesLemmas.{MovesFront-text}
+use Rattle.promises.proofs.values.prints_an_error.Goals as goal
+
+pub returns : goal.returns
+returns g c = MovesFront-text c.write.ensures.law.moves

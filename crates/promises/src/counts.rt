@@ -1,0 +1,135 @@
+// How many calls the inner stream gets: each number that counts its calls rises by so many. A `Tally` has such a number.
+ghost use Rattle.std.specs.Prelude.{ℕ, ◌≡◌, ◌+◌, ◌-◌, ◌/◌, ◌<◌, ◌≤◌, ◌^◌, min, nat_lt, if◌then◌else◌, length, IfOk, IsOkAnd, Ok, OnOk};
+ghost use Rattle.no_std_io2.specs.BufReader.{reader_held, reader_inner};
+ghost use Rattle.no_std_io2.specs.BufWriter.{writer_buffer, writer_inner, writing_calls};
+ghost use Rattle.no_std_io2.specs.Copy.{copy_reads};
+ghost use Rattle.no_std_io2.specs.LineWriter.{line_inner};
+ghost use Rattle.no_std_io2.specs.Meter.{Costs, CostsAtMost};
+ghost use Rattle.no_std_io2.specs.Read.{answered, gave, tells};
+ghost use Rattle.no_std_io2.specs.ReadMeter.{FillsRoom, IsReadMeter};
+ghost use Rattle.no_std_io2.specs.Takes.{Takes};
+ghost use Rattle.no_std_io2.specs.Write.{calls_for};
+ghost use Rattle.no_std_io2.specs.Writers.{TakesAll};
+ghost use Rattle.io_bench.specs.Asks.{AllFit, left_behind};
+ghost use Rattle.io_bench.specs.Tally.{tally_inner, tally_reads, tally_writes};
+ghost use Rattle.promises.specs.Promises.{in_reader};
+
+use io_bench::{Ask, ReadTotals, Tally, run_reads};
+use no_std_io2::io::{
+    AsSlice, BufRead, BufReader, BufWriter, Cursor, IntoInnerError, LineWriter, Read, Result, Take,
+    Write, copy,
+};
+
+// Over a device that takes all, a `write` takes all. It makes one inner write if held bytes must be sent first, and one more for S bytes or more.
+fn counts_a_write<W: Write + Drop, const S: usize>(
+    w: &mut Box<BufWriter<Tally<W>, S>>,
+    x: &[u8],
+) -> Result<usize>
+    ensures { TakesAll W.Write (tally_inner (writer_inner w.old.value)) → (result ≡ Ok (length x.now))
+        × (tally_writes (writer_inner w.new.value)
+        ≡ tally_writes (writer_inner w.old.value) + writing_calls S (writer_buffer w.old.value) x.now) }
+{
+    w.write(x)
+}
+
+// So does a `write_all`. With S = 0 an empty one makes none.
+fn counts_a_write_all<W: Write + Drop, const S: usize>(
+    w: &mut BufWriter<W, S>,
+    x: &[u8],
+) -> Result<()>
+    ensures { 0 < S
+        → Costs W.Write (writer_inner w.old) (writing_calls S (writer_buffer w.old) x.now) (writer_inner w.new) }
+{
+    w.write_all(x)
+}
+
+// A `flush` makes one inner write if some bytes are held.
+fn counts_a_flush<W: Write + Drop, const S: usize>(w: &mut BufWriter<W, S>) -> Result<()>
+    ensures { Costs W.Write (writer_inner w.old) (calls_for (writer_buffer w.old)) (writer_inner w.new) }
+{
+    w.flush()
+}
+
+// So does an `into_inner`.
+fn counts_an_into_inner<W: Write + Drop, const S: usize>(
+    w: BufWriter<W, S>,
+) -> std::result::Result<W, IntoInnerError<BufWriter<W, S>>>
+    ensures { IfOk result (λ t. Costs W.Write (writer_inner w) (calls_for (writer_buffer w)) t) }
+{
+    w.into_inner()
+}
+
+// A `write` of a `LineWriter` makes at most 3 inner writes.
+fn counts_a_write_of_lines<W: Write + Drop, const S: usize>(
+    w: &mut Box<LineWriter<W, S>>,
+    x: &[u8],
+) -> Result<usize>
+    ensures { CostsAtMost W.Write (line_inner w.old.value) 3 (line_inner w.new.value) }
+{
+    w.write(x)
+}
+
+// So does a `write_all`.
+fn counts_a_write_all_of_lines<W: Write + Drop, const S: usize>(
+    w: &mut LineWriter<W, S>,
+    x: &[u8],
+) -> Result<()>
+    ensures { CostsAtMost W.Write (line_inner w.old) 3 (line_inner w.new) }
+{
+    w.write_all(x)
+}
+
+// A `read` takes what comes next. It makes one inner read if nothing is held, and else none.
+fn counts_a_read<R: Read, const S: usize>(
+    r: &mut Box<BufReader<Tally<R>, S>>,
+    buf: &mut [u8],
+) -> Result<usize>
+    ensures takes { Takes (in_reader (λ t. tells R.Read (tally_inner t)) r.old.value) (answered (gave result buf.new))
+        (in_reader (λ t. tells R.Read (tally_inner t)) r.new.value) }
+    ensures reads { tally_reads (reader_inner r.new.value) ≡ tally_reads (reader_inner r.old.value)
+        + (if nat_lt 0 (length (reader_held r.old.value)) then 0 else 1) }
+    ensures fills { (fills : FillsRoom R.Read) → IsOkAnd result (λ n. n ≡ min (length buf.old) (if nat_lt 0 (length (reader_held r.old.value))
+        then length (reader_held r.old.value) else length (fills.left (tally_inner (reader_inner r.old.value))))) }
+{
+    r.read(buf)
+}
+
+// So does a `fill_buf`.
+fn counts_a_fill<R: Read, const S: usize>(r: &mut BufReader<R, S>) -> Result<usize>
+    ensures reads { (cost : R → ℕ) → IsReadMeter R.may cost → cost (reader_inner r.new) ≡ cost (reader_inner r.old)
+        + (if nat_lt 0 (length (reader_held r.old)) then 0 else 1) }
+    ensures fills { (fills : FillsRoom R.Read) → IsOkAnd result (λ n. (n ≡ length (reader_held r.new))
+        × (n ≡ (if nat_lt 0 (length (reader_held r.old)) then length (reader_held r.old) else min S (length (fills.left (reader_inner r.old)))))) }
+{
+    let lent = r.fill_buf()?;
+    Ok(lent.len())
+}
+
+// A `copy` through S bytes of a filling reader makes one read for each S bytes, rounded up, and one more.
+fn counts_a_copy<R: Read, W: Write, const S: usize>(reader: &mut R, writer: &mut W) -> Result<u64>
+    requires { S < 2 ^ 63 }
+    ensures { (cost : R → ℕ) → IsReadMeter R.may cost → 0 < S → (fills : FillsRoom R.Read) → OnOk result
+        (cost reader.new ≡ cost reader.old + copy_reads S (length (fills.left reader.old))) }
+{
+    copy::<R, W, S>(reader, writer)
+}
+
+// If a run through a buffer of S bytes over a filling reader takes N bytes and meets the end Z times, at most `N / S + 1 + Z` reads are made.
+fn bounds_the_reads_of_a_run<R: Read, const S: usize>(
+    r: &mut BufReader<Tally<R>, S>,
+    asks: &[Ask],
+    buf: &mut [u8],
+) -> ReadTotals
+    requires { AllFit (length buf.old) asks.now }
+    ensures { (fills : FillsRoom R.Read) → tally_reads (reader_inner r.new) ≤ tally_reads (reader_inner r.old)
+        + ((length (left_behind (λ t. fills.left (tally_inner t)) r.old) - length (left_behind (λ t. fills.left (tally_inner t)) r.new)) / S
+        + 1 + result.at_end) }
+{
+    run_reads(r, asks, buf)
+}
+
+// Slices and cursors are filling, and so is a box or a `Take` of a filling reader.
+fn has_filling_readers<'a, T: AsSlice<u8>>(_t: &Take<Box<Cursor<T>>>, _s: &&'a [u8])
+    ensures cursor { FillsRoom ⟦<Take<Box<Cursor<T>>> as Read>⟧ }
+    ensures slice { FillsRoom ⟦<&'a [u8] as Read>⟧ }
+{}

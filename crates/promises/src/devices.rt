@@ -1,0 +1,56 @@
+// What the devices for tests and the streams that keep nothing do.
+ghost use Rattle.std.specs.Prelude.{[], ◌≡◌, ◌≤◌, ◌++◌, None, Ok, OnOk, Some, drop, length};
+ghost use Rattle.io_bench.specs.Appended.{appended};
+ghost use Rattle.no_std_io2.specs.BufWriter.{writer_inner};
+ghost use Rattle.no_std_io2.specs.Read.{answered, gave, tells};
+ghost use Rattle.no_std_io2.specs.Sink.{empty_taken, sink_taken};
+ghost use Rattle.no_std_io2.specs.Takes.{Takes, to_come};
+ghost use Rattle.io_bench.specs.Faulty.{WritesBehind, act_mishaps, acts_left, faulty_inner, next_act};
+ghost use Rattle.io_bench.specs.Feed.{all_to_come, feed_answer, feed_left};
+ghost use Rattle.io_bench.specs.Runs.{AreWhole, failures};
+ghost use Rattle.io_bench.specs.Tally.{tally_inner};
+
+use io_bench::{Faulty, Feed, Op, Reply, Tally, run_writes};
+use no_std_io2::io::{BufWriter, Empty, Read, Result, Sink, Write};
+
+// Over a sink behind a `Faulty`, at most as many calls of a run fail as acts do. If no act is left, each call accepts all its bytes.
+fn fails_as_its_acts_do<const S: usize, const T: usize>(
+    w: &mut BufWriter<BufWriter<Tally<Faulty<Sink>>, S>, T>,
+    ops: &[Op<'_>],
+    replies: &mut Vec<Reply>,
+) -> Result<()>
+    ensures fails { OnOk result (failures ops.now (appended replies.old.items replies.new.items)
+        ≤ length (act_mishaps (acts_left (tally_inner (writer_inner (writer_inner w.old)))))) }
+    ensures whole { acts_left (tally_inner (writer_inner (writer_inner w.old))) ≡ []
+        → OnOk result (AreWhole ops.now (appended replies.old.items replies.new.items)) }
+{
+    run_writes(w, ops, replies)
+}
+
+// A write of a `Faulty` uses up an act, and does what the act says.
+fn uses_up_an_act<W: Write>(w: &mut Box<Faulty<W>>, x: &[u8]) -> Result<usize>
+    ensures used { acts_left w.new.value ≡ drop 1 (acts_left w.old.value) }
+    ensures does { WritesBehind W.Write (next_act w.old.value) (faulty_inner w.old.value) x.now result (faulty_inner w.new.value) }
+{
+    w.write(x)
+}
+
+// A `Feed` gives its script, and each read as much as its bound lets through.
+fn feeds_its_script(f: &mut Box<Feed>, buf: &mut [u8]) -> Result<usize>
+    ensures takes { Takes (record { events = Some (all_to_come (feed_left f.old.value)); store = None; turns = length (feed_left f.old.value) })
+        (answered (gave result buf.new))
+        (record { events = Some (all_to_come (feed_left f.new.value)); store = None; turns = length (feed_left f.new.value) }) }
+    ensures answer { gave result buf.new ≡ feed_answer f.old.value (length buf.new) }
+{
+    f.read(buf)
+}
+
+// A `Sink` and an `Empty` take all.
+fn sinks_all(sink: &mut Box<Sink>, empty: &mut Box<Empty>, x: &[u8]) -> Result<(usize, usize)>
+    ensures all { result ≡ Ok (length x.now, length x.now) }
+    ensures sunk { sink_taken sink.new.value ≡ sink_taken sink.old.value ++ x.now }
+    ensures emptied { empty_taken empty.new.value ≡ empty_taken empty.old.value ++ x.now }
+    ensures nothing { to_come (tells ⟦<Empty as Read>⟧ empty.new.value) ≡ Some [] }
+{
+    Ok((sink.write(x)?, Write::write(empty, x)?))
+}

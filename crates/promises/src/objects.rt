@@ -1,0 +1,43 @@
+// A call of a boxed object is the same call of the object in the box, and tells what that tells.
+ghost use Rattle.std.specs.Prelude.{[], ◌≡◌, Ok, Some, length};
+ghost use Rattle.no_std_io2.specs.Read.{Gave, answered, gave};
+ghost use Rattle.no_std_io2.specs.Seek.{Seeks, Sought};
+ghost use Rattle.no_std_io2.specs.Takes.{KeepsContent, Takes};
+ghost use Rattle.no_std_io2.specs.Write.{BoxMay, Moves, Wrote, taken, write_mishap};
+
+use no_std_io2::io::{BufRead, Read, Result, Seek, SeekFrom, Write};
+
+// A writer in a box accepts what the box accepts. If it takes all, so does the box.
+fn writes_in_a_box(w: &mut Box<dyn Write + Drop>, x: &[u8]) -> Result<usize>
+    ensures moves { Moves (told w.old) (taken result x.now) (write_mishap result x.now) (told w.new) }
+    ensures all { takes_all w.old → (told w.old).mishaps ≡ Some [] → result ≡ Ok (length x.now) }
+    ensures call { BoxMay w.old (Write-box w.old).may (Wrote x.now result) w.new }
+{
+    w.write(x)
+}
+
+// A reader in a box gives what the box gives.
+fn reads_in_a_box(r: &mut Box<dyn Read + Drop>, buf: &mut [u8]) -> Result<usize>
+    ensures takes { Takes (record { events = events r.old; store = store r.old; turns = turns r.old }) (answered (gave result buf.new))
+        (record { events = events r.new; store = store r.new; turns = turns r.new }) }
+    ensures call { BoxMay r.old (Read-box r.old).Read.may (Gave (length buf.new) (gave result buf.new)) r.new }
+{
+    r.read(buf)
+}
+
+// So does one with a buffer.
+fn lends_in_a_box(r: &mut Box<dyn BufRead + Drop>, buf: &mut [u8]) -> Result<usize>
+    ensures takes { Takes (record { events = events r.old; store = store r.old; turns = turns r.old }) (answered (gave result buf.new))
+        (record { events = events r.new; store = store r.new; turns = turns r.new }) }
+    ensures call { BoxMay r.old (BufRead-box r.old).Read.may (Gave (length buf.new) (gave result buf.new)) r.new }
+{
+    r.read(buf)
+}
+
+// A stream in a box goes where the box goes.
+fn seeks_in_a_box(s: &mut Box<dyn Seek + Drop>, target: SeekFrom) -> Result<u64>
+    ensures store { KeepsContent (store s.old) (λ len was now. Seeks len was target result now) (store s.new) }
+    ensures call { BoxMay s.old (Seek-box s.old).Seek.may (Sought target result) s.new }
+{
+    s.seek(target)
+}

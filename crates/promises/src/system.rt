@@ -1,0 +1,48 @@
+// What a `Patient` and a `ToStd` do between this library and the system's `std::io`.
+ghost use Rattle.std.specs.Io.KnownBytes.{ReadConsumes, WriteAppends};
+ghost use Rattle.std.specs.Prelude.{Some};
+ghost use Rattle.no_std_io2.specs.Read.{tells};
+ghost use Rattle.no_std_io2.specs.Seek.{Sought};
+ghost use Rattle.no_std_io2.specs.Write.{Moves, Wrote, taken, write_mishap};
+ghost use Rattle.system_streams.specs.Patient.{Fills, PatientMay, PatientSeeks, patient_told};
+ghost use Rattle.system_streams.specs.ToStd.{accepted, bytes_to_come, std_inner};
+
+use no_std_io2::io::{Read, Result, Seek, SeekFrom, Write};
+use std::io;
+use system_streams::{Patient, SystemRead, SystemSeek, SystemWrite, ToStd};
+
+// A write makes one write of the system's, and the bytes that this reports as taken are out.
+fn writes_to_the_system<D: SystemWrite>(w: &mut Box<Patient<D>>, x: &[u8]) -> Result<usize>
+    ensures moves { Moves (patient_told w.old.value) (taken result x.now) (write_mishap result x.now) (patient_told w.new.value) }
+    ensures call { PatientMay ⟦<D as SystemWrite>⟧ w.old.value (Wrote x.now result) w.new.value }
+{
+    w.write(x)
+}
+
+// Whatever bytes a `read_exact` puts into the buffer, the system gave them, and each of its results except the end spent a turn.
+fn reads_from_the_system<D: SystemRead>(r: &mut Patient<D>, buf: &mut [u8]) -> Result<()>
+    ensures { Fills D.known result buf.new r.old r.new }
+{
+    r.read_exact(buf)
+}
+
+// A seek makes one seek of the system's.
+fn seeks_in_the_system<D: SystemSeek>(s: &mut Box<Patient<D>>, target: SeekFrom) -> Result<u64>
+    ensures { PatientSeeks ⟦<D as SystemSeek>⟧ s.old.value (Sought target result) s.new.value }
+{
+    s.seek(target)
+}
+
+// The system's `std::io` gets the bytes among the told events,
+fn gives_bytes_to_the_system<R: Read>(r: &mut ToStd<R>, buf: &mut [u8]) -> io::Result<usize>
+    ensures { ReadConsumes (bytes_to_come (tells R.Read (std_inner r.old))) (bytes_to_come (tells R.Read (std_inner r.new))) result buf.new }
+{
+    io::Read::read(r, buf)
+}
+
+// and puts bytes behind those that the writer has accepted.
+fn takes_bytes_from_the_system<W: Write>(w: &mut ToStd<W>, x: &[u8]) -> io::Result<usize>
+    ensures { WriteAppends (Some (accepted (W.told (std_inner w.old)))) (Some (accepted (W.told (std_inner w.new)))) result x.now }
+{
+    io::Write::write(w, x)
+}
