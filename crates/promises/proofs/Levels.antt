@@ -58,8 +58,8 @@ fills_behind get fills = record {
 }
 
 -- a cursor
-abbrev pub in_cursor : {T : Type 0} → (T → List ℕ) → Reader (Cursor T)
-in_cursor slice = record {
+abbrev pub cursor_reader : {T : Type 0} → (T → List ℕ) → Reader (Cursor T)
+cursor_reader slice = record {
   store = λ c. store_at (slice c.inner) c.pos;
   turns = λ c. length (cursor_left slice c);
   events = λ c. Some (events_of (cursor_left slice c));

@@ -1,5 +1,5 @@
 -- The words of the promises.
-use Rattle.std.specs.Prelude.{◌≡◌, ◌+◌, ℕ, List, [], ◌∷◌, ◌++◌, ⊤, Ok, Err, None}
+use Rattle.std.specs.Prelude.{◌≡◌, ◌+◌, ℕ, List, [], ◌∷◌, ◌++◌, length, ⊤, Ok, Err, None, Some}
 use Rattle.no_std_io2.specs.declared.io.Error.{Error}
 use Rattle.no_std_io2.specs.declared.io.ErrorKind.TheVariants.{WriteZero}
 use Rattle.no_std_io2.specs.Errors.{error_kind}
@@ -11,7 +11,10 @@ use Rattle.no_std_io2.specs.declared.io.Chain.{Chain}
 use Rattle.no_std_io2.specs.declared.io.Take.{Take}
 use Rattle.no_std_io2.specs.BufWriter.{writer_inner, writer_buffer, with_buffer}
 use Rattle.no_std_io2.specs.BufReader.{reader_told, reader_behind, reader_held, reader_inner}
-use Rattle.no_std_io2.specs.Takes.{Tells}
+use Rattle.no_std_io2.specs.declared.io.Cursor.{Cursor}
+use Rattle.no_std_io2.specs.Cursor.{cursor_inner, cursor_left, cursor_position}
+use Rattle.no_std_io2.specs.Events.{events_of}
+use Rattle.no_std_io2.specs.Takes.{Tells, store_at}
 use Rattle.no_std_io2.specs.Take.{take_inner, take_events}
 use Rattle.no_std_io2.specs.Chain.{chain_first, chain_second, chain_events}
 use Rattle.no_std_io2.specs.LineWriter.{line_inner, line_buffer}
@@ -39,6 +42,14 @@ in_chain first second c = record {
 -- what a `BufReader` of a reader that tells this tells: the held bytes, and then those events
 abbrev pub in_reader : {R : Type 0} {S : ℕ} → (R → Tells) → BufReader R S → Tells
 in_reader {S = room} told r = reader_told room (reader_behind r) (reader_held r) (told (reader_inner r))
+
+-- what a cursor tells: its bytes from the position on, and its content with the position
+abbrev pub in_cursor : {T : Type 0} → (T → List ℕ) → Cursor T → Tells
+in_cursor slice c = record {
+  events = Some (events_of (cursor_left slice c));
+  store = store_at (slice (cursor_inner c)) (cursor_position c);
+  turns = length (cursor_left slice c);
+}
 
 -- none of these calls is a flush
 abbrev pub HasNoFlush : List WriteCall → Type 0

@@ -6,9 +6,11 @@ ghost use Rattle.no_std_io2.specs.Events.{Event, bytes, cut, events_of};
 ghost use Rattle.no_std_io2.specs.Pieces.{ArePieces, pieces};
 ghost use Rattle.no_std_io2.specs.Read.{answered, gave, tells};
 ghost use Rattle.no_std_io2.specs.Takes.{Takes, to_come};
+ghost use Rattle.no_std_io2.specs.Write.{Moves, taken, told_out, write_mishap};
+ghost use Rattle.promises.specs.Promises.{in_cursor};
 
 use crate::bytes::keeps_every_byte_of_a_write_all;
-use no_std_io2::io::{AsSlice, BufRead, Cursor, Read, Result};
+use no_std_io2::io::{AsSlice, BufRead, Cursor, Read, Result, Write};
 use std::alloc::Allocator;
 use std::boxed::BoxedSlice;
 use std::collections::VecDeque;
@@ -33,6 +35,30 @@ fn takes_the_front_of_a_slice<'a>(s: &mut &'a [u8], buf: &mut [u8]) -> Result<us
         (record { events = Some (events_of s.new.now); store = None; turns = length s.new.now }) }
 {
     s.read(buf)
+}
+
+// So it is for a queue and a cursor.
+fn takes_the_front_of_a_queue<A: Allocator>(
+    q: &mut VecDeque<u8, A>,
+    buf: &mut [u8],
+) -> Result<usize>
+    ensures { Takes (record { events = Some (events_of q.old.items); store = None; turns = length q.old.items }) (answered (gave result buf.new))
+        (record { events = Some (events_of q.new.items); store = None; turns = length q.new.items }) }
+{
+    q.read(buf)
+}
+
+fn takes_the_front_of_a_cursor<T: AsSlice<u8>>(c: &mut Cursor<T>, buf: &mut [u8]) -> Result<usize>
+    ensures { Takes (in_cursor T.slice c.old) (answered (gave result buf.new)) (in_cursor T.slice c.new) }
+{
+    c.read(buf)
+}
+
+// What is written to a queue is out.
+fn appends_to_a_queue<A: Allocator>(q: &mut VecDeque<u8, A>, x: &[u8]) -> Result<usize>
+    ensures { Moves (told_out q.old.items) (taken result x.now) (write_mishap result x.now) (told_out q.new.items) }
+{
+    q.write(x)
 }
 
 // A read of a slice or a cursor gives as many bytes as fit, a `fill_buf` lends all of them, and none of these fails.

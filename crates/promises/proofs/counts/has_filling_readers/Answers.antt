@@ -4,14 +4,14 @@ use Rattle.no_std_io2.specs.ReadMeter.{FillsRoom}
 use Rattle.no_std_io2.proofs.InMemoryReads.{fills_left}
 use Rattle.no_std_io2.proofs.StoreLemmas.{told_at}
 use Rattle.no_std_io2.proofs.TakeLemmas.{take_fills}
-use Rattle.promises.proofs.Levels.{fills_behind, in_cursor}
+use Rattle.promises.proofs.Levels.{fills_behind, cursor_reader}
 use Rattle.promises.proofs.counts.has_filling_readers.Goals as goal
 
 pub returns-clause-cursor : goal.returns-clause-cursor
 returns-clause-cursor g c =
     let slice = g.T.AsSlice.slice in
-    let cursor : FillsRoom (in_cursor slice) = fills_left (cursor_left slice) (λ x. told_at (slice x.inner) x.pos) (λ old new call given. given) in
-    take_fills (fills_behind (λ b. b.value) {I = in_cursor slice} cursor)
+    let cursor : FillsRoom (cursor_reader slice) = fills_left (cursor_left slice) (λ x. told_at (slice x.inner) x.pos) (λ old new call given. given) in
+    take_fills (fills_behind (λ b. b.value) {I = cursor_reader slice} cursor)
 
 pub returns-clause-slice : goal.returns-clause-slice
 returns-clause-slice g c = fills_left (λ s. s.now) (λ s. refl) (λ old new call given. given)
