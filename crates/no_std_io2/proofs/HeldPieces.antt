@@ -1,6 +1,5 @@
 -- A piece at the front of the held bytes, and what lies behind after a piece was taken.
-use Rattle.std.proofs.lemmas.Grind.{common_steps}
-use Rattle.std.proofs.Common.{◌≡◌, ℕ, ◌≤◌, ◌<◌, Bool, true, List, [], ◌∷◌, ◌++◌, length, take, drop, refl, sym, ap, ap₂, subst, ◌∙◌}
+use Rattle.std.proofs.Common.{◌≡◌, ℕ, ◌<◌, Bool, true, List, [], ◌∷◌, ◌++◌, length, take, drop, refl, sym, ap, ap₂, subst, ◌∙◌}
 use Rattle.std.proofs.Common.{arith}
 use Rattle.std.proofs.Common.{Result, Ok, Err, ⊎_elim, inl, inr, append_assoc, append-nil, length-append, length-take-le, take-append-drop}
 use Rattle.std.proofs.Common.{take_all}
@@ -11,12 +10,11 @@ use Rattle.no_std_io2_base.specs.Errors.{IsOutOfMemory}
 use Rattle.no_std_io2_base.specs.Write.{Made}
 use Rattle.no_std_io2_base.specs.Events.{bytes}
 use Rattle.no_std_io2_base.specs.Read.{Reader, ReadCall, Filled, Consumed}
-use Rattle.no_std_io2_base.specs.BufRead.{LendCallLaw, ConsumeLaw, ReadUntilLaw, ReadLineLaw, lender_tells, line_room}
+use Rattle.no_std_io2_base.specs.BufRead.{LendCallLaw, ReadUntilLaw, ReadLineLaw, lender_tells, line_room}
 use Rattle.no_std_io2_base.specs.Pieces.{AnswersLine, Lacks, EndsPiece, FindsPiece, newline, PartCalls, no_part, and_part, and_waited}
 use Rattle.no_std_io2_base.specs.Pieces.{PieceMade, PieceEnds}
 use Rattle.no_std_io2_base.specs.Pieces.{PieceCalls}
 use Rattle.no_std_io2_base.proofs.CallsLemmas.{made_split}
-use Rattle.no_std_io2_base.proofs.PieceLemmas.{found_end}
 use Rattle.no_std_io2.specs.declared.buffered.buf_reader.BufReader.{BufReader}
 use Rattle.no_std_io2.specs.Buffer.{IsSuffix}
 use Rattle.no_std_io2.specs.BufReader.{reader_held, reader_behind, reader_inner, FillsBelow, HasBuffer, TakesHeld, TakesHeldLine}

@@ -1,7 +1,7 @@
 -- A line that goes to a string: through a vector, which has the memory of an empty string, or straight from what a reader lends.
 use Rattle.std.proofs.Common.{◌≡◌, ℕ, ◌+◌, ◌<◌, ◌≤◌, ◌⊎◌, List, [], ◌∷◌, ◌++◌, length, take, Ok, Bool, true}
 use Rattle.std.proofs.Common.{Result, Err, String, string_bytes, string_len, string_capacity, Vec, vec_len, vec_capacity, refl, sym}
-use Rattle.std.proofs.Common.{ap, ◌∙◌, subst, arith, le_refl, le_trans, IfSome, IfOk, IfErr, IsUtf8, length-take-le, append-nil}
+use Rattle.std.proofs.Common.{ap, ◌∙◌, subst, arith, le_refl, le_trans, IfOk, IfErr, IsUtf8, length-take-le, append-nil}
 use Rattle.std.proofs.Common.{⊎_elim, inl, inr}
 use Rattle.std.proofs.lemmas.Str.{IsUtf8-nil}
 use Rattle.no_std_io2_base.specs.declared.error.Error.{Error}
@@ -9,13 +9,10 @@ use Rattle.no_std_io2_base.specs.declared.error.ErrorKind.{ErrorKind}
 use Rattle.no_std_io2_base.specs.declared.error.ErrorKind.TheVariants.{OutOfMemory}
 use Rattle.no_std_io2_base.specs.Errors.{error_kind, IsFault}
 use Rattle.no_std_io2_base.specs.Write.{IsFront}
-use Rattle.no_std_io2_base.specs.Events.{bytes, events_of, fails, BeginsWith}
-use Rattle.no_std_io2_base.specs.Takes.{to_come}
-use Rattle.no_std_io2_base.specs.Read.{Filled}
+use Rattle.no_std_io2_base.specs.Events.{bytes, events_of, fails}
 use Rattle.no_std_io2_base.specs.BufRead.{Lender, lender_tells, ConsumeLaw, FilledLaw, ReadUntilLaw, ReadLineLaw, line_room, text_room}
 use Rattle.no_std_io2_base.specs.Pieces.{AnswersLine, FindsPiece, Follows, PieceEnds, newline}
 use Rattle.no_std_io2_base.proofs.EventLemmas.{bytes-events_of}
-use Rattle.no_std_io2_base.proofs.TakesLemmas.{takes_none}
 use Rattle.no_std_io2_base.proofs.TextRoom.{room_lent, room_grown, text_answers, answers_count, answers_front, answers_fault}
 use Rattle.no_std_io2_base.proofs.GivenPieces.{piece_fault}
 use Rattle.no_std_io2_base.proofs.PieceLoop.{PieceTaken, part_none, piece_whole, piece_faulted, piece_since}
