@@ -1,10 +1,10 @@
 // What readers give, and where seeks go.
-ghost use Rattle.std.specs.Prelude.{◌≡◌, ◌+◌, ◌<◌, ◌++◌, List, Some, IsOk, drop, length, vec_len, vec_capacity};
-ghost use Rattle.no_std_io2.specs.BufReader.{reader_inner, reader_behind, reader_held, TakesOver};
+ghost use Rattle.std.specs.Prelude.{◌≡◌, ◌+◌, ◌<◌, ◌++◌, ℕ, List, Some, IsOk, drop, length, vec_len, vec_capacity, string_bytes};
+ghost use Rattle.no_std_io2.specs.BufReader.{reader_inner, reader_behind, reader_held, TakesHeldLine, TakesOver};
 ghost use Rattle.no_std_io2.specs.BufRead.{lender_tells};
 ghost use Rattle.no_std_io2.specs.Buffer.{IsInBuffer, IsSuffix};
 ghost use Rattle.no_std_io2.specs.Events.{Event, bytes};
-ghost use Rattle.no_std_io2.specs.Pieces.{PieceEnds};
+ghost use Rattle.no_std_io2.specs.Pieces.{EndsPiece, PieceEnds, newline};
 ghost use Rattle.no_std_io2.specs.Read.{tells, answered, gave};
 ghost use Rattle.no_std_io2.specs.Seek.{Seeks};
 ghost use Rattle.no_std_io2.specs.Takes.{Store, Takes, to_come};
@@ -13,7 +13,7 @@ ghost use Rattle.promises.specs.Promises.{in_chain, in_reader, in_take};
 
 use io_bench::Tally;
 use no_std_io2::io::{BufRead, BufReader, Chain, Read, Result, Seek, SeekFrom, Take};
-use std::alloc::Allocator;
+use std::alloc::{Allocator, Global};
 
 /// If it is known what a reader is going to give, a `read` gives what comes next, bytes or an error, and nothing else is gone.
 pub fn gives_what_comes_next<R: Read>(r: &mut R, buf: &mut [u8]) -> Result<usize>
@@ -75,4 +75,16 @@ fn keeps_the_last_bytes_behind<R: Read, const S: usize, A: Allocator>(
     ensures { IsSuffix (reader_behind r.old ++ drop (vec_len buf.old) buf.new.items) (reader_behind r.new) }
 {
     r.read_until(delim, buf)
+}
+
+// If a whole line is held, `read_line` takes only held bytes.
+fn takes_a_held_line<R: Read, const S: usize>(
+    r: &mut BufReader<R, S>,
+    alloc: Global,
+    text: &mut String,
+) -> Result<usize>
+    ensures { (line rest : List ℕ) → reader_held r.old ≡ line ++ rest → EndsPiece newline line
+        → TakesHeldLine line rest r.old (string_bytes text.old) result (string_bytes text.new) r.new }
+{
+    r.read_line(alloc, text)
 }

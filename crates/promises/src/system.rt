@@ -1,11 +1,12 @@
 // What a `Patient` and a `ToStd` do between this library and the system's `std::io`.
 ghost use Rattle.std.specs.Io.KnownBytes.{ReadConsumes, WriteAppends};
+ghost use Rattle.std.specs.Io.Seek.{SeekMoves};
 ghost use Rattle.std.specs.Prelude.{Some};
 ghost use Rattle.no_std_io2.specs.Read.{tells};
 ghost use Rattle.no_std_io2.specs.Seek.{Sought};
 ghost use Rattle.no_std_io2.specs.Write.{Moves, Wrote, taken, write_mishap};
 ghost use Rattle.system_streams.specs.Patient.{Fills, PatientMay, PatientSeeks, patient_told};
-ghost use Rattle.system_streams.specs.ToStd.{accepted, bytes_to_come, std_inner};
+ghost use Rattle.system_streams.specs.ToStd.{accepted, bytes_to_come, content_of, position_of, std_inner};
 
 use no_std_io2::io::{Read, Result, Seek, SeekFrom, Write};
 use std::io;
@@ -45,4 +46,12 @@ fn takes_bytes_from_the_system<W: Write>(w: &mut ToStd<W>, x: &[u8]) -> io::Resu
     ensures { WriteAppends (Some (accepted (W.told (std_inner w.old)))) (Some (accepted (W.told (std_inner w.new)))) result x.now }
 {
     io::Write::write(w, x)
+}
+
+// A seek of the system's `std::io` moves the position of a told store.
+fn seeks_for_the_system<S: Seek>(s: &mut ToStd<S>, target: io::SeekFrom) -> io::Result<u64>
+    ensures { SeekMoves (position_of (S.store (std_inner s.old))) (position_of (S.store (std_inner s.new)))
+        (content_of (S.store (std_inner s.old))) target result }
+{
+    io::Seek::seek(s, target)
 }
