@@ -3,7 +3,7 @@ ghost use Rattle.std.specs.Prelude.{[], ◌≡◌, ◌≤◌, ◌++◌, None, Ok
 ghost use Rattle.io_bench.specs.Appended.{appended};
 ghost use Rattle.no_std_io2.specs.BufWriter.{writer_inner};
 ghost use Rattle.no_std_io2.specs.Read.{answered, gave, tells};
-ghost use Rattle.no_std_io2.specs.Sink.{empty_taken, sink_taken};
+ghost use Rattle.no_std_io2.specs.Sink.{sink_taken};
 ghost use Rattle.no_std_io2.specs.Takes.{Takes, to_come};
 ghost use Rattle.io_bench.specs.Faulty.{WritesBehind, act_mishaps, acts_left, faulty_inner, next_act};
 ghost use Rattle.io_bench.specs.Feed.{all_to_come, feed_answer, feed_left};
@@ -49,7 +49,7 @@ fn feeds_its_script(f: &mut Box<Feed>, buf: &mut [u8]) -> Result<usize>
 fn sinks_all(sink: &mut Box<Sink>, empty: &mut Box<Empty>, x: &[u8]) -> Result<(usize, usize)>
     ensures all { result ≡ Ok (length x.now, length x.now) }
     ensures sunk { sink_taken sink.new.value ≡ sink_taken sink.old.value ++ x.now }
-    ensures emptied { empty_taken empty.new.value ≡ empty_taken empty.old.value ++ x.now }
+    ensures emptied { (⟦<Empty as Write>⟧.told empty.new.value).out ≡ (⟦<Empty as Write>⟧.told empty.old.value).out ++ x.now }
     ensures nothing { to_come (tells ⟦<Empty as Read>⟧ empty.new.value) ≡ Some [] }
 {
     Ok((sink.write(x)?, Write::write(empty, x)?))

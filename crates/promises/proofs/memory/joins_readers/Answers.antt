@@ -1,4 +1,4 @@
-use Rattle.std.proofs.Common.{◌≡◌, ◌++◌, ap, ap₂, ◌∙◌}
+use Rattle.std.proofs.Common.{◌≡◌, ◌++◌, Some, ap, ap₂, ◌∙◌}
 use Rattle.no_std_io2.specs.Events.{events_of, bytes, cut}
 use Rattle.no_std_io2.specs.Cursor.{cursor_left}
 use Rattle.no_std_io2.specs.Chain.{both_to_come}
@@ -15,8 +15,8 @@ returns g c = λ E told.
     let q = events_of c.args.q.items in
     let left = events_of (cursor_left slice c.args.c) in
     let first = c.take.ensures.events ∙ ap (cut_to_come c.args.limit) told in
-    let both = c.chain.ensures.events ∙ ap (λ o. both_to_come o _) first in
-    drained c.read_to_end.result c.read_to_end.ensures.law
+    let both = c.chain.ensures.events ∙ ap (λ o. both_to_come o (Some q)) first in
+    drained {E = (head ++ q) ++ left} c.read_to_end.result c.read_to_end.ensures.law
     (c.chain-2.ensures.events ∙ ap₂ both_to_come both (told_at (slice c.args.c.inner) c.args.c.pos))
     (bytes-append (head ++ q) left ∙ ap₂ (λ x y. x ++ y) (bytes-append head q ∙ ap (λ l. bytes head ++ l) (bytes-events_of c.args.q.items))
     (bytes-events_of (cursor_left slice c.args.c)))

@@ -1,4 +1,4 @@
-use Rattle.no_std_io2.proofs.MovesLemmas.{MovesFront-text}
+use Rattle.no_std_io2.proofs.TextLemmas.{MovesFront-text}
 use Rattle.promises.proofs.values.prints_an_error.Goals as goal
 
 pub returns : goal.returns
