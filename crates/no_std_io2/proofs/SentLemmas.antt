@@ -4,13 +4,13 @@ use Rattle.std.proofs.lemmas.Grind.{common_steps}
 use Rattle.std.proofs.Common.{◌≡◌, ℕ, List, length, Result, Ok, Err, IsOk, IfOk, Option, refl, sym, ap, subst, arith, [], ◌∷◌}
 use Rattle.no_std_io2_base.specs.declared.error.Error.{Error}
 use Rattle.no_std_io2_base.specs.Writers.{Writer}
-use Rattle.no_std_io2_base.specs.Write.{WriteCall, Made}
+use Rattle.no_std_io2_base.specs.Write.{Moves, WriteCall, Made}
 use Rattle.no_std_io2_base.specs.Takes.{Store, KeepsContent}
 use Rattle.no_std_io2_base.specs.Seek.{IsPosition}
 use Rattle.no_std_io2_base.proofs.MovesLemmas.{Moves-steady}
 use Rattle.no_std_io2_base.proofs.CallsLemmas.{writes_whole}
 use Rattle.no_std_io2_base.proofs.WritesFacts.{writes_fault, writes_left, writes_idle, writes_sends}
-use Rattle.no_std_io2.specs.BufWriter.{SendCalls, TakesStep, SendsFirst, SendsHeld, Unwraps, store_unheld}
+use Rattle.no_std_io2.specs.BufWriter.{SendCalls, TakesStep, SendsFirst, Unwraps, store_unheld, with_buffer}
 use Rattle.no_std_io2.specs.declared.buffered.into_inner_error.IntoInnerError.{IntoInnerError}
 use Rattle.no_std_io2.specs.BufWriter.{into_inner_error_writer, into_inner_error_cause}
 use Rattle.no_std_io2.proofs.BufWriterCalls.{send_tells, send_counts}
@@ -46,7 +46,8 @@ module _ {W : Type 0} {I : Writer W} {a b : W} {held left : List ℕ} where
   failed_left calls none = absurd (omega (arith, writes_left calls.2, ap length none))
 
   -- all was sent
-  pub sends_all : Stepped I SendCalls a held (Ok tt) left b → SendsHeld I a held b
+  pub sends_all : Stepped I SendCalls a held (Ok tt) left b → Moves (with_buffer (I.told a) held) [] [] (I.told b)
+      × ((C : List WriteCall) × Made (CallOf I) a C b × SendCalls held C (Ok tt) [])
   sends_all calls = grind (arith, common_steps, writes_whole, writes_sends)
 
 module _ {W B : Type 0} {I : Writer W} {inner : B → W} {buffer : B → List ℕ} {old : B} where
@@ -66,8 +67,8 @@ module _ {W B : Type 0} {I : Writer W} {inner : B → W} {buffer : B → List �
   unwraps_ok {w} calls =
       let sent = sends_all calls in
       record {
-        calls = sent.calls;
-        ok = sent.moves;
+        calls = sent.1;
+        ok = sent.0;
         err = tt;
         fault = tt;
         empty = λ none. ap Ok (sent_idle calls none).0;

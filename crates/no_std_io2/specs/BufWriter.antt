@@ -218,32 +218,23 @@ pub record SendsFirst {W B A : Type 0} (I : Writer W) (inner : B → W) (buffer 
   pub refused : IfErr reply (λ e. 0 < length (buffer new)
       → Moves (with_buffer (I.told (inner old)) (buffer old)) [] (error_kind e ∷ []) (with_buffer (I.told (inner new)) (buffer new)))
 
--- All held bytes were sent, which left the inner writer in this state.
-pub record SendsHeld {W : Type 0} (I : Writer W) (old : W) (held : List ℕ) (sent : W) : Type 0 where
-  -- no byte is lost
-  pub moves : Moves (with_buffer (I.told old) held) [] [] (I.told sent)
-  -- these were the calls
-  pub calls : (C : List WriteCall) × Made (CallOf I) old C sent × SendCalls held C (Ok tt) []
-
 -- All held bytes were sent, and then one inner seek was made.
 pub record SeeksAfterSending {W : Type 0} (I : Writer W) (K : Seeker W) (old : W) (held : List ℕ) (to : SeekFrom) (new : W)
     (reply : Result ℕ Error) : Type 0 where
   -- the state of the inner writer after the sending
   pub sent : W
-  pub sends : SendsHeld I old held sent
+  -- no byte is lost
+  pub moves : Moves (with_buffer (I.told old) held) [] [] (I.told sent)
+  -- these were the calls of the sending
+  pub calls : (C : List WriteCall) × Made (CallOf I) old C sent × SendCalls held C (Ok tt) []
   -- one seek of the inner writer, whose result is returned
   pub sought : SeekLaw K sent to reply new
 
--- A seek of a writer with a buffer: the sending failed, and bytes are still held; or all held bytes were sent, and then the inner seek was
--- made.
-pub record SendsThenSeeks {W B : Type 0} (I : Writer W) (K : Seeker W) (inner : B → W) (buffer : B → List ℕ) (old : B) (to : SeekFrom)
-    (reply : Result ℕ Error) (new : B) : Type 0 where
-  pub first : SendsFirst I inner buffer old reply new
-  pub sent : buffer new ≡ [] → SeeksAfterSending I K (inner old) (buffer old) to (inner new) reply
-
--- what a call of `Seek` may do to a buffered writer, which has no other body of its own
+-- What a call of `Seek` may do to a buffered writer: a seek sends first; if all held bytes were sent, one inner seek was made. It has no
+-- other body of its own.
 abbrev pub WriterMaySeek : {W : Type 0} {S : ℕ} → Writer W → Seeker W → BufWriter W S → SeekCall → BufWriter W S → Type 0
-WriterMaySeek I K old (Sought to reply) new = SendsThenSeeks I K writer_inner writer_buffer old to reply new
+WriterMaySeek I K old (Sought to reply) new = SendsFirst I writer_inner writer_buffer old reply new
+    × (writer_buffer new ≡ [] → SeeksAfterSending I K (writer_inner old) (writer_buffer old) to (writer_inner new) reply)
 WriterMaySeek I K old _ new = ⊥
 
 -- a `BufWriter<W, S>` fits in memory

@@ -58,7 +58,7 @@ pub record HandsOn {R W : Type 0} (K : Reader R) (I : Writer W) (S : ℕ) (last 
 
 -- The calls of such a copy: it passed on all that it read, up to the read that met the end or returned the reader's error, or up to the
 -- piece whose `write_all` failed.
-abbrev pub CopyHands : {R W : Type 0} → Reader R → Writer W → ℕ → R → W → Result ℕ CopyError → R → W → Type 0
+abbrev CopyHands : {R W : Type 0} → Reader R → Writer W → ℕ → R → W → Result ℕ CopyError → R → W → Type 0
 CopyHands K I S from old (Ok n) from' new = HandsOn K I S (Gave S (Ok []) ∷ []) from old (Ok tt) from' new
 CopyHands K I S from old (Err (Read e)) from' new = HandsOn K I S (Gave S (Err e) ∷ []) from old (Ok tt) from' new
 CopyHands K I S from old (Err (Write e)) from' new = HandsOn K I S [] from old (Err e) from' new

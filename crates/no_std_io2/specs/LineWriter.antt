@@ -1,5 +1,4 @@
 -- What a `LineWriter` holds and tells, and the inner calls that it makes.
-use Rattle.no_std_io2_base.specs.Writers.{Writer, TakesAll}
 use Rattle.std.specs.Prelude.{ℕ, List, ◌≡◌, ◌+◌, ◌<◌, ◌≤◌, ◌==◌, ◌⊎◌, [], ◌∷◌, ◌++◌, ◌-◌, length, take, drop, nat_le, Contains}
 use Rattle.std.specs.Prelude.{if◌then◌else◌}
 use Rattle.std.specs.Prelude.{Result, Ok, Err, IsOk}
@@ -90,10 +89,6 @@ IsShortText S x = Lacks newline x × (length x < S)
 abbrev pub HoldsShort : {W A : Type 0} {S : ℕ} → LineWriter W S → List ℕ → Result A Error → LineWriter W S → Type 0
 HoldsShort {S = room} old x reply new = IsShortText room x → Lacks newline (line_buffer old) → length (line_buffer old) + length x ≤ room
     → IsOk reply × (line_inner new ≡ line_inner old) × (line_buffer new ≡ line_buffer old ++ x)
-
--- if the inner writer takes all, it still does, and there was no error
-abbrev pub KeepsTaking : {W A : Type 0} → Writer W → W → Result A Error → W → Type 0
-KeepsTaking I old reply new = TakesAll I old → TakesAll I new × IsOk reply
 
 -- a `LineWriter<W, S>` fits in memory
 abbrev pub LineWriterFits : RattleType → ℕ → Type 0

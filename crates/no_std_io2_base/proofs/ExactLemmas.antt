@@ -16,11 +16,6 @@ left_of {a} {b} {P} {E} takes told = by (to_come b) (subst (λ o. AreTaken o P (
     by None are = absurd are
     by (Some after) are = (after, refl, are)
 
--- two equal lists of events that begin with the same bytes have equal rests
-pub events_of-cancel : (bs : List ℕ) (x y : List Event) → events_of bs ++ x ≡ events_of bs ++ y → x ≡ y
-events_of-cancel [] x y e = e
-events_of-cancel (b ∷ bs) x y e = events_of-cancel bs x y (cc)
-
 -- events that end with their byte number `length bs`, and with which these begin, are these bytes
 these_bytes : (bs : List ℕ) (P rest after : List Event) → events_of bs ++ rest ≡ P ++ after → cut (length bs) P ≡ P
     → length (bytes P) ≡ length bs → P ≡ events_of bs
@@ -70,18 +65,6 @@ falls_short bs rest P after {room} split short left =
 
 module _ {S : Type 0} {R : Reader S} {old new : S} {buf buf' : List ℕ} (bs : List ℕ) (rest : List Event)
     (is : to_come (tells R old) ≡ Some (events_of bs ++ rest)) where
-  -- a filled buffer of the length of the first bytes is these bytes, and they are taken
-  pub Fills-bytes : {done : Unit {0}} → ReadExactLaw R old buf (Ok done) buf' new → length buf' ≡ length bs
-      → (buf' ≡ bs) × (to_come (tells R new) ≡ Some rest)
-  Fills-bytes law long =
-      let left = left_of law.takes is in
-      let gives = law.ends.0 in
-      let P = law.taken in
-      let these = these_bytes bs P rest left.0 left.2 (subst (λ n. cut n P ≡ P) long gives.within) (ap length gives.given ∙ long) in (
-        sym gives.given ∙ ap bytes these ∙ bytes-events_of bs,
-        left.1 ∙ ap Some (sym (events_of-cancel bs rest left.0 (left.2 ∙ ap (λ l. l ++ left.0) these))),
-      )
-
   -- a `read_exact` into no more room than there are bytes first does not fail
   pub ReadsExact-failed : {e : Error} → ReadExactLaw R old buf (Err e) buf' new → length buf' ≤ length bs → ⊥
   ReadsExact-failed {e} law fits =

@@ -24,11 +24,6 @@ appends_fails items len capacity old new (WroteAll x reply) made =
 appends_fails items len capacity old new (Flushed (Ok u)) made = tt
 appends_fails items len capacity old new (Flushed (Err e)) made = absurd (true≢false (sym made.0))
 
--- and so does what passes each call on to one, as a reference and a box do
-pub part_fails : {V W : Type 0} (get : V → W) (Q : Error → Type 0) (may : W → WriteCall → W → Type 0) → FailsOnly Q may
-    → FailsOnly Q (λ old call new. may (get old) call (get new))
-part_fails get Q may fails old new call made = fails (get old) (get new) call made
-
 -- calls, without their laws
 pub bare : {W : Type 0} (I : Writer W) (C : List WriteCall) (a b : W) → Made (CallOf I) a C b → Made I.may a C b
 bare I C a b made = made_map (CallOf I) I.may (λ w. w) (λ a b call law. law_may I a b call law) C a b made

@@ -1,17 +1,17 @@
 -- What a call that takes one piece says of all pieces that are to come, if the reader tells its events; and what its error is.
-use Rattle.std.proofs.Common.{◌≡◌, ℕ, ◌+◌, ◌<◌, ◌≤◌, ◌⊎◌, true, false, cond, if◌then◌else◌, Option, Some, None, List, [], ◌∷◌}
+use Rattle.std.proofs.Common.{◌≡◌, ℕ, ◌+◌, ◌<◌, ◌≤◌, ◌⊎◌, false, cond, if◌then◌else◌, Option, Some, None, List, [], ◌∷◌}
 use Rattle.std.proofs.Common.{◌++◌, length, filter, refl, sym, ap, ap₂, ◌∙◌, subst, arith, append-nil, append_assoc, Result, Ok, Err}
-use Rattle.std.proofs.Common.{inl, inr, ⊎_elim, length-append, IfSome, OnSome, IfOk, IfErr, Vec, vec_len, vec_capacity, ne_eqb, Bool, ◌==◌}
+use Rattle.std.proofs.Common.{inl, inr, ⊎_elim, length-append, IfSome, OnSome, IfErr}
 use Rattle.std.proofs.Common.{suc}
 use Rattle.std.proofs.lemmas.List.{append_cancel_left, nil_from_length}
 use Rattle.no_std_io2_base.specs.declared.error.Error.{Error}
 use Rattle.no_std_io2_base.specs.Errors.{IsFault, IsOutOfMemory}
 use Rattle.no_std_io2_base.specs.Events.{Event, byte, fails, events_of, bytes, HasNoFault, EndsInFault, bytes_to_fault, first_fault}
 use Rattle.no_std_io2_base.specs.Takes.{Tells, Takes, AreTaken, to_come}
-use Rattle.no_std_io2_base.specs.BufRead.{Lender, lender_tells, ReadUntilLaw, SkipUntilLaw, NextPieceLaw, at_most_max}
-use Rattle.no_std_io2_base.specs.Pieces.{Lacks, EndsAt, IsPiecePart, ComesBehind, PieceEnds, YieldsRead, ends_in, but_last, up_to, pieces}
+use Rattle.no_std_io2_base.specs.BufRead.{Lender, lender_tells, NextPieceLaw}
+use Rattle.no_std_io2_base.specs.Pieces.{Lacks, EndsAt, PieceEnds, YieldsRead, ends_in, pieces}
 use Rattle.no_std_io2_base.specs.Pieces.{pieces_before, pieces_given, ends_at, items_left}
-use Rattle.no_std_io2_base.proofs.EventLemmas.{bytes-append, bytes-events_of, length-events_of, HasNoFault-events_of}
+use Rattle.no_std_io2_base.proofs.EventLemmas.{bytes-append, bytes-events_of, HasNoFault-events_of}
 use Rattle.no_std_io2_base.proofs.PieceLaws.{pieces-first, pieces-last, ends_in-end, ends_in-lacks}
 use Rattle.no_std_io2_base.proofs.PieceLemmas.{memory_fault}
 use Rattle.no_std_io2_base.proofs.TakesLemmas.{spends}
@@ -179,60 +179,6 @@ few_bytes (fails e ∷ P) = omega (arith, few_bytes P)
 pub piece_spends : {t t' : Tells} {P : List Event} → Takes t P t' → 0 < length (bytes P) → t'.turns < t.turns
 piece_spends {P = P} takes some = spends takes (omega (arith, some, few_bytes P))
 
--- at the end no event is taken, and nothing is read
-pub piece_at_end : (lacks : ℕ → Type 0) (d : ℕ) (t t' : Tells) (P : List Event) (read : Result ℕ Error) → Takes t P t'
-    → PieceEnds lacks d t P read → to_come t ≡ Some [] → (read ≡ Ok 0) × (P ≡ [])
-piece_at_end lacks d t t' P read takes ends told =
-    let (after, still, split) = told_after [] P (to_come t) (to_come t') takes.events told in
-    let none : P ≡ [] = nil_from_length P (omega (arith, ap length split, length-append P after)) in
-    (by_read read (subst (λ l. PieceEnds lacks d t l read) none ends), none)
-  where
-    by_read : (read : Result ℕ Error) → PieceEnds lacks d t [] read → read ≡ Ok 0
-    by_read (Ok n) ends = ap Ok ends.1
-    by_read (Err e) (lacks_end, inl fault) = absurd (omega (arith, ap length fault.1, length-append fault.0 (fails e ∷ [])))
-    by_read (Err e) (lacks_end, inr (free, refused, (part, is_part, comes, why))) =
-        let here = of_told (to_come t) (λ l. (rest : List Event) × (l ≡ events_of part ++ rest)) told comes in
-        absurd (omega (arith, is_part.0, ap length here.1, length-append (events_of part) here.0, length-events_of part))
-
--- a part of a piece is among the bytes up to the first d
-up_to-part : (d : ℕ) (part rest : List ℕ) → Lacks d (but_last part) → length part ≤ length (up_to d (part ++ rest))
-up_to-part d [] rest none = omega arith
-up_to-part d (b ∷ []) rest none = by (b == d)
-  where
-    by : (t : Bool) → 1 ≤ length (if t then b ∷ [] else b ∷ up_to d rest)
-    by true = omega arith
-    by false = omega arith
-up_to-part d (b ∷ c ∷ bs) rest none =
-    let more = up_to-part d (c ∷ bs) rest none.1 in
-    let is = ap length (ap (λ t. if t then b ∷ [] else b ∷ up_to d (c ∷ bs ++ rest)) (ne_eqb b d none.0)) in omega (arith, more, is)
-
--- bytes without a d come before those up to it
-up_to-lacks : (d : ℕ) (bs cs : List ℕ) → Lacks d bs → up_to d (bs ++ cs) ≡ bs ++ up_to d cs
-up_to-lacks d [] cs none = refl
-up_to-lacks d (b ∷ bs) cs none =
-    ap (λ t. if t then b ∷ [] else b ∷ up_to d (bs ++ cs)) (ne_eqb b d none.0) ∙ ap (λ l. b ∷ l) (up_to-lacks d bs cs none.1)
-
--- if the vector has room for the first piece, no allocation fails: an error is the first fault
-pub until_room : {X A : Type 0} {R : Lender X} {old new : X} {d : ℕ} {buf buf' : Vec ℕ A} {E : List Event} (reply : Result ℕ Error)
-    → ReadUntilLaw R old d buf reply buf' new → to_come (lender_tells R old) ≡ Some E
-    → vec_len buf + length (up_to d (bytes_to_fault E)) ≤ vec_capacity buf → IfErr reply (λ e. first_fault E ≡ Some e)
-until_room (Ok n) law told room = tt
-until_room {R = R} {old} {new} {d} {buf} {E = E} (Err e) law told room =
-    let (after, still, split) =
-    told_after E law.taken (to_come (lender_tells R old)) (to_come (lender_tells R new)) law.takes.events told in
-    ⊎_elim (λ fault. (given_fault d E e law.taken after split law.ends.0 fault).1) (λ memory. absurd (fits memory)) law.ends.1
-  where
-    fits : HasNoFault law.taken × IsOutOfMemory e × ((part : List ℕ) × IsPiecePart d part × ComesBehind (lender_tells R old) law.taken part
-        × (vec_capacity buf < vec_len buf + (length (bytes law.taken) + length part))) → ⊥
-    fits (free, refused, (part, is_part, comes, full)) =
-        let x = bytes law.taken in
-        let here = of_told (to_come (lender_tells R old))
-        (λ l. (rest : List Event) × (l ≡ law.taken ++ (events_of part ++ rest))) told comes in
-        let rest = bytes_to_fault here.0 in
-        let is = ap (up_to d) (ap bytes_to_fault here.1 ∙ part_comes law.taken here.0 part free)
-        ∙ up_to-lacks d x (part ++ rest) law.ends.0 in
-        omega (arith, room, full, ap length is, length-append x (up_to d (part ++ rest)), up_to-part d part rest is_part.1)
-
 module _ {X T : Type 0} {R : Lender X} {old new : X} {view : T → List ℕ} {trim : List ℕ → List ℕ} {refuses : List ℕ → Error
     → Type 0} {d : ℕ}
   where
@@ -307,29 +253,3 @@ module _ {X T : Type 0} {R : Lender X} {old new : X} {view : T → List ℕ} {tr
           by_read (Ok n) after yields (inr given) = absurd (omega (arith, yields.0, given.0))
           by_read (Err f) after yields (inl given) = let same : f ≡ e = cc in inl (given.0, given.1 ∙ ap Some same)
           by_read (Err f) after yields (inr given) = let same : f ≡ e = cc in inr (inr (subst IsOutOfMemory same given.0, given.1))
-
--- the same of a piece that was counted
-pub piece_turns : (lacks : ℕ → Type 0) (d : ℕ) (t t' : Tells) (P : List Event) (read : Result ℕ Error) → Takes t P t'
-    → PieceEnds lacks d t P read → IfOk read (λ n. 0 < n → t'.turns < t.turns)
-piece_turns lacks d t t' P (Ok n) takes ends = λ some. piece_spends takes (omega (arith, some, ends.1))
-piece_turns lacks d t t' P (Err e) takes ends = tt
-
--- `read_until` returns the number of bytes that it appends, and its errors are faults
-module _ {X A : Type 0} {R : Lender X} {old new : X} {d : ℕ} {buf buf' : Vec ℕ A} where
-  pub until_count : (reply : Result ℕ Error) → ReadUntilLaw R old d buf reply buf' new → IfOk reply (λ n. vec_len buf' ≡ vec_len buf + n)
-  until_count (Ok n) law =
-      omega (arith, law.ends.1, buf.ok.0, buf'.ok.0, ap length law.appends, length-append buf.items (bytes law.taken))
-  until_count (Err e) law = tt
-
-  pub until_never_interrupted : (reply : Result ℕ Error) → ReadUntilLaw R old d buf reply buf' new → IfErr reply IsFault
-  until_never_interrupted reply law = piece_fault (λ n. vec_capacity buf < vec_len buf + n) d (lender_tells R old) law.taken reply law.ends
-
--- so are those of `skip_until`
-pub skip_never_interrupted : {X : Type 0} {R : Lender X} {old new : X} {d : ℕ} (reply : Result ℕ Error) → SkipUntilLaw R old d reply new
-    → IfErr reply IsFault
-skip_never_interrupted {R = R} {old} {d = d} reply law =
-    subst (λ r. IfErr r IsFault) (sym law.is) (by_read law.read (piece_fault (λ _. ⊥) d (lender_tells R old) law.taken law.read law.ends))
-  where
-    by_read : (read : Result ℕ Error) → IfErr read IsFault → IfErr (at_most_max read) IsFault
-    by_read (Ok n) fault = tt
-    by_read (Err e) fault = fault

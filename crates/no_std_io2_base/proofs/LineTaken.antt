@@ -1,20 +1,18 @@
 -- A line that goes to a string: through a vector, which has the memory of an empty string, or straight from what a reader lends.
 use Rattle.std.proofs.Common.{◌≡◌, ℕ, ◌+◌, ◌<◌, ◌≤◌, ◌⊎◌, List, [], ◌∷◌, ◌++◌, length, take, Ok, Bool, true}
 use Rattle.std.proofs.Common.{Result, Err, String, string_bytes, string_len, string_capacity, Vec, vec_len, vec_capacity, refl, sym}
-use Rattle.std.proofs.Common.{ap, ◌∙◌, subst, arith, le_refl, le_trans, IfOk, IfErr, IsUtf8, length-take-le, append-nil}
+use Rattle.std.proofs.Common.{ap, ◌∙◌, subst, arith, le_refl, le_trans, IsUtf8, length-take-le, append-nil}
 use Rattle.std.proofs.Common.{⊎_elim, inl, inr}
 use Rattle.std.proofs.lemmas.Str.{IsUtf8-nil}
 use Rattle.no_std_io2_base.specs.declared.error.Error.{Error}
 use Rattle.no_std_io2_base.specs.declared.error.ErrorKind.{ErrorKind}
 use Rattle.no_std_io2_base.specs.declared.error.ErrorKind.TheVariants.{OutOfMemory}
 use Rattle.no_std_io2_base.specs.Errors.{error_kind, IsFault}
-use Rattle.no_std_io2_base.specs.Write.{IsFront}
 use Rattle.no_std_io2_base.specs.Events.{bytes, events_of, fails}
 use Rattle.no_std_io2_base.specs.BufRead.{Lender, lender_tells, ConsumeLaw, FilledLaw, ReadUntilLaw, ReadLineLaw, line_room, text_room}
-use Rattle.no_std_io2_base.specs.Pieces.{AnswersLine, FindsPiece, Follows, PieceEnds, newline}
+use Rattle.no_std_io2_base.specs.Pieces.{AnswersLine, FindsPiece, Follows, newline}
 use Rattle.no_std_io2_base.proofs.EventLemmas.{bytes-events_of}
-use Rattle.no_std_io2_base.proofs.TextRoom.{room_lent, room_grown, text_answers, answers_count, answers_front, answers_fault}
-use Rattle.no_std_io2_base.proofs.GivenPieces.{piece_fault}
+use Rattle.no_std_io2_base.proofs.TextRoom.{room_lent, room_grown, text_answers}
 use Rattle.no_std_io2_base.proofs.PieceLoop.{PieceTaken, part_none, piece_whole, piece_faulted, piece_since}
 
 -- a line that was read into a vector, which has the memory of an empty text
@@ -87,23 +85,3 @@ pub line_some : {A : Type 0} (buf : String A) (line : List ℕ)
 line_some buf [] (inl full) = absurd (omega (arith, full, buf.bytes.ok.1))
 line_some buf [] (inr bad) = absurd (bad IsUtf8-nil)
 line_some buf (b ∷ line) refused = omega arith
-
--- the number that `read_line` returns is that of the appended bytes, the text keeps what it had, and an error is a fault
-module _ {X A : Type 0} {R : Lender X} {old new : X} {buf buf' : String A} (reply : Result ℕ Error)
-    (law : ReadLineLaw R old buf reply buf' new) where
-  pub line_count : IfOk reply (λ n. string_len buf' ≡ string_len buf + n)
-  line_count =
-      answers_count (bytes law.taken) law.read reply _ _ _ _ (by_read law.read law.ends) law.answers buf.bytes.ok.0 buf'.bytes.ok.0
-    where
-      by_read : (read : Result ℕ Error) → PieceEnds (λ n. line_room buf < n) newline (lender_tells R old) law.taken read
-          → IfOk read (λ n. n ≡ length (bytes law.taken))
-      by_read (Ok n) ends = ends.1
-      by_read (Err e) ends = tt
-
-  pub line_front : IsFront (string_bytes buf) (string_bytes buf')
-  line_front = answers_front (bytes law.taken) law.read reply _ _ _ _ law.answers
-
-  pub line_never_interrupted : IfErr reply IsFault
-  line_never_interrupted =
-      let fault = piece_fault (λ n. line_room buf < n) newline (lender_tells R old) law.taken law.read law.ends in
-      answers_fault (bytes law.taken) law.read reply _ _ _ _ law.answers fault

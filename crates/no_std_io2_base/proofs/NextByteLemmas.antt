@@ -3,11 +3,11 @@ use Rattle.std.proofs.Common.{◌≡◌, ℕ, List, [], ◌∷◌, ◌++◌, ap,
 use Rattle.no_std_io2_base.specs.declared.error.Error.{Error}
 use Rattle.no_std_io2_base.specs.Errors.{IsFault}
 use Rattle.no_std_io2_base.specs.Events.{fails, events_of}
-use Rattle.no_std_io2_base.specs.Read.{Reader, ReadLaw, GaveLaw, NextLaw, IsOne}
+use Rattle.no_std_io2_base.specs.Read.{Reader, ReadLaw, GaveLaw, NextLaw}
 use Rattle.no_std_io2_base.proofs.ReadLoop.{ReadsSoFar, reads_until}
 use Rattle.no_std_io2_base.proofs.TakesLemmas.{takes_then, takes_still, nothing_read, read_law}
 
-module _ {S : Type 0} {R : Reader S} {old now new : S} {part ys : List ℕ} (before : ReadsSoFar R IsOne old [] now) where
+module _ {S : Type 0} {R : Reader S} {old now new : S} {part ys : List ℕ} (before : ReadsSoFar R (λ _ room. room ≡ 1) old [] now) where
   -- at the end
   pub next_end : {reply : Result ℕ Error} {n : ℕ} → ReadLaw R now part reply ys new → reply ≡ Ok n → n ≡ 0 → length ys ≡ 1
       → NextLaw R old None new

@@ -1,6 +1,6 @@
 -- A loop that takes a number of bytes, by what its calls do, for any reader that lends.
 use Rattle.std.proofs.Common.{◌≡◌, ℕ, ◌+◌, ◌-◌, ◌<◌, ◌≤◌, List, [], ◌∷◌, ◌++◌, Ok, Err, min, length, take, refl, sym, ap, subst, ◌∙◌, arith}
-use Rattle.std.proofs.Common.{inl, inr, length-append, length-take-le, Result}
+use Rattle.std.proofs.Common.{inl, inr, length-append, length-take-le}
 use Rattle.no_std_io2_base.specs.declared.error.Error.{Error}
 use Rattle.no_std_io2_base.specs.Errors.{IsFault, IsInterruption, IsUnexpectedEnd}
 use Rattle.no_std_io2_base.specs.Events.{Event, fails, events_of, bytes, HasNoFault}

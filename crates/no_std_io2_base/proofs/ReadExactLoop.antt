@@ -26,7 +26,7 @@ module _ {S : Type 0} {R : Reader S} {old new : S} {buf buf' : List ℕ} {at : �
           refl,
         );
         empty = λ none. full.full (omega (arith, none));
-        calls = record { calls = full.calls.calls; made = full.calls.made; are = by whole full.calls.are };
+        calls = record { calls = full.calls.0; made = full.calls.1; are = by whole full.calls.2 };
       }
     where
       by : {C : List ReadCall} {x : List ℕ} → x ≡ buf' → FullCalls C (length buf - 0) x (Ok u) → ExactCalls C (Ok u) buf'
@@ -45,7 +45,7 @@ module _ {S : Type 0} {R : Reader S} {old new : S} {buf buf' : List ℕ} {at : �
       inr (kind, full.ends.0, all_taken _ _ _ (full.ends.2 (omega (arith, full.counts, short, long)))),
     );
     empty = λ none. absurd (omega (arith, none, short, long));
-    calls = record { calls = full.calls.calls; made = full.calls.made; are = by full.calls.are };
+    calls = record { calls = full.calls.0; made = full.calls.1; are = by full.calls.2 };
   }
     where
       by : {C : List ReadCall} → FullCalls C (length buf - 0) (bytes full.taken) (Ok u) → ExactCalls C (Err e) buf'
@@ -59,15 +59,15 @@ module _ {S : Type 0} {R : Reader S} {old new : S} {buf buf' : List ℕ} {at : �
   pub exact_fault : {e : Error} → ReadFullLaw R old buf 0 (Err e) buf' at new → ReadExactLaw R old buf (Err e) buf' new
   exact_fault {e} full =
       let room : length buf - 0 ≡ length buf' = omega (arith, long) in
-      let reads = subst (λ k. GathersUntil (IsRest k) full.calls.calls (bytes full.taken) (Err e)) room full.calls.are.1 in
+      let reads = subst (λ k. GathersUntil (IsRest k) full.calls.0 (bytes full.taken) (Err e)) room full.calls.2.1 in
       record {
         taken = full.taken;
         takes = full.takes;
         ends = (omega (arith, full.ends.1, room), inl full.ends.0);
         empty = λ none. absurd (let no = (full.full (omega (arith, none))).0 in let bad : ⊥ = cc in bad);
         calls = record {
-          calls = full.calls.calls;
-          made = full.calls.made;
-          are = inr (bytes full.taken, begins at buf' full.fills, inr (full.calls.are.0, reads));
+          calls = full.calls.0;
+          made = full.calls.1;
+          are = inr (bytes full.taken, begins at buf' full.fills, inr (full.calls.2.0, reads));
         };
       }

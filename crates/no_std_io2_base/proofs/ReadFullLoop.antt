@@ -7,7 +7,8 @@ use borrow.Rule.Slice.PartMut.{put_mid}
 use Rattle.no_std_io2_base.specs.declared.error.Error.{Error}
 use Rattle.no_std_io2_base.specs.Errors.{IsInterruption, IsFault}
 use Rattle.no_std_io2_base.specs.Events.{fails, bytes}
-use Rattle.no_std_io2_base.specs.Read.{Reader, ReadLaw, ReadFullLaw, FullMade, ReadCallLaw, IsRest, Gives}
+use Rattle.no_std_io2_base.specs.Read.{Reader, ReadLaw, ReadCall, ReadFullLaw, FullCalls, ReadCallLaw, IsRest, Gives}
+use Rattle.no_std_io2_base.specs.Write.{Made}
 use Rattle.no_std_io2_base.proofs.ReadParts.{take-put_mid}
 use Rattle.no_std_io2_base.proofs.ReadExactExits.{length_stays, some_part, some_bytes}
 use Rattle.no_std_io2_base.proofs.EventLemmas.{bytes-append}
@@ -107,8 +108,8 @@ module _ {S : Type 0} {R : Reader S} {old now : S} {buf xs : List ℕ} {start at
         counts = omega (arith, before.counts, ap length before.are);
         ends = (before.no_fault, before.gives.within, λ less. end.end refl into.1);
         full = not_full;
-        calls = subst (λ x. FullMade (ReadCallLaw R) old (length buf - start) x (Ok tt) new) (sym before.are)
-            (record { calls = calls.0; made = calls.1; are = inr calls.2 });
+        calls = subst (λ x. (C : List ReadCall) × Made (ReadCallLaw R) old C new × FullCalls C (length buf - start) x (Ok tt))
+            (sym before.are) (calls.0, calls.1, inr calls.2);
       }
 
   -- a fault came first
@@ -125,8 +126,8 @@ module _ {S : Type 0} {R : Reader S} {old now : S} {buf xs : List ℕ} {start at
         counts = omega (arith, before.counts, ap length before.are, ap length same);
         ends = ((before.taken, refl, before.no_fault, fault), omega (arith, ap length same, ap length before.are, into.0, into.1));
         full = not_full;
-        calls = subst (λ x. FullMade (ReadCallLaw R) old (length buf - start) x (Err e) new) (sym (same ∙ before.are))
-            (record { calls = calls.0; made = calls.1; are = (fault, calls.2) });
+        calls = subst (λ x. (C : List ReadCall) × Made (ReadCallLaw R) old C new × FullCalls C (length buf - start) x (Err e))
+            (sym (same ∙ before.are)) (calls.0, calls.1, (fault, calls.2));
       }
 
 -- all of it is filled
@@ -141,6 +142,6 @@ full_all {R = R} {old} {now} {buf} {xs} {start} {at} before past =
       counts = omega (arith, before.counts, ap length before.are);
       ends = (before.no_fault, before.gives.within, λ less. absurd (omega (arith, less, ap length before.are, whole)));
       full = λ none. (refl, before.untouched none);
-      calls = subst (λ x. FullMade (ReadCallLaw R) old (length buf - start) x (Ok tt) now) (sym before.are)
-          (record { calls = before.calls; made = before.made; are = inl (before.gathers, whole) });
+      calls = subst (λ x. (C : List ReadCall) × Made (ReadCallLaw R) old C now × FullCalls C (length buf - start) x (Ok tt))
+          (sym before.are) (before.calls, before.made, inl (before.gathers, whole));
     }

@@ -11,7 +11,7 @@ use Rattle.no_std_io2_base.proofs.EventLemmas.{bytes-append, HasNoFault-append}
 use Rattle.no_std_io2_base.proofs.ReadCalls.{to_end_after}
 use Rattle.no_std_io2_base.proofs.ReadLoop.{ReadsSoFar, reads_none, reads_more, reads_again, reads_until}
 use Rattle.no_std_io2_base.proofs.ReadParts.{written, take-written, take-written_below}
-use Rattle.no_std_io2_base.proofs.TakesLemmas.{takes_none, takes_then, takes_still, nothing_read, read_law, drains_lacks}
+use Rattle.no_std_io2_base.proofs.TakesLemmas.{takes_none, takes_then, takes_still, nothing_read, read_law}
 
 -- the bytes up to `filled` are what was taken
 pub record ToEndSoFar {S A : Type 0} (R : Reader S) (old : S) (buf : Vec ℕ A) (filled : ℕ) (buf' : Vec ℕ A) (now : S) : Type 0 where
@@ -70,18 +70,6 @@ to_end_no_room {buf = buf} refused same grown why =
       capacity = grown;
       calls = record { calls = []; given = []; made = refl; appended = whole; are = inr (inr (refused, no_read)) };
     }
-
--- a law with a weaker reason
-pub to_end_lacks : {S A : Type 0} {lacks lacks' : ℕ → Type 0} {R : Reader S} {old new : S} {buf buf' : Vec ℕ A} (reply : Result ℕ Error)
-    → ((n : ℕ) → lacks n → lacks' n) → ToEndLaw lacks R old buf reply buf' new → ToEndLaw lacks' R old buf reply buf' new
-to_end_lacks reply weaker law = record {
-  taken = law.taken;
-  takes = law.takes;
-  appends = law.appends;
-  ends = drains_lacks law.taken reply _ (weaker _) law.ends;
-  capacity = law.capacity;
-  calls = law.calls;
-}
 
 -- the result with another count
 abbrev pub recount : Result ℕ Error → ℕ → Result ℕ Error

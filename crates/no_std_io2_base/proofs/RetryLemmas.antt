@@ -6,7 +6,7 @@ use Rattle.no_std_io2_base.specs.declared.error.Error.{Error}
 use Rattle.no_std_io2_base.specs.declared.error.ErrorKind.{ErrorKind}
 use Rattle.no_std_io2_base.specs.Write.{Told, Moves, Sends, HasSpent, call_mishap}
 use Rattle.no_std_io2_base.proofs.MovesLemmas.{Moves-refl, Moves-ends}
-use Rattle.no_std_io2_base.specs.Retries.{HasAtMost, HasSpentTries, Law, Tries, again}
+use Rattle.no_std_io2_base.specs.Retries.{HasAtMost, HasSpentTries, Tries, again}
 
 -- at the start nothing went, and all is still to go
 pub sends_none : (a : Told) (to_go : List ℕ) → Sends a to_go (Ok tt) a to_go
@@ -39,7 +39,8 @@ spent_left n left (Some old) (Some mid) None f g most = absurd g
 spent_left n left (Some old) (Some mid) (Some new) f g most = omega (arith, f, g (λ _. true), count_all mid, count_all new, most)
 
 -- a try that failed, and then the others, one fewer
-pub tries_again : {W : Type 0} (law : Law W) (retries less : ℕ) {old mid new : W} {x rest left : List ℕ} {e : Error}
+pub tries_again : {W : Type 0} (law : W → List ℕ → Result (Unit {0}) Error → W → List ℕ → Type 0) (retries less : ℕ)
+    {old mid new : W} {x rest left : List ℕ} {e : Error}
     {reply : Result (Unit {0}) Error} → retries ≡ less + 1 → law old x (Err e) mid rest → Tries law less mid rest reply new left
     → Tries law retries old x reply new left
 tries_again law retries less {old} {new = new} {x = x} {left = left} {reply = reply} is failed tries =

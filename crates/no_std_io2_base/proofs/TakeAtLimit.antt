@@ -1,13 +1,13 @@
 -- At limit 0 a `Take` gives nothing, over every reader.
-use Rattle.std.proofs.Common.{◌≡◌, ℕ, ◌<◌, ◌⊎◌, List, [], ◌∷◌, ◌++◌, Result, Ok, Err, OnOk, IfOk, IfErr, IsUtf8, length, take}
+use Rattle.std.proofs.Common.{◌≡◌, ℕ, ◌<◌, ◌⊎◌, List, [], ◌∷◌, ◌++◌, Result, Ok, Err, OnOk, IfOk, IfErr, IsUtf8, length}
 use Rattle.std.proofs.Common.{refl, sym, ap, subst}
-use Rattle.std.proofs.Common.{◌∙◌, arith, inl, inr, length-take-le, append-nil, Vec, String, string_bytes, string_len, string_capacity}
+use Rattle.std.proofs.Common.{◌∙◌, arith, inl, inr, append-nil, Vec, String, string_bytes, string_len, string_capacity}
 use Rattle.std.proofs.lemmas.Str.{IsUtf8-nil}
 use Rattle.no_std_io2_base.specs.declared.error.Error.{Error}
 use Rattle.no_std_io2_base.specs.declared.traits.take.Take.{Take}
 use Rattle.no_std_io2_base.specs.Errors.{IsUnexpectedEnd}
 use Rattle.no_std_io2_base.specs.Events.{Event, bytes, cut}
-use Rattle.no_std_io2_base.specs.Read.{Reader, ReadCall, Gave, GaveExactly, GaveAll, Filled, Consumed, ReadCallLaw, ReadLaw, ReadExactLaw}
+use Rattle.no_std_io2_base.specs.Read.{Reader, ReadCall, Gave, GaveExactly, GaveAll, Filled, Consumed, ReadCallLaw, ReadExactLaw}
 use Rattle.no_std_io2_base.specs.Read.{FillCalls, gave_whole}
 use Rattle.no_std_io2_base.specs.BufRead.{Lender, as_reader, lender_tells, LendCallLaw, ReadUntilLaw, ReadLineLaw, line_room}
 use Rattle.no_std_io2_base.specs.Pieces.{newline, PieceMade, PieceEnds, AnswersLine}
@@ -44,13 +44,6 @@ module _ {T : Type 0} (inner : Reader T) where
   last_call C call a b made low =
       let parts = made_split (ReadCallLaw (take_reader inner)) C a (call ∷ []) b made in
       (parts.0, parts.2.0, ap take_limit (stands C a parts.0 parts.1 low) ∙ low, parts.2.1)
-
-  pub read_at_limit : {old new : Take T} {buf buf' : List ℕ} (reply : Result ℕ Error) → ReadLaw (take_reader inner) old buf reply buf' new
-      → take_limit old ≡ 0 → reply ≡ Ok 0
-  read_at_limit {buf' = buf'} (Ok n) law low =
-      let none : take n buf' ≡ [] = let is = law.call.0 low in cc in
-      ap Ok (omega (arith, ap length none, length-take-le n buf' law.bound))
-  read_at_limit (Err e) law low = absurd (let is = law.call.0 low in let no : ⊥ = cc in no)
 
   -- the reads of a `read_exact` meet the end
   fill_at_limit : (C : List ReadCall) (buf : List ℕ) (old new : Take T) (e : Error) → Made (ReadCallLaw (take_reader inner)) old C new

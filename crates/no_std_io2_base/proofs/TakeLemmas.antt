@@ -12,7 +12,7 @@ use Rattle.no_std_io2_base.specs.Takes.{Takes, to_come, AreTaken}
 use Rattle.no_std_io2_base.specs.Read.{Reader, tells, ReadCall, Gave, Filled, Consumed, ReadCallLaw, GaveLaw, ReadLaw, gave, bytes_given}
 use Rattle.no_std_io2_base.specs.Read.{answered, fault_of}
 use Rattle.no_std_io2_base.specs.ReadMeter.{FillsRoom}
-use Rattle.no_std_io2_base.specs.BufRead.{Lender, as_reader, lender_tells, ConsumeLaw, IsNotEmpty}
+use Rattle.no_std_io2_base.specs.BufRead.{Lender, as_reader, lender_tells, ConsumeLaw}
 use Rattle.no_std_io2_base.specs.Take.{take_held, take_inner, take_limit, take_len, take_events, cut_to_come, lent_within, TakeTakes}
 use Rattle.no_std_io2_base.specs.Take.{TakeAsks, TakeMay}
 use Rattle.no_std_io2_base.proofs.EventLemmas.{bytes-append, bytes-events_of}
@@ -316,7 +316,7 @@ front_cut None bs n k within front = tt
 front_cut (Some E) bs n k within front = begins_cut n k within front
 
 -- some bytes under the limit are some bytes
-pub some_within : (k : ℕ) (bs : List ℕ) → IsNotEmpty (take k bs) → IsNotEmpty bs
+pub some_within : (k : ℕ) (bs : List ℕ) → 0 < length (take k bs) → 0 < length bs
 some_within k bs some = omega (arith, some, length-take k bs)
 
 -- no bytes under a limit above 0 are none

@@ -17,7 +17,7 @@ use Rattle.no_std_io2_base.specs.declared.error.Error.{Error}
 use Rattle.no_std_io2_base.specs.declared.error.ErrorKind.{ErrorKind}
 use Rattle.no_std_io2_base.specs.Write.{Told, Moves, MovesFront, HasSpent, call_mishap}
 use Rattle.no_std_io2_base.specs.Writers.{Writer, WriteAllOf, PrintsOf, WriteFmtOf}
-use Rattle.no_std_io2_base.specs.Text.{nothing, piece, silent, IsTextError, FailsText, AnswersText, MovesText}
+use Rattle.no_std_io2_base.specs.Text.{nothing, piece, silent, IsTextError, FailsText, MovesText}
 use Rattle.no_std_io2_base.specs.Errors.{is_interruption, IsNoInterruption}
 use Rattle.no_std_io2_base.proofs.MovesLemmas.{after_ok, IsFront-refl, Moves-refl, MovesFront-join, MovesFront-first, MovesFront-flush}
 
@@ -210,7 +210,7 @@ MovesFront-text {a} {b} {bs} {r} f = of_answer f.answers
     said (Ok u) failed = failed
     said (Err e) failed = failed.1
 
-    of_answer : AnswersText (Some bs) f.text f.met r → MovesFront a bs r b ⊎ IsErrAnd r IsTextError
+    of_answer : ((f.text ≡ bs) × (r ≡ f.met)) ⊎ FailsText f.met r → MovesFront a bs r b ⊎ IsErrAnd r IsTextError
     of_answer (inl (same, is)) = inl (subst (λ r. MovesFront a bs r b) (sym is) (subst (λ l. MovesFront a l f.met b) same f.moves))
     of_answer (inr failed) = inr (said r failed)
 

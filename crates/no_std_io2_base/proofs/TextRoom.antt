@@ -1,17 +1,15 @@
 -- The room for what is read for a text, in a vector that has the memory of an empty text.
-use Rattle.std.proofs.Common.{◌≡◌, ℕ, ◌≤◌, ◌==◌, Bool, true, false, if◌then◌else◌, List, length, inl, inr, arith, subst}
-use Rattle.std.proofs.Common.{Result, Ok, Err, String, string_bytes, string_len, string_capacity, Vec, vec_capacity, IfOk, IfErr, [], sym}
-use Rattle.std.proofs.Common.{ap}
-use Rattle.std.proofs.Common.{◌∙◌, ◌+◌, append-nil, length-append}
-use Rattle.no_std_io2_base.specs.Errors.{is_interruption, IsFault}
-use Rattle.no_std_io2_base.specs.Write.{IsFront}
+use Rattle.std.proofs.Common.{◌≡◌, ℕ, ◌<◌, ◌≤◌, ◌==◌, Bool, true, false, if◌then◌else◌, List, length, IsUtf8, inl, inr, arith, subst}
+use Rattle.std.proofs.Common.{Result, Ok, Err, String, string_bytes, string_len, string_capacity, Vec, vec_capacity}
+use Rattle.std.proofs.Common.{◌+◌}
+use Rattle.no_std_io2_base.specs.Errors.{IsOutOfMemory}
 use Rattle.no_std_io2_base.specs.declared.error.Error.{Error}
-use Rattle.no_std_io2_base.specs.Pieces.{AnswersLine, HasNoRoom}
+use Rattle.no_std_io2_base.specs.Pieces.{AnswersLine}
 use Rattle.no_std_io2_base.specs.BufRead.{line_room, text_room}
 
 -- what has no room in a text, has none in a smaller one
-no_room : (line : List ℕ) (len : ℕ) (e : Error) {capacity less : ℕ} → less ≤ capacity → HasNoRoom line len capacity e
-    → HasNoRoom line len less e
+no_room : (line : List ℕ) (len : ℕ) (e : Error) {capacity less : ℕ} → less ≤ capacity
+    → IsUtf8 line × (capacity < len + length line) × IsOutOfMemory e → IsUtf8 line × (less < len + length line) × IsOutOfMemory e
 no_room line len e below (text, full, refused) = (text, omega (arith, below, full), refused)
 
 pub answers_less : (line old new : List ℕ) (len : ℕ) (read reply : Result ℕ Error) {capacity less : ℕ} → less ≤ capacity
@@ -59,34 +57,3 @@ text_answers buf taken none all line new read reply bytes len room grown is answ
     subst (λ l. AnswersLine line read (string_len buf) (string_capacity buf) reply l new) bytes
     (subst (λ n. AnswersLine line read n (string_capacity buf) reply (string_bytes taken) new) len
     (subst (λ l. AnswersLine l read (string_len taken) (string_capacity buf) reply (string_bytes taken) new) is said))
-
--- the text keeps what it had
-pub answers_front : (line : List ℕ) (read reply : Result ℕ Error) (len capacity : ℕ) (old new : List ℕ)
-    → AnswersLine line read len capacity reply old new → IsFront old new
-answers_front line (Ok n) (Ok m) len capacity old new answers = (line, answers.0.1)
-answers_front line (Ok n) (Err e) len capacity old new answers = ([], answers.0 ∙ sym (append-nil old))
-answers_front line (Err f) (Ok m) len capacity old new answers = absurd answers
-answers_front line (Err f) (Err e) len capacity old new (inl memory) = ([], memory.2 ∙ sym (append-nil old))
-answers_front line (Err f) (Err e) len capacity old new (inr (other, inl follows)) = (line, follows.0.1)
-answers_front line (Err f) (Err e) len capacity old new (inr (other, inr (inl bad))) = ([], bad.2 ∙ sym (append-nil old))
-answers_front line (Err f) (Err e) len capacity old new (inr (other, inr (inr full))) = ([], full.1 ∙ sym (append-nil old))
-
--- after `Ok` it has grown by the number that was returned
-pub answers_count : (line : List ℕ) (read reply : Result ℕ Error) (len capacity : ℕ) (old new : List ℕ) {len' : ℕ}
-    → IfOk read (λ n. n ≡ length line) → AnswersLine line read len capacity reply old new → len ≡ length old → len' ≡ length new
-    → IfOk reply (λ n. len' ≡ len + n)
-answers_count line (Ok n) (Ok m) len capacity old new count answers before now =
-    omega (arith, count, answers.1, ap length answers.0.1, length-append old line, before, now)
-answers_count line read (Err e) len capacity old new count answers before now = tt
-answers_count line (Err f) (Ok m) len capacity old new count answers before now = absurd answers
-
--- and an error is a fault if that of the read is
-pub answers_fault : (line : List ℕ) (read reply : Result ℕ Error) (len capacity : ℕ) (old new : List ℕ)
-    → AnswersLine line read len capacity reply old new → IfErr read IsFault → IfErr reply IsFault
-answers_fault line read (Ok m) len capacity old new answers fault = tt
-answers_fault line (Ok n) (Err e) len capacity old new (same, inl bad) fault = ap is_interruption bad.1.0
-answers_fault line (Ok n) (Err e) len capacity old new (same, inr full) fault = ap is_interruption full.2.0
-answers_fault line (Err f) (Err e) len capacity old new (inl memory) fault = subst IsFault (sym memory.1) fault
-answers_fault line (Err f) (Err e) len capacity old new (inr (other, inl follows)) fault = subst IsFault (sym follows.1) fault
-answers_fault line (Err f) (Err e) len capacity old new (inr (other, inr (inl bad))) fault = subst IsFault (sym bad.1) fault
-answers_fault line (Err f) (Err e) len capacity old new (inr (other, inr (inr full))) fault = ap is_interruption full.0.2.0

@@ -15,10 +15,6 @@ use Rattle.no_std_io2_base.specs.Pieces.{newline, PieceEnds, AnswersLine, PieceM
 abbrev pub Rests : (R : RattleType) → MutBor R.Denot → (R.Denot → Type 0) → Fml
 Rests R s P = follows_so R R s.ghost_name none (λ _ _. ⊤) P
 
--- there are some bytes
-abbrev pub IsNotEmpty : List ℕ → Type 0
-IsNotEmpty bs = 0 < length bs
-
 -- the held bytes are the lent bytes, and none after an error
 abbrev pub Lends : Result (Bor (List ℕ)) Error → List ℕ → Type 0
 Lends (Ok s) held = held ≡ s.now
@@ -50,7 +46,7 @@ lender_tells R = tells (as_reader R)
 -- `fill_buf()`: its result
 pub record FillBufLaw {X : Type 0} (R : Lender X) (old : X) (reply : Result (Bor (List ℕ)) Error) : Type 0 where
   -- held bytes are lent, all of them
-  pub held : IsNotEmpty (R.held old) → IsOkAnd reply (λ s. s.now ≡ R.held old)
+  pub held : 0 < length (R.held old) → IsOkAnd reply (λ s. s.now ≡ R.held old)
   -- the lent bytes come next
   pub front : IfOk reply (λ s. IfSome (to_come (lender_tells R old)) (λ E. BeginsWith E s.now))
   -- an empty slice is lent only at the end
@@ -64,7 +60,7 @@ AfterLoan R old reply new = record {
   -- nothing is taken, except the error that was returned
   takes : Takes (lender_tells R old) (fault_of (lent_bytes reply)) (lender_tells R new);
   -- if bytes were held, nothing has changed
-  unchanged : IsNotEmpty (R.held old) → new ≡ old;
+  unchanged : 0 < length (R.held old) → new ≡ old;
   -- it is one call
   call : R.may old (Filled (lent_bytes reply)) new;
 }
@@ -80,7 +76,7 @@ pub record ConsumeLaw {X : Type 0} (R : Lender X) (old : X) (amount : ℕ) (new 
 -- a `fill_buf`, by its answer
 pub record FilledLaw {X : Type 0} (R : Lender X) (old : X) (answer : Result (List ℕ) Error) (new : X) : Type 0 where
   -- if bytes were held, they are lent, all of them, and nothing has changed
-  pub held : IsNotEmpty (R.held old) → (answer ≡ Ok (R.held old)) × (new ≡ old)
+  pub held : 0 < length (R.held old) → (answer ≡ Ok (R.held old)) × (new ≡ old)
   -- the lent bytes come next, and are held
   pub front : IfOk answer (λ x. IfSome (to_come (lender_tells R old)) (λ E. BeginsWith E x))
   pub lends : R.held new ≡ bytes_given answer

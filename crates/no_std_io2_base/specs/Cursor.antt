@@ -19,14 +19,6 @@ cursor_inner c = c.inner
 abbrev pub cursor_left : {T : Type 0} → (T → List ℕ) → Cursor T → List ℕ
 cursor_left slice c = drop c.pos (slice c.inner)
 
--- the length of the content and the position fit a `u64`
-abbrev pub cursor_stores : {T : Type 0} → (T → List ℕ) → Cursor T → Type 0
-cursor_stores slice c = (length (slice c.inner) < 2 ^ 64) × (c.pos < 2 ^ 64)
-
--- c after `*c.get_mut() = x`
-abbrev pub cursor_with_inner : {T : Type 0} → Cursor T → T → Cursor T
-cursor_with_inner c x = record c { inner = x }
-
 -- the bytes before a place, with zeros after them if there are too few
 abbrev pub bytes_before : ℕ → List ℕ → List ℕ
 bytes_before place bs = take place bs ++ replicate (place - length bs) 0

@@ -91,17 +91,13 @@ text_or_kind kind None = kind_text kind
 abbrev pub error_display : Error → List ℕ
 error_display e = text_or_kind (error_kind e) (error_text e)
 
--- e has this kind, and no text
-abbrev pub IsPlain : ErrorKind → Error → Type 0
-IsPlain kind e = (error_kind e ≡ kind) × (error_text e ≡ None)
-
 -- e has this kind and this text
 abbrev pub SaysError : ErrorKind → List ℕ → Error → Type 0
 SaysError kind text e = (error_kind e ≡ kind) × (error_text e ≡ Some text)
 
 -- e is the error of a failed allocation: `OutOfMemory`, without a text
 abbrev pub IsOutOfMemory : Error → Type 0
-IsOutOfMemory e = IsPlain OutOfMemory e
+IsOutOfMemory e = (error_kind e ≡ OutOfMemory) × (error_text e ≡ None)
 
 -- e is the error of bytes that end too early
 abbrev pub IsUnexpectedEnd : Error → Type 0

@@ -6,7 +6,7 @@ use Rattle.no_std_io2_base.specs.Writers.{Writer, TakesAll}
 -- How many writes a call counts as. A `write_all` of a type that has a body of its own for it counts as one, or as none for no bytes. A
 -- flush
 -- does not count.
-abbrev pub charge : WriteCall → ℕ
+abbrev charge : WriteCall → ℕ
 charge (Wrote x reply) = 1
 charge (WroteAll x reply) = calls_for x
 charge (Flushed reply) = 0

@@ -94,11 +94,6 @@ PieceEnds lacks d old P (Ok n) = HasNoFault P × (n ≡ length (bytes P)) × (En
 PieceEnds lacks d old P (Err e) = Lacks d (bytes P) × (EndsInFault P e ⊎ (HasNoFault P × IsOutOfMemory e
     × ((part : List ℕ) × IsPiecePart d part × ComesBehind old P part × lacks (length (bytes P) + length part))))
 
--- the bytes up to and including the first d, or all if there is none
-abbrev pub up_to : ℕ → List ℕ → List ℕ
-up_to d [] = []
-up_to d (b ∷ bs) = if b == d then b ∷ [] else b ∷ up_to d bs
-
 -- C are the calls of a loop that took x, and no d yet: each `fill_buf` lent some bytes without d, and all of them were consumed; or it was
 -- interrupted
 pub data PartCalls (d : ℕ) : List ReadCall → List ℕ → Type 0 where
@@ -183,7 +178,7 @@ abbrev pub Follows : List ℕ → List ℕ → List ℕ → Type 0
 Follows line old new = IsUtf8 line × (new ≡ old ++ line)
 
 -- a line is UTF-8, and a text of this length and capacity has no room for it
-abbrev pub HasNoRoom : List ℕ → ℕ → ℕ → Error → Type 0
+abbrev HasNoRoom : List ℕ → ℕ → ℕ → Error → Type 0
 HasNoRoom line len capacity e = IsUtf8 line × (capacity < len + length line) × IsOutOfMemory e
 
 -- `read_line` read a line with the result `read`, and returned `reply`, with a text of this length and capacity. The text does not change

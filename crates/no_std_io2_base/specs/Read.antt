@@ -95,13 +95,6 @@ pub record ExactMade {S : Type 0} (may : S → ReadCall → S → Type 0) (old :
   pub made : Made may old calls new
   pub are : ExactCalls calls reply buf
 
--- The calls that a `read_full` made, which gave x.
-pub record FullMade {S : Type 0} (may : S → ReadCall → S → Type 0) (old : S) (room : ℕ) (x : List ℕ) (reply : Result (Unit {0}) Error)
-    (new : S) : Type 0 where
-  pub calls : List ReadCall
-  pub made : Made may old calls new
-  pub are : FullCalls calls room x reply
-
 -- The calls that a `read_to_end` made, and the bytes that they gave, which were appended.
 pub record ToEndMade {S : Type 0} (may : S → ReadCall → S → Type 0) (old : S) (buf : List ℕ) (reply : Result ℕ Error) (buf' : List ℕ)
     (new : S) : Type 0 where
@@ -155,7 +148,7 @@ FillsOrEnds room P (Err e) new = (length (bytes P) < room)
     × (EndsInFault P e ⊎ (IsUnexpectedEnd e × HasNoFault P × IfSome (to_come new) (AllOrNone P room)))
 
 -- how a `read_full` into this much room that took P ended: it gave so many bytes, or met the end; or a fault came first
-abbrev pub FillsOrMeetsEnd : ℕ → List Event → Result (Unit {0}) Error → Tells → Type 0
+abbrev FillsOrMeetsEnd : ℕ → List Event → Result (Unit {0}) Error → Tells → Type 0
 FillsOrMeetsEnd room P (Ok u) new = HasNoFault P × (cut room P ≡ P) × (length (bytes P) < room → IsAtEnd new)
 FillsOrMeetsEnd room P (Err e) new = EndsInFault P e × (length (bytes P) < room)
 
@@ -225,7 +218,7 @@ pub record ReadFullLaw {S : Type 0} (R : Reader S) (old : S) (buf : List ℕ) (f
   -- a full buffer makes no call
   pub full : length buf ≤ filled → IsOk reply × (new ≡ old)
   -- which calls it made
-  pub calls : FullMade (ReadCallLaw R) old (length buf - filled) (bytes taken) reply new
+  pub calls : (C : List ReadCall) × Made (ReadCallLaw R) old C new × FullCalls C (length buf - filled) (bytes taken) reply
 
 -- the least room into which a read to the end reads
 abbrev pub least_room : ℕ
@@ -274,10 +267,6 @@ last_read None = Ok []
 last_read (Some (Ok b)) = Ok (b ∷ [])
 last_read (Some (Err e)) = Err e
 
--- there is room for one byte
-abbrev pub IsOne : ℕ → ℕ → Type 0
-IsOne at room = room ≡ 1
-
 -- A `next` took some events, by reads into room for one byte each. All but the last were interrupted.
 pub record NextLaw {S : Type 0} (R : Reader S) (old : S) (result : Option (Result ℕ Error)) (new : S) : Type 0 where
   pub taken : List Event
@@ -285,4 +274,4 @@ pub record NextLaw {S : Type 0} (R : Reader S) (old : S) (result : Option (Resul
   -- they end in the byte or the fault that it yields
   pub ends : EndsNext taken result (tells R new)
   -- which reads it made
-  pub calls : (C : List ReadCall) × Made (ReadCallLaw R) old C new × GathersUntil IsOne C [] (last_read result)
+  pub calls : (C : List ReadCall) × Made (ReadCallLaw R) old C new × GathersUntil (λ _ room. room ≡ 1) C [] (last_read result)

@@ -16,7 +16,7 @@ HasSpentTries n left (Some old) None = ⊥
 HasSpentTries n left (Some old) (Some new) = length new + n ≤ length old + left
 
 -- A law relates the writer before a call that sends x, x, the result, the writer after the call, and the bytes that it left of x.
-abbrev pub Law : Type 0 → Type 1
+abbrev Law : Type 0 → Type 1
 Law W = W → List ℕ → Result (Unit {0}) Error → W → List ℕ → Type 0
 
 -- a `write_rest`, and a `flush` if it succeeded; the result is that of the last call

@@ -13,7 +13,7 @@ abbrev pub IsWithin : {T : Type 0} → Take T → SeekFrom → ℕ → Type 0
 IsWithin t from n = IsTarget (take_len t) (take_position t) from n × (n ≤ take_len t)
 
 -- If the target is within the `Take`, it goes there. If not, the seek is refused, and nothing changes.
-abbrev pub GoesWithin : {T A : Type 0} → Take T → SeekFrom → (ℕ → Type 0) → Result A Error → Take T → Type 0
+abbrev GoesWithin : {T A : Type 0} → Take T → SeekFrom → (ℕ → Type 0) → Result A Error → Take T → Type 0
 GoesWithin old from Goes reply new = ((n : ℕ) → IsWithin old from n → Goes n)
     × (((n : ℕ) → IsWithin old from n → ⊥) → IsErrAnd reply IsInvalidSeek × (new ≡ old))
 

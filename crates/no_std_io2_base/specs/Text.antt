@@ -31,7 +31,7 @@ abbrev pub FailsText : Result (Unit {0}) Error → Result (Unit {0}) Error → T
 FailsText met reply = IsErrAnd reply (λ e. (error_kind e ≡ kind_met met) × IsTextError e)
 
 -- The result is the writer's, and the printed bytes are the text's output, if that is specified; or the text's own `fmt` failed.
-abbrev pub AnswersText : Option (List ℕ) → List ℕ → Result (Unit {0}) Error → Result (Unit {0}) Error → Type 0
+abbrev AnswersText : Option (List ℕ) → List ℕ → Result (Unit {0}) Error → Result (Unit {0}) Error → Type 0
 AnswersText output text met reply = (IfSome output (λ bs. text ≡ bs) × (reply ≡ met)) ⊎ FailsText met reply
 
 -- From old to new some text was printed to a writer, with the result `met`: the writer accepted a front of it, all of it after `Ok`.

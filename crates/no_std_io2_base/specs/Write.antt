@@ -142,7 +142,7 @@ abbrev pub AllCalls : List WriteCall → List ℕ → Result (Unit {0}) Error �
 AllCalls C x reply = (C ≡ WroteAll x reply ∷ []) ⊎ ((left : List ℕ) × Writes (codes "failed to write whole buffer") C x reply left)
 
 -- The writer takes all: it says so, and no mishap is to come.
-abbrev pub AcceptsAll : {W : Type 0} → (W → Told) → (W → Type 0) → W → Type 0
+abbrev AcceptsAll : {W : Type 0} → (W → Told) → (W → Type 0) → W → Type 0
 AcceptsAll told takes_all w = takes_all w × ((told w).mishaps ≡ Some [])
 
 -- `write(x)`

@@ -1,9 +1,9 @@
 -- The ghost members of one writer, I, as one value; and the laws of its calls.
-use Rattle.std.specs.Prelude.{ℕ, List, Option, Result}
+use Rattle.std.specs.Prelude.{◌≡◌, ℕ, List, [], Option, Some, Result}
 use Rattle.no_std_io2_base.specs.declared.error.Error.{Error}
 use Rattle.no_std_io2_base.specs.declared.traits.write.Write.{Ghosts}
 use Rattle.no_std_io2_base.specs.Text.{Prints, WriteFmtLaw}
-use Rattle.no_std_io2_base.specs.Write.{AcceptsAll, WriteCall, CallLaw, WriteLaw, FlushLaw, WriteAllLaw, WriteRestLaw}
+use Rattle.no_std_io2_base.specs.Write.{WriteCall, CallLaw, WriteLaw, FlushLaw, WriteAllLaw, WriteRestLaw}
 
 -- a writer, as `⟦<W as Write>⟧` and `W.Write` name it
 abbrev pub Writer : Type 0 → Type 1
@@ -11,7 +11,7 @@ Writer W = Ghosts W
 
 -- it takes all: it accepts every write whole from now on, and no mishap is to come
 abbrev pub TakesAll : {W : Type 0} → Writer W → W → Type 0
-TakesAll I = AcceptsAll I.told I.takes_all
+TakesAll I w = I.takes_all w × ((I.told w).mishaps ≡ Some [])
 
 -- `write(x)` of this writer
 abbrev pub WriteOf : {W : Type 0} → Writer W → W → List ℕ → Result ℕ Error → W → Type 0

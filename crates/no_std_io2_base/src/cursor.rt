@@ -6,7 +6,7 @@ ghost use Rattle.std.specs.Borrow.{Lends};
 ghost use Rattle.std.specs.Box.{boxed_slice_items};
 ghost use Rattle.no_std_io2_base.specs.contracts.cursor.Cursor.{the_row as cursor-row};
 ghost use Rattle.no_std_io2_base.specs.Errors.{IsOutOfMemory};
-ghost use Rattle.no_std_io2_base.specs.Cursor.{cursor_position, cursor_inner, cursor_with_inner};
+ghost use Rattle.no_std_io2_base.specs.Cursor.{cursor_position, cursor_inner};
 
 mod reading;
 mod seeking;
@@ -135,7 +135,7 @@ impl<T> Cursor<T> {
     /// `std::io::Cursor::get_mut`.
     pub fn get_mut(&mut self) -> &mut T
         ensures value { result.now ≡ cursor_inner self.old }
-        ensures* writes_back { sem 𝓛 (Lends (cursor-row T.row) T.row self.entry result (cursor_with_inner self.old)) }
+        ensures* writes_back { sem 𝓛 (Lends (cursor-row T.row) T.row self.entry result (λ x. record self.old { inner = x })) }
     {
         &mut self.inner
     }

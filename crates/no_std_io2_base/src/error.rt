@@ -2,7 +2,7 @@
 //! [`ErrorKind`] and perhaps a static text.
 ghost use Rattle.std.specs.Prelude.{◌≡◌, Some, None};
 ghost use Rattle.std.specs.Option.{option_map};
-ghost use Rattle.no_std_io2_base.specs.Errors.{kind_text, error_kind, error_text, error_display, is_interruption, IsPlain, IsOutOfMemory};
+ghost use Rattle.no_std_io2_base.specs.Errors.{kind_text, error_kind, error_text, error_display, is_interruption, IsOutOfMemory};
 
 pub(crate) use crate::internal::{failed_to_fill, failed_to_write, invalid_seek};
 use std::alloc::{AllocError, AllocFailed};
@@ -217,7 +217,7 @@ impl Error {
 
 /// Makes an error with only this kind, and no text.
 impl From<ErrorKind> for Error {
-    ghost from_gives = { λ kind e. IsPlain kind e };
+    ghost from_gives = { λ kind e. (error_kind e ≡ kind) × (error_text e ≡ None) };
 
     fn from(kind: ErrorKind) -> Error {
         Error {

@@ -1,12 +1,12 @@
 // [`LineWriter`], a buffer that is sent at the end of each line.
-ghost use Rattle.std.specs.Prelude.{◌≡◌, ◌+◌, ◌≤◌, [], length, IfOk, IfErr, OnOk};
+ghost use Rattle.std.specs.Prelude.{◌≡◌, ◌+◌, ◌≤◌, [], length, IsOk, IfOk, IfErr, OnOk};
 ghost use Rattle.std.specs.Borrow.{Lends, sem};
 ghost use Rattle.no_std_io2.specs.contracts.buffered.line_writer.LineWriter.{the_row as line-row};
 ghost use Rattle.no_std_io2_base.specs.Lines.{IsLineState};
 ghost use Rattle.no_std_io2_base.specs.Pieces.{Lacks, newline};
 ghost use Rattle.no_std_io2.specs.LineWriter.{line_inner, line_buffer, LineCalls};
 ghost use Rattle.no_std_io2.specs.LineWriter.{LineWriteCalls, LineWriteAllCalls, line_buffer_after, line_buffer_filled};
-ghost use Rattle.no_std_io2.specs.LineWriter.{IsShortText, HoldsShort, KeepsTaking};
+ghost use Rattle.no_std_io2.specs.LineWriter.{IsShortText, HoldsShort};
 ghost use Rattle.no_std_io2.specs.BufWriter.{TakesStep, Unwraps, Flushes, into_inner_error_writer, with_buffer, BufferMay};
 ghost use Rattle.no_std_io2_base.specs.Writers.{TakesAll, FlushOf, WriteAllOf, WriteOf};
 
@@ -159,7 +159,7 @@ impl<W: Write + Drop, const S: usize> Write for LineWriter<W, S> {
         // Over an inner writer that takes all: which bytes are held afterwards.
         ensures held { TakesAll W.Write (line_inner self.old)
             → line_buffer self.new ≡ line_buffer_filled S (line_buffer self.old) buf.now }
-        ensures inner { KeepsTaking W.Write (line_inner self.old) result (line_inner self.new) }
+        ensures inner { TakesAll W.Write (line_inner self.old) → TakesAll W.Write (line_inner self.new) × IsOk result }
     {
         steps::write(&mut self.core.buffered, buf)
     }
@@ -194,7 +194,7 @@ impl<W: Write + Drop, const S: usize> Write for LineWriter<W, S> {
         ensures no_newline_held { OnOk result (Lacks newline (line_buffer self.new)) }
         ensures held { OnOk result (line_buffer self.new ≡ line_buffer_after S (line_buffer self.old) buf.now) }
         ensures fits { HoldsShort self.old buf.now result self.new }
-        ensures inner { KeepsTaking W.Write (line_inner self.old) result (line_inner self.new) }
+        ensures inner { TakesAll W.Write (line_inner self.old) → TakesAll W.Write (line_inner self.new) × IsOk result }
     {
         steps::write_all(&mut self.core.buffered, buf)
     }

@@ -1,6 +1,6 @@
 -- All reads so far were interrupted. The reader's turns bound the loop.
 use Rattle.std.proofs.Common.{◌≡◌, [], length}
-use Rattle.no_std_io2_base.specs.Read.{bytes_reader, IsOne}
+use Rattle.no_std_io2_base.specs.Read.{bytes_reader}
 use Rattle.no_std_io2_base.proofs.Readers.{reader}
 use Rattle.no_std_io2_base.proofs.ReadLoop.{ReadsSoFar}
 use Rattle.no_std_io2_base.proofs.traits.bytes.BytesIterator.next.Given as goal
@@ -8,7 +8,7 @@ use Rattle.no_std_io2_base.proofs.traits.bytes.BytesIterator.next.Given as goal
 abbrev pub invariant-reads : goal.invariant-reads
 invariant-reads g l = record {
   long : length l.one ≡ 1;
-  reads : ReadsSoFar (reader g.R.Stored g.R.Read) IsOne (bytes_reader l.initial.self) [] (bytes_reader l.self);
+  reads : ReadsSoFar (reader g.R.Stored g.R.Read) (λ _ room. room ≡ 1) (bytes_reader l.initial.self) [] (bytes_reader l.self);
 }
 
 abbrev pub decreases-reads : goal.decreases-reads

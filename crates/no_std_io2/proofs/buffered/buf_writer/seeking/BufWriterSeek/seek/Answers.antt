@@ -21,7 +21,8 @@ returns-clause-first g c = sending_went c.seek.result (writes_whole c.in_ok-send
 pub returns-clause-sent : goal.returns-clause-sent
 returns-clause-sent g c = λ _. record {
   sent = sender_inner c.send.new.self;
-  sends = sends_all c.in_ok-send.ensures.calls;
+  moves = (sends_all c.in_ok-send.ensures.calls).0;
+  calls = (sends_all c.in_ok-send.ensures.calls).1;
   sought = rw c.get_mut.ensures.value at c.seek.ensures.law;
 }
 
@@ -30,7 +31,7 @@ returns-in_err-send-clause-law g c = record {
   store = store_refused _ (writer_buffer c.args.self.now) (g.W.Stored.store (writer_inner c.args.self.now)) _
       (λ none. no_ok (sent_idle c.in_err-send.ensures.calls none).1);
   position = rw (err_from_is_err_and c.from_residual.result c.from_residual.ensures.1).1 tt;
-  call = record { first = returns-in_err-send-clause-first g c; sent = returns-in_err-send-clause-sent g c };
+  call = (returns-in_err-send-clause-first g c, returns-in_err-send-clause-sent g c);
 }
 
 pub returns-clause-law : goal.returns-clause-law
@@ -41,5 +42,5 @@ returns-clause-law g c =
       store = store_sought _ (writer_buffer c.args.self.now) _ (g.W.Stored.store (writer_inner c.args.self.now)) _ (writes_whole sent.2)
           (λ none. rw (c.get_mut.ensures.value, (sent_idle sent none).0) at inner.store);
       position = position_sought _ _ c.seek.result inner.position;
-      call = record { first = returns-clause-first g c; sent = returns-clause-sent g c };
+      call = (returns-clause-first g c, returns-clause-sent g c);
     }
