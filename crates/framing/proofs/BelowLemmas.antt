@@ -1,15 +1,16 @@
--- Reads that are wanted for another reason, and the reads that a buffered reader makes below for those of a loop that fills a room.
+-- Reads that are wanted for another reason, and the reads that a buffered reader makes below for those of a `read_full`.
 use Rattle.std.proofs.Common.{◌≡◌, ℕ, ◌<◌, List, [], ◌∷◌, ◌++◌, Bool, true, false, Result, Ok, Err, IfErr, length, sym, ap, ◌∙◌, arith}
-use Rattle.std.proofs.Common.{append-nil, refl}
+use Rattle.std.proofs.Common.{append-nil, refl, subst, inl, inr, nat_eq, ◌+◌, ◌-◌, ◌≤◌}
+use Rattle.std.proofs.lemmas.Bool.{eq-eqb, ne_eqb}
 use Rattle.no_std_io2.specs.declared.io.Error.{Error}
 use Rattle.no_std_io2.specs.declared.io.BufReader.{BufReader}
 use Rattle.no_std_io2.specs.Errors.{IsFault}
 use Rattle.no_std_io2.specs.Events.{Event, fails, bytes}
 use Rattle.no_std_io2.specs.Takes.{Takes}
-use Rattle.no_std_io2.specs.Read.{Reader, tells, ReadCall, ReadCallLaw, Gathers, GathersUntil, no_read, and_gave, and_again, IsRest}
+use Rattle.no_std_io2.specs.Read.{Reader, tells, ReadCall, ReadCallLaw, Gathers, no_read, and_gave, and_again, IsRest, FullCalls}
 use Rattle.no_std_io2.specs.Write.{Made}
 use Rattle.no_std_io2.specs.BufReader.{reader_held, reader_inner, AsksExact}
-use Rattle.no_std_io2.specs.FillTo.{GathersTo, ReadsTo}
+use Rattle.no_std_io2.specs.FillTo.{GathersTo, HasTo, ReadsTo}
 use Rattle.no_std_io2.proofs.BufReaderCalls.{buf_reader}
 use Rattle.no_std_io2.proofs.BufReaderExact.{below, below_end}
 use Rattle.no_std_io2.proofs.PieceLemmas.{bytes_still}
@@ -27,6 +28,28 @@ module _ {asks asks' : ℕ → ℕ → Type 0} (each : (at room : ℕ) → asks 
   reads_map C x (Ok true) reads = gathers_map reads
   reads_map C x (Ok false) (D, room, so_far, into, is) = (D, room, gathers_map so_far, each _ _ into, is)
   reads_map C x (Err e) (D, room, so_far, into, is) = (D, room, gathers_map so_far, each _ _ into, is)
+
+-- the result of a call that says, after a `read_full` with this one, whether its room is full
+abbrev pub says_full : Result (Unit {0}) Error → Bool → Result Bool Error
+says_full (Ok u) full = Ok full
+says_full (Err e) full = Err e
+
+-- C are reads that gave x, and ended like this, into the rest of `want` bytes, of which there were `at` before and are `at'` now
+abbrev pub ReadsRest : ℕ → ℕ → ℕ → List ReadCall → List ℕ → Result Bool Error → Type 0
+ReadsRest want at at' C x reply = HasTo want reply at' × IfErr reply IsFault × ReadsTo (IsRest (want - at)) C x reply
+
+-- the reads of a `read_full` are such reads
+pub full_reads : (want at at' : ℕ) (C : List ReadCall) (x : List ℕ) (reply : Result (Unit {0}) Error) → at ≤ want → at' ≡ at + length x
+    → FullCalls C (want - at) x reply → ReadsRest want at at' C x (says_full reply (nat_eq at' want))
+full_reads want at at' C x (Ok u) fits counts (inl (reads, all)) =
+    let full : at' ≡ want = omega (arith, all, counts, fits) in
+    subst (λ b. ReadsRest want at at' C x (Ok b)) (sym (eq-eqb at' want full)) (omega (arith, full), tt, reads)
+full_reads want at at' C x (Ok u) fits counts (inr (D, room, reads, into, is)) =
+    let short : at' < want = omega (arith, into.0, into.1, counts, fits) in
+    let says : nat_eq at' want ≡ false = ne_eqb at' want (λ same. omega (arith, short, same)) in
+    subst (λ b. ReadsRest want at at' C x (Ok b)) (sym says) (short, tt, (D, room, reads, into, is))
+full_reads want at at' C x (Err e) fits counts (fault, (D, room, reads, into, is)) =
+    (omega (arith, into.0, into.1, counts, fits), fault, (D, room, reads, into, is))
 
 -- after `Ok(true)` nothing is said; else this is
 abbrev pub IfShort : Result Bool Error → Type 0 → Type 0

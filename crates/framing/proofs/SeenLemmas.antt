@@ -1,25 +1,25 @@
 -- Which bytes a reader of frames has seen.
 use Rattle.std.proofs.Common.{◌≡◌, ℕ, zero, suc, ◌+◌, ◌-◌, ◌<◌, ◌≤◌, ◌^◌, List, [], ◌∷◌, ◌++◌, Bool, true, false, Result, Ok, Err, length}
-use Rattle.std.proofs.Common.{take, drop}
+use Rattle.std.proofs.Common.{take, drop, nat_eq}
 use Rattle.std.proofs.Common.{refl, sym, ap, subst, ◌∙◌, ⊎_elim, arith, append_assoc, append-nil, max, if◌then◌else◌}
 use Rattle.std.proofs.Common.{length-append, length-take-le, take-append-drop}
 use Rattle.std.specs.Int.{w32, to_le_bytes, from_le_bytes}
 use Rattle.std.proofs.lemmas.Bool.{cases_lt, le-leb, lt-leb}
 use Rattle.std.proofs.lemmas.Nat.{from_le_bytes-to_le_bytes_4}
-use Rattle.std.proofs.Math.Seq.{take-append_seam, take-add, drop-append_seam}
-use Rattle.std.proofs.lemmas.List.{take-append-le}
+use Rattle.std.proofs.Math.Seq.{take-append_seam, take-add}
+use Rattle.std.proofs.lemmas.List.{take-append-le, take-take}
 use Rattle.no_std_io2.specs.declared.io.Error.{Error}
 use Rattle.no_std_io2.specs.Events.{bytes}
-use Rattle.no_std_io2.specs.Read.{Reader, tells, ReadCall, ReadCallLaw}
+use Rattle.no_std_io2.specs.Read.{Reader, tells, ReadCallLaw, ReadFullLaw, FullCalls}
 use Rattle.no_std_io2.specs.Takes.{Takes}
 use Rattle.no_std_io2.specs.Write.{Made}
 use Rattle.no_std_io2.specs.BufReader.{reader_held, AsksExact}
 use Rattle.no_std_io2.specs.FillTo.{FillsTo, ReadsTo, AsksOn, HasTo}
 use Rattle.no_std_io2.proofs.BufReaderCalls.{buf_reader}
 use Rattle.framing.specs.Frames.{frame, told_length, HasHeader}
-use Rattle.framing.specs.Taking.{begun, seen_bytes, reads_from, part_room, AsksPart, SeesTo, FillsRest}
+use Rattle.framing.specs.Taking.{begun, seen_bytes, reads_from, part_room, AsksPart, SeesTo}
 use Rattle.framing.specs.declared.reader.FrameReader.{FrameReader}
-use Rattle.framing.proofs.BelowLemmas.{reads_map, IfShort, PartBelow, part_below}
+use Rattle.framing.proofs.BelowLemmas.{reads_map, IfShort, PartBelow, part_below, says_full, ReadsRest, full_reads}
 
 -- the part of a long frame, by its length
 pub begun_none : (n : ℕ) (more : List ℕ) → n ≡ 0 → begun n more ≡ []
@@ -131,17 +131,36 @@ module _ {R : Type 0} {S : ℕ} (I : Reader R) (old new : FrameReader R S) (room
       each at size asks =
           (asks.0, let is : size ≡ S - (length (reader_held old.inner) + at) = omega (arith, asks.1) in is ∙ sym (room_within S n _ fits))
 
-  -- so were bytes that were read into the room
-  module _ (is : new.len ≡ old.len) (some : 0 < old.len) (fits : old.len ≤ length room)
-      (size : length room' ≡ length room) (reply : Result Bool Error)
-      (fills : FillsRest (buf_reader I) old.len old.inner room old.given reply new.inner room' new.given) where
-    below : PartBelow I (old.len - old.given) old.inner fills.given reply new.inner
-    below = part_below I (old.len - old.given) _ _ reply old.inner new.inner fills.fault fills.calls.2 fills.calls.1
+  -- so were bytes that were read into the front of the room
+  module _ (len : ℕ) (was : old.len ≡ len) (is : new.len ≡ len) (some : 0 < len) (fits : len ≤ length room) (ys : List ℕ)
+      (size : length ys ≡ length (take len room)) (joined : room' ≡ ys ++ drop len room) (answer : Result (Unit {0}) Error)
+      (law : ReadFullLaw (buf_reader I) old.inner (take len room) old.given answer ys new.given new.inner) where
+    abbrev reply : Result Bool Error
+    reply = says_full answer (nat_eq new.given len)
 
-    before : seen_bytes old room ≡ (to_le_bytes w32 old.len ++ take old.given room) ++ reader_held old.inner
-    before = seen_inside old room some
+    abbrev given : List ℕ
+    given = bytes law.taken
 
-    after : seen_bytes new room' ≡ (to_le_bytes w32 old.len ++ take new.given room') ++ reader_held new.inner
+    front_long : length (take len room) ≡ len
+    front_long = length-take-le len room fits
+
+    reads : ReadsRest len old.given new.given law.calls.calls given reply
+    reads = full_reads len old.given new.given law.calls.calls given answer (omega (arith, old.within, was)) law.counts
+        (subst (λ n. FullCalls law.calls.calls (n - old.given) given answer) front_long law.calls.are)
+
+    below : PartBelow I (len - old.given) old.inner given reply new.inner
+    below = part_below I (len - old.given) law.calls.calls given reply old.inner new.inner reads.1 reads.2 law.calls.made
+
+    filled : take new.given room' ≡ take old.given room ++ given
+    filled =
+        ap (take new.given) joined ∙ take-append-le new.given ys (drop len room) (omega (arith, new.within, is, size, front_long))
+        ∙ law.fills ∙ ap (λ l. l ++ given) (take-take old.given len room (omega (arith, old.within, was)))
+
+    before : seen_bytes old room ≡ (to_le_bytes w32 len ++ take old.given room) ++ reader_held old.inner
+    before = seen_inside old room (omega (arith, was, some))
+        ∙ ap (λ n. (to_le_bytes w32 n ++ take old.given room) ++ reader_held old.inner) was
+
+    after : seen_bytes new room' ≡ (to_le_bytes w32 len ++ take new.given room') ++ reader_held new.inner
     after = seen_inside new room' (omega (arith, is, some))
         ∙ ap (λ n. (to_le_bytes w32 n ++ take new.given room') ++ reader_held new.inner) is
 
@@ -150,70 +169,69 @@ module _ {R : Type 0} {S : ℕ} (I : Reader R) (old new : FrameReader R S) (room
         omega (
           arith,
           ap length before,
-          length-append (to_le_bytes w32 old.len ++ take old.given room) (reader_held old.inner),
-          length-append (to_le_bytes w32 old.len) (take old.given room),
-          length-take-le old.given room (omega (arith, old.within, fits)),
+          length-append (to_le_bytes w32 len ++ take old.given room) (reader_held old.inner),
+          length-append (to_le_bytes w32 len) (take old.given room),
+          length-take-le old.given room (omega (arith, old.within, was, fits)),
         )
 
     long_after : length (seen_bytes new room') ≡ 4 + new.given + length (reader_held new.inner)
     long_after = omega (
       arith,
       ap length after,
-      length-append (to_le_bytes w32 old.len ++ take new.given room') (reader_held new.inner),
-      length-append (to_le_bytes w32 old.len) (take new.given room'),
-      length-take-le new.given room' (omega (arith, fills.within, fits, size)),
+      length-append (to_le_bytes w32 len ++ take new.given room') (reader_held new.inner),
+      length-append (to_le_bytes w32 len) (take new.given room'),
+      length-take-le new.given room' (omega (arith, new.within, is, size, front_long, ap length joined, length-append ys (drop len room))),
     )
 
     seen : seen_bytes new room' ≡ seen_bytes old room ++ bytes below.taken
     seen =
-        let header = to_le_bytes w32 old.len in
+        let header = to_le_bytes w32 len in
         let front = take old.given room in
-        after ∙ ap (λ l. (header ++ l) ++ reader_held new.inner) fills.filled
-        ∙ ap (λ l. l ++ reader_held new.inner) (sym (append_assoc header front fills.given))
-        ∙ append_assoc (header ++ front) fills.given (reader_held new.inner) ∙ ap (λ l. (header ++ front) ++ l) (sym below.split)
+        after ∙ ap (λ l. (header ++ l) ++ reader_held new.inner) filled
+        ∙ ap (λ l. l ++ reader_held new.inner) (sym (append_assoc header front given))
+        ∙ append_assoc (header ++ front) given (reader_held new.inner) ∙ ap (λ l. (header ++ front) ++ l) (sym below.split)
         ∙ sym (append_assoc (header ++ front) (reader_held old.inner) (bytes below.taken)) ∙ ap (λ l. l ++ bytes below.taken) (sym before)
 
-    enough : (r : Result Bool Error) → HasTo old.len r new.given → IfShort r (reader_held new.inner ≡ [])
-        → HasTo (4 + old.len) r (length (seen_bytes new room'))
+    enough : (r : Result Bool Error) → HasTo len r new.given → IfShort r (reader_held new.inner ≡ [])
+        → HasTo (4 + len) r (length (seen_bytes new room'))
     enough (Ok true) has none = omega (arith, long_after, has)
     enough (Ok false) has none = omega (arith, long_after, has, ap length none)
     enough (Err e) has none = omega (arith, long_after, has, ap length none)
 
-    asks : (at size : ℕ) → AsksExact S (old.len - old.given) (length (reader_held old.inner)) at size
-        → AsksPart S (4 + old.len) (length (seen_bytes old room)) at size
+    asks : (at size : ℕ) → AsksExact S (len - old.given) (length (reader_held old.inner)) at size
+        → AsksPart S (4 + len) (length (seen_bytes old room)) at size
     asks at size a =
-        let left : (old.len - old.given) - (length (reader_held old.inner) + at) ≡ (4 + old.len) - (length (seen_bytes old room) + at) =
+        let long : S < 4 + len = omega (arith, old.is_long (omega (arith, was, some)), was) in
+        let left : (len - old.given) - (length (reader_held old.inner) + at) ≡ (4 + len) - (length (seen_bytes old room) + at) =
         omega (arith, long_before, a.0) in (
           omega (arith, a.0, long_before),
           a.1 ∙ ap (λ k. max S k) left
-              ∙ sym (room_past S (4 + old.len) (length (seen_bytes old room) + at) (old.is_long some)),
+              ∙ sym (room_past S (4 + len) (length (seen_bytes old room) + at) long),
         )
 
-    pub rest_sees : SeesTo I (4 + old.len) old room reply new room'
+    pub rest_sees : SeesTo I (4 + len) old room reply new room'
     rest_sees = record {
       taken = below.taken;
       takes = below.takes;
       seen = seen;
-      enough = enough reply fills.enough below.none;
+      enough = enough reply reads.0 below.none;
       ends = below.ends;
       calls = (below.calls.0, below.calls.1, reads_map asks _ _ reply below.calls.2);
     }
 
 -- what was seen after the header was taken
-pub sees_from : {R : Type 0} {S : ℕ} {I : Reader R}
-    (len : ℕ) {old mid new : FrameReader R S} {room room' : List ℕ} {reply : Result Bool Error}
-    → mid.len ≡ len → reads_from mid ≡ reads_from old → seen_bytes mid room ≡ seen_bytes old room
-    → SeesTo I (4 + mid.len) mid room reply new room' → SeesTo I (4 + len) old room reply new room'
-sees_from {R} {S} {I} len {old} {mid} {new} {room} {room'} {reply} size same is sees = record {
+pub sees_from : {R : Type 0} {S : ℕ} {I : Reader R} (n : ℕ) {old mid new : FrameReader R S} {room room' : List ℕ}
+    {reply : Result Bool Error} → reads_from mid ≡ reads_from old → seen_bytes mid room ≡ seen_bytes old room
+    → SeesTo I n mid room reply new room' → SeesTo I n old room reply new room'
+sees_from {R} {S} {I} n {new = new} {reply = reply} same is sees = record {
   taken = sees.taken;
   takes = subst (λ w. Takes (tells I w) sees.taken (tells I (reads_from new))) same sees.takes;
   seen = sees.seen ∙ ap (λ l. l ++ bytes sees.taken) is;
-  enough = subst (λ n. HasTo (4 + n) reply (length (seen_bytes new room'))) size sees.enough;
+  enough = sees.enough;
   ends = sees.ends;
   calls = (
     sees.calls.0,
     subst (λ w. Made (ReadCallLaw I) w sees.calls.0 (reads_from new)) same sees.calls.1,
-    subst (λ n. ReadsTo (AsksPart S (4 + n) (length (seen_bytes old room))) sees.calls.0 (bytes sees.taken) reply) size
-        (subst (λ l. ReadsTo (AsksPart S (4 + mid.len) (length l)) sees.calls.0 (bytes sees.taken) reply) is sees.calls.2),
+    subst (λ l. ReadsTo (AsksPart S n (length l)) sees.calls.0 (bytes sees.taken) reply) is sees.calls.2,
   );
 }

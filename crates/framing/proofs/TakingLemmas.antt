@@ -1,5 +1,5 @@
 -- What a call of a reader of frames takes.
-use Rattle.std.proofs.Common.{◌≡◌, ℕ, ◌+◌, ◌<◌, ◌≤◌, ◌^◌, List, [], ◌++◌, Bool, true, false, Some, None, Option, Result, Ok, Err, length}
+use Rattle.std.proofs.Common.{◌≡◌, ℕ, ◌+◌, ◌<◌, ◌≤◌, ◌^◌, List, [], ◌++◌, Bool, true, false, Some, Option, Result, Ok, Err, length}
 use Rattle.std.proofs.Common.{take, drop}
 use Rattle.std.proofs.Common.{◌||◌, nat_lt, if◌then◌else◌, refl, sym, ap, ap₂, subst, ◌∙◌, inl, inr, arith, append_assoc, append-nil}
 use Rattle.std.proofs.Common.{length-append}

@@ -1,12 +1,12 @@
 -- What a reader of frames has, what its calls take from the reader below, and which reads they make. I are the ghost members of that
 -- reader.
 use Rattle.std.specs.Prelude.{◌≡◌, ◌⊎◌, ℕ, zero, suc, ◌+◌, ◌-◌, ◌<◌, ◌≤◌, ◌^◌, List, [], ◌++◌, length, take, drop, min, max, codes}
-use Rattle.std.specs.Prelude.{◌||◌, nat_lt, nat_le, if◌then◌else◌, Bool, true, false, Option, Some, None, Result, Ok, Err, IfErr}
+use Rattle.std.specs.Prelude.{◌||◌, nat_lt, nat_le, if◌then◌else◌, Bool, Option, Some, None, Result, Ok, Err}
 use Rattle.std.specs.Int.{w32, to_le_bytes}
 use Rattle.no_std_io2.specs.Errors.{IsFault, SaysError}
 use Rattle.no_std_io2.specs.Events.{Event, bytes, HasNoFault, EndsInFault}
 use Rattle.no_std_io2.specs.Takes.{Tells, Takes, to_come, IsAtEnd}
-use Rattle.no_std_io2.specs.Read.{Reader, tells, ReadCall, ReadCallLaw, Gathers, GathersUntil, IsRest}
+use Rattle.no_std_io2.specs.Read.{Reader, tells, ReadCall, ReadCallLaw, Gathers, GathersUntil}
 use Rattle.no_std_io2.specs.Write.{Made}
 use Rattle.no_std_io2.specs.BufReader.{reader_held, reader_inner, reader_turns, behind_held}
 use Rattle.no_std_io2.specs.FillTo.{GathersTo, HasTo, ReadsTo}
@@ -68,22 +68,6 @@ pub record SeesTo {R : Type 0} {S : ℕ} (I : Reader R) (size : ℕ) (old : Fram
   -- which reads it made
   pub calls : (C : List ReadCall) × Made (ReadCallLaw I) (reads_from old) C (reads_from new)
       × ReadsTo (AsksPart S size (length (seen_bytes old room))) C (bytes taken) reply
-
--- Reads into a room, behind its first `at` bytes, until `want` are in it.
-pub record FillsRest {R : Type 0} (I : Reader R) (want : ℕ) (old : R) (room : List ℕ) (at : ℕ) (reply : Result Bool Error) (new : R)
-    (room' : List ℕ) (at' : ℕ) : Type 0 where
-  -- what the reads gave is there
-  pub given : List ℕ
-  pub filled : take at' room' ≡ take at room ++ given
-  -- what is behind all of it is unchanged
-  pub behind : drop want room' ≡ drop want room
-  -- whether all of it is full
-  pub within : at' ≤ want
-  pub enough : HasTo want reply at'
-  -- the error is never an interruption
-  pub fault : IfErr reply IsFault
-  -- which reads they are
-  pub calls : (C : List ReadCall) × Made (ReadCallLaw I) old C new × ReadsTo (IsRest (want - at)) C given reply
 
 -- how many bytes a call wants to see of a frame that begins with bs, while it has seen k: its header; and then all of it, if its payload
 -- has at most `limit` bytes

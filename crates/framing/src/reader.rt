@@ -11,7 +11,7 @@ ghost use Rattle.framing.specs.Frames.{frame, HasHeader};
 mod parts;
 
 use no_std_io2::io::{BufRead, BufReader, Read, Result};
-use parts::{HEADER, ended_inside, fill_rest, no_room, told_len};
+use parts::{HEADER, ended_inside, no_room, told_len};
 
 /// A reader of frames, with a buffer of `S` bytes in front of any reader.
 ///
@@ -204,7 +204,8 @@ impl<R: Read, const S: usize> FrameReader<R, S> {
             return self.inner.fill_to(HEADER + len);
         }
         self.begin_long(len);
-        fill_rest(&mut self.inner, room, &mut self.given, self.len)
+        self.inner.read_full(&mut room[..len], &mut self.given)?;
+        Ok(self.given == len)
     }
 
     // Takes the header of a frame that is longer than the buffer, if it is not taken yet. The payload has this length.

@@ -1,37 +1,13 @@
-//! The parts of a frame: its header, and the rest of its payload.
+//! The header of a frame, and the errors of a reader of frames.
 ghost use Rattle.std.specs.Prelude.{◌≡◌, ◌<◌, ◌≤◌, ◌^◌, length};
 ghost use Rattle.std.specs.Int.{w32, to_le_bytes, from_le_bytes};
 ghost use Rattle.framing.specs.Frames.{HasHeader, SaysEnded};
-ghost use Rattle.framing.specs.Taking.{FillsRest, SaysNoRoom};
+ghost use Rattle.framing.specs.Taking.{SaysNoRoom};
 
-use no_std_io2::io::{Error, ErrorKind, Read, Result};
+use no_std_io2::io::{Error, ErrorKind};
 
 /// The number of bytes in which a frame has its length.
 pub const HEADER: usize = 4;
-
-/// Reads into `room` behind the first `at` bytes, up to `want`. `false` means that the end came first.
-pub fn fill_rest<R: Read>(
-    from: &mut R,
-    room: &mut [u8],
-    at: &mut usize,
-    want: usize,
-) -> Result<bool>
-    requires within { at.old ≤ want }
-    requires fits { want ≤ length room.old }
-    ensures fills { FillsRest R.Read want from.old room.old at.old result from.new room.new at.new }
-    ensures long { length room.new ≡ length room.old }
-    ensures turns_never_rise { R.turns from.new ≤ R.turns from.old }
-{
-    'bytes: while *at < want {
-        match from.read(&mut room[*at..want]) {
-            Ok(0) => return Ok(false),
-            Ok(n) => *at += n,
-            Err(e) if e.is_interrupted() => {}
-            Err(e) => return Err(e),
-        }
-    }
-    Ok(true)
-}
 
 /// Returns the length of a payload, as the first four bytes say.
 pub fn told_len(bytes: &[u8]) -> usize
