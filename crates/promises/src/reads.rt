@@ -1,6 +1,6 @@
 // What readers give, and where seeks go.
 ghost use Rattle.std.specs.Prelude.{◌≡◌, ◌+◌, ◌<◌, ◌++◌, ℕ, List, Some, IsOk, drop, length, vec_len, vec_capacity, string_bytes};
-ghost use Rattle.no_std_io2.specs.BufReader.{reader_inner, reader_behind, reader_held, TakesHeldLine, TakesOver};
+ghost use Rattle.no_std_io2.specs.BufReader.{reader_inner, reader_behind, reader_held, TakesHeld, TakesHeldLine, TakesOver};
 ghost use Rattle.no_std_io2.specs.BufRead.{lender_tells};
 ghost use Rattle.no_std_io2.specs.Buffer.{IsInBuffer, IsSuffix};
 ghost use Rattle.no_std_io2.specs.Events.{Event, bytes};
@@ -73,6 +73,18 @@ fn keeps_the_last_bytes_behind<R: Read, const S: usize, A: Allocator>(
     buf: &mut Vec<u8, A>,
 ) -> Result<usize>
     ensures { IsSuffix (reader_behind r.old ++ drop (vec_len buf.old) buf.new.items) (reader_behind r.new) }
+{
+    r.read_until(delim, buf)
+}
+
+// If a whole piece is held, `read_until` takes only held bytes.
+fn takes_a_held_piece<R: Read, const S: usize, A: Allocator>(
+    r: &mut BufReader<R, S>,
+    delim: u8,
+    buf: &mut Vec<u8, A>,
+) -> Result<usize>
+    ensures { (piece rest : List ℕ) → reader_held r.old ≡ piece ++ rest → EndsPiece delim piece
+        → TakesHeld piece rest r.old buf.old.items result buf.new.items r.new }
 {
     r.read_until(delim, buf)
 }

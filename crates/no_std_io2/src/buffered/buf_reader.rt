@@ -8,7 +8,6 @@ use std::fmt::{self, Debug, Formatter};
 
 mod fills;
 mod lends;
-mod pieces;
 mod reads;
 mod seeks;
 
