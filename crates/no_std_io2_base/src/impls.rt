@@ -13,4 +13,4 @@ mod vectors;
 pub use copying::copy_bytes;
 pub(crate) use copying::copy_prefix;
 pub use slices::append_rest;
-pub use vectors::append;
+pub(crate) use vectors::append;

@@ -2,7 +2,7 @@
 ghost use Rattle.no_std_io2_base.specs.Errors.{IsInvalidSeek, IsUnexpectedEnd, IsUnwritten};
 
 use crate::error::{Error, ErrorKind};
-pub use crate::impls::{append, append_rest, copy_bytes};
+pub use crate::impls::{append_rest, copy_bytes};
 pub use crate::traits::pieces::{append_text, put_line, take_memory};
 pub use crate::traits::room::rest_to_end;
 

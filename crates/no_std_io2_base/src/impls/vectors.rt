@@ -30,12 +30,9 @@ fn append_in_place<A: Allocator>(buf: &mut Vec<u8, A>, bytes: &[u8])
     buf.truncate(end);
 }
 
-/// Appends these bytes to a vector.
-///
-/// # Errors
-/// Returns `OutOfMemory` if the vector could not grow; `buf` is then as it was.
+// Appends these bytes to a vector, or returns `OutOfMemory` if it could not grow; it is then as it was.
 #[inline(always)]
-pub fn append<A: Allocator>(buf: &mut Vec<u8, A>, bytes: &[u8]) -> Result<()>
+pub(crate) fn append<A: Allocator>(buf: &mut Vec<u8, A>, bytes: &[u8]) -> Result<()>
     ensures ok { OnOk result (buf.new.items ≡ buf.old.items ++ bytes.now) }
     ensures err { OnErr result (buf.new.items ≡ buf.old.items) }
     ensures len { OnOk result (vec_len buf.new ≡ vec_len buf.old + length bytes.now) }
