@@ -1,6 +1,6 @@
 -- How the items of a run of `split` or `lines` come to be all pieces, by what one `next` says of the events to come.
-use Rattle.std.proofs.Common.{sym, ◌≡◌, ℕ, true, false, Bool, if◌then◌else◌, Option, Some, None, Result, Ok, Err, List, [], ◌∷◌, ◌++◌, map, refl}
-use Rattle.std.proofs.Common.{ap, ◌∙◌, subst, inl, inr, ◌<◌, ◌⊎◌, length, arith, length-append, IfSome}
+use Rattle.std.proofs.Common.{◌≡◌, ℕ, true, false, Bool, if◌then◌else◌, Option, Some, None, Result, Ok, Err, List, [], ◌∷◌, ◌++◌, map, refl}
+use Rattle.std.proofs.Common.{ap, ◌∙◌, subst, sym, inl, inr, ◌<◌, ◌⊎◌, length, arith, length-append, IfSome}
 use Rattle.std.specs.List.{concat}
 use Rattle.std.proofs.lemmas.Grind.{common_steps}
 use Rattle.std.proofs.lemmas.List.{map-append}
