@@ -2,12 +2,13 @@
 use Rattle.std.proofs.Common.{ℕ, List, Vec, Some, length}
 use Rattle.std.specs.Vec.{vec_len, vec_capacity}
 use Rattle.no_std_io2.specs.Appends.{AppendsMay}
-use Rattle.no_std_io2.specs.Write.{told_out}
+use Rattle.no_std_io2.specs.Meter.{IsMeter}
+use Rattle.no_std_io2.specs.Write.{Wrote, WroteAll, Flushed, told_out}
 use Rattle.no_std_io2.specs.Writers.{Writer}
 use Rattle.no_std_io2.specs.declared.buffered.buf_writer.BufWriter.{BufWriter}
 use Rattle.no_std_io2.specs.declared.buffered.line_writer.LineWriter.{LineWriter}
-use Rattle.no_std_io2.specs.BufWriter.{writer_inner, writer_buffer, writer_told, BufferMay}
-use Rattle.no_std_io2.specs.LineWriter.{line_inner, line_buffer, line_told, LineMay}
+use Rattle.no_std_io2.specs.BufWriter.{writer_inner, writer_buffer, writer_told, with_buffer, BufferMay, InnerCalls}
+use Rattle.no_std_io2.specs.LineWriter.{line_inner, line_buffer, LineCalls}
 use Rattle.no_std_io2.specs.declared.io.Cursor.{Cursor}
 use Rattle.no_std_io2.specs.Cursor.{cursor_left}
 use Rattle.no_std_io2.specs.InMemory.{GivesLeft}
@@ -16,7 +17,7 @@ use Rattle.no_std_io2.specs.Takes.{store_at}
 use Rattle.no_std_io2.specs.Read.{Reader}
 use Rattle.no_std_io2.specs.ReadMeter.{FillsRoom}
 use Rattle.io_bench.specs.declared.tally.Tally.{Tally}
-use Rattle.io_bench.specs.Tally.{tally_inner, TallyMay}
+use Rattle.io_bench.specs.Tally.{tally_inner, tally_writes, TallyMay}
 
 -- a vector
 abbrev pub vector : (Z : Type 0) → Writer (Vec ℕ Z)
@@ -30,15 +31,25 @@ tallied I = record {
   may = TallyMay I;
 }
 
+-- a `Tally` counts its writes
+pub tally_meters : {T : Type 0} (I : Writer T) → IsMeter (TallyMay I) tally_writes
+tally_meters I old new (Wrote x reply) made = made.writes
+tally_meters I old new (Flushed reply) made = made.writes
+tally_meters I old new (WroteAll x reply) made = absurd made
+
 abbrev pub buffered : {W : Type 0} (S : ℕ) → Writer W → Writer (BufWriter W S)
 buffered S I = record {
   told = writer_told I.told;
   takes_all = λ w. I.takes_all (writer_inner w);
-  may = BufferMay I S writer_inner writer_buffer;
+  may = BufferMay I (InnerCalls S) writer_inner writer_buffer;
 }
 
 abbrev pub lines : {W : Type 0} (S : ℕ) → Writer W → Writer (LineWriter W S)
-lines S I = record { told = line_told I.told; takes_all = λ _. ⊥; may = LineMay I S line_inner line_buffer }
+lines S I = record {
+  told = λ w. with_buffer (I.told (line_inner w)) (line_buffer w);
+  takes_all = λ _. ⊥;
+  may = BufferMay I (LineCalls S) line_inner line_buffer;
+}
 
 -- what passes each call on to a reader, as a reference and a box do
 abbrev pub behind : {V R : Type 0} → (V → R) → Reader R → Reader V

@@ -1,8 +1,8 @@
 // How many calls the inner stream gets: each number that counts its calls rises by so many. A `Tally` has such a number.
 ghost use Rattle.std.specs.Prelude.{ℕ, ◌≡◌, ◌+◌, ◌-◌, ◌/◌, ◌<◌, ◌≤◌, ◌^◌, min, nat_lt, if◌then◌else◌, length, IfOk, IsOkAnd, Ok, OnOk};
+ghost use Rattle.std.specs.Int.{div_ceil};
 ghost use Rattle.no_std_io2.specs.BufReader.{reader_held, reader_inner};
 ghost use Rattle.no_std_io2.specs.BufWriter.{writer_buffer, writer_inner, writing_calls};
-ghost use Rattle.no_std_io2.specs.Copy.{copy_reads};
 ghost use Rattle.no_std_io2.specs.LineWriter.{line_inner};
 ghost use Rattle.no_std_io2.specs.Meter.{Costs, CostsAtMost};
 ghost use Rattle.no_std_io2.specs.Read.{answered, gave, tells};
@@ -109,7 +109,7 @@ fn counts_a_fill<R: Read, const S: usize>(r: &mut BufReader<R, S>) -> Result<usi
 fn counts_a_copy<R: Read, W: Write, const S: usize>(reader: &mut R, writer: &mut W) -> Result<u64>
     requires { S < 2 ^ 63 }
     ensures { (cost : R → ℕ) → IsReadMeter R.may cost → 0 < S → (fills : FillsRoom R.Read) → OnOk result
-        (cost reader.new ≡ cost reader.old + copy_reads S (length (fills.left reader.old))) }
+        (cost reader.new ≡ cost reader.old + (div_ceil (length (fills.left reader.old)) S + 1)) }
 {
     copy::<R, W, S>(reader, writer)
 }
