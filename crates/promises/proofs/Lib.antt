@@ -3,3 +3,4 @@ mod CallsEnd
 mod ToldAfter
 mod Levels
 mod InMemory
+mod LoopCounts

@@ -4,7 +4,7 @@ ghost use Rattle.std.specs.Int.{div_ceil};
 ghost use Rattle.no_std_io2.specs.BufReader.{reader_held, reader_inner};
 ghost use Rattle.no_std_io2.specs.BufWriter.{writer_buffer, writer_inner, writing_calls};
 ghost use Rattle.no_std_io2.specs.LineWriter.{line_inner};
-ghost use Rattle.no_std_io2.specs.Meter.{Costs, CostsAtMost};
+ghost use Rattle.no_std_io2.specs.Meter.{Costs, CostsAtMost, IsMeter};
 ghost use Rattle.no_std_io2.specs.Read.{answered, gave, tells};
 ghost use Rattle.no_std_io2.specs.ReadMeter.{FillsRoom, IsReadMeter};
 ghost use Rattle.no_std_io2.specs.Takes.{Takes};
@@ -12,6 +12,7 @@ ghost use Rattle.no_std_io2.specs.Write.{calls_for};
 ghost use Rattle.no_std_io2.specs.Writers.{TakesAll};
 ghost use Rattle.io_bench.specs.Asks.{AllFit, left_behind};
 ghost use Rattle.io_bench.specs.Tally.{tally_inner, tally_reads, tally_writes};
+ghost use Rattle.promises.specs.Loops.{CountsLoop, CountsToEnd};
 ghost use Rattle.promises.specs.Promises.{in_reader};
 
 use io_bench::{Ask, ReadTotals, Tally, run_reads};
@@ -19,6 +20,7 @@ use no_std_io2::io::{
     AsSlice, BufRead, BufReader, BufWriter, Cursor, IntoInnerError, LineWriter, Read, Result, Take,
     Write, copy,
 };
+use std::alloc::Allocator;
 
 // Over a device that takes all, a `write` takes all. It makes one inner write if held bytes must be sent first, and one more for S bytes or more.
 fn counts_a_write<W: Write + Drop, const S: usize>(
@@ -105,6 +107,27 @@ fn counts_a_fill<R: Read, const S: usize>(r: &mut BufReader<R, S>) -> Result<usi
     Ok(lent.len())
 }
 
+// A `read_exact` of a type without one of its own makes at most one read for each turn that is spent, and one that stops it.
+fn counts_a_read_exact<R: Read>(t: &mut Tally<R>, buf: &mut [u8]) -> Result<()>
+    ensures counts { CountsLoop (length buf.old) (R.turns (tally_inner t.old)) (tally_reads t.old) result
+        (R.turns (tally_inner t.new)) (tally_reads t.new) }
+    ensures writes { tally_writes t.new ≡ tally_writes t.old }
+{
+    t.read_exact(buf)
+}
+
+// So does a `read_to_end`, and one that meets the end.
+fn counts_a_read_to_end<R: Read, A: Allocator>(
+    t: &mut Tally<R>,
+    buf: &mut Vec<u8, A>,
+) -> Result<usize>
+    ensures counts { CountsToEnd (tally_reads t.old) (R.turns (tally_inner t.old)) result
+        (R.turns (tally_inner t.new)) (tally_reads t.new) }
+    ensures writes { tally_writes t.new ≡ tally_writes t.old }
+{
+    t.read_to_end(buf)
+}
+
 // A `copy` through S bytes of a filling reader makes one read for each S bytes, rounded up, and one more.
 fn counts_a_copy<R: Read, W: Write, const S: usize>(reader: &mut R, writer: &mut W) -> Result<u64>
     requires { S < 2 ^ 63 }
@@ -132,4 +155,10 @@ fn bounds_the_reads_of_a_run<R: Read, const S: usize>(
 fn has_filling_readers<'a, T: AsSlice<u8>>(_t: &Take<Box<Cursor<T>>>, _s: &&'a [u8])
     ensures cursor { FillsRoom ⟦<Take<Box<Cursor<T>>> as Read>⟧ }
     ensures slice { FillsRoom ⟦<&'a [u8] as Read>⟧ }
+{}
+
+// A number that counts the calls of a writer counts those of a reference to it and of its box.
+fn has_meters<'a, W: Write>(_lent: &&'a mut W, _boxed: &Box<W>)
+    ensures lent { (cost : W → ℕ) → IsMeter W.may cost → IsMeter ⟦<&'a mut W as Write>⟧.may (λ v. cost v.now) }
+    ensures boxed { (cost : W → ℕ) → IsMeter W.may cost → IsMeter ⟦<Box<W> as Write>⟧.may (λ v. cost v.value) }
 {}

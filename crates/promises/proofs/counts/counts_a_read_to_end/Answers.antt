@@ -1,0 +1,11 @@
+use Rattle.no_std_io2.proofs.Readers.{reader}
+use Rattle.no_std_io2.proofs.TakesLemmas.{made_may}
+use Rattle.promises.proofs.LoopCounts.{drain_counts}
+use Rattle.promises.proofs.counts.counts_a_read_to_end.Goals as goal
+
+pub returns : goal.returns
+returns g c =
+    let calls = c.read_to_end.ensures.law.calls in
+    let counted = drain_counts (reader g.R.Stored g.R.Read) calls.calls calls.given c.read_to_end.result _ _ calls.are
+    (made_may _ calls.calls _ _ calls.made) in
+    record { counts = counted.0; writes = counted.1.2.writes }
