@@ -1,4 +1,4 @@
-use Rattle.std.proofs.Common.{◌≡◌, ◌++◌, Some, ap, ap₂, ◌∙◌}
+use Rattle.std.proofs.Common.{◌++◌, Some, ap, ap₂, ◌∙◌}
 use Rattle.no_std_io2.specs.Events.{events_of, bytes, cut}
 use Rattle.no_std_io2.specs.Cursor.{cursor_left}
 use Rattle.no_std_io2.specs.Chain.{both_to_come}
