@@ -1,9 +1,8 @@
 -- The printing of a text into an array.
 use Rattle.std.specs.Prelude.{◌≡◌, ◌⊎◌, ℕ, ◌<◌, List, length, take, true, false, codes, Option, IfSome}
 use Rattle.no_std_io2.specs.Errors.{SaysError}
-use Rattle.no_std_io2.specs.Text.{IsTextError}
 use Rattle.no_std_io2.specs.declared.io.Error.{Error}
-use Rattle.no_std_io2.specs.declared.io.ErrorKind.TheVariants.{InvalidInput}
+use Rattle.no_std_io2.specs.declared.io.ErrorKind.TheVariants.{InvalidInput, Other}
 use Rattle.line_log.specs.declared.printed.Printed.{Printed}
 
 -- the bytes that were printed
@@ -20,7 +19,7 @@ SaysLong e = SaysError InvalidInput (codes "a line is longer than the buffer") e
 
 -- a text with this output could not be printed into S bytes: its own `fmt` failed, or it is longer
 abbrev pub IsPrintRefusal : ℕ → Option (List ℕ) → Error → Type 0
-IsPrintRefusal S output e = IsTextError e ⊎ (SaysLong e × IfSome output (λ bs. S < length bs))
+IsPrintRefusal S output e = SaysError Other (codes "formatter error") e ⊎ (SaysLong e × IfSome output (λ bs. S < length bs))
 
 -- a text with this output was printed into an array of S bytes, or its own `fmt` failed
 abbrev pub PrintsText : {S : ℕ} → Option (List ℕ) → Printed S → Type 0

@@ -1,12 +1,13 @@
 // Comparing, printing and cloning the library's values.
 ghost use Rattle.std.specs.Hash as fed;
 ghost use Rattle.std.specs.Prelude.{◌≡◌, ◌-◌, ◌<◌, ◌↔◌, ◌⊎◌, IfOk, IsErrAnd, IsTrue, Ok};
+ghost use Rattle.no_std_io2.specs.Copy.{side_error};
 ghost use Rattle.no_std_io2.specs.Cursor.{cursor_inner, cursor_position};
 ghost use Rattle.no_std_io2.specs.Errors.{error_display, kind_number};
 ghost use Rattle.no_std_io2.specs.Text.{IsTextError};
 ghost use Rattle.no_std_io2.specs.Write.{MovesFront};
 
-use no_std_io2::io::{Cursor, Error, ErrorKind, Result, SeekFrom, Write};
+use no_std_io2::io::{CopyError, Cursor, Error, ErrorKind, Result, SeekFrom, Write};
 use std::alloc::{AllocError, Allocator};
 use std::hash::Hash;
 
@@ -61,6 +62,13 @@ fn clones_a_cursor<A: Allocator + Clone>(c: &Cursor<Vec<u8, A>>) -> Result<Curso
 // An error prints its text, or else the text of its kind.
 fn prints_an_error<W: Write>(w: &mut W, error: Error) -> Result<()>
     ensures { MovesFront (W.told w.old) (error_display error) result (W.told w.new) ⊎ IsErrAnd result IsTextError }
+{
+    write!(w, "{error}")
+}
+
+// The error of a copy prints that of the side that failed.
+fn prints_an_error_of_a_copy<W: Write>(w: &mut W, error: CopyError) -> Result<()>
+    ensures { MovesFront (W.told w.old) (error_display (side_error error)) result (W.told w.new) ⊎ IsErrAnd result IsTextError }
 {
     write!(w, "{error}")
 }

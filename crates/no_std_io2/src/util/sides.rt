@@ -1,5 +1,6 @@
 //! [`copy_sided`], a copy whose error says which side failed.
-ghost use Rattle.std.specs.Prelude.{◌≡◌, ◌<◌, ◌^◌};
+ghost use Rattle.std.specs.Prelude.{◌≡◌, ◌<◌, ◌^◌, Some};
+ghost use Rattle.no_std_io2_base.specs.Errors.{error_display};
 ghost use Rattle.no_std_io2.specs.Copy.{side_error, SidesCopied};
 
 use no_std_io2_base::error::{Error, Result};
@@ -29,6 +30,8 @@ impl From<CopyError> for Error {
 
 /// Prints the error.
 impl Display for CopyError {
+    ghost output = { λ side. Some (error_display (side_error side)) };
+
     fn fmt<W: fmt::Write>(&self, f: &mut fmt::Formatter<W>) -> fmt::Result {
         match self {
             CopyError::Read(e) | CopyError::Write(e) => Display::fmt(e, f),
