@@ -272,8 +272,7 @@ module _ {R : Type 0} {S : ℕ} (I : Reader R) (fills : FillsRoom I) (start : Bu
       grind (arith, nat_tests, ap length over))
       (λ some. grind (arith, nat_tests, long, ap length filled.lends))
       (cases_lt (length lent) 1) in
-      let many = length-take-le n lent (omega arith) in
-      (
+      let many = length-take-le n lent (omega arith) in (
         is ∙ ap Ok met,
         drops most (take n lent) (all a) (all b) gave (omega (arith, many)) (λ none some.
             let over = ended a (filled.end (ap Ok (nil_from_length lent (omega (arith, many, ap length none))))) in
