@@ -123,7 +123,11 @@ module _ {R : Type 0} {S : ℕ} (K : Reader R) (old new : BufReader R S) {buf : 
   short_end = told_below _ (reader_behind old) (reader_held old) (K.store (reader_inner old)) (elim below.are [
     | inl end ↦
         let last = last_read (Ok []) end.1 in
-        grind (arith, ends_behind S (reader_behind new) (reader_held new) (tells K (reader_inner new)) below.leaves.1.1 (last.4.end refl last.3))
+        grind (
+          arith,
+          ends_behind S (reader_behind new) (reader_held new)
+              (tells K (reader_inner new)) below.leaves.1.1 (last.4.end refl last.3),
+        )
     | inr fault ↦
         let last = last_read (Err e) fault.1 in
         let none = no_fault_taken last.2.0 e (takes_then last.2.1 last.4.takes) in grind arith

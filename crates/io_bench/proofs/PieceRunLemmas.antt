@@ -16,7 +16,8 @@ use Rattle.io_bench.specs.Appended.{appended}
 use Rattle.io_bench.proofs.AppendedLemmas.{appended-one}
 use Rattle.no_std_io2.proofs.CallsLemmas.{made_more}
 use Rattle.no_std_io2.specs.Write.{Made}
-use Rattle.no_std_io2.specs.Pieces.{newline, line_text, without, ends_at, split_reader, split_delim, split_is_ended, lines_reader, lines_is_ended}
+use Rattle.no_std_io2.specs.Pieces.{newline, line_text, without, ends_at, split_reader, split_delim, split_is_ended, lines_reader}
+use Rattle.no_std_io2.specs.Pieces.{lines_is_ended}
 use Rattle.no_std_io2.specs.declared.io.Split.{Split}
 use Rattle.no_std_io2.specs.declared.io.Lines.{Lines}
 use Rattle.io_bench.specs.PieceRuns.{AllPieces, GathersPieces}

@@ -233,7 +233,8 @@ module _ {W V : Type 0} {store : V → Option Store} {turns : V → ℕ} {events
       record { store = λ w. store (put old w); turns = λ w. turns (put old w); events = λ w. events (put old w); may = may } in
       let through : ReadsThrough part whole (put old) = record { told = λ w. refl; may = passed_on old back twice } in
       subst (λ v. ReadExactLaw whole v buf reply buf' new) was
-      (subst (λ v. ReadExactLaw whole (put old (get old)) buf reply buf' v) is (exact_through {R = part} {R' = whole} (put old) through law))
+      (subst (λ v. ReadExactLaw whole (put old (get old)) buf reply buf' v) is (exact_through {R = part} {R' = whole}
+      (put old) through law))
 
   pub passes_read_to_end : {A : Type 0} {lacks : ℕ → Type 0} {old new : V} {buf buf' : Vec ℕ A} {reply : Result ℕ Error}
       → ToEndLaw lacks
@@ -248,4 +249,5 @@ module _ {W V : Type 0} {store : V → Option Store} {turns : V → ℕ} {events
       record { store = λ w. store (put old w); turns = λ w. turns (put old w); events = λ w. events (put old w); may = may } in
       let through : ReadsThrough part whole (put old) = record { told = λ w. refl; may = passed_on old back twice } in
       subst (λ v. ToEndLaw lacks whole v buf reply buf' new) was
-      (subst (λ v. ToEndLaw lacks whole (put old (get old)) buf reply buf' v) is (to_end_through {R = part} {R' = whole} (put old) through law))
+      (subst (λ v. ToEndLaw lacks whole (put old (get old)) buf reply buf' v) is (to_end_through {R = part} {R' = whole}
+      (put old) through law))

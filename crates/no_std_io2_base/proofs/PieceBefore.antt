@@ -118,7 +118,8 @@ module _ {X A : Type 0} {R : Lender X} {d : ℕ} {old now new : X} {buf buf' : V
     taken = fails e ∷ until.taken;
     takes = takes_then filled.takes until.takes;
     appends = until.appends;
-    ends = ends_behind (λ n. vec_capacity buf < vec_len buf + n) d (fails e ∷ []) until.taken reply filled.takes (again, tt) refl until.ends;
+    ends = ends_behind (λ n. vec_capacity buf < vec_len buf + n) d (fails e ∷ []) until.taken reply filled.takes
+        (again, tt) refl until.ends;
     capacity = until.capacity;
     calls = record {
       calls = Filled (Err e) ∷ until.calls.calls;

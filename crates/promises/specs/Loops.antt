@@ -8,7 +8,8 @@ abbrev pub stopped : {A : Type 0} → Result A Error → ℕ
 stopped (Ok _) = 0
 stopped (Err e) = 1
 
--- A loop made `now - was` reads: at least one if there was something to do; and at most one for each turn that is gone, and one that stopped
+-- A loop made `now - was` reads: at least one if there was something to do; and at most one for each turn that is gone, and one that
+-- stopped
 -- it.
 pub record CountsLoop {A : Type 0} (wanted turns was : ℕ) (reply : Result A Error) (turns' now : ℕ) : Type 0 where
   pub least : was + min 1 wanted ≤ now

@@ -22,7 +22,8 @@ use no_std_io2::io::{
 };
 use std::alloc::Allocator;
 
-// Over a device that takes all, a `write` takes all. It makes one inner write if held bytes must be sent first, and one more for S bytes or more.
+// Over a device that takes all, a `write` takes all. It makes one inner write if held bytes must be sent first, and one more for S bytes
+// or more.
 fn counts_a_write<W: Write + Drop, const S: usize>(
     w: &mut Box<BufWriter<Tally<W>, S>>,
     x: &[u8],
@@ -90,7 +91,8 @@ fn counts_a_read<R: Read, const S: usize>(
         (in_reader (λ t. tells R.Read (tally_inner t)) r.new.value) }
     ensures reads { tally_reads (reader_inner r.new.value) ≡ tally_reads (reader_inner r.old.value)
         + (if nat_lt 0 (length (reader_held r.old.value)) then 0 else 1) }
-    ensures fills { (fills : FillsRoom R.Read) → IsOkAnd result (λ n. n ≡ min (length buf.old) (if nat_lt 0 (length (reader_held r.old.value))
+    ensures fills { (fills : FillsRoom R.Read)
+        → IsOkAnd result (λ n. n ≡ min (length buf.old) (if nat_lt 0 (length (reader_held r.old.value))
         then length (reader_held r.old.value) else length (fills.left (tally_inner (reader_inner r.old.value))))) }
 {
     r.read(buf)
@@ -101,7 +103,8 @@ fn counts_a_fill<R: Read, const S: usize>(r: &mut BufReader<R, S>) -> Result<usi
     ensures reads { (cost : R → ℕ) → IsReadMeter R.may cost → cost (reader_inner r.new) ≡ cost (reader_inner r.old)
         + (if nat_lt 0 (length (reader_held r.old)) then 0 else 1) }
     ensures fills { (fills : FillsRoom R.Read) → IsOkAnd result (λ n. (n ≡ length (reader_held r.new))
-        × (n ≡ (if nat_lt 0 (length (reader_held r.old)) then length (reader_held r.old) else min S (length (fills.left (reader_inner r.old)))))) }
+        × (n ≡ (if nat_lt 0 (length (reader_held r.old)) then length (reader_held r.old) else min S (length (fills.left
+        (reader_inner r.old)))))) }
 {
     let lent = r.fill_buf()?;
     Ok(lent.len())
@@ -137,7 +140,8 @@ fn counts_a_copy<R: Read, W: Write, const S: usize>(reader: &mut R, writer: &mut
     copy::<R, W, S>(reader, writer)
 }
 
-// If a run through a buffer of S bytes over a filling reader takes N bytes and meets the end Z times, at most `N / S + 1 + Z` reads are made.
+// If a run through a buffer of S bytes over a filling reader takes N bytes and meets the end Z times, at most `N / S + 1 + Z` reads are
+// made.
 fn bounds_the_reads_of_a_run<R: Read, const S: usize>(
     r: &mut BufReader<Tally<R>, S>,
     asks: &[Ask],

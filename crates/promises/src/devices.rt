@@ -37,7 +37,12 @@ fn uses_up_an_act<W: Write>(w: &mut Box<Faulty<W>>, x: &[u8]) -> Result<usize>
 
 // A `Feed` gives its script, and each read as much as its bound lets through.
 fn feeds_its_script(f: &mut Box<Feed>, buf: &mut [u8]) -> Result<usize>
-    ensures takes { Takes (record { events = Some (all_to_come (feed_left f.old.value)); store = None; turns = length (feed_left f.old.value) })
+    ensures takes { Takes (record {
+      events = Some (all_to_come (feed_left f.old.value));
+      store = None;
+      turns = length
+          (feed_left f.old.value);
+    })
         (answered (gave result buf.new))
         (record { events = Some (all_to_come (feed_left f.new.value)); store = None; turns = length (feed_left f.new.value) }) }
     ensures answer { gave result buf.new ≡ feed_answer f.old.value (length buf.new) }

@@ -31,7 +31,8 @@ fn joins_readers<R: Read + Drop, T: AsSlice<u8> + Drop, A: Allocator>(
 
 // A read of a slice takes its first bytes.
 fn takes_the_front_of_a_slice<'a>(s: &mut &'a [u8], buf: &mut [u8]) -> Result<usize>
-    ensures { Takes (record { events = Some (events_of s.old.now); store = None; turns = length s.old.now }) (answered (gave result buf.new))
+    ensures { Takes (record { events = Some (events_of s.old.now); store = None; turns = length s.old.now })
+        (answered (gave result buf.new))
         (record { events = Some (events_of s.new.now); store = None; turns = length s.new.now }) }
 {
     s.read(buf)
@@ -42,7 +43,8 @@ fn takes_the_front_of_a_queue<A: Allocator>(
     q: &mut VecDeque<u8, A>,
     buf: &mut [u8],
 ) -> Result<usize>
-    ensures { Takes (record { events = Some (events_of q.old.items); store = None; turns = length q.old.items }) (answered (gave result buf.new))
+    ensures { Takes (record { events = Some (events_of q.old.items); store = None; turns = length q.old.items })
+        (answered (gave result buf.new))
         (record { events = Some (events_of q.new.items); store = None; turns = length q.new.items }) }
 {
     q.read(buf)

@@ -36,7 +36,8 @@ fn seeks_in_the_system<D: SystemSeek>(s: &mut Box<Patient<D>>, target: SeekFrom)
 
 // The system's `std::io` gets the bytes among the told events,
 fn gives_bytes_to_the_system<R: Read>(r: &mut ToStd<R>, buf: &mut [u8]) -> io::Result<usize>
-    ensures { ReadConsumes (bytes_to_come (tells R.Read (std_inner r.old))) (bytes_to_come (tells R.Read (std_inner r.new))) result buf.new }
+    ensures { ReadConsumes (bytes_to_come (tells R.Read (std_inner r.old)))
+        (bytes_to_come (tells R.Read (std_inner r.new))) result buf.new }
 {
     io::Read::read(r, buf)
 }

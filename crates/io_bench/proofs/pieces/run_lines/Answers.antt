@@ -67,7 +67,8 @@ returns-in-None-clause-calls g c = (
   c.items.lines,
   still_yielded (lines_next (lends g.R.Stored g.R.Read g.R.BufRead) string_bytes) _ c.items.lines _
       c.make_room.ensures.items c.items.invariant.calls,
-  subst (λ r. lines_next (lends g.R.Stored g.R.Read g.R.BufRead) string_bytes c.items.lines r c.next.new.self) c.in-None.is c.next.ensures.steps,
+  subst (λ r. lines_next
+      (lends g.R.Stored g.R.Read g.R.BufRead) string_bytes c.items.lines r c.next.new.self) c.in-None.is c.next.ensures.steps,
 )
 
 pub returns-in-Some-Err-clause-calls : goal.returns-in-Some-Err-clause-calls
@@ -76,7 +77,8 @@ returns-in-Some-Err-clause-calls g c =
       c.items.lines,
       still_yielded (lines_next (lends g.R.Stored g.R.Read g.R.BufRead) string_bytes) _ c.items.lines _
           c.make_room.ensures.items c.items.invariant.calls,
-      inl (subst (λ r. lines_next (lends g.R.Stored g.R.Read g.R.BufRead) string_bytes c.items.lines r c.next.new.self) is c.next.ensures.steps),
+      inl (subst (λ r. lines_next
+          (lends g.R.Stored g.R.Read g.R.BufRead) string_bytes c.items.lines r c.next.new.self) is c.next.ensures.steps),
     )
 
 pub returns-in_err-make_room-clause-calls : goal.returns-in_err-make_room-clause-calls

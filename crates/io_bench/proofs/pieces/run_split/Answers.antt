@@ -70,7 +70,8 @@ returns-in-None-clause-calls g c = (
   c.items.split,
   still_yielded (split_next (lends g.R.Stored g.R.Read g.R.BufRead) vec_items) _ c.items.split _
       c.make_room.ensures.items c.items.invariant.calls,
-  subst (λ r. split_next (lends g.R.Stored g.R.Read g.R.BufRead) vec_items c.items.split r c.next.new.self) c.in-None.is c.next.ensures.steps,
+  subst (λ r. split_next
+      (lends g.R.Stored g.R.Read g.R.BufRead) vec_items c.items.split r c.next.new.self) c.in-None.is c.next.ensures.steps,
 )
 
 pub returns-in-Some-Err-clause-calls : goal.returns-in-Some-Err-clause-calls
@@ -79,7 +80,8 @@ returns-in-Some-Err-clause-calls g c =
       c.items.split,
       still_yielded (split_next (lends g.R.Stored g.R.Read g.R.BufRead) vec_items) _ c.items.split _
           c.make_room.ensures.items c.items.invariant.calls,
-      inl (subst (λ r. split_next (lends g.R.Stored g.R.Read g.R.BufRead) vec_items c.items.split r c.next.new.self) is c.next.ensures.steps),
+      inl (subst (λ r. split_next
+          (lends g.R.Stored g.R.Read g.R.BufRead) vec_items c.items.split r c.next.new.self) is c.next.ensures.steps),
     )
 
 pub returns-in_err-make_room-clause-calls : goal.returns-in_err-make_room-clause-calls

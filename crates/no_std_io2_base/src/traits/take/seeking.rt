@@ -1,7 +1,8 @@
 // How a `Take` seeks.
 ghost use Rattle.std.specs.Int.{w64};
 ghost use Rattle.std.specs.Prelude.{FitsSigned, ◌≡◌, ◌≢◌, ◌<◌, ◌≤◌, ◌^◌, ℕ, Ok, IfSome, IfNone};
-ghost use Rattle.no_std_io2_base.specs.Seek.{IsAtOffset, SeekLaw, StreamLenLaw, StreamPositionLaw, SeekRelativeLaw, Sought, Measured, Moved};
+ghost use Rattle.no_std_io2_base.specs.Seek.{IsAtOffset, SeekLaw, StreamLenLaw, StreamPositionLaw, SeekRelativeLaw, Sought, Measured};
+ghost use Rattle.no_std_io2_base.specs.Seek.{Moved};
 ghost use Rattle.no_std_io2_base.specs.Take.{take_len, take_position};
 ghost use Rattle.no_std_io2_base.specs.TakeSeeks.{IsWithin, IsStep, TakeSteps, TakeGoes, TakeMaySeek};
 

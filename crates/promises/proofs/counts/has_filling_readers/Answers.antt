@@ -10,7 +10,8 @@ use Rattle.promises.proofs.counts.has_filling_readers.Goals as goal
 pub returns-clause-cursor : goal.returns-clause-cursor
 returns-clause-cursor g c =
     let slice = g.T.AsSlice.slice in
-    let cursor : FillsRoom (cursor_reader slice) = fills_left (cursor_left slice) (λ x. told_at (slice x.inner) x.pos) (λ old new call given. given) in
+    let cursor : FillsRoom (cursor_reader slice) = fills_left (cursor_left slice) (λ x. told_at (slice x.inner) x.pos)
+    (λ old new call given. given) in
     take_fills (fills_behind (λ b. b.value) {I = cursor_reader slice} cursor)
 
 pub returns-clause-slice : goal.returns-clause-slice

@@ -7,7 +7,8 @@ use Rattle.no_std_io2_base.proofs.PieceBefore.{until_lent, until_waited}
 use Rattle.no_std_io2_base.proofs.PieceLoop.{filled_law}
 use Rattle.no_std_io2_base.proofs.Readers.{lends}
 use Rattle.no_std_io2_base.proofs.traits.buf_read.BufRead.read_line.Goals as goal
-use Rattle.no_std_io2_base.proofs.traits.buf_read.BufRead.read_line.Goals.{in-Ok+else-is_whole, else-is_whole-via-then-is_whole+else-append_text}
+use Rattle.no_std_io2_base.proofs.traits.buf_read.BufRead.read_line.Goals.{in-Ok+else-is_whole}
+use Rattle.no_std_io2_base.proofs.traits.buf_read.BufRead.read_line.Goals.{else-is_whole-via-then-is_whole+else-append_text}
 use Rattle.no_std_io2_base.proofs.traits.buf_read.BufRead.read_line.Goals.{else-is_whole-via-else-is_whole, in-Err}
 
 pub returns-then-append_text : goal.returns-then-append_text
@@ -48,7 +49,8 @@ returns g c =
                 let law = subst (λ s. ReadUntilLaw R s newline none read.result read.new.buf read.new.self) (w.self-is ∙ v.self-is)
                 read.ensures.law in
                 let some = line_some c.args.buf.now (take w.find_piece-len.result.0 w.in-Ok.lent.now) v.if-append_text.ensures.refused in
-                until_lent law filled (omega (arith, some, found.within, length-take-le w.find_piece-len.result.0 w.in-Ok.lent.now found.within))
+                until_lent law filled (omega
+                (arith, some, found.within, length-take-le w.find_piece-len.result.0 w.in-Ok.lent.now found.within))
             | else-is_whole-via-else-is_whole v ↦
                 let law = subst (λ s. ReadUntilLaw R s newline none read.result read.new.buf read.new.self) (w.self-is ∙ v.self-is)
                 read.ensures.law in
