@@ -17,7 +17,8 @@ macro_rules! calls {
 fn write_values<W: Write>(w: &mut W, at: u64) -> Result<()> {
     let even = at & 1 == 0;
     let low = at as u8;
-    write!(w, "{at} {even} {low}: {} {} {}\n", "name", at >> 3, low >> 1)
+    let name = "name";
+    write!(w, "{at} {even} {low}: {name} {} {}\n", at >> 3, low >> 1)
 }
 
 // Streams in memory, and what stands right before them.

@@ -44,11 +44,11 @@ fn read_until(mut input: impl BufRead) -> Result<u64> {
 }
 
 fn frames_in(mut input: impl BufRead) -> Result<u64> {
-    let (mut sum, mut header) = (0, [0; 4]);
+    let (mut sum, mut header, mut room) = (0, [0; 4], [0; 65_536]);
     while !input.fill_buf()?.is_empty() {
         input.read_exact(&mut header)?;
-        let mut payload = vec![0; u32::from_le_bytes(header).min(65_536) as usize];
-        input.read_exact(&mut payload)?;
+        let payload = room.get_mut(..u32::from_le_bytes(header) as usize).ok_or(ErrorKind::InvalidInput)?;
+        input.read_exact(payload)?;
         sum += payload.len() as u64;
     }
     Ok(sum)
