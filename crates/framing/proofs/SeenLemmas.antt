@@ -144,12 +144,12 @@ module _ {R : Type 0} {S : ℕ} (I : Reader R) (old new : FrameReader R S) (room
     front_long : length (take len room) ≡ len
     front_long = length-take-le len room fits
 
-    reads : ReadsRest len old.given new.given law.calls.calls given reply
-    reads = full_reads len old.given new.given law.calls.calls given answer (omega (arith, old.within, was)) law.counts
-        (subst (λ n. FullCalls law.calls.calls (n - old.given) given answer) front_long law.calls.are)
+    reads : ReadsRest len old.given new.given law.calls.0 given reply
+    reads = full_reads len old.given new.given law.calls.0 given answer (omega (arith, old.within, was)) law.counts
+        (subst (λ n. FullCalls law.calls.0 (n - old.given) given answer) front_long law.calls.2)
 
     below : PartBelow I (len - old.given) old.inner given reply new.inner
-    below = part_below I (len - old.given) law.calls.calls given reply old.inner new.inner reads.1 reads.2 law.calls.made
+    below = part_below I (len - old.given) law.calls.0 given reply old.inner new.inner reads.1 reads.2 law.calls.1
 
     filled : take new.given room' ≡ take old.given room ++ given
     filled =

@@ -145,6 +145,10 @@ module _ {S : Type 0} (R : Reader S) where
   law_takes a b (Filled answer) law = (_, law.1)
   law_takes a b (Consumed n) law = (_, law.1.2)
 
+  -- calls, without their laws
+  pub made_may : (C : List ReadCall) (a b : S) → Made (ReadCallLaw R) a C b → Made R.may a C b
+  made_may C a b made = made_map (ReadCallLaw R) R.may (λ x. x) law_may C a b made
+
   -- calls take something
   pub made_takes : (C : List ReadCall) (a b : S) → Made (ReadCallLaw R) a C b → (P : List Event) × Takes (tells R a) P (tells R b)
   made_takes [] a b made = ([], subst (λ x. Takes (tells R a) [] (tells R x)) (sym made) (takes_none (tells R a)))

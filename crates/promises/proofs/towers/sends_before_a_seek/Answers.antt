@@ -1,4 +1,4 @@
 use Rattle.promises.proofs.towers.sends_before_a_seek.Goals as goal
 
 pub returns : goal.returns
-returns g c = record { sent = c.seek.ensures.law.call.first.empty; store = c.seek.ensures.law.store }
+returns g c = record { sent = c.seek.ensures.law.call.0.empty; store = c.seek.ensures.law.store }
