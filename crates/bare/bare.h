@@ -65,8 +65,9 @@ uint32_t bare_send(const uint8_t *payload, size_t count, struct bare_queue *port
 /* Takes a frame off the bytes that a port received.
    BARE_DONE: it is gone from `port`; its payload is the first `*len` bytes of `room`. What `room` holds behind them is not said.
    Else nothing is gone from `port`, `*len` is as it was, and what `room` holds is not said.
-   BARE_PARTIAL: the frame has not come whole.
-   BARE_FULL: the payload is longer than `room`. */
+   BARE_REFUSED: the payload has more than 60 bytes, so no queue can hold the frame. No room helps.
+   BARE_FULL: a queue can hold the frame, and the payload is longer than `room`.
+   BARE_PARTIAL: the frame has not come whole. If its length has come, a queue can hold the frame, and the payload fits `room`. */
 uint32_t bare_receive(struct bare_queue *port, uint8_t *room, size_t size, size_t *len);
 
 /* Puts the line `event 17` behind the bytes that wait in `port`.

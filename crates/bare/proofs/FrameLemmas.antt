@@ -11,8 +11,8 @@ use Rattle.no_std_io2.specs.Takes.{AreTaken, to_come, IsAtEnd}
 use Rattle.no_std_io2.specs.Read.{Reader, tells}
 use Rattle.no_std_io2.specs.BufReader.{behind_held}
 use Rattle.no_std_io2.proofs.EventLemmas.{bytes-append, bytes-events_of, HasNoFault-events_of, HasNoFault-front, HasNoFault-behind}
-use Rattle.framing.specs.Frames.{frame, told_length, IsPart, SaysEnded}
-use Rattle.framing.specs.Taking.{seen_bytes, reads_from, frame_to_come, given_frame, TakesFrame, SaysNoRoom}
+use Rattle.framing.specs.Frames.{frame, told_length, IsPart}
+use Rattle.framing.specs.Taking.{seen_bytes, reads_from, frame_to_come, given_frame, TakesFrame}
 use Rattle.framing.specs.declared.reader.FrameReader.{FrameReader}
 
 -- What a call left of these bytes, from which nothing was read before: the bytes that are seen, and then these events.
@@ -63,14 +63,13 @@ module _ {R : Type 0} {S : ℕ} {I : Reader R} {old new : FrameReader R S} {room
   frame_taken n law = (_, (frame_left bs (Ok (Some n)) is none law).order, law.ends.1)
 
   -- why none was taken
-  pub frame_kept : (e : Error) → TakesFrame I old room (Err e) new room'
-      → (IsPart bs × SaysEnded e) ⊎ ((length room < told_length bs) × SaysNoRoom e)
+  pub frame_kept : (e : Error) → TakesFrame I old room (Err e) new room' → IsPart bs ⊎ (length room < told_length bs)
   frame_kept e law = elim law.ends [
     | inl fault ↦ absurd (no_fault fault.0)
     | inr clean ↦
         elim clean.1 [
-          | inl ends ↦ inl (subst IsPart (sym (at_end (Err e) new room' left ends.1)) ends.0.1, ends.0.2)
-          | inr long ↦ inr (omega (arith, long.1, front long.0), long.2)
+          | inl ends ↦ inl (subst IsPart (sym (at_end (Err e) new room' left ends.1)) ends.0.1)
+          | inr long ↦ inr (omega (arith, long.1, front long.0))
         ]
   ]
     where

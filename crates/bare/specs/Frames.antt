@@ -1,16 +1,30 @@
 -- What is cut off received bytes, if they are frames, and the line of an event.
-use Rattle.std.specs.Prelude.{◌≡◌, ◌⊎◌, ℕ, ◌<◌, ◌≤◌, List, ◌++◌, length, take, codes, decimal}
+use Rattle.std.specs.Prelude.{◌≡◌, ◌⊎◌, ℕ, ◌+◌, ◌<◌, ◌≤◌, List, ◌++◌, length, take, codes, decimal}
 use Rattle.framing.specs.Frames.{frame, told_length, IsPart}
 use Rattle.line_log.specs.Log.{line_of}
-use Rattle.bare.specs.Status.{done, full, partial}
+use Rattle.bare.specs.Status.{done, full, partial, refused}
+use Rattle.bare.specs.Queue.{capacity}
 
 -- `event 17`
 abbrev pub event_line : ℕ → List ℕ
 event_line number = line_of (codes "event " ++ decimal number)
 
+-- the length of a payload is there, and no queue can hold its frame
+abbrev pub IsTooBig : List ℕ → Type 0
+IsTooBig bytes = (4 ≤ length bytes) × (capacity < 4 + told_length bytes)
+
+-- the length of a payload is there, and a queue can hold its frame
+abbrev pub CanCome : List ℕ → Type 0
+CanCome bytes = (4 ≤ length bytes) × (4 + told_length bytes ≤ capacity)
+
+-- Why a frame is not given. Only if a queue can hold it, does the room count; and only if it fits the room, is it waited for.
+abbrev pub IsHeldBack : List ℕ → ℕ → ℕ → Type 0
+IsHeldBack bytes size status = ((status ≡ refused) × IsTooBig bytes)
+    ⊎ ((status ≡ full) × CanCome bytes × (size < told_length bytes))
+    ⊎ ((status ≡ partial) × IsPart bytes × (4 ≤ length bytes → (4 + told_length bytes ≤ capacity) × (told_length bytes ≤ size)))
+
 -- A frame was taken, whose payload is at the front of the room; or it is not given, and all its bytes still wait.
 abbrev pub Unframes : List ℕ → ℕ → ℕ → List ℕ → List ℕ → ℕ → Type 0
 Unframes bytes len status bytes' room' len' =
     ((status ≡ done) × (bytes ≡ frame (take len' room') ++ bytes') × (len' ≤ length room'))
-    ⊎ ((status ≡ partial) × IsPart bytes × (bytes' ≡ bytes) × (len' ≡ len))
-    ⊎ ((status ≡ full) × (length room' < told_length bytes) × (bytes' ≡ bytes) × (len' ≡ len))
+    ⊎ (IsHeldBack bytes (length room') status × (bytes' ≡ bytes) × (len' ≡ len))

@@ -1,16 +1,19 @@
 //! Frames and printed lines, whole or not at all.
-ghost use Rattle.std.specs.Prelude.{◌≡◌, ◌++◌, OnOk};
-ghost use Rattle.framing.specs.Frames.{frame};
+ghost use Rattle.std.specs.Prelude.{◌≡◌, ◌++◌, ◌<◌, ◌≤◌, length, OnOk, IfNone, IfSome};
+ghost use Rattle.framing.specs.Frames.{frame, told_length};
 ghost use Rattle.framing.specs.Sending.{writes_to, frames_held};
 ghost use Rattle.bare.specs.Queue.{waiting};
 ghost use Rattle.bare.specs.Status.{Appends};
 ghost use Rattle.bare.specs.Frames.{Unframes, event_line};
 
-use crate::queue::Queue;
-use crate::{DONE, FULL, PARTIAL};
+use crate::queue::{CAPACITY, Queue};
+use crate::{DONE, FULL, PARTIAL, REFUSED};
 use framing::{FrameReader, FrameWriter};
 use line_log::LineLog;
-use no_std_io2::io::{ErrorKind, Result};
+use no_std_io2::io::Result;
+
+// The number of bytes in which a frame has its length.
+const HEADER: usize = 4;
 
 // Sends a frame, and flushes.
 fn send_whole(w: &mut FrameWriter<Queue, 64>, payload: &[u8]) -> Result<()>
@@ -36,27 +39,46 @@ pub extern "C" fn bare_send(payload: &[u8], port: &mut Queue) -> u32
     DONE
 }
 
+// Returns the length of the payload, as the first four bytes say, if they are there.
+fn told_len(bytes: &[u8]) -> Option<usize>
+    ensures some { IfSome result (λ n. (4 ≤ length bytes.now) × (n ≡ told_length bytes.now)) }
+    ensures none { IfNone result (length bytes.now < 4) }
+{
+    if bytes.len() < HEADER {
+        return None;
+    }
+    let header = [bytes[0], bytes[1], bytes[2], bytes[3]];
+    Some(u32::from_le_bytes(header) as usize)
+}
+
 /// Gives the payload of the next frame that a port received: it is moved to the front of `room`, and `len` is then its length. What `room`
 /// holds behind it is not said.
 ///
-/// Returns [`PARTIAL`] if the frame has not come whole, and [`FULL`] if its payload is longer than `room`. All its bytes still wait then,
-/// `len` is as it was, and what `room` holds is not said.
+/// Returns [`REFUSED`] if no queue can hold the frame, since its payload has more than 60 bytes. Returns [`FULL`] if a queue can, and the
+/// payload is longer than `room`. Returns [`PARTIAL`] if neither is so, or its length has not come, and the frame has not come whole. All
+/// its bytes still wait then, `len` is as it was, and what `room` holds is not said.
 #[unsafe(no_mangle)]
 pub extern "C" fn bare_receive(port: &mut Queue, room: &mut [u8], len: &mut usize) -> u32
     ensures { Unframes (waiting port.old) len.old result (waiting port.new) room.new len.new }
 {
+    let Some(told) = told_len(port.waiting()) else {
+        return PARTIAL;
+    };
+    if told > CAPACITY - HEADER {
+        return REFUSED;
+    }
+    if told > room.len() {
+        return FULL;
+    }
     let mut r = FrameReader::<&[u8], 64>::new(port.waiting());
     match r.next(room) {
         Ok(Some(n)) => {
             *len = n;
-            port.advance(4 + n);
+            port.advance(HEADER + n);
             DONE
         }
         Ok(None) => PARTIAL,
-        Err(e) => match e.kind() {
-            ErrorKind::UnexpectedEof => PARTIAL,
-            _ => FULL,
-        },
+        Err(_ended_inside) => PARTIAL,
     }
 }
 

@@ -1,5 +1,4 @@
-use Rattle.std.proofs.Common.{◌≤◌, ◌<◌, ◌++◌, length, take, refl, sym, ap, ◌∙◌, inl, inr, arith, Some}
-use Rattle.no_std_io2.specs.Errors.{kind_number}
+use Rattle.std.proofs.Common.{◌≡◌, ◌+◌, ◌≤◌, ◌++◌, length, take, refl, sym, ap, ◌∙◌, inl, inr, arith, Some}
 use Rattle.no_std_io2.specs.Events.{events_of}
 use Rattle.framing.specs.Frames.{frame, told_length}
 use Rattle.bare.specs.Queue.{waiting}
@@ -11,7 +10,7 @@ returns-in-Ok-Some c =
     let bs = waiting c.args.port.now in
     let room = c.next.new.room in
     let n = c.in-Ok-Some.n in
-    let is = c.new-r.ensures.events c.args.room.now ∙ ap (λ l. Some (events_of l)) c.waiting.ensures in
+    let is = c.new-r.ensures.events c.args.room.now ∙ ap (λ l. Some (events_of l)) c.waiting-2.ensures in
     let law = rw (c.in-Ok-Some.is, c.in-Ok-Some.field-0-is) at c.next.ensures.takes in
     let taken = frame_taken bs is (c.new-r.ensures.empty c.args.room.now) n law in
     let fits : n ≤ length room = omega (arith, taken.2, c.next.auto.room) in
@@ -21,23 +20,14 @@ returns-in-Ok-Some c =
       fits,
     )
 
-pub returns-in-UnexpectedEof : goal.returns-in-UnexpectedEof
-returns-in-UnexpectedEof c =
-    let is = c.new-r.ensures.events c.args.room.now ∙ ap (λ l. Some (events_of l)) c.waiting.ensures in
-    elim (frame_kept (waiting c.args.port.now) is (c.new-r.ensures.empty c.args.room.now) c.in-Err.e c.in-Err.ensures.takes) [
-      | inl part ↦ inr (inl (refl, part.0, refl, refl))
-      | inr long ↦ absurd (let same = ap kind_number (sym c.in-UnexpectedEof.is ∙ c.kind.ensures ∙ long.1.0) in omega (arith, same))
-    ]
-
-pub returns-in_default : goal.returns-in_default
-returns-in_default c =
-    let is = c.new-r.ensures.events c.args.room.now ∙ ap (λ l. Some (events_of l)) c.waiting.ensures in
-    elim (frame_kept (waiting c.args.port.now) is (c.new-r.ensures.empty c.args.room.now) c.in-Err.e c.in-Err.ensures.takes) [
-      | inl part ↦ absurd (c.in_default.not-UnexpectedEof (c.kind.ensures ∙ part.1.0))
-      | inr long ↦ inr (inr (
-        refl,
-        (let above : length c.next.new.room < told_length (waiting c.args.port.now) = omega (arith, long.0, c.next.auto.room) in above),
-        refl,
-        refl,
-      ))
+pub returns-in-Err : goal.returns-in-Err
+returns-in-Err c =
+    let bs = waiting c.args.port.now in
+    let is = c.new-r.ensures.events c.args.room.now ∙ ap (λ l. Some (events_of l)) c.waiting-2.ensures in
+    let told : c.in-Some.told ≡ told_length bs = c.in-Some.ensures.some.1 ∙ ap told_length c.waiting.ensures in
+    let fits : told_length bs ≤ length c.next.new.room = omega (arith, told, c.if-told-room.false, c.next.auto.room) in
+    let can_come : 4 + told_length bs ≤ 64 = omega (arith, told, c.if-told.false) in
+    elim (frame_kept bs is (c.new-r.ensures.empty c.args.room.now) c.in-Err._ended_inside c.in-Err.ensures.takes) [
+      | inl part ↦ inr (inr (inr (refl, part, λ header. (can_come, fits))), refl, refl)
+      | inr long ↦ absurd (omega (arith, long, fits, c.next.auto.room))
     ]
