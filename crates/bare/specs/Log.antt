@@ -30,10 +30,10 @@ abbrev pub resume_status : {E : Type 0} → Result (Unit {0}) E → ℕ
 resume_status (Ok u) = done
 resume_status (Err e) = kept
 
--- A line was logged: it waits behind the kept bytes, and they are sent. Or it can't be a line, and nothing changed. Or the port is full,
--- it does not fit beside what is still kept, and only the kept bytes were sent.
+-- A line was logged: it waits behind the kept bytes, and they are sent. Or it can't be a line, and nothing changed. Or it can, the port is
+-- full, it does not fit beside what is still kept, and only the kept bytes were sent.
 abbrev pub LogsThrough : List ℕ → List ℕ → List ℕ → ℕ → List ℕ → List ℕ → Type 0
 LogsThrough text waiting port status waiting' port' =
     (IsShortLine text × Resumes (waiting ++ line text) port status waiting' port')
     ⊎ ((status ≡ refused) × IsNoLine text × (waiting' ≡ waiting) × (port' ≡ port))
-    ⊎ ((status ≡ full) × (capacity < length waiting' + length (line text)) × Resumes waiting port kept waiting' port')
+    ⊎ ((status ≡ full) × IsShortLine text × (capacity < length waiting' + length (line text)) × Resumes waiting port kept waiting' port')

@@ -7,9 +7,9 @@ use Rattle.bare.specs.Queue.{capacity}
 abbrev pub Begins : ℕ → List ℕ → Type 0
 Begins len bytes = (rest : List ℕ) × (bytes ≡ len ∷ rest)
 
--- not all of a message is there
+-- not all of a message is there, and a queue can hold it
 abbrev pub IsPartial : List ℕ → Type 0
-IsPartial bytes = (bytes ≡ []) ⊎ ((len : ℕ) × (rest : List ℕ) × (bytes ≡ len ∷ rest) × (length rest < len))
+IsPartial bytes = (bytes ≡ []) ⊎ ((len : ℕ) × (rest : List ℕ) × (bytes ≡ len ∷ rest) × (length rest < len) × (len < capacity))
 
 -- the message is gone from the bytes, and at the front of the room
 pub record IsReceived (bytes room bytes' room' : List ℕ) (len : ℕ) : Type 0 where
@@ -20,7 +20,7 @@ pub record IsReceived (bytes room bytes' room' : List ℕ) (len : ℕ) : Type 0 
 -- why a message is not given
 abbrev pub IsWithheld : List ℕ → List ℕ → ℕ → ℕ → ℕ → Type 0
 IsWithheld bytes room status len len' = ((status ≡ partial) × IsPartial bytes × (len' ≡ len))
-    ⊎ ((status ≡ full) × Begins len' bytes × (length room < len'))
+    ⊎ ((status ≡ full) × Begins len' bytes × (length room < len') × (len' < capacity))
     ⊎ ((status ≡ refused) × ((big : ℕ) × Begins big bytes × (capacity ≤ big)) × (len' ≡ len))
 
 -- A message was received, or it is withheld and all is as it was.
