@@ -1,6 +1,7 @@
 -- What a writer tells, what its calls do to that, and the law of each call of `Write`.
 use Rattle.std.specs.Prelude.{◌≡◌, ℕ, ◌+◌, ◌≤◌, ◌==◌, ◌&&◌, nat_lt, Bool, if◌then◌else◌, List, [], ◌∷◌, ◌++◌, length, take, ⊤, Option}
 use Rattle.std.specs.Prelude.{None, Some, Result, Ok, Err, OnOk, count_by, IfOk, IsOk, ◌<◌, drop, codes, ◌⊎◌}
+use Rattle.std.specs.Borrow.{MutBor}
 use Rattle.std.specs.declared.dyn_box.DynBox.{DynBox}
 use Rattle.no_std_io2_base.specs.declared.error.Error.{Error}
 use Rattle.no_std_io2_base.specs.declared.error.ErrorKind.{ErrorKind}
@@ -103,6 +104,11 @@ abbrev pub BoxMay : {I A C : Type 0} {V : I → Type 0} → (old : DynBox I A V)
     → C → DynBox I A V → Type 0
 BoxMay {I} {A} {C} {V} old may call new = (value : V old.vtable)
     × (new ≡ record { ptr = old.ptr; vtable = old.vtable; alloc = old.alloc; value = value }) × may old.value call value
+
+-- A call may do to a reference to an object what it may do to the value behind it, by `may`.
+abbrev pub LentMay : {I C : Type 0} {V : I → Type 0} → (old : MutBor ((i : I) × V i)) → (V old.now.0 → C → V old.now.0 → Type 0)
+    → C → MutBor ((i : I) × V i) → Type 0
+LentMay {I} {C} {V} old may call new = (value : V old.now.0) × (new ≡ record old { now = (old.now.0, value) }) × may old.now.1 call value
 
 -- A call may do to a whole what it may do to its part, by `may`, and nothing else. `get` is the part of a whole, and `put` replaces it.
 pub record PartMay {W V A : Type 0} (may : W → A → W → Type 0) (get : V → W) (put : V → W → V) (old : V) (call : A) (new : V) : Type 0 where

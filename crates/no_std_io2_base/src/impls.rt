@@ -4,9 +4,10 @@ mod boxed;
 mod copying;
 mod lending_objects;
 mod lent;
+mod lent_objects;
 mod objects;
 mod queues;
-mod reading_objects;
+mod read_object;
 mod slices;
 mod vectors;
 

@@ -1,18 +1,16 @@
 ghost use Rattle.no_std_io2_base.specs.Write.{BoxMay};
 
+use super::read_object::{ReadObject, drain};
 use super::vectors::append;
 use crate::error::Result;
-use crate::traits::{BufRead, LEAST_ROOM, Read, Stored, find_piece, open_room, reserve_room};
+use crate::traits::{BufRead, Read, Stored, find_piece};
 use std::alloc::Allocator;
 
-// A boxed trait object tells no store. The bodies of `read_to_end` and `read_until` are the
-// traits', written again: a method with a bound of its own is not left to its trait at a boxed
-// trait object.
 impl<A: Allocator> Stored for Box<dyn BufRead + Drop, A> {
     ghost store = { λ b. (BufRead-box b).Stored.store b.value };
 }
 
-/// Passes each call on to the reader in the box, and tells what that tells, except for counts.
+/// Passes each call on to the reader in the box.
 impl<A: Allocator> Read for Box<dyn BufRead + Drop, A> {
     ghost turns = { λ b. (BufRead-box b).Read.turns b.value };
 
@@ -21,7 +19,7 @@ impl<A: Allocator> Read for Box<dyn BufRead + Drop, A> {
     ghost may = { λ b call new. BoxMay b (BufRead-box b).Read.may call new };
 
     fn read(&mut self, buf: &mut [u8]) -> Result<usize> {
-        (**self).read(buf)
+        self.read_object(buf)
     }
 
     fn read_exact(&mut self, buf: &mut [u8]) -> Result<()> {
@@ -29,24 +27,7 @@ impl<A: Allocator> Read for Box<dyn BufRead + Drop, A> {
     }
 
     fn read_to_end<B: Allocator>(&mut self, buf: &mut Vec<u8, B>) -> Result<usize> {
-        let start = buf.len();
-        let mut filled = start;
-        reserve_room(buf, LEAST_ROOM)?;
-        'reads: loop {
-            open_room(buf, filled, filled - start, LEAST_ROOM)?;
-            match self.read(&mut buf[filled..]) {
-                Ok(0) => {
-                    buf.truncate(filled);
-                    return Ok(filled - start);
-                }
-                Ok(n) => filled += n,
-                Err(e) if e.is_interrupted() => {}
-                Err(e) => {
-                    buf.truncate(filled);
-                    return Err(e);
-                }
-            }
-        }
+        drain(self, buf)
     }
 }
 
@@ -77,5 +58,18 @@ impl<A: Allocator> BufRead for Box<dyn BufRead + Drop, A> {
                 Err(e) => return Err(e),
             }
         }
+    }
+}
+
+impl<A: Allocator> ReadObject for Box<dyn BufRead + Drop, A> {
+    ghost reader = { record {
+      store = λ b. (BufRead-box b).Stored.store b.value;
+      turns = λ b. (BufRead-box b).Read.turns b.value;
+      events = λ b. (BufRead-box b).Read.events b.value;
+      may = λ b call new. BoxMay b (BufRead-box b).Read.may call new;
+    } };
+
+    fn read_object(&mut self, buf: &mut [u8]) -> Result<usize> {
+        (**self).read(buf)
     }
 }

@@ -1,7 +1,8 @@
 ghost use Rattle.no_std_io2_base.specs.Write.{BoxMay};
 
+use super::read_object::{ReadObject, drain};
 use crate::error::Result;
-use crate::traits::{Seek, SeekFrom, Stored, Write};
+use crate::traits::{Read, Seek, SeekFrom, Stored, Write};
 use std::alloc::Allocator;
 
 /// Tells what the writer in the box tells.
@@ -51,4 +52,42 @@ impl<A: Allocator> Seek for Box<dyn Seek + Drop, A> {
     }
 
     ghost may = { λ b call new. BoxMay b (Seek-box b).Seek.may call new };
+}
+
+impl<A: Allocator> Stored for Box<dyn Read + Drop, A> {
+    ghost store = { λ b. (Read-box b).Stored.store b.value };
+}
+
+/// Passes each call on to the reader in the box.
+impl<A: Allocator> Read for Box<dyn Read + Drop, A> {
+    ghost turns = { λ b. (Read-box b).Read.turns b.value };
+
+    ghost events = { λ b. (Read-box b).Read.events b.value };
+
+    ghost may = { λ b call new. BoxMay b (Read-box b).Read.may call new };
+
+    fn read(&mut self, buf: &mut [u8]) -> Result<usize> {
+        self.read_object(buf)
+    }
+
+    fn read_exact(&mut self, buf: &mut [u8]) -> Result<()> {
+        (**self).read_exact(buf)
+    }
+
+    fn read_to_end<B: Allocator>(&mut self, buf: &mut Vec<u8, B>) -> Result<usize> {
+        drain(self, buf)
+    }
+}
+
+impl<A: Allocator> ReadObject for Box<dyn Read + Drop, A> {
+    ghost reader = { record {
+      store = λ b. (Read-box b).Stored.store b.value;
+      turns = λ b. (Read-box b).Read.turns b.value;
+      events = λ b. (Read-box b).Read.events b.value;
+      may = λ b call new. BoxMay b (Read-box b).Read.may call new;
+    } };
+
+    fn read_object(&mut self, buf: &mut [u8]) -> Result<usize> {
+        (**self).read(buf)
+    }
 }

@@ -2,7 +2,7 @@
 use Rattle.std.proofs.Common.{rules}
 use Rattle.no_std_io2_base.proofs.Readers.{reader}
 use Rattle.no_std_io2_base.proofs.BoxedObjects.{read_box}
-use Rattle.no_std_io2_base.proofs.impls.lending_objects.BoxDynBufReadDropRead.read.Goals as goal
+use Rattle.no_std_io2_base.proofs.impls.lending_objects.BoxDynBufReadDropReadObject.read_object.Goals as goal
 
 pub returns : goal.returns
 returns g c =

@@ -2,7 +2,7 @@
 use Rattle.std.proofs.Common.{rules}
 use Rattle.no_std_io2_base.proofs.Readers.{reader}
 use Rattle.no_std_io2_base.proofs.BoxedObjects.{exact_box}
-use Rattle.no_std_io2_base.proofs.impls.reading_objects.BoxDynReadDropRead.read_exact.Goals as goal
+use Rattle.no_std_io2_base.proofs.impls.objects.BoxDynReadDropRead.read_exact.Goals as goal
 
 pub returns : goal.returns
 returns g c =
