@@ -1,9 +1,9 @@
-// A call of a boxed object is the same call of the object in the box, and tells what that tells.
+// A call of a boxed object, or through a reference to an object, is the same call of the object, and tells what that tells.
 ghost use Rattle.std.specs.Prelude.{[], ◌≡◌, Ok, Some, length};
 ghost use Rattle.no_std_io2.specs.Read.{Gave, answered, gave};
 ghost use Rattle.no_std_io2.specs.Seek.{Seeks, Sought};
 ghost use Rattle.no_std_io2.specs.Takes.{KeepsContent, Takes};
-ghost use Rattle.no_std_io2.specs.Write.{BoxMay, Moves, Wrote, taken, write_mishap};
+ghost use Rattle.no_std_io2.specs.Write.{BoxMay, LentMay, Moves, Wrote, taken, write_mishap};
 
 use no_std_io2::io::{BufRead, Read, Result, Seek, SeekFrom, Write};
 
@@ -38,6 +38,32 @@ fn lends_in_a_box(r: &mut Box<dyn BufRead + Drop>, buf: &mut [u8]) -> Result<usi
 fn seeks_in_a_box(s: &mut Box<dyn Seek + Drop>, target: SeekFrom) -> Result<u64>
     ensures store { KeepsContent (store s.old) (λ len was now. Seeks len was target result now) (store s.new) }
     ensures call { BoxMay s.old (Seek-box s.old).Seek.may (Sought target result) s.new }
+{
+    s.seek(target)
+}
+
+// A writer behind a reference accepts what the object accepts. If the object takes all, so does the reference.
+fn writes_through_an_object(w: &mut &mut dyn Write, x: &[u8]) -> Result<usize>
+    ensures moves { Moves (told w.old.now) (taken result x.now) (write_mishap result x.now) (told w.new.now) }
+    ensures all { takes_all w.old.now → (told w.old.now).mishaps ≡ Some [] → result ≡ Ok (length x.now) }
+    ensures call { LentMay w.old (Write-dyn w.old.now).may (Wrote x.now result) w.new }
+{
+    w.write(x)
+}
+
+// A reader behind a reference gives what the object gives.
+fn reads_through_an_object(r: &mut &mut dyn Read, buf: &mut [u8]) -> Result<usize>
+    ensures takes { Takes (record { events = events r.old.now; store = store r.old.now; turns = turns r.old.now }) (answered (gave result buf.new))
+        (record { events = events r.new.now; store = store r.new.now; turns = turns r.new.now }) }
+    ensures call { LentMay r.old (Read-dyn r.old.now).Read.may (Gave (length buf.new) (gave result buf.new)) r.new }
+{
+    r.read(buf)
+}
+
+// A stream behind a reference goes where the object goes.
+fn seeks_through_an_object(s: &mut &mut dyn Seek, target: SeekFrom) -> Result<u64>
+    ensures store { KeepsContent (store s.old.now) (λ len was now. Seeks len was target result now) (store s.new.now) }
+    ensures call { LentMay s.old (Seek-dyn s.old.now).Seek.may (Sought target result) s.new }
 {
     s.seek(target)
 }

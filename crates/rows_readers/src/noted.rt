@@ -1,11 +1,15 @@
-// References, boxes, boxed objects, a buffer and a limit in front of a device that notes the name of each call.
+// References, boxes, objects, a buffer and a limit in front of a device that notes the name of each call.
 use crate::devices::Devices;
 use crate::streams::{play_lending, play_limited, play_reading, play_seeking};
 use no_std_io2::io::{BufRead, BufReader, Read};
+use rows_play::calls::Call;
 use rows_play::fault::{Fault, Made};
+use rows_play::line::Line;
 use rows_play::noted::Noted;
-use rows_play::player::Player;
+use rows_play::player::{Player, Stream};
+use rows_play::reads::make_read;
 use rows_play::recorder::Recorder;
+use std::alloc::Global;
 
 type Device = Noted<Recorder>;
 
@@ -15,6 +19,10 @@ pub fn lend(name: &str, devices: &Devices<'_>, player: &mut Player<'_, '_>) -> M
         "Device" => play_seeking(device, 0, devices, player),
         "&mut Device" => play_seeking(device, 1, devices, player),
         "&mut &mut Device" => play_seeking(device, 2, devices, player),
+        "&mut dyn Read" => player.play(&mut Lent {
+            device,
+            devices: *devices,
+        }),
         "BufReader 4" => play_seeking(BufReader::<Device, 4>::new(device), 0, devices, player),
         "Take" => play_limited(device, 2, devices, player),
         _ => lend_box(name, device, devices, player),
@@ -48,4 +56,23 @@ fn lend_buf_read(
 ) -> Made<()> {
     let object: Box<dyn BufRead + Drop> = tower;
     play_lending(object, devices, player)
+}
+
+// A device that is called through a reference to an object.
+#[derive(Drop)]
+struct Lent<'j> {
+    device: Device,
+    devices: Devices<'j>,
+}
+
+impl<'j> Stream for Lent<'j> {
+    fn play(&mut self, alloc: Global, call: &Call<'_>, line: &mut Line) {
+        make_lent_read(alloc, &mut self.device, call, line);
+        self.devices.show_calls(line);
+    }
+}
+
+fn make_lent_read(alloc: Global, object: &mut dyn Read, call: &Call<'_>, line: &mut Line) {
+    let mut lent = object;
+    make_read(alloc, &mut lent, call, line);
 }

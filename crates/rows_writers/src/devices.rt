@@ -2,8 +2,8 @@
 use crate::levels::{NOTED, RECORDER, lend, play_level};
 use crate::tower::{Device, Object};
 use crate::writing::{Columns, make_any_call, play, play_seeking};
-use no_std_io2::io::{BufWriter, Seek};
-use rows_play::calls::{Call, make_seek, new_journal, show_calls};
+use no_std_io2::io::{BufWriter, Seek, Write};
+use rows_play::calls::{Call, make_call, make_seek, new_journal, show_calls};
 use rows_play::fault::{Fault, Made};
 use rows_play::journal::Journal;
 use rows_play::line::Line;
@@ -92,11 +92,12 @@ pub fn lend_device(name: &str, words: &str, player: &mut Player<'_, '_>) -> Made
     let journal = new_journal(player.alloc, words)?;
     let device = new_device(player.alloc, &journal)?;
     match name {
-        "Device" | "&mut Device" | "&mut &mut Device" => player.play(&mut Handed {
-            name,
-            device,
-            journal,
-        }),
+        "Device" | "&mut Device" | "&mut &mut Device" | "&mut dyn Write" | "&mut dyn Seek" =>
+            player.play(&mut Handed {
+                name,
+                device,
+                journal,
+            }),
         "Box dyn Seek" => {
             let seeker = Box::new(player.alloc, device)?;
             player.play(&mut Boxed { seeker, journal })
@@ -129,7 +130,19 @@ impl Stream for Boxed {
     }
 }
 
-// A device, which is called itself, or through a reference.
+fn make_lent_write(object: &mut dyn Write, call: &Call<'_>, line: &mut Line) {
+    let mut lent = object;
+    make_call(&mut lent, call, line);
+}
+
+fn make_lent_seek(object: &mut dyn Seek, call: &Call<'_>, line: &mut Line) {
+    let mut lent = object;
+    if !make_seek(&mut lent, call, line) {
+        line.tell(Fault::NoCall);
+    }
+}
+
+// A device, which is called itself, or through a reference to it or to an object.
 #[derive(Drop)]
 struct Handed<'a> {
     name: &'a str,
@@ -142,6 +155,8 @@ impl<'a> Stream for Handed<'a> {
         match self.name {
             "&mut Device" => make_any_call(&mut &mut self.device, call, line),
             "&mut &mut Device" => make_any_call(&mut &mut &mut self.device, call, line),
+            "&mut dyn Write" => make_lent_write(&mut self.device, call, line),
+            "&mut dyn Seek" => make_lent_seek(&mut self.device, call, line),
             _ => make_any_call(&mut self.device, call, line),
         }
         show_calls(&self.journal, line);
