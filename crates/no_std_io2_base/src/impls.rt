@@ -1,5 +1,5 @@
 //! The traits for slices, vectors and queues, and for types that forward to another stream:
-//! references, boxes, boxed trait objects. This module has no public names.
+//! references, boxes and trait objects. This module has no public names.
 mod boxed;
 mod copying;
 mod lending_objects;
