@@ -15,8 +15,11 @@ use no_std_io2::io::Result;
 // The number of bytes in which a frame has its length.
 const HEADER: usize = 4;
 
+// The size of a buffer that is longer than each frame for which a queue has room.
+const ROOM: usize = CAPACITY + 1;
+
 // Sends a frame, and flushes.
-fn send_whole(w: &mut FrameWriter<Queue, 64>, payload: &[u8]) -> Result<()>
+fn send_whole(w: &mut FrameWriter<Queue, ROOM>, payload: &[u8]) -> Result<()>
     ensures { OnOk result (waiting (writes_to w.new) ≡ waiting (writes_to w.old) ++ frames_held w.old ++ frame payload.now) }
 {
     w.send(payload)?;
@@ -31,7 +34,7 @@ fn send_whole(w: &mut FrameWriter<Queue, 64>, payload: &[u8]) -> Result<()>
 pub extern "C" fn bare_send(payload: &[u8], port: &mut Queue) -> u32
     ensures { Appends (frame payload.now) (waiting port.old) result (waiting port.new) }
 {
-    let mut w = FrameWriter::<Queue, 64>::new(*port);
+    let mut w = FrameWriter::<Queue, ROOM>::new(*port);
     if send_whole(&mut w, payload).is_err() {
         return FULL;
     }
