@@ -59,7 +59,7 @@ uint32_t bare_message(struct bare_queue *port, uint8_t *room, size_t size, size_
 
 /* Puts a frame behind the bytes that wait in `port`: the length of the payload as four bytes, the lowest first, and the payload.
    BARE_DONE: the whole frame is there.
-   BARE_FULL: nothing has changed. [It does not fit.] A payload of more than 60 bytes never fits. */
+   BARE_FULL: it does not fit behind them. Nothing has changed. A payload of more than 60 bytes never fits. */
 uint32_t bare_send(const uint8_t *payload, size_t count, struct bare_queue *port);
 
 /* Takes a frame off the bytes that a port received.
@@ -77,7 +77,7 @@ uint32_t bare_event(uint32_t number, struct bare_queue *port);
 
 /* Copies bytes behind those that wait in `port`, through buffers.
    BARE_DONE: all bytes are there.
-   BARE_FULL: nothing has changed. [They do not fit.] */
+   BARE_FULL: they do not fit behind them. Nothing has changed. */
 uint32_t bare_copy(const uint8_t *bytes, size_t count, struct bare_queue *port);
 
 #endif

@@ -1,24 +1,41 @@
 -- What a copy of a slice moved.
-use Rattle.std.proofs.Common.{◌≡◌, ℕ, List, [], Some, IfSome, Result, Ok, Err, OnOk, sym, ap, subst, ◌∙◌, arith}
+use Rattle.std.proofs.Common.{◌≡◌, ℕ, ◌+◌, ◌<◌, List, [], Some, Result, Ok, Err, length, ap, subst, ◌∙◌, arith, length-append}
 use Rattle.no_std_io2.specs.declared.io.Error.{Error}
-use Rattle.no_std_io2.specs.Events.{events_of, bytes}
+use Rattle.no_std_io2.specs.declared.io.BufWriter.{BufWriter}
+use Rattle.no_std_io2.specs.declared.util.sides.CopyError.TheVariants.{Read, Write}
+use Rattle.no_std_io2.specs.Events.{events_of, bytes, HasNoFault}
 use Rattle.no_std_io2.specs.Takes.{to_come}
 use Rattle.no_std_io2.specs.Read.{Reader, tells}
-use Rattle.no_std_io2.specs.Write.{Told, Moves, call_mishap}
-use Rattle.no_std_io2.specs.Writers.{Writer}
+use Rattle.no_std_io2.specs.Write.{Moves}
 use Rattle.no_std_io2.specs.Copy.{Copied}
-use Rattle.no_std_io2.proofs.CopyLemmas.{copied_ok}
-use Rattle.no_std_io2.proofs.EventLemmas.{bytes-events_of}
-use Rattle.no_std_io2.proofs.MovesLemmas.{Moves-ends}
-use Rattle.no_std_io2.proofs.TakesLemmas.{takes_all}
+use Rattle.no_std_io2.proofs.CopyLemmas.{copied_ok, took_all, no_fault_at_end}
+use Rattle.no_std_io2.proofs.EventLemmas.{bytes-append, bytes-events_of, HasNoFault-events_of, HasNoFault-front}
+use Rattle.no_std_io2.proofs.ExactLemmas.{left_of}
+use Rattle.bare.specs.declared.queue.Queue.{Queue}
+use Rattle.bare.specs.Queue.{capacity}
+use Rattle.bare.proofs.FullLemmas.{buffered, size, size-moves, handed_full}
 
--- all its bytes, if the copy returned `Ok`, and the flush after it too
-pub copied : {R W : Type 0} {K : Reader R} {I : Writer W} {a a' : R} {w w' : W} (from : List ℕ) (c : Told) (r : Result ℕ Error) {n : ℕ}
-    (q : Result (Unit {0}) Error) → to_come (tells K a) ≡ Some (events_of from) → Copied K I 16 a w r a' w' → r ≡ Ok n
-    → Moves (I.told w') [] (call_mishap q) c → OnOk q (Moves (I.told w) from [] c)
-copied {K = K} {I = I} {a} {a'} {w} {w'} from c r (Ok u) is copies ok flushed =
-    let whole = copied_ok (subst (λ r. Copied K I 16 a w r a' w') ok copies) in
-    let all = subst (λ o. IfSome o (λ E. E ≡ whole.taken)) is (takes_all whole.taken whole.takes (whole.ends.1 (omega arith))) in
-    let moved : bytes whole.taken ≡ from = ap bytes (sym all) ∙ bytes-events_of from in
-    Moves-ends (subst (λ l. Moves (I.told w) l [] (I.told w')) moved whole.ends.3) flushed
-copied from c r (Err e) is copies ok flushed = tt
+module _ {R : Type 0} {K : Reader R} {a a' : R} {w w' : BufWriter Queue 32} (from : List ℕ)
+    (is : to_come (tells K a) ≡ Some (events_of from)) where
+  -- all its bytes, if the copy returned `Ok`
+  pub copied : {r : Result ℕ Error} {n : ℕ} → r ≡ Ok n → Copied K buffered 16 a w r a' w'
+      → Moves (buffered.told w) from [] (buffered.told w')
+  copied ok copies =
+      let whole = copied_ok (subst (λ r. Copied K buffered 16 a w r a' w') ok copies) in
+      let all = took_all whole.takes is (whole.ends.1 (omega arith)) in
+      subst (λ l. Moves (buffered.told w) l [] (buffered.told w')) (ap bytes all.0 ∙ bytes-events_of from) whole.ends.3
+
+  -- else they do not fit
+  pub copy_full : {r : Result ℕ Error} {e : Error} → r ≡ Err e → Copied K buffered 16 a w r a' w'
+      → capacity < size (buffered.told w) + length from
+  copy_full err (Ok n, same, law) = absurd (let no : ⊥ = cc in no)
+  copy_full err (Err (Read e), same, law) =
+      let left = left_of law.takes is in
+      let none = HasNoFault-front law.taken left.0 (subst HasNoFault left.2 (HasNoFault-events_of from)) in
+      absurd (no_fault_at_end law.taken e none law.ends.0)
+  copy_full err (Err (Write e), same, law) =
+      let refuses = law.ends.1.2 in
+      let full = handed_full (omega arith) law.calls.handed w w' law.calls.made in
+      let front = simp length-append at (ap length refuses.1.0.1) in
+      let all = simp (bytes-events_of, bytes-append, length-append) at (ap (λ E. length (bytes E)) (left_of law.takes is).2) in
+      omega (arith, full, size-moves refuses.2, front, all)

@@ -1,4 +1,4 @@
--- What a reader of frames takes of bytes.
+-- What a reader of frames takes of bytes, and what a writer of frames puts into a queue.
 use Rattle.std.proofs.Common.{◌≡◌, ◌⊎◌, ℕ, ◌+◌, ◌<◌, ◌≤◌, List, [], ◌∷◌, ◌++◌, length, take, Option, None, Some, IfSome, Result, Ok, Err}
 use Rattle.std.proofs.Common.{refl, sym, ap, subst, ◌∙◌, inl, inr, true≢false, drop, arith, append_assoc, append-nil, length-append}
 use Rattle.std.proofs.lemmas.Grind.{common_steps}
@@ -13,6 +13,12 @@ use Rattle.no_std_io2.specs.BufReader.{behind_held}
 use Rattle.no_std_io2.proofs.EventLemmas.{bytes-append, bytes-events_of, HasNoFault-events_of, HasNoFault-front, HasNoFault-behind}
 use Rattle.framing.specs.Frames.{frame, told_length, IsPart}
 use Rattle.framing.specs.Taking.{seen_bytes, reads_from, frame_to_come, given_frame, TakesFrame}
+use Rattle.framing.specs.Sending.{frame_writer, PutsFrame, SendsFrame}
+use Rattle.framing.specs.declared.writer.FrameWriter.{FrameWriter}
+use Rattle.bare.specs.declared.queue.Queue.{Queue}
+use Rattle.bare.specs.Queue.{capacity}
+use Rattle.bare.proofs.FullLemmas.{queue, buffered, size, size-moves, put}
+use Rattle.no_std_io2.specs.Write.{Moves}
 use Rattle.framing.specs.declared.reader.FrameReader.{FrameReader}
 
 -- What a call left of these bytes, from which nothing was read before: the bytes that are seen, and then these events.
@@ -94,3 +100,24 @@ behind_frame bs room rest n fits is =
     let size : 4 + n ≡ length (frame payload) =
     omega (arith, length-append (to_le_bytes w32 (length payload)) payload, length-take-le n room fits) in
     ap (λ k. drop k bs) size ∙ ap (drop (length (frame payload))) is ∙ drop-append_seam (frame payload) rest
+
+-- a frame was put into a buffer in front of a queue
+module _ {S : ℕ} {w w' : FrameWriter Queue S} (payload : List ℕ) where
+  -- all of it was accepted
+  pub frame_moved : {r : Result (Unit {0}) Error} {u : Unit {0}} → r ≡ Ok u → SendsFrame queue payload w r w'
+      → Moves (buffered.told (frame_writer w)) (frame payload) [] (buffered.told (frame_writer w'))
+  frame_moved ok (inl (short, puts)) = rw ok at puts.moves
+  frame_moved ok (inr (long, failed, same)) = absurd (rw ok at failed)
+
+  -- or that failed: if the buffer is longer than all for which a queue has room, it does not fit
+  pub frame_full : capacity < S → {r : Result (Unit {0}) Error} {e : Error} → r ≡ Err e → SendsFrame queue payload w r w'
+      → capacity < size (buffered.told (frame_writer w)) + length (frame payload)
+  frame_full less err sends = elim sends [
+    | inl short ↦
+        let law = subst (λ r. PutsFrame queue payload w r w') err short.1 in
+        omega (arith, put (frame_writer w) (frame_writer w') (omega (arith, short.0.0, header)) law.calls, size-moves law.moves)
+    | inr long ↦ elim long.0 [ inl past ↦ omega (arith, less, past, header) | inr huge ↦ omega (arith, huge, header) ]
+  ]
+    where
+      header : length (frame payload) ≡ 4 + length payload
+      header = length-append (to_le_bytes w32 (length payload)) payload

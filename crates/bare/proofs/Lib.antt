@@ -1,4 +1,5 @@
 pub mod QueueLemmas
+pub mod FullLemmas
 pub mod LogLemmas
 pub mod ReportLemmas
 pub mod CopyLemmas

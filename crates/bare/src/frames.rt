@@ -1,9 +1,9 @@
 //! Frames and printed lines, whole or not at all.
-ghost use Rattle.std.specs.Prelude.{◌≡◌, ◌++◌, ◌<◌, ◌≤◌, length, OnOk, IfNone, IfSome};
+ghost use Rattle.std.specs.Prelude.{◌≡◌, ◌+◌, ◌++◌, ◌<◌, ◌≤◌, length, OnOk, OnErr, IfNone, IfSome};
 ghost use Rattle.framing.specs.Frames.{frame, told_length};
 ghost use Rattle.framing.specs.Sending.{writes_to, frames_held};
-ghost use Rattle.bare.specs.Queue.{waiting};
-ghost use Rattle.bare.specs.Status.{Appends};
+ghost use Rattle.bare.specs.Queue.{waiting, capacity};
+ghost use Rattle.bare.specs.Status.{Appends, PrintsOrNot};
 ghost use Rattle.bare.specs.Frames.{Unframes, event_line};
 
 use crate::queue::{CAPACITY, Queue};
@@ -20,7 +20,10 @@ const ROOM: usize = CAPACITY + 1;
 
 // Sends a frame, and flushes.
 fn send_whole(w: &mut FrameWriter<Queue, ROOM>, payload: &[u8]) -> Result<()>
-    ensures { OnOk result (waiting (writes_to w.new) ≡ waiting (writes_to w.old) ++ frames_held w.old ++ frame payload.now) }
+    ensures ok { OnOk result (waiting (writes_to w.new)
+        ≡ waiting (writes_to w.old) ++ frames_held w.old ++ frame payload.now) }
+    ensures full { OnErr result (capacity < length (waiting (writes_to w.old))
+        + length (frames_held w.old) + length (frame payload.now)) }
 {
     w.send(payload)?;
     w.flush()
@@ -28,8 +31,8 @@ fn send_whole(w: &mut FrameWriter<Queue, ROOM>, payload: &[u8]) -> Result<()>
 
 /// Puts the frame of a payload behind the bytes that wait for the port: its length in four bytes, the lowest first, and its bytes.
 ///
-/// Returns [`DONE`] if the port has the whole frame, and else [`FULL`]; nothing has changed then. That it fails only if the frame does not
-/// fit is tested, and not promised.
+/// Returns [`DONE`] if the port has the whole frame. Returns [`FULL`] if it does not fit behind the
+/// bytes that wait; nothing has changed then.
 #[unsafe(no_mangle)]
 pub extern "C" fn bare_send(payload: &[u8], port: &mut Queue) -> u32
     ensures { Appends (frame payload.now) (waiting port.old) result (waiting port.new) }
@@ -91,7 +94,7 @@ pub extern "C" fn bare_receive(port: &mut Queue, room: &mut [u8], len: &mut usiz
 /// fit is tested, and not promised.
 #[unsafe(no_mangle)]
 pub extern "C" fn bare_event(number: u32, port: &mut Queue) -> u32
-    ensures { Appends (event_line number) (waiting port.old) result (waiting port.new) }
+    ensures { PrintsOrNot (event_line number) (waiting port.old) result (waiting port.new) }
 {
     let mut log = LineLog::<Queue, 64>::new(*port);
     let logged: Result<()> = log.log_text(format_args!("event {number}"));

@@ -3,7 +3,7 @@ ghost use Rattle.std.specs.Prelude.{◌≡◌, [], OnOk};
 ghost use Rattle.no_std_io2.specs.Write.{Moves};
 ghost use Rattle.bare.specs.Queue.{waiting};
 ghost use Rattle.bare.specs.Report.{report};
-ghost use Rattle.bare.specs.Status.{Appends};
+ghost use Rattle.bare.specs.Status.{PrintsOrNot};
 
 use crate::queue::Queue;
 use crate::{DONE, FULL};
@@ -27,7 +27,7 @@ fn print<W: Write>(w: &mut W, readings: &[u32]) -> Result<()>
 /// tested, and not promised.
 #[unsafe(no_mangle)]
 pub extern "C" fn bare_report(readings: &[u32], port: &mut Queue) -> u32
-    ensures { Appends (report readings.now) (waiting port.old) result (waiting port.new) }
+    ensures { PrintsOrNot (report readings.now) (waiting port.old) result (waiting port.new) }
 {
     let mut w = LineWriter::<Queue, 32>::new(*port);
     if print(&mut w, readings).is_err() {

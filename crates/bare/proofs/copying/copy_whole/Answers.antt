@@ -1,6 +1,17 @@
-use Rattle.bare.proofs.CopyLemmas.{copied}
+use Rattle.std.proofs.lemmas.Result.{err_from_is_err_and}
+use Rattle.bare.proofs.FullLemmas.{flush_done, flush_full}
+use Rattle.bare.proofs.CopyLemmas.{copied, copy_full}
 use Rattle.bare.proofs.copying.copy_whole.Goals as goal
 
-pub returns-clause-moves : goal.returns-clause-moves
-returns-clause-moves g c =
-    copied c.args.from.now _ c.copy.result c.flush.result c.new-r.ensures.events c.copy.ensures c.in_ok-copy.was c.flush.ensures.law.moves
+pub returns-in_err-copy-clause-full : goal.returns-in_err-copy-clause-full
+returns-in_err-copy-clause-full c =
+    let p = err_from_is_err_and c.from_residual.result c.from_residual.ensures.1 in
+    rw p.1 (copy_full c.args.from.now c.new-r.ensures.events c.in_err-copy.was c.copy.ensures)
+
+pub returns-clause-ok : goal.returns-clause-ok
+returns-clause-ok c =
+    flush_done c.flush.result (copied c.args.from.now c.new-r.ensures.events c.in_ok-copy.was c.copy.ensures) c.flush.ensures.law
+
+pub returns-clause-full : goal.returns-clause-full
+returns-clause-full c =
+    flush_full c.flush.result (copied c.args.from.now c.new-r.ensures.events c.in_ok-copy.was c.copy.ensures) c.flush.ensures.law

@@ -1,16 +1,15 @@
-use Rattle.std.proofs.Common.{◌-◌, length, drop, sym, ap, subst, ◌∙◌}
-use Rattle.no_std_io2.specs.Write.{Writes}
+use Rattle.std.proofs.Common.{◌-◌, length, drop, ap, subst, ◌∙◌}
+use Rattle.no_std_io2.specs.Writers.{WriteRestOf}
 use Rattle.bare.specs.Queue.{waiting}
+use Rattle.bare.proofs.FullLemmas.{queue}
 use Rattle.bare.proofs.LogLemmas.{resumed}
 use Rattle.bare.proofs.log.send.Goals as goal
 
 pub returns : goal.returns
 returns c =
-    let law = c.write_rest-sent.ensures.law in
     let before = waiting c.args.kept.now in
-    let left = c.write_rest-sent.new.rest.now in
-    resumed _ _ c.write_rest-sent.result c.args.port.now c.write_rest-sent.new.self before law.sends.sent left (waiting c.advance.new.self)
-    (sym c.waiting-rest.ensures ∙ law.sends.split)
+    let sent = c.write_rest-sent in
+    let left = sent.new.rest.now in
+    resumed sent.result before left (waiting c.advance.new.self)
+    (subst (λ x. WriteRestOf queue c.args.port.now x sent.result sent.new.self left) c.waiting-rest.ensures sent.ensures.law)
     (c.advance.ensures ∙ ap (λ l. drop (length l - length left) before) c.waiting.ensures)
-    law.sends.moves.front law.sends.moves.bytes law.done law.calls.1
-    (subst (λ x. Writes _ law.calls.0 x c.write_rest-sent.result left) c.waiting-rest.ensures law.calls.2)

@@ -1,0 +1,115 @@
+-- If a call through a buffer in front of a queue fails, there are more bytes than a queue has room for.
+use Rattle.std.proofs.Common.{◌≡◌, ℕ, ◌+◌, ◌<◌, List, [], ◌++◌, Result, Ok, Err, length, sym, ap, subst, arith, true≢false}
+use Rattle.std.proofs.Common.{length-append, inl, inr, refl, ◌∙◌}
+use Rattle.std.specs.Prelude.{MatchResult, OnOk, OnErr}
+use Rattle.std.proofs.lemmas.List.{length-drop}
+use Rattle.no_std_io2.specs.declared.io.Error.{Error}
+use Rattle.no_std_io2.specs.declared.io.BufWriter.{BufWriter}
+use Rattle.no_std_io2.specs.declared.io.ErrorKind.{ErrorKind}
+use Rattle.no_std_io2.specs.Write.{Told, WriteCall, Made, Moves, Writes, took, again, stuck, fault, AllCalls, told_out}
+use Rattle.no_std_io2.specs.Writers.{Writer, CallOf, FlushOf}
+use Rattle.no_std_io2.specs.BufWriter.{writer_inner, writer_buffer, writer_told, BufferMay, InnerCalls, Buffered, FlushCalls, SendCalls}
+use Rattle.no_std_io2.specs.BufWriter.{Step, TakesStep, stops, goes_on}
+use Rattle.no_std_io2.specs.Copy.{Handed, piece, refused}
+use Rattle.no_std_io2.proofs.CallsLemmas.{made_split}
+use Rattle.no_std_io2.proofs.CopyLemmas.{flushed as out_after}
+use Rattle.no_std_io2.proofs.WritesFacts.{writes_left}
+use Rattle.bare.specs.declared.queue.Queue.{Queue}
+use Rattle.bare.specs.Queue.{waiting, capacity, QueueMay}
+
+-- a queue as a writer
+abbrev pub queue : Writer Queue
+queue = record { told = λ q. told_out (waiting q); takes_all = λ _. ⊥; may = QueueMay }
+
+-- if writes to a queue end in an error, it is full
+pub blocked : {text : List ℕ} {C : List WriteCall} {x left : List ℕ} {e : Error} → Writes text C x (Err e) left
+    → (a b : Queue) → Made (CallOf queue) a C b → length (waiting b) ≡ capacity
+blocked (took some more w) a b made = blocked w made.0 b made.2
+blocked (again some interrupted w) a b made = blocked w made.0 b made.2
+blocked (stuck some says) a b made = absurd (let none = made.1.call.1 some in omega (arith, none))
+blocked (fault some is) a b made = subst (λ q. length (waiting q) ≡ capacity) (sym made.2) (ap length made.1.call.1 ∙ made.1.call.0)
+
+-- how many bytes are out and held
+abbrev pub size : Told → ℕ
+size t = length t.out + length t.held
+
+-- accepted bytes are counted
+pub size-moves : {a b : Told} {x : List ℕ} {k : List ErrorKind} → Moves a x k b → size b ≡ size a + length x
+size-moves m = omega (arith, simp length-append at (ap length m.bytes))
+
+module _ {S : ℕ} where
+  -- a buffer of S bytes in front of a queue
+  abbrev pub buffered : Writer (BufWriter Queue S)
+  buffered = record {
+    told = writer_told queue.told;
+    takes_all = λ _. ⊥;
+    may = BufferMay queue (InnerCalls S) writer_inner writer_buffer;
+  }
+
+  -- more bytes wait in the queue, and are held in front of it, than a queue has room for
+  abbrev pub IsOverfull : BufWriter Queue S → Type 0
+  IsOverfull w = capacity < size (buffered.told w)
+
+  -- this step was taken
+  abbrev Taken : {A : Type 0} → Step A → BufWriter Queue S → Result A Error → BufWriter Queue S → Type 0
+  Taken = TakesStep queue writer_inner writer_buffer
+
+  -- the held bytes were sent, and that failed
+  sent : {C : List WriteCall} {e : Error} (a b : BufWriter Queue S) → Made (CallOf queue) (writer_inner a) C (writer_inner b)
+      → SendCalls (writer_buffer a) C (Err e) (writer_buffer b) → IsOverfull b
+  sent a b made calls = omega (arith, blocked calls (writer_inner a) (writer_inner b) made, writes_left calls)
+
+  -- bytes that are fewer than those of the buffer were put into it, or that failed
+  pub put : {A : Type 0} {x : List ℕ} {v : A} {past : List WriteCall → Result A Error → Type 0} {reply : Result A Error}
+      (a b : BufWriter Queue S) → length x < S → Taken (Buffered S x v past) a reply b → MatchResult reply (λ n. n ≡ v) (λ _. IsOverfull b)
+  put a b short (C, made, stops way) = elim way [
+    | inl kept ↦ absurd (let no : ⊥ = cc (kept.2) in no)
+    | inr calls ↦ sent a b made calls.1
+  ]
+  put {v = v} a b short (C, made, goes_on way next) = elim next [
+    | inl held ↦ subst (λ r. MatchResult r (λ n. n ≡ v) (λ _. IsOverfull b)) (sym held.2) refl
+    | inr past ↦ absurd (omega (arith, short, past.0))
+  ]
+
+  -- a flush failed
+  flushed : {e : Error} (a b : BufWriter Queue S) → Taken FlushCalls a (Err e) b → IsOverfull b
+  flushed a b (C, made, stops calls) = sent a b made calls
+  flushed a b (C, made, goes_on {C = D} {D = E} calls next) =
+      let parts = made_split (CallOf queue) D (writer_inner a) E (writer_inner b) made in
+      let one = subst (λ K. Made (CallOf queue) parts.0 K (writer_inner b)) next.2 parts.2 in absurd (true≢false (sym one.1.call))
+
+  -- writes failed
+  writes_full : {text : List ℕ} {C : List WriteCall} {x left : List ℕ} {e : Error} → Writes text C x (Err e) left → length x < S
+      → (a b : BufWriter Queue S) → Made (CallOf buffered) a C b → IsOverfull b
+  writes_full (took {x = x} {n = n} some more w) short a b made =
+      writes_full w (omega (arith, short, length-drop n x)) made.0 b made.2
+  writes_full (again some interrupted w) short a b made = writes_full w short made.0 b made.2
+  writes_full (stuck some says) short a b made = absurd (let none = put a made.0 short made.1.call in omega (arith, some, none))
+  writes_full (fault some is) short a b made = subst IsOverfull (sym made.2) (put a made.0 short made.1.call)
+
+  -- a `write_all` failed
+  all_full : {C : List WriteCall} {x : List ℕ} {e : Error} → AllCalls C x (Err e) → length x < S → (a b : BufWriter Queue S)
+      → Made (CallOf buffered) a C b → IsOverfull b
+  all_full (inl own) short a b made =
+      let one = subst (λ K. Made (CallOf buffered) a K b) own made in subst IsOverfull (sym one.2) (put a one.0 short one.1.0)
+  all_full (inr writes) short a b made = writes_full writes.1 short a b made
+
+  -- pieces were passed on, and that failed
+  pub handed_full : {T : ℕ} {xs : List (List ℕ)} {C : List WriteCall} {e : Error} → T < S → Handed T xs C (Err e)
+      → (a b : BufWriter Queue S) → Made (CallOf buffered) a C b → IsOverfull b
+  handed_full less (piece {C = C} {D = D} some short calls more) a b made =
+      let parts = made_split (CallOf buffered) C a D b made in handed_full less more parts.0 b parts.2
+  handed_full less (refused some short calls) a b made = all_full calls (omega (arith, less, short)) a b made
+
+  -- bytes were accepted and flushed: the queue has all of them
+  pub flush_done : {a : Told} {b c : BufWriter Queue S} {x : List ℕ} (q : Result (Unit {0}) Error) → Moves a x [] (buffered.told b)
+      → FlushOf buffered b q c → OnOk q (waiting (writer_inner c) ≡ a.out ++ a.held ++ x)
+  flush_done {a = a} (Ok u) moved law = out_after a moved law.moves law.empty
+  flush_done (Err e) moved law = tt
+
+  -- or they do not fit
+  pub flush_full : {a : Told} {b c : BufWriter Queue S} {x : List ℕ} (q : Result (Unit {0}) Error) → Moves a x [] (buffered.told b)
+      → FlushOf buffered b q c → OnErr q (capacity < size a + length x)
+  flush_full (Ok u) moved law = tt
+  flush_full {b = b} {c = c} (Err e) moved law =
+      omega (arith, flushed b c law.call, size-moves moved, size-moves law.moves)
