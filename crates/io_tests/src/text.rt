@@ -83,6 +83,10 @@ fn a_text_is_printed_to_each_writer(rt: HostRuntime) -> Result<(), Fail> {
     assert!(rt; lines.get_ref().as_slice() == b"10\n".as_slice());
     let mut boxed: Box<dyn Write + Drop> = Box::new(rt.alloc(), Vec::<u8>::new(rt.alloc()))?;
     writeln!(boxed, "{}", 10)?;
+    let mut bytes = Vec::<u8>::new(rt.alloc());
+    let mut lent: &mut dyn Write = &mut bytes;
+    writeln!(&mut lent, "{}", 10)?;
+    assert!(rt; bytes.as_slice() == b"10\n".as_slice());
     Ok(())
 }
 
