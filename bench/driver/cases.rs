@@ -100,6 +100,8 @@ macro_rules! declare {
                 unsafe { speed(source.as_ptr(), source.len(), room.as_mut_ptr(), room.len(), calls) }
             }
         )*}
+        // A call that the toolchain does not have is declared too.
+        #[allow(dead_code)]
         mod kit {$(
             pub fn $name(source: &[u8], room: &mut [u8], calls: u64) -> u64 {
                 unsafe extern "C" {
