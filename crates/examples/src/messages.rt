@@ -1,8 +1,10 @@
 //! Messages: the length of the payload, as a big-endian `u16`, followed by the payload.
-ghost use Rattle.std.specs.Prelude.{◌≡◌, IfOk};
+ghost use Rattle.std.specs.Prelude.{◌≡◌, ◌<◌, ◌^◌, ◌++◌, ℕ, List, Some, length, IfErr, IfOk};
 ghost use Rattle.std.specs.Int.{w16, to_be_bytes};
+ghost use Rattle.no_std_io2.specs.Errors.{IsOutOfMemory};
+ghost use Rattle.no_std_io2.specs.Events.{Event, events_of};
 ghost use Rattle.no_std_io2.specs.Read.{tells};
-ghost use Rattle.no_std_io2.specs.Takes.{TakesBytes};
+ghost use Rattle.no_std_io2.specs.Takes.{TakesBytes, to_come};
 ghost use Rattle.examples.specs.Messages.{message};
 
 use no_std_io2::io::{Read, Result};
@@ -22,6 +24,11 @@ fn length_of(prefix: [u8; 2]) -> u16
 /// message may be taken then.
 pub fn read_message<R: Read>(alloc: Global, r: &mut R) -> Result<Vec<u8>>
     ensures takes { IfOk result (λ v. TakesBytes (tells R.Read r.old) (message v.items) (tells R.Read r.new)) }
+
+    // If a message is known to come next, its payload is returned, unless an allocation failed.
+    ensures back { (payload : List ℕ) → (rest : List Event) → length payload < 2 ^ 16
+        → to_come (tells R.Read r.old) ≡ Some (events_of (message payload) ++ rest)
+        → IfOk result (λ v. (v.items ≡ payload) × (to_come (tells R.Read r.new) ≡ Some rest)) × IfErr result IsOutOfMemory }
 {
     let mut prefix = [0u8; 2];
     r.read_exact(&mut prefix)?;

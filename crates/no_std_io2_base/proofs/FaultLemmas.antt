@@ -1,10 +1,11 @@
 -- Whose fault an error is.
 use Rattle.std.proofs.Common.{◌≡◌, ℕ, List, [], ◌∷◌, ◌++◌, ap, ◌∙◌, subst, arith, Some, append_assoc, inl, inr, ◌⊎◌, ◌+◌, ◌==◌, None}
-use Rattle.std.proofs.Common.{count_by, eq-eqb, if◌then◌else◌, refl, Option}
+use Rattle.std.proofs.Common.{count_by, eq-eqb, if◌then◌else◌, refl, Option, IfSome}
 use Rattle.no_std_io2_base.specs.declared.error.ErrorKind.{ErrorKind}
 use Rattle.no_std_io2_base.specs.declared.error.Error.{Error}
 use Rattle.no_std_io2_base.specs.Errors.{error_kind, kind_number, is_interruption, IsInterruption, IsFault}
-use Rattle.no_std_io2_base.specs.Events.{Event, byte, fails, HasNoFault}
+use Rattle.no_std_io2_base.specs.Events.{Event, byte, fails, HasNoFault, EndsInFault}
+use Rattle.no_std_io2_base.specs.Takes.{Tells, Takes, AreTaken, to_come}
 use Rattle.no_std_io2_base.specs.Write.{Told, Moves, HasSpent}
 use Rattle.no_std_io2_base.specs.Faults.{HasFirstFault, TellsMishap, MayFail}
 
@@ -26,6 +27,16 @@ may_fail {old} {new} {e = e} moves = record {
       let one : count_by is_interruption (error_kind e ∷ []) ≡ 1 = ap (λ b. 0 + (if b then 1 else 0)) again in
       omega (arith, moves.turns, one);
 }
+
+-- if what was taken ends in a fault, that is the first fault of the events to come
+pub first_fault_taken : {a b : Tells} {P : List Event} {e : Error} → Takes a P b → EndsInFault P e
+    → IfSome (to_come a) (λ E. HasFirstFault E e)
+first_fault_taken {a} {b} {P} {e} takes fault = by (to_come a) (to_come b) takes.events
+  where
+    by : (E E' : Option (List Event)) → AreTaken E P E' → IfSome E (λ l. HasFirstFault l e)
+    by None E' taken = tt
+    by (Some E) None taken = absurd taken
+    by (Some E) (Some rest) taken = record { front = P; rest = rest; split = taken; ends = fault }
 
 -- past a front, an error of events without a fault is an interruption
 no_fault_at : (front rest : List Event) (e : Error) → HasNoFault (front ++ fails e ∷ rest) → IsInterruption e

@@ -2,15 +2,15 @@
 use Rattle.std.proofs.Common.{◌≡◌, ℕ, ◌+◌, ◌<◌, ◌≤◌, ◌⊎◌, false, cond, if◌then◌else◌, Option, Some, None, List, [], ◌∷◌}
 use Rattle.std.proofs.Common.{◌++◌, length, filter, refl, sym, ap, ap₂, ◌∙◌, subst, arith, append-nil, append_assoc, Result, Ok, Err}
 use Rattle.std.proofs.Common.{inl, inr, ⊎_elim, length-append, IfSome, OnSome, IfErr}
-use Rattle.std.proofs.Common.{suc}
+use Rattle.std.proofs.Common.{suc, Vec, String, vec_len, vec_capacity}
 use Rattle.std.proofs.lemmas.List.{append_cancel_left, nil_from_length}
 use Rattle.no_std_io2_base.specs.declared.error.Error.{Error}
 use Rattle.no_std_io2_base.specs.Errors.{IsFault, IsOutOfMemory}
 use Rattle.no_std_io2_base.specs.Events.{Event, byte, fails, events_of, bytes, HasNoFault, EndsInFault, bytes_to_fault, first_fault}
 use Rattle.no_std_io2_base.specs.Takes.{Tells, Takes, AreTaken, to_come}
-use Rattle.no_std_io2_base.specs.BufRead.{Lender, lender_tells, NextPieceLaw}
+use Rattle.no_std_io2_base.specs.BufRead.{Lender, lender_tells, NextPieceLaw, ReadUntilLaw, ReadLineLaw, line_room}
 use Rattle.no_std_io2_base.specs.Pieces.{Lacks, EndsAt, PieceEnds, YieldsRead, ends_in, pieces}
-use Rattle.no_std_io2_base.specs.Pieces.{pieces_before, pieces_given, ends_at, items_left}
+use Rattle.no_std_io2_base.specs.Pieces.{pieces_before, pieces_given, ends_at, items_left, newline}
 use Rattle.no_std_io2_base.proofs.EventLemmas.{bytes-append, bytes-events_of, HasNoFault-events_of}
 use Rattle.no_std_io2_base.proofs.PieceLaws.{pieces-first, pieces-last, ends_in-end, ends_in-lacks}
 use Rattle.no_std_io2_base.proofs.PieceLemmas.{memory_fault}
@@ -121,7 +121,7 @@ part_comes P rest part free = bytes_to_fault-append P _ free
     ∙ ap (λ l. l ++ bytes_to_fault rest) (bytes-events_of part))
 
 -- if events are told, they still are, and P is gone
-told_after : (E : List Event) (P : List Event) (old new : Option (List Event)) → AreTaken old P new → old ≡ Some E
+pub told_after : (E : List Event) (P : List Event) (old new : Option (List Event)) → AreTaken old P new → old ≡ Some E
     → (after : List Event) × (new ≡ Some after) × (E ≡ P ++ after)
 told_after E P None new are is = absurd (let no : ⊥ = cc in no)
 told_after E P (Some F) None are is = absurd are
@@ -162,6 +162,22 @@ pub piece_given : (lacks : ℕ → Type 0) (d : ℕ) (t t' : Tells) (E P : List 
 piece_given lacks d t t' E P read takes ends told =
     let (after, still, split) = told_after E P (to_come t) (to_come t') takes.events told in
     (after, still, split, given_read lacks d t E P after read told split ends)
+
+-- so a `read_until`,
+pub until_given : {X A : Type 0} {R : Lender X} {old new : X} {d : ℕ} {buf buf' : Vec ℕ A} {reply : Result ℕ Error} {E : List Event}
+    → (law : ReadUntilLaw R old d buf reply buf' new) → to_come (lender_tells R old) ≡ Some E
+    → (after : List Event) × (to_come (lender_tells R new) ≡ Some after) × (E ≡ law.taken ++ after)
+    × GivenRead d E (bytes law.taken) reply after
+until_given {buf = buf} {reply = reply} {E} law told =
+    piece_given (λ n. vec_capacity buf < vec_len buf + n) _ _ _ E law.taken reply law.takes law.ends told
+
+-- and a `read_line`, whose `read` is the result before the bytes become a text
+pub line_given : {X A : Type 0} {R : Lender X} {old new : X} {buf buf' : String A} {reply : Result ℕ Error} {E : List Event}
+    → (law : ReadLineLaw R old buf reply buf' new) → to_come (lender_tells R old) ≡ Some E
+    → (after : List Event) × (to_come (lender_tells R new) ≡ Some after) × (E ≡ law.taken ++ after)
+    × GivenRead newline E (bytes law.taken) law.read after
+line_given {buf = buf} {E = E} law told =
+    piece_given (λ n. line_room buf < n) _ _ _ E law.taken law.read law.takes law.ends told
 
 -- each error of such a call is a fault
 pub piece_fault : (lacks : ℕ → Type 0) (d : ℕ) (t : Tells) (P : List Event) (read : Result ℕ Error) → PieceEnds lacks d t P read

@@ -4,8 +4,8 @@ use Rattle.std.proofs.Common.{◌≡◌, ℕ, ◌+◌, List, ◌∷◌, length, 
 use Rattle.std.proofs.lemmas.List.Recursion.{is_count_by}
 use Rattle.no_std_io2_base.specs.declared.error.Error.{Error}
 use Rattle.no_std_io2_base.specs.declared.error.ErrorKind.{ErrorKind}
-use Rattle.no_std_io2_base.specs.Write.{Told, Moves, Sends, HasSpent, call_mishap}
-use Rattle.no_std_io2_base.proofs.MovesLemmas.{Moves-refl, Moves-ends}
+use Rattle.no_std_io2_base.specs.Write.{Told, Sends, HasSpent}
+use Rattle.no_std_io2_base.proofs.MovesLemmas.{Moves-refl}
 use Rattle.no_std_io2_base.specs.Retries.{HasAtMost, HasSpentTries, Tries, again}
 
 -- at the start nothing went, and all is still to go

@@ -1,5 +1,5 @@
 -- What the loops of a `Take` take, its inner reader takes.
-use Rattle.std.proofs.Common.{◌≡◌, ℕ, ◌+◌, ◌≤◌, min, List, [], ◌∷◌, ◌++◌, Result, Ok, Err, OnOk, length, refl, sym, ap, subst}
+use Rattle.std.proofs.Common.{◌≡◌, ℕ, ◌+◌, ◌≤◌, min, List, [], ◌++◌, Result, Ok, Err, OnOk, length, refl, sym, ap, subst}
 use Rattle.std.proofs.Common.{◌∙◌}
 use Rattle.std.proofs.Common.{arith, Option, None, Some, inl, inr, ◌⊎◌, length-append, length-take-le, Vec, String, string_bytes}
 use Rattle.std.proofs.lemmas.List.{append_cancel_right}

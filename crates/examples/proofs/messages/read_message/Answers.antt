@@ -1,22 +1,48 @@
-use Rattle.std.proofs.Common.{◌++◌, length, take, drop, sym, ap, ◌∙◌, subst}
+use Rattle.std.proofs.Common.{◌++◌, length, take, drop, sym, ap, ◌∙◌, subst, arith, true≢false}
 use Rattle.std.proofs.Math.Seq.{take-append_seam}
 use Rattle.std.specs.Int.{w16, to_be_bytes}
 use Rattle.no_std_io2.specs.Takes.{TakesBytes}
 use Rattle.no_std_io2.specs.Read.{tells}
 use Rattle.no_std_io2.proofs.Readers.{reader}
+use Rattle.no_std_io2.proofs.KnownBytes.{exact_known}
 use Rattle.no_std_io2.proofs.TakesLemmas.{TakesBytes-then, TakesBytes-fills}
 use Rattle.examples.specs.Messages.{message}
+use Rattle.examples.proofs.MessageLemmas.{prefix_known, same_length}
 use Rattle.examples.proofs.messages.read_message.Goals as goal
 
-pub returns : goal.returns
-returns g c =
+-- the length is known, so it is read
+pub returns-in_err-read_exact-clause-back : goal.returns-in_err-read_exact-clause-back
+returns-in_err-read_exact-clause-back g c = λ payload rest small told.
+    let known = prefix_known payload rest c.in_err-read_exact.ensures.law c.read_exact.auto.buf told in
+    absurd (true≢false (sym known.0))
+
+-- and so is the payload
+pub returns-in_err-read_exact-2-clause-back : goal.returns-in_err-read_exact-2-clause-back
+returns-in_err-read_exact-2-clause-back g c = λ payload rest small told.
+    let first = prefix_known payload rest c.in_ok-read_exact.ensures.law c.read_exact.auto.buf told in
+    let len = same_length c.length_of-len.result (length payload) (omega arith) small (c.length_of-len.ensures ∙ first.1) in
+    let room = c.read_exact-2.auto.buf ∙ c.deref_mut.ensures.len ∙ c.in_ok-payload.ensures.len ∙ c.from.ensures ∙ len in
+    let known = exact_known payload rest c.in_err-read_exact-2.ensures.law (sym room) first.2 in
+    absurd (true≢false (sym known.0))
+
+pub returns-clause-takes : goal.returns-clause-takes
+returns-clause-takes g c =
     let buf = c.read_exact-2.new.buf in
     let room = c.read_exact-2.auto.buf ∙ c.deref_mut.ensures.len in
     let items = ap (λ m. take m (buf ++ drop (length buf) c.in_ok-payload.payload.items)) (sym room) ∙ take-append_seam buf _ in
     let len = room ∙ c.in_ok-payload.ensures.len ∙ c.from.ensures in
     let whole = ap (λ l. l ++ buf) (sym c.length_of-len.ensures) ∙ ap (λ n. to_be_bytes w16 n ++ buf) (sym len) ∙ ap message (sym items) in
     let R = reader g.R.Stored g.R.Read in
-    record {
-      takes = subst (λ l. TakesBytes (tells R c.args.r.now) l (tells R c.read_exact-2.new.self)) whole
-          (TakesBytes-then (TakesBytes-fills c.in_ok-read_exact.ensures.law) (TakesBytes-fills c.in_ok-read_exact-2.ensures.law));
-    }
+    subst (λ l. TakesBytes (tells R c.args.r.now) l (tells R c.read_exact-2.new.self)) whole
+    (TakesBytes-then (TakesBytes-fills c.in_ok-read_exact.ensures.law) (TakesBytes-fills c.in_ok-read_exact-2.ensures.law))
+
+pub returns-clause-back : goal.returns-clause-back
+returns-clause-back g c = λ payload rest small told.
+    let first = prefix_known payload rest c.in_ok-read_exact.ensures.law c.read_exact.auto.buf told in
+    let len = same_length c.length_of-len.result (length payload) (omega arith) small (c.length_of-len.ensures ∙ first.1) in
+    let buf = c.read_exact-2.new.buf in
+    let room = c.read_exact-2.auto.buf ∙ c.deref_mut.ensures.len in
+    let items = ap (λ m. take m (buf ++ drop (length buf) c.in_ok-payload.payload.items)) (sym room) ∙ take-append_seam buf _ in
+    let long = room ∙ c.in_ok-payload.ensures.len ∙ c.from.ensures ∙ len in
+    let known = exact_known payload rest c.in_ok-read_exact-2.ensures.law (sym long) first.2 in
+    ((items ∙ known.1, known.2), tt)
