@@ -118,7 +118,7 @@ fn read(rt: HostRuntime) -> Result<(), Fail> {
     let mut r = Cursor::new(*b"abcde");
     let mut head = Vec::<u8>::new(rt.alloc());
     Read::by_ref(&mut r).take(2).read_to_end(&mut head)?;
-    assert!(rt; r.position() == 2); // `r` goes on behind `ab`
+    assert!(rt; r.position() == 2); // `r` continues after `ab`
 
     let mut r = Cursor::new(*b"abcde").take(2);
     let mut content = Vec::<u8>::new(rt.alloc());

@@ -167,7 +167,7 @@ pub record Flushes {W B : Type 0} (I : Writer W) (inner : B → W) (buffer : B �
   pub calls : TakesStep I inner buffer FlushCalls old reply new
 
 -- the bytes of a record x that were accepted, by the result of its call
-abbrev all_or_none : Result (Unit {0}) Error → List ℕ → List ℕ
+abbrev pub all_or_none : Result (Unit {0}) Error → List ℕ → List ℕ
 all_or_none (Ok u) x = x
 all_or_none (Err e) x = []
 

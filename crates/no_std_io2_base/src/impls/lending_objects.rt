@@ -42,6 +42,7 @@ impl<A: Allocator> BufRead for Box<dyn BufRead + Drop, A> {
         (**self).consume(amount)
     }
 
+    // The trait's body, written again, since it has a type parameter (`read_object.rt` says more).
     fn read_until<B: Allocator>(&mut self, delim: u8, buf: &mut Vec<u8, B>) -> Result<usize> {
         let start = buf.len();
         'pieces: loop {

@@ -183,7 +183,7 @@ pub trait Read: Stored {
     /// let mut r = Cursor::new(*b"abcde");
     /// let mut head = Vec::<u8>::new(rt.alloc());
     /// Read::by_ref(&mut r).take(2).read_to_end(&mut head)?;
-    /// assert!(rt; r.position() == 2); // `r` goes on behind `ab`
+    /// assert!(rt; r.position() == 2); // `r` continues after `ab`
     /// ```
     final fn by_ref(&mut self) -> &mut Self
     where
