@@ -1,3 +1,4 @@
+pub mod Checksum
 pub mod Headers
 pub mod Hex
 pub mod Indexed

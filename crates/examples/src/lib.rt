@@ -6,6 +6,7 @@ ghost use Rattle.std.specs.Prelude.{◌≡◌, ◌++◌, IfOk};
 ghost use Rattle.no_std_io2.specs.BufWriter.{BufWriterFits};
 
 mod broken;
+mod checksum;
 mod flash;
 mod hex;
 mod inbox;
@@ -21,6 +22,7 @@ mod serial;
 mod summed;
 
 pub use broken::Broken;
+pub use checksum::checksum_of;
 pub use flash::{Flash, FlashFile};
 pub use hex::{Hex, hex_of, write_hex};
 pub use inbox::{Inbox, Source};

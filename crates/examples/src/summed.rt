@@ -27,7 +27,7 @@ impl<W> Summed<W> {
 }
 
 // Returns a sum with these bytes added.
-fn add_all(start: u64, bytes: &[u8]) -> u64
+pub(crate) fn add_all(start: u64, bytes: &[u8]) -> u64
     ensures { result % 2 ^ 64 ≡ (start + sum bytes.now) % 2 ^ 64 }
 {
     let mut total = start;

@@ -1,5 +1,5 @@
 // The examples in the comments of `framing`, `line_log`, `system_streams` and `io_bench`, one function for each of their modules.
-use examples::{entry_of_file, save};
+use examples::{checksum_of, entry_of_file, save};
 use framing::{FrameReader, FrameWriter};
 use io_bench::{Act, Faulty, Op, Reply, joined};
 use line_log::LineLog;
@@ -123,6 +123,15 @@ fn accepted(rt: HostRuntime) -> Result<(), Fail> {
 fn saved(rt: HostRuntime) -> Result<(), Fail> {
     let device = save(Vec::new(rt.alloc()), b"a record")?;
     assert!(rt; device.as_slice() == b"a record".as_slice());
+    Ok(())
+}
+
+// The example of PROVING.md on objects. The last piece left out, or what stands behind it in the buffer summed too.
+#[test]
+fn checksum(rt: HostRuntime) -> Result<(), Fail> {
+    let mut r = Cursor::new(vec![in rt.alloc(); b'a', b'b', b'c', b'd', b'e']?);
+    let mut piece = [0u8; 2];
+    assert!(rt; checksum_of(&mut r, &mut piece)? == 495);
     Ok(())
 }
 

@@ -1,0 +1,49 @@
+use Rattle.std.proofs.Common.{◌+◌, ◌%◌, ◌^◌, ◌∙◌, ap, arith, sum, refl}
+use Rattle.std.proofs.lemmas.Result.{err_from_is_err_and}
+use Rattle.no_std_io2.proofs.FaultLemmas.{first_fault_taken}
+use Rattle.no_std_io2.proofs.GivenPieces.{piece_spends}
+use Rattle.no_std_io2.proofs.TakesLemmas.{takes_then, EndsInFault-behind}
+use Rattle.examples.proofs.ChecksumLemmas.{sums_none, sums_more}
+use Rattle.examples.proofs.checksum.checksum_of.Goals as goal
+
+pub pieces-init : goal.pieces-init
+pieces-init g c = record { sums = sums_none; room = refl }
+
+pub pieces-preserved : goal.pieces-preserved
+pieces-preserved g c =
+    let before = c.pieces.invariant in
+    let law = c.in_ok-read_full.ensures in
+    let next = c.add_all-total.ensures ∙ ap (λ l. (c.pieces.total + sum l) % 2 ^ 64) law.fills in
+    record { sums = sums_more before.sums law.takes law.ends.0 next; room = c.read_full.auto.buf ∙ before.room }
+
+-- a full buffer took some bytes
+pub pieces-smaller : goal.pieces-smaller
+pieces-smaller g c =
+    let law = c.in_ok-read_full.ensures in
+    piece_spends law.takes (omega (arith, law.counts, c.if-filled-buf.false, c.pieces.invariant.room, c.read_full.auto.buf, c.requires))
+
+pub returns-then-filled-buf : goal.returns-then-filled-buf
+returns-then-filled-buf g c =
+    let law = c.in_ok-read_full.ensures in
+    let next = c.add_all-total.ensures ∙ ap (λ l. (c.pieces.total + sum l) % 2 ^ 64) law.fills in
+    let sums = sums_more c.pieces.invariant.sums law.takes law.ends.0 next in
+    record {
+      all = record {
+        taken = sums.taken;
+        takes = sums.takes;
+        no_fault = sums.no_fault;
+        end = law.ends.2 (omega (arith, law.counts, c.if-filled-buf.true, c.read_full.auto.buf));
+        is = sums.is;
+      };
+      fault = tt;
+    }
+
+pub returns-in_err-read_full : goal.returns-in_err-read_full
+returns-in_err-read_full g c =
+    let before = c.pieces.invariant.sums in
+    let law = c.in_err-read_full.ensures in
+    let p = err_from_is_err_and c.from_residual.result c.from_residual.ensures.1 in
+    rw (p.1, p.2) (record {
+      all = tt;
+      fault = first_fault_taken (takes_then before.takes law.takes) (EndsInFault-behind before.taken law.taken before.no_fault law.ends.0);
+    })
