@@ -1,9 +1,8 @@
 -- What a checksum of a reader says.
-use Rattle.std.specs.Prelude.{◌≡◌, ◌%◌, ◌^◌, ℕ, List, sum, IfSome}
+use Rattle.std.specs.Prelude.{◌≡◌, ◌%◌, ◌^◌, ℕ, List, sum}
 use Rattle.no_std_io2.specs.declared.io.Error.{Error}
-use Rattle.no_std_io2.specs.Events.{Event, bytes, HasNoFault}
-use Rattle.no_std_io2.specs.Faults.{HasFirstFault}
-use Rattle.no_std_io2.specs.Takes.{Tells, Takes, IsAtEnd, to_come}
+use Rattle.no_std_io2.specs.Events.{Event, bytes, EndsInFault, HasNoFault}
+use Rattle.no_std_io2.specs.Takes.{Tells, Takes, IsAtEnd}
 
 -- Events without a fault were taken, up to the end, and s is the sum of their bytes.
 pub record SumsAll (old new : Tells) (s : ℕ) : Type 0 where
@@ -13,6 +12,8 @@ pub record SumsAll (old new : Tells) (s : ℕ) : Type 0 where
   pub end : IsAtEnd new
   pub is : s % 2 ^ 64 ≡ sum (bytes taken) % 2 ^ 64
 
--- if events were told, e is the first fault among them
-abbrev pub MeetsFault : Tells → Error → Type 0
-MeetsFault old e = IfSome (to_come old) (λ E. HasFirstFault E e)
+-- The events up to the first fault, which is e, were taken.
+pub record MeetsFault (old new : Tells) (e : Error) : Type 0 where
+  pub taken : List Event
+  pub takes : Takes old taken new
+  pub ends : EndsInFault taken e

@@ -2,12 +2,12 @@
 use Rattle.std.proofs.Common.{◌≡◌, ℕ, List, Result, sym, subst, refl}
 use Rattle.std.specs.declared.dyn_box.DynBox.{DynBox}
 use Rattle.no_std_io2_base.specs.declared.error.Error.{Error}
-use Rattle.std.specs.Borrow.{Bor, MutBor}
+use Rattle.std.specs.Borrow.{Bor}
 use Rattle.no_std_io2_base.specs.Read.{Reader, ReadLaw, ReadExactLaw}
 use Rattle.no_std_io2_base.specs.BufRead.{Lender, ConsumeLaw, FillBufLaw, AfterLoan}
 use Rattle.no_std_io2_base.proofs.Forwards.{ReadsThrough, read_through, exact_through, LendsThrough, consume_through, fill_through}
 use Rattle.no_std_io2_base.proofs.Forwards.{loan_through, wrote_through, write_all_through}
-use Rattle.no_std_io2_base.specs.Write.{WriteCall, BoxMay, LentMay}
+use Rattle.no_std_io2_base.specs.Write.{WriteCall, BoxMay}
 use Rattle.no_std_io2_base.specs.Writers.{Writer, CallOf, WriteAllOf}
 
 module _ {I A : Type 0} {V : I → Type 0} (box : DynBox I A V) where
@@ -123,12 +123,3 @@ module _ {I A : Type 0} {V : I → Type 0} (o : (p : (x : I) × V x) → Writer 
       → (new : V lent.0) → WriteAllOf (value_writer lent.0) lent.1 x reply new → WriteAllOf box_writer box x reply (holding box lent.0 new)
   write_all_box x reply = in_box box (λ i a b. WriteAllOf (value_writer i) a x reply b) (WriteAllOf box_writer box x reply)
       (λ new law. write_all_through (holding box box.vtable) (λ a b call did. (b, refl, did)) law)
-
--- a reference to an object, as a reader
-abbrev pub lent_reader : {I : Type 0} {V : I → Type 0} → ((p : (x : I) × V x) → Reader (V p.0)) → Reader (MutBor ((x : I) × V x))
-lent_reader o = record {
-  store = λ r. (o r.now).store r.now.1;
-  turns = λ r. (o r.now).turns r.now.1;
-  events = λ r. (o r.now).events r.now.1;
-  may = λ r. LentMay r (o r.now).may;
-}

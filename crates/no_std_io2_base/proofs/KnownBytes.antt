@@ -64,6 +64,7 @@ module _ {a b : Tells} (x : List ℕ) (rest : List Event) (told : to_come a ≡ 
 
 -- A `read_exact` of as many bytes gives x, and the rest is to come.
 pub exact_known : {S : Type 0} {R : Reader S} {old new : S} {buf buf' : List ℕ} {reply : Result (Unit {0}) Error} (x : List ℕ)
-    (rest : List Event) → ReadExactLaw R old buf reply buf' new → length x ≡ length buf' → to_come (tells R old) ≡ Some (events_of x ++ rest)
+    (rest : List Event) → ReadExactLaw R old buf reply buf' new → length x ≡ length buf'
+    → to_come (tells R old) ≡ Some (events_of x ++ rest)
     → IsOk reply × (buf' ≡ x) × (to_come (tells R new) ≡ Some rest)
 exact_known x rest law long told = ends_known x rest told law.taken _ _ long law.takes law.ends

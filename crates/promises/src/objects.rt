@@ -53,8 +53,8 @@ fn writes_through_an_object(w: &mut &mut dyn Write, x: &[u8]) -> Result<usize>
 
 // A reader behind a reference gives what the object gives.
 fn reads_through_an_object(r: &mut &mut dyn Read, buf: &mut [u8]) -> Result<usize>
-    ensures takes { Takes (record { events = events r.old.now; store = store r.old.now; turns = turns r.old.now }) (answered (gave result buf.new))
-        (record { events = events r.new.now; store = store r.new.now; turns = turns r.new.now }) }
+    ensures takes { Takes (record { events = events r.old.now; store = store r.old.now; turns = turns r.old.now })
+        (answered (gave result buf.new)) (record { events = events r.new.now; store = store r.new.now; turns = turns r.new.now }) }
     ensures call { LentMay r.old (Read-dyn r.old.now).Read.may (Gave (length buf.new) (gave result buf.new)) r.new }
 {
     r.read(buf)

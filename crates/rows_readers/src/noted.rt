@@ -19,7 +19,7 @@ pub fn lend(name: &str, devices: &Devices<'_>, player: &mut Player<'_, '_>) -> M
         "Device" => play_seeking(device, 0, devices, player),
         "&mut Device" => play_seeking(device, 1, devices, player),
         "&mut &mut Device" => play_seeking(device, 2, devices, player),
-        "&mut dyn Read" => player.play(&mut Lent {
+        "&mut dyn Read" => player.play(&mut LentObject {
             device,
             devices: *devices,
         }),
@@ -60,12 +60,12 @@ fn lend_buf_read(
 
 // A device that is called through a reference to an object.
 #[derive(Drop)]
-struct Lent<'j> {
+struct LentObject<'j> {
     device: Device,
     devices: Devices<'j>,
 }
 
-impl<'j> Stream for Lent<'j> {
+impl<'j> Stream for LentObject<'j> {
     fn play(&mut self, alloc: Global, call: &Call<'_>, line: &mut Line) {
         make_lent_read(alloc, &mut self.device, call, line);
         self.devices.show_calls(line);

@@ -21,7 +21,7 @@ use Rattle.no_std_io2.proofs.BufWriterLemmas.{Moves-bare}
 use Rattle.no_std_io2.proofs.CallsLemmas.{made_more}
 use Rattle.no_std_io2.proofs.CopyLemmas.{copied_ok, copied_err}
 use Rattle.no_std_io2.proofs.TowerCalls.{through}
-use Rattle.no_std_io2.proofs.FaultLemmas.{may_fail, no_failure}
+use Rattle.no_std_io2.proofs.FaultLemmas.{first_fault_taken, may_fail, no_failure}
 use Rattle.system_streams.specs.Copies.{CopiesAll, HandsAndFlushes, HandsThrough, BufferCalls}
 
 -- a copy, and then a flush
@@ -37,13 +37,6 @@ copies_all ok flushed =
       count = copied.ends.2;
     }
 
--- a fault that was taken is the first
-first_fault : (E F : Option (List Event)) (P : List Event) (e : Error) → AreTaken E P F → EndsInFault P e
-    → IfSome E (λ l. HasFirstFault l e)
-first_fault None F P e taken ends = tt
-first_fault (Some E) None P e taken ends = absurd taken
-first_fault (Some E) (Some F) P e taken ends = record { front = P; rest = F; split = taken; ends = ends }
-
 -- a copy that failed met the reader's first fault, or a mishap of the writer's
 pub copies_err : {R W : Type 0} {K : Reader R} {I : Writer W} {from from' : R} {old mid : W} {e : Error}
     → Copied K I 64 from old (Err e) from' mid → IsFaultOf (tells K from) (I.told old) e
@@ -52,7 +45,7 @@ copies_err {K = K} {I} {from} {from'} {old} {mid} err =
   where
     of_side : (side : CopyError) → SidesCopied K I 64 from old (Err side) from' mid
         → IsFaultOf (tells K from) (I.told old) (side_error side)
-    of_side (Read e) copied = inl (first_fault _ _ copied.taken e copied.takes.events copied.ends.0)
+    of_side (Read e) copied = inl (first_fault_taken copied.takes copied.ends.0)
     of_side (Write e) copied = inr (may_fail copied.ends.1.2.2)
 
 -- and if the flush after it failed, that was a mishap of the writer's too

@@ -1,6 +1,5 @@
 use Rattle.std.proofs.Common.{◌+◌, ◌%◌, ◌^◌, ◌∙◌, ap, arith, sum, refl}
 use Rattle.std.proofs.lemmas.Result.{err_from_is_err_and}
-use Rattle.no_std_io2.proofs.FaultLemmas.{first_fault_taken}
 use Rattle.no_std_io2.proofs.GivenPieces.{piece_spends}
 use Rattle.no_std_io2.proofs.TakesLemmas.{takes_then, EndsInFault-behind}
 use Rattle.examples.proofs.ChecksumLemmas.{sums_none, sums_more}
@@ -45,5 +44,9 @@ returns-in_err-read_full g c =
     let p = err_from_is_err_and c.from_residual.result c.from_residual.ensures.1 in
     rw (p.1, p.2) (record {
       all = tt;
-      fault = first_fault_taken (takes_then before.takes law.takes) (EndsInFault-behind before.taken law.taken before.no_fault law.ends.0);
+      fault = record {
+        taken = before.taken ++ law.taken;
+        takes = takes_then before.takes law.takes;
+        ends = EndsInFault-behind before.taken law.taken before.no_fault law.ends.0;
+      };
     })
