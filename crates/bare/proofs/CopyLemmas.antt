@@ -10,7 +10,7 @@ use Rattle.no_std_io2.specs.Write.{Moves}
 use Rattle.no_std_io2.specs.Copy.{Copied}
 use Rattle.no_std_io2.proofs.CopyLemmas.{copied_ok, took_all, no_fault_at_end}
 use Rattle.no_std_io2.proofs.EventLemmas.{bytes-append, bytes-events_of, HasNoFault-events_of, HasNoFault-front}
-use Rattle.no_std_io2.proofs.ExactLemmas.{left_of}
+use Rattle.no_std_io2.proofs.TakesLemmas.{left_of}
 use Rattle.bare.specs.declared.queue.Queue.{Queue}
 use Rattle.bare.specs.Queue.{capacity}
 use Rattle.bare.proofs.FullLemmas.{buffered, size, size-moves, handed_full}

@@ -16,7 +16,7 @@ use Rattle.no_std_io2_base.proofs.MovesLemmas.{Moves-steady}
 use Rattle.no_std_io2.specs.Copy.{CopyEnds, Copied, SidesCopied, side_error}
 use Rattle.no_std_io2.specs.declared.util.sides.CopyError.{CopyError}
 use Rattle.no_std_io2.specs.declared.util.sides.CopyError.TheVariants.{Read, Write}
-use Rattle.no_std_io2_base.proofs.ExactLemmas.{left_of}
+use Rattle.no_std_io2_base.proofs.TakesLemmas.{left_of}
 
 -- events without a fault do not end in one
 pub no_fault_at_end : (P : List Event) (e : Error) → HasNoFault P → EndsInFault P e → ⊥

@@ -12,7 +12,7 @@ use Rattle.no_std_io2_base.specs.Writers.{Writer}
 use Rattle.no_std_io2_base.proofs.CallsLemmas.{made_split}
 use Rattle.no_std_io2_base.proofs.EventLemmas.{length-events_of}
 use Rattle.no_std_io2.specs.Copy.{Copied}
-use Rattle.no_std_io2_base.proofs.ExactLemmas.{left_of}
+use Rattle.no_std_io2_base.proofs.TakesLemmas.{left_of}
 use Rattle.no_std_io2.proofs.CopyLemmas.{copied_ok}
 
 -- a read into the whole room that gave bytes

@@ -1,18 +1,13 @@
 -- The law of `write_all` follows from the calls that were made, if each call kept its law.
-use Rattle.std.proofs.Common.{◌≡◌, ℕ, List, [], Result, Ok, Err, Some, IsOk, refl, sym, subst, inl, inr}
-use Rattle.no_std_io2_base.specs.declared.error.Error.{Error}
-use Rattle.no_std_io2_base.specs.Errors.{IsNoInterruption}
-use Rattle.no_std_io2_base.specs.Write.{Told, Moves, MovesFront, call_mishap}
-use Rattle.no_std_io2_base.specs.Write.{WriteCall, WroteAll, Made, AllCalls}
-use Rattle.no_std_io2_base.specs.Writers.{Writer, TakesAll, CallOf}
-use Rattle.no_std_io2_base.proofs.MovesLemmas.{Moves-steady, MovesFront-sends}
-use Rattle.no_std_io2_base.proofs.WritesFacts.{writes_law}
+use Rattle.std.proofs.{lemmas.Grind.{common_steps}, Common.{arith, ◌≡◌, ℕ, List, [], Result, Some, IsOk, sym, subst, inl, inr}}
+use Rattle.no_std_io2_base.specs.{declared.error.Error.{Error}, Errors.{IsNoInterruption}, Write.{Told, Moves, MovesFront, call_mishap}}
+use Rattle.no_std_io2_base.specs.{Write.{WriteCall, WroteAll, Made, AllCalls}, Writers.{Writer, TakesAll, CallOf}}
+use Rattle.no_std_io2_base.proofs.{MovesLemmas.{Moves-steady, MovesFront-sends}, WritesFacts.{writes_law}}
 
 -- a call of a writer with no mishap to come returns `Ok`
 pub call_steady : {a c : Told} {x : List ℕ} (reply : Result (Unit {0}) Error) → a.mishaps ≡ Some [] → Moves a x (call_mishap reply) c
     → IsOk reply
-call_steady (Ok u) e f = refl
-call_steady (Err err) e f = absurd (Moves-steady e f)
+call_steady x1 e f = grind (arith, common_steps, Moves-steady)
 
 module _ {S : Type 0} (I : Writer S) where
   -- what a writer that takes all does: it still takes all, and returns `Ok`

@@ -1,14 +1,10 @@
 -- A boxed object after a call on the value in it.
-use Rattle.std.proofs.Common.{◌≡◌, ℕ, List, Result, sym, subst, refl}
-use Rattle.std.specs.declared.dyn_box.DynBox.{DynBox}
-use Rattle.no_std_io2_base.specs.declared.error.Error.{Error}
-use Rattle.std.specs.Borrow.{Bor}
-use Rattle.no_std_io2_base.specs.Read.{Reader, ReadLaw, ReadExactLaw}
-use Rattle.no_std_io2_base.specs.BufRead.{Lender, ConsumeLaw, FillBufLaw, AfterLoan}
-use Rattle.no_std_io2_base.proofs.Forwards.{ReadsThrough, read_through, exact_through, LendsThrough, consume_through, fill_through}
-use Rattle.no_std_io2_base.proofs.Forwards.{loan_through, wrote_through, write_all_through}
-use Rattle.no_std_io2_base.specs.Write.{WriteCall, BoxMay}
-use Rattle.no_std_io2_base.specs.Writers.{Writer, CallOf, WriteAllOf}
+use Rattle.std.proofs.{lemmas.Grind.{common_steps}, Common.{arith, ◌≡◌, ℕ, List, Result, sym, subst, refl}}
+use Rattle.std.specs.{declared.dyn_box.DynBox.{DynBox}, Borrow.{Bor}}
+use Rattle.no_std_io2_base.specs.{declared.error.Error.{Error}, Read.{Reader, ReadLaw, ReadExactLaw}, BufRead.{Lender, ConsumeLaw}}
+use Rattle.no_std_io2_base.specs.{BufRead.{FillBufLaw, AfterLoan}, Write.{WriteCall, BoxMay}, Writers.{Writer, CallOf, WriteAllOf}}
+use Rattle.no_std_io2_base.proofs.Forwards.{ReadsThrough, read_through, exact_through, LendsThrough, consume_through, loan_through}
+use Rattle.no_std_io2_base.proofs.Forwards.{wrote_through, write_all_through}
 
 module _ {I A : Type 0} {V : I → Type 0} (box : DynBox I A V) where
   -- the box with another value
@@ -86,9 +82,7 @@ module _ {I A : Type 0} {V : I → Type 0} (o : (p : (x : I) × V x) → Lender 
 
   pub fill_box : {reply : Result (Bor (List ℕ)) Error} (lent : (x : I) × V x) → lent ≡ (box.vtable, box.value)
       → FillBufLaw (value_lender o lent.0) lent.1 reply → FillBufLaw (box_lender o) box reply
-  fill_box {reply} lent back =
-      subst (λ l. FillBufLaw (value_lender o l.0) l.1 reply → FillBufLaw (box_lender o) box reply) (sym back)
-      (fill_through (holding box box.vtable) of_lender)
+  fill_box {reply} lent back = grind (arith, common_steps)
 
   pub loan_box : (reply : Result (Bor (List ℕ)) Error) (lent : (x : I) × V x) → lent ≡ (box.vtable, box.value)
       → (new : V lent.0) → AfterLoan (value_lender o lent.0) lent.1 reply new → AfterLoan (box_lender o) box reply (holding box lent.0 new)

@@ -1,9 +1,8 @@
 -- What each call adds to a writer's own state, the calls of a `write_all` or a `write_rest` add together.
-use Rattle.std.proofs.Common.{◌≡◌, ℕ, List, [], ◌++◌, Result, Ok, Err, OnOk, refl, sym, ap, subst, ◌∙◌, inl, inr}
-use Rattle.std.proofs.Common.{take, append_assoc, append-nil, take-append-drop}
-use Rattle.no_std_io2_base.specs.declared.error.Error.{Error}
-use Rattle.no_std_io2_base.specs.Write.{WriteCall, Wrote, WroteAll, CallAdds, RestAdds, Made}
-use Rattle.no_std_io2_base.specs.Write.{Writes, none, took, again, stuck, fault, AllCalls}
+use Rattle.std.proofs.{lemmas.Grind.{common_steps}, Common.{arith, ℕ, List, [], ◌++◌, Result, Ok, Err, refl, sym, ap, subst, ◌∙◌, take}}
+use Rattle.std.proofs.Common.{append_assoc, append-nil, take-append-drop}
+use Rattle.no_std_io2_base.specs.{declared.error.Error.{Error}, Write.{WriteCall, Wrote, WroteAll, CallAdds, RestAdds, Made, Writes, none}}
+use Rattle.no_std_io2_base.specs.Write.{took, again, stuck, fault, AllCalls}
 
 -- No bytes add nothing, and bytes that were added one after another were added joined.
 pub record Joins {W : Type 0} (Adds : W → List ℕ → W → Type 0) : Type 0 where
@@ -34,17 +33,4 @@ module _ {W : Type 0} {may : W → WriteCall → W → Type 0} {Adds : W → Lis
   -- the calls of a `write_all`: all of x was added after `Ok`, and some front of x after an error
   pub all_adds : (C : List WriteCall) (x : List ℕ) (reply : Result (Unit {0}) Error) (a b : W)
       → Made may a C b → AllCalls C x reply → CallAdds Adds a (WroteAll x reply) b
-  all_adds C x reply a b made calls =
-      elim calls [
-        | inl own ↦
-            let one = subst (λ K. Made may a K b) own made in
-            subst (CallAdds Adds a (WroteAll x reply)) (sym one.2) (each a one.0 (WroteAll x reply) one.1)
-        | inr rest ↦
-            let added = writes_add rest.1 a b made in
-            (added.0, (rest.0, added.1), whole x rest.0 added.0 reply added.1 added.2, added.3)
-      ]
-    where
-      whole : (x left front : List ℕ) (reply : Result (Unit {0}) Error) → x ≡ front ++ left → OnOk reply (left ≡ [])
-          → OnOk reply (front ≡ x)
-      whole x left front (Ok u) split empty = sym (split ∙ ap (λ l. front ++ l) empty ∙ append-nil front)
-      whole x left front (Err e) split empty = tt
+  all_adds C x reply a b made calls = grind (arith, common_steps, writes_add, append-nil)

@@ -1,9 +1,8 @@
 -- Calls one after another.
-use Rattle.std.proofs.Common.{◌≡◌, ℕ, List, [], ◌∷◌, ◌++◌, Result, OnOk, refl, sym, ap, subst, append_assoc, inl}
-use Rattle.no_std_io2_base.specs.declared.error.Error.{Error}
-use Rattle.no_std_io2_base.specs.Write.{WriteCall, Made, WroteAll, Wrote, Flushed, Writes, none, took, again}
-use Rattle.no_std_io2_base.specs.Writers.{Writer, CallOf}
-use Rattle.no_std_io2_base.specs.Write.{stuck, fault, AllCalls}
+use Rattle.std.proofs.{lemmas.Grind.{common_steps}, Common.{arith, ◌≡◌, ℕ, List, [], ◌∷◌, ◌++◌, Result, OnOk, refl, ap, subst}}
+use Rattle.std.proofs.Common.{append_assoc, inl}
+use Rattle.no_std_io2_base.specs.{declared.error.Error.{Error}, Write.{WriteCall, Made, WroteAll, Writes, none, took, again, stuck, fault}}
+use Rattle.no_std_io2_base.specs.{Write.{AllCalls}, Writers.{Writer, CallOf}}
 
 -- one call more
 pub made_more : {W A : Type 0} (may : W → A → W → Type 0) (C : List A) (a : W) {b c : W} {call : A}
@@ -43,9 +42,7 @@ writes_whole (fault some is) = tt
 
 -- a call as its law says is one that the writer may make
 pub law_may : {W : Type 0} (I : Writer W) (old new : W) (call : WriteCall) → CallOf I old call new → I.may old call new
-law_may I old new (Wrote x reply) law = law.call
-law_may I old new (Flushed reply) law = law.call
-law_may I old new (WroteAll x reply) law = law.0
+law_may x1 old new x4 law = grind (arith, common_steps)
 
 -- the `write_all` of a type that has a body of its own for it is one call
 pub all_own : {W : Type 0} {may : W → WriteCall → W → Type 0} {a : W} (b : W) (x : List ℕ) (reply : Result (Unit {0}) Error)
@@ -76,12 +73,7 @@ module _ {W : Type 0} {may : W → WriteCall → W → Type 0} {text : List ℕ}
       → ((D : List WriteCall) (reply : Result (Unit {0}) Error) (end : List ℕ) → Writes text D rest reply end
       → Writes text (call ∷ D) left reply end)
       → CallsSoFar may text old start rest new
-  calls_more {call = call} last on = record {
-    calls = before.calls ++ call ∷ [];
-    made = made_more may before.calls old before.made last;
-    on = λ D r e w. subst (λ C. Writes text C start r e) (sym (append_assoc before.calls (call ∷ []) D))
-        (before.on (call ∷ D) r e (on D r e w));
-  }
+  calls_more {call = call} last on = grind (arith, common_steps, made_more, append_assoc)
 
   -- and these were the last ones
   pub calls_end : {new : W} (reply : Result (Unit {0}) Error) (end : List ℕ) (D : List WriteCall) → Made may now D new

@@ -1,22 +1,13 @@
 -- What the two readers of a `Chain` take, the chain takes.
-use Rattle.std.proofs.Common.{◌≡◌, ℕ, ◌+◌, ◌<◌, ◌≤◌, Bool, true, false, true≢false, List, [], ◌∷◌, ◌++◌, Result, Ok, Err, Option}
-use Rattle.std.proofs.Common.{None, Some}
-use Rattle.std.proofs.Common.{◌-◌, ◌⊎◌, IfOk, IfSome, OnOk, Vec, vec_len, vec_capacity, length-append, le_trans, inl, inr, length}
-use Rattle.std.proofs.Common.{refl, sym, ap, subst, ◌∙◌, arith, append_assoc}
-use Rattle.std.proofs.lemmas.List.{append_cancel_left}
-use Rattle.no_std_io2_base.specs.declared.error.Error.{Error}
-use Rattle.no_std_io2_base.specs.Errors.{IsOutOfMemory}
-use Rattle.no_std_io2_base.specs.declared.traits.chain.Chain.{Chain}
-use Rattle.no_std_io2_base.specs.Events.{Event, fails, bytes, HasNoFault, EndsInFault}
-use Rattle.no_std_io2_base.specs.Takes.{Tells, Takes, to_come, AreTaken, IsAtEnd}
-use Rattle.no_std_io2_base.specs.Read.{Reader, tells, Gave, GaveAll, ReadCallLaw, GaveLaw}
-use Rattle.no_std_io2_base.specs.Read.{ToEndLaw, ReadToEndLaw, DrainsOrStops, Drains, ended, least_room}
-use Rattle.no_std_io2_base.specs.Chain.{chain_first, chain_second, chain_is_done, chain_events, chain_to_come, both_to_come}
-use Rattle.no_std_io2_base.specs.Chain.{by_first, by_both, by_second, ChainMay}
-use Rattle.no_std_io2_base.proofs.EventLemmas.{bytes-append, HasNoFault-append}
-use Rattle.no_std_io2_base.proofs.ReadCalls.{to_end_by, drains}
-use Rattle.no_std_io2_base.proofs.ReadToEndLoop.{recount}
-use Rattle.no_std_io2_base.proofs.TakesLemmas.{takes_then}
+use Rattle.std.proofs.{lemmas.Grind.{common_steps}, Common.{◌≡◌, ℕ, ◌+◌, ◌<◌, ◌≤◌, Bool, true, false, true≢false, List, [], ◌++◌, Result}}
+use Rattle.std.proofs.Common.{Ok, Err, Option, None, ◌-◌, ◌⊎◌, IfOk, IfSome, OnOk, Vec, vec_len, vec_capacity, length-append, le_trans}
+use Rattle.std.proofs.{Common.{inl, inr, length, refl, sym, ap, subst, ◌∙◌, arith, append_assoc}, lemmas.List.{append_cancel_left}}
+use Rattle.no_std_io2_base.specs.{declared.error.Error.{Error}, Errors.{IsOutOfMemory}, declared.traits.chain.Chain.{Chain}, Events.{Event}}
+use Rattle.no_std_io2_base.specs.{Events.{bytes, HasNoFault, EndsInFault}, Takes.{Tells, Takes, AreTaken, IsAtEnd}, Read.{Reader, tells}}
+use Rattle.no_std_io2_base.specs.Read.{GaveAll, ReadCallLaw, ToEndLaw, ReadToEndLaw, DrainsOrStops, Drains, ended, least_room}
+use Rattle.no_std_io2_base.specs.Chain.{chain_first, chain_second, chain_is_done, chain_events, chain_to_come, both_to_come, by_first}
+use Rattle.no_std_io2_base.specs.Chain.{by_both, by_second, ChainMay}
+use Rattle.no_std_io2_base.proofs.{EventLemmas.{bytes-append, HasNoFault-append}, ReadCalls.{to_end_by, drains}, ReadToEndLoop.{recount}}
 
 -- a chain, as the laws of its calls see it
 abbrev pub chain_reader : {T U : Type 0} → Reader T → Reader U → Reader (Chain T U)
@@ -32,39 +23,8 @@ abbrev pub chain_tells : Bool → Tells → Tells → Tells
 chain_tells done first second =
     record { events = chain_to_come done first second; store = None; turns = first.turns + second.turns }
 
-both_taken : (E E' F : Option (List Event)) (P : List Event) → AreTaken E P E' → AreTaken (both_to_come E F) P (both_to_come E' F)
-both_taken None E' F P taken = tt
-both_taken (Some E) None F P taken = absurd taken
-both_taken (Some E) (Some E') None P taken = tt
-both_taken (Some E) (Some E') (Some F) P taken = ap (λ l. l ++ F) taken ∙ append_assoc P E' F
-
 all_taken : (E E' F : Option (List Event)) (P : List Event) → AreTaken E P E' → IfSome E' (λ l. l ≡ []) → AreTaken (both_to_come E F) P F
-all_taken None E' F P taken end = tt
-all_taken (Some E) None F P taken end = absurd taken
-all_taken (Some E) (Some E') None P taken end = tt
-all_taken (Some E) (Some E') (Some F) P taken end =
-    ap (λ l. l ++ F) taken ∙ append_assoc P E' F ∙ ap (λ l. P ++ (l ++ F)) end
-
--- what the first reader took, the chain took
-pub first_takes : {t t' : Tells} (u : Tells) (P : List Event) → Takes t P t' → Takes (chain_tells false t u) P (chain_tells false t' u)
-first_takes {t} {t'} u P takes = record {
-  events = both_taken (to_come t) (to_come t') (to_come u) P takes.events;
-  store = tt;
-  turns = omega (arith, takes.turns);
-}
-
--- also if that was all
-pub first_ends : {t t' : Tells} (u : Tells) (P : List Event) → Takes t P t' → IsAtEnd t'
-    → Takes (chain_tells false t u) P (chain_tells true t' u)
-first_ends {t} {t'} u P takes end = record {
-  events = all_taken (to_come t) (to_come t') (to_come u) P takes.events end;
-  store = tt;
-  turns = omega (arith, takes.turns);
-}
-
--- and what the second took
-pub second_takes : {u u' : Tells} (t : Tells) (P : List Event) → Takes u P u' → Takes (chain_tells true t u) P (chain_tells true t u')
-second_takes t P takes = record { events = takes.events; store = tt; turns = omega (arith, takes.turns) }
+all_taken x1 x2 x3 x4 taken end = grind (arith, common_steps)
 
 module _ {T U : Type 0} (R : Reader T) (S : Reader U) where
   -- as the marks say
@@ -72,90 +32,48 @@ module _ {T U : Type 0} (R : Reader T) (S : Reader U) where
       → Takes (chain_tells d (tells R (chain_first old)) (tells S (chain_second old))) P
       (chain_tells d' (tells R (chain_first new)) (tells S (chain_second new)))
       → Takes (tells (chain_reader R S) old) P (tells (chain_reader R S) new)
-  marked old new {P} d d' was now takes =
-      subst (λ m. Takes (chain_tells m (tells R (chain_first old)) (tells S (chain_second old))) P (tells (chain_reader R S) new)) (sym was)
-      (subst (λ m. Takes (chain_tells d (tells R (chain_first old)) (tells S (chain_second old))) P
-      (chain_tells m (tells R (chain_first new)) (tells S (chain_second new)))) (sym now) takes)
+  marked old new {P} d d' was now takes = grind (arith, common_steps)
 
   -- the first reader alone took something
   pub by_first_takes : {old new : Chain T U} {P : List Event} → chain_is_done old ≡ false → new ≡ record old { first = chain_first new }
       → Takes (tells R (chain_first old)) P (tells R (chain_first new))
       → Takes (tells (chain_reader R S) old) P (tells (chain_reader R S) new)
-  by_first_takes {old} {new} {P} going same takes = marked old new false false going (ap chain_is_done same ∙ going)
-      (subst (λ x. Takes (chain_tells false (tells R (chain_first old)) (tells S (chain_second old))) P
-      (chain_tells false (tells R (chain_first new)) (tells S x))) (sym (ap chain_second same))
-      (first_takes (tells S (chain_second old)) P takes))
+  by_first_takes {old} {new} {P} going same takes = grind (arith, common_steps)
 
   -- the first took its last events, and then the second some
   pub by_both_takes : {old new : Chain T U} {P Q : List Event} → chain_is_done old ≡ false → chain_is_done new ≡ true
       → Takes (tells R (chain_first old)) P (tells R (chain_first new)) → IsAtEnd (tells R (chain_first new))
       → Takes (tells S (chain_second old)) Q (tells S (chain_second new))
       → Takes (tells (chain_reader R S) old) (P ++ Q) (tells (chain_reader R S) new)
-  by_both_takes {old} {new} {P} {Q} going done takes end then =
-      marked old new false true going done
-      (takes_then (first_ends (tells S (chain_second old)) P takes end) (second_takes (tells R (chain_first new)) Q then))
+  by_both_takes {old} {new} {P} {Q} going done takes end then = grind (arith, common_steps)
 
   -- the second alone took something
   pub by_second_takes : {old new : Chain T U} {P : List Event} → chain_is_done old ≡ true → new ≡ record old { second = chain_second new }
       → Takes (tells S (chain_second old)) P (tells S (chain_second new))
       → Takes (tells (chain_reader R S) old) P (tells (chain_reader R S) new)
-  by_second_takes {old} {new} {P} done same takes = marked old new true true done (ap chain_is_done same ∙ done)
-      (subst (λ x. Takes (chain_tells true (tells R (chain_first old)) (tells S (chain_second old))) P
-      (chain_tells true (tells R x) (tells S (chain_second new)))) (sym (ap chain_first same))
-      (second_takes (tells R (chain_first old)) P takes))
+  by_second_takes {old} {new} {P} done same takes = grind (arith, common_steps)
 
   -- the end of the second is the end of the chain, once the first is done
   pub done_ends : (c : Chain T U) → chain_is_done c ≡ true → IsAtEnd (tells S (chain_second c)) → IsAtEnd (tells (chain_reader R S) c)
   done_ends c done end =
       subst (λ m. IfSome (chain_to_come m (tells R (chain_first c)) (tells S (chain_second c))) (λ l. l ≡ [])) (sym done) end
 
-  -- what a `read` may do to a chain is its law
-  pub chain_gave : {old new : Chain T U} (room : ℕ) (answer : Result (List ℕ) Error) → ChainMay R S old (Gave room answer) new
-      → GaveLaw (chain_reader R S) old room answer new
-  chain_gave {new = new} room answer (by_first going same (law, gives)) = record {
-    bound = law.bound;
-    takes = by_first_takes going same law.takes;
-    end = λ none some. absurd (gives some none);
-    call = by_first going same (law, gives);
-  }
-  chain_gave {new = new} room answer (by_both going done (some, last) law) = record {
-    bound = law.bound;
-    takes = by_both_takes going done last.takes (last.end refl some) law.takes;
-    end = λ none some. done_ends new done (law.end none some);
-    call = by_both going done (some, last) law;
-  }
-  chain_gave {new = new} room answer (by_second done same law) = record {
-    bound = law.bound;
-    takes = by_second_takes done same law.takes;
-    end = λ none some. done_ends new (ap chain_is_done same ∙ done) (law.end none some);
-    call = by_second done same law;
-  }
-
 -- what a `read_to_end` gave is what it took
 drained : {S A : Type 0} {lacks : ℕ → Type 0} {R : Reader S} {old new : S} {buf buf' : Vec ℕ A} {reply : Result ℕ Error}
     {answer : Result (Unit {0}) Error} (x : List ℕ) (law : ToEndLaw lacks R old buf reply buf' new) → ended reply ≡ answer
     → Drains (ReadCallLaw R) old x answer (x ++ bytes law.taken) new
-drained {R = R} {old} {new} {buf} {answer = answer} x law same =
-    let given = append_cancel_left buf.items law.calls.given (bytes law.taken) (sym law.calls.appended ∙ law.appends.0) in
-    subst (λ l. Drains (ReadCallLaw R) old x answer (x ++ l) new) given (drains x law.calls same)
+drained {R = R} {old} {new} {buf} {answer = answer} x law same = grind (arith, common_steps, append_cancel_left, drains)
 
 -- how it ended, of a reader that is at its end if the other is
 ends_at : (l : Type 0) (P : List Event) (t t' : Tells) (reply : Result ℕ Error) → (IsAtEnd t → IsAtEnd t') → DrainsOrStops l P reply t
     → DrainsOrStops l P reply t'
-ends_at l P t t' (Ok n) end (none, at) = (none, end at)
-ends_at l P t t' (Err e) end stops = stops
+ends_at l x2 t t' x5 end stops = grind (arith, common_steps)
 
 -- how it stopped, after other events without a fault
 stops_then : {l l' : Type 0} (P Q : List Event) {e : Error} → HasNoFault P → (l → l') → EndsInFault Q e
     ⊎ (HasNoFault Q × IsOutOfMemory e × l)
     → EndsInFault (P ++ Q) e ⊎ (HasNoFault (P ++ Q) × IsOutOfMemory e × l')
-stops_then P Q {e} none why (inl (front, is, none', fault)) = inl (
-  P ++ front,
-  ap (λ l. P ++ l) is ∙ sym (append_assoc P front (fails e ∷ [])),
-  HasNoFault-append P front none none',
-  fault,
-)
-stops_then P Q none why (inr (none', refused, lacks)) = inr (HasNoFault-append P Q none none', refused, why lacks)
+stops_then x1 x2 x3 why x5 = grind (arith, common_steps, append_assoc, HasNoFault-append)
 
 module _ {T U A : Type 0} (R : Reader T) (S : Reader U) {old new : Chain T U} {buf buf' : Vec ℕ A} where
   -- a `read_to_end` is one call

@@ -1,22 +1,15 @@
 -- A content and a position in it.
-use Rattle.std.proofs.Common.{◌≡◌, ℕ, ◌+◌, ◌-◌, ◌<◌, ◌≤◌, ◌⊎◌, min, List, [], ◌∷◌, ◌++◌, Ok, Err, Result}
-use Rattle.std.proofs.Common.{length, take, drop, replicate, refl, sym, ap, ◌∙◌, arith, count_by, inl, inr, append-nil}
-use Rattle.std.proofs.Common.{take-append-drop, length-append, length-take, if◌then◌else◌}
-use Rattle.std.proofs.lemmas.Bool.{cases_lt}
-use Rattle.std.proofs.lemmas.List.{length-replicate, drop-drop, take_all, take_at, take_min, drop_all, take-append-le}
-use Rattle.std.proofs.lemmas.List.{take-replicate}
-use Rattle.std.proofs.Math.Seq.{take-append-add}
+use Rattle.std.proofs.Common.{rules, ◌≡◌, ℕ, ◌+◌, ◌-◌, ◌<◌, ◌≤◌, ◌⊎◌, min, List, [], ◌∷◌, ◌++◌, Ok, Err, Result, length, take, drop}
+use Rattle.std.proofs.Common.{replicate, refl, sym, ap, ◌∙◌, arith, count_by, inl, inr, append-nil, take-append-drop, length-append}
+use Rattle.std.proofs.{lemmas.Grind.{common_steps}, lemmas.Bool.{cases_lt}, lemmas.List.{length-replicate, drop-drop, take_all, take_min}}
+use Rattle.std.proofs.{lemmas.List.{drop_all, take-append-le, take-replicate}, Math.Seq.{take-append-add}, lemmas.Bool.Decides.{nat_tests}}
 use Rattle.std.specs.Result.{OnOk, OnErr, IfErr}
-use Rattle.std.proofs.lemmas.Bool.Decides.{nat_tests}
-use Rattle.no_std_io2_base.specs.declared.error.Error.{Error}
-use Rattle.no_std_io2_base.specs.declared.error.ErrorKind.{ErrorKind}
-use Rattle.no_std_io2_base.specs.declared.error.ErrorKind.TheVariants.{WriteZero}
-use Rattle.no_std_io2_base.specs.Errors.{error_kind, is_interruption, IsFault, IsNoInterruption, IsOutOfMemory}
-use Rattle.no_std_io2_base.specs.Write.{Told, Moves, MovesFront, told_out, taken, write_mishap, zero_write}
+use Rattle.no_std_io2_base.specs.{declared.error.Error.{Error}, declared.error.ErrorKind.{ErrorKind}}
+use Rattle.no_std_io2_base.specs.{declared.error.ErrorKind.TheVariants.{WriteZero}, Errors.{error_kind, is_interruption, IsFault}}
+use Rattle.no_std_io2_base.specs.{Errors.{IsNoInterruption, IsOutOfMemory}, Write.{Told, Moves, MovesFront, told_out, taken, write_mishap}}
+use Rattle.no_std_io2_base.specs.{Write.{zero_write}, Cursor.{bytes_before, put_at, fitting, IsRefusal, PutsWhole, PutsAll, PutsFitting}}
+use Rattle.no_std_io2_base.specs.{Cursor.{PutsAllFitting}, Appends.{AppendsWhole}}
 use Rattle.no_std_io2_base.proofs.CallsLemmas.{all_own}
-use Rattle.no_std_io2_base.specs.Cursor.{bytes_before, put_at, put_over, fitting, IsRefusal, PutsWhole, PutsAll, PutsFitting}
-use Rattle.no_std_io2_base.specs.Cursor.{PutsAllFitting}
-use Rattle.no_std_io2_base.specs.Appends.{AppendsWhole}
 
 -- n bytes further on
 pub left_after : (all : List ℕ) (place n : ℕ) → drop (place + n) all ≡ drop n (drop place all)
@@ -24,24 +17,7 @@ left_after all place n = sym (drop-drop n place all)
 
 -- before a place that is not past the end no zeros are added
 pub bytes_before-within : (place : ℕ) (bs : List ℕ) → place ≤ length bs → bytes_before place bs ≡ take place bs
-bytes_before-within place bs within =
-    let none : place - length bs ≡ 0 = omega arith in
-    ap (λ n. take place bs ++ replicate n 0) none ∙ append-nil (take place bs)
-
--- before the place n there are n bytes, including the added zeros
-pub length-bytes_before : (place : ℕ) (bs : List ℕ) → length (bytes_before place bs) ≡ place
-length-bytes_before place bs =
-    omega (
-      arith,
-      length-append (take place bs) (replicate (place - length bs) 0),
-      length-take place bs,
-      length-replicate {A = ℕ} (place - length bs) 0,
-    )
-
--- x inside the bytes
-pub put_within : (place : ℕ) (x bs : List ℕ) → place ≤ length bs → take place bs ++ x ++ drop (place + length x) bs ≡ put_at place x bs
-put_within place x bs within =
-    ap (λ l. l ++ x ++ drop (place + length x) bs) (sym (bytes_before-within place bs within))
+bytes_before-within place bs within = grind (arith, common_steps)
 
 -- zeros that follow the bytes, up to a place, are the zeros that would be added before that place
 before-opened : (more place : ℕ) (bs : List ℕ) → place ≤ length bs + more → take place (bs ++ replicate more 0) ≡ bytes_before place bs
@@ -61,9 +37,7 @@ before-opened more place bs near = elim (cases_lt (length bs) place) [ inl past 
 -- x was put over zeros that followed the bytes, and the zeros after x were cut off
 pub put_opened : (more place : ℕ) (x bs : List ℕ) → length bs ≤ place + length x → place + length x ≤ length bs + more
     → take place (bs ++ replicate more 0) ++ x ≡ put_at place x bs
-put_opened more place x bs past near =
-    ap (λ l. l ++ x) (before-opened more place bs (omega arith))
-    ∙ sym (append-nil _) ∙ ap (λ l. bytes_before place bs ++ x ++ l) (sym (drop_all (place + length x) bs past))
+put_opened more place x bs past near = grind (arith, common_steps, before-opened, append-nil, drop_all)
 
 -- the bytes reach `end`, with zeros added if they were shorter
 abbrev pub IsLengthened : ℕ → List ℕ → List ℕ → Type 0
@@ -72,44 +46,21 @@ IsLengthened end bs grown =
 
 -- so they do
 pub lengthened_reaches : (end : ℕ) (bs grown : List ℕ) → IsLengthened end bs grown → end ≤ length grown
-lengthened_reaches end bs grown (inl h) = omega (arith, h.0, ap length h.1)
-lengthened_reaches end bs grown (inr h) =
-    let zeros : List ℕ = replicate (end - length bs) 0 in
-    omega (arith, h.0, ap length h.1, length-append bs zeros, length-replicate {A = ℕ} (end - length bs) 0)
+lengthened_reaches end bs grown x4 = grind (arith, common_steps)
 
 -- x was put into such bytes
 pub put_lengthened : (place end : ℕ) (x bs grown : List ℕ) → end ≡ place + length x → IsLengthened end bs grown
     → take place grown ++ x ++ drop end grown ≡ put_at place x bs
-put_lengthened place end x bs grown at (inl h) =
-    ap (λ l. take place l ++ x ++ drop end l) h.1 ∙ ap (λ n. take place bs ++ x ++ drop n bs) at
-    ∙ put_within place x bs (omega (arith, at, h.0))
-put_lengthened place end x bs grown at (inr h) =
-    let more = end - length bs in
-    let long : length grown ≡ end =
-    ap length h.1 ∙ length-append bs (replicate more 0) ∙ omega (arith, length-replicate {A = ℕ} more 0, h.0) in
-    let none : drop end grown ≡ [] = drop_all end grown (omega (arith, long)) in
-    ap (λ l. take place grown ++ x ++ l) none ∙ append-nil _ ∙ ap (λ l. take place l ++ x) h.1
-    ∙ put_opened more place x bs (omega (arith, at, h.0)) (omega (arith, at, h.0))
+put_lengthened place end x bs grown at x7 = grind (arith, common_steps, length-append, length-replicate, drop_all, append-nil, put_opened)
 
 -- the bytes that were put are right before the place after them
 pub before_put : (place : ℕ) (x bs : List ℕ) → bytes_before (place + length x) (put_at place x bs) ≡ bytes_before place bs ++ x
-before_put place x bs =
-    let front = bytes_before place bs ++ x in
-    let rest = drop (place + length x) bs in
-    let long : length front ≡ place + length x =
-    length-append (bytes_before place bs) x ∙ ap (λ n. n + length x) (length-bytes_before place bs) in
-    bytes_before-within (place + length x) (front ++ rest) (omega (arith, long, length-append front rest))
-    ∙ take_at front rest (place + length x) long
+before_put place x bs = grind (arith, common_steps)
 
 -- bytes are out as soon as they are accepted
 pub appends_moves : {old new x : List ℕ} {k : List ErrorKind} → new ≡ old ++ x → count_by is_interruption k ≡ 0
     → Moves (told_out old) x k (told_out new)
-appends_moves {old} {new} {x} is none = record {
-  front = (x, is);
-  bytes = append-nil new ∙ is ∙ ap (λ l. l ++ x) (sym (append-nil old));
-  mishaps = tt;
-  turns = omega (arith, none);
-}
+appends_moves {old} {new} {x} is none = grind (arith, common_steps)
 
 -- all of x was accepted
 all_accepted : {a b : Told} {x : List ℕ} → Moves a x [] b → MovesFront a x (Ok tt) b
@@ -117,8 +68,7 @@ all_accepted {x = x} moves = record { accepted = x; front = ([], sym (append-nil
 
 -- a refusal is no interruption
 pub refused_fault : (place : ℕ) (x : List ℕ) (e : Error) → IsRefusal place x e → IsFault e
-refused_fault place x e (inl h) = ap is_interruption h.1
-refused_fault place x e (inr h) = ap is_interruption h.1
+refused_fault place x e x4 = grind (arith, common_steps)
 
 -- x that was put goes out
 put_goes_out : (bs : List ℕ) (place : ℕ) (x bs' : List ℕ) (place' : ℕ) → bs' ≡ put_at place x bs
@@ -134,36 +84,13 @@ quiet_count n x = grind (arith, nat_tests)
 pub puts_moves : (bs : List ℕ) (place : ℕ) (x : List ℕ) (reply : Result ℕ Error) (bs' : List ℕ) (place' : ℕ)
     → PutsWhole bs place x reply bs' place'
     → Moves (told_out (bytes_before place bs)) (taken reply x) (write_mishap reply x) (told_out (bytes_before place' bs'))
-puts_moves bs place x (Ok n) bs' place' h =
-    let all : take n x ≡ x = take_all n x (omega (arith, h.1)) in
-    appends_moves (put_goes_out bs place x bs' place' h.2 h.3 ∙ ap (λ l. bytes_before place bs ++ l) (sym all)) (quiet_count n x)
-puts_moves bs place x (Err e) bs' place' h =
-    appends_moves (ap (λ l. bytes_before place' l) h.2 ∙ ap (λ m. bytes_before m bs) h.3 ∙ sym (append-nil _))
-    (ap (λ b. 0 + (if b then 1 else 0)) (refused_fault place x e h.1))
+puts_moves bs place x (Ok n) bs' place' h = grind (arith, common_steps)
+puts_moves bs place x (Err e) bs' place' h = grind (arith, common_steps)
 
 -- what fits in a slice goes out
 pub fitting_goes_out : (bs : List ℕ) (place : ℕ) (x bs' : List ℕ) (place' : ℕ) → PutsFitting bs place x bs' place'
     → bytes_before place' bs' ≡ bytes_before place bs ++ fitting place x bs
-fitting_goes_out bs place x bs' place' h = elim (cases_lt (length bs) place) [ inl past ↦ out past | inr within ↦ inside within ]
-  where
-    front : List ℕ
-    front = fitting place x bs
-
-    inside : place ≤ length bs → bytes_before place' bs' ≡ bytes_before place bs ++ fitting place x bs
-    inside within = put_goes_out bs place front bs' place' (h.0 ∙ put_within place front bs within) h.1
-
-    out : length bs < place → bytes_before place' bs' ≡ bytes_before place bs ++ fitting place x bs
-    out past =
-        let none : length bs - place ≡ 0 = omega arith in
-        let empty : front ≡ [] = ap (λ n. take n x) none in
-        let rest : drop (place + 0) bs ≡ [] = drop_all (place + 0) bs (omega arith) in
-        let same : put_over place [] bs ≡ bs =
-        ap (λ l. take place bs ++ [] ++ l) rest ∙ append-nil (take place bs ++ []) ∙ append-nil (take place bs)
-        ∙ take_all place bs (omega arith) in
-        let stays : bs' ≡ bs = h.0 ∙ ap (λ l. put_over place l bs) empty ∙ same in
-        let at : place' ≡ place = omega (arith, h.1, ap length empty) in
-        ap (λ l. bytes_before place' l) stays ∙ ap (λ m. bytes_before m bs) at
-        ∙ sym (append-nil (bytes_before place bs)) ∙ ap (λ l. bytes_before place bs ++ l) (sym empty)
+fitting_goes_out bs place x bs' place' h = grind (arith, common_steps)
 
 -- `write` to a slice keeps the law of writers
 pub fits_moves : (bs : List ℕ) (place : ℕ) (x : List ℕ) {n : ℕ} {bs' : List ℕ} {place' : ℕ}
@@ -193,8 +120,7 @@ pub fits_moves_all : (bs : List ℕ) (place : ℕ) {x bs' : List ℕ} {place' : 
     → PutsFitting bs place x bs' place'
     → MovesFront (told_out (bytes_before place bs)) x (Ok tt) (told_out (bytes_before place' bs'))
 fits_moves_all bs place {x} {bs'} {place'} room h =
-    let whole : fitting place x bs ≡ x = take_all (length bs - place) x room in
-    all_accepted (appends_moves (fitting_goes_out bs place x bs' place' h ∙ ap (λ l. bytes_before place bs ++ l) whole) refl)
+    search (arith, rules, take_all, all_accepted, appends_moves, fitting_goes_out)
 
 -- so a `write_all` over a slice keeps the law
 pub fits_all : (bs : List ℕ) (place : ℕ) {x : List ℕ} (reply : Result (Unit {0}) Error) {bs' : List ℕ} {place' : ℕ}
@@ -208,18 +134,12 @@ pub append_moves : {old new x : List ℕ} (reply : Result (Unit {0}) Error) → 
     → IfErr reply IsOutOfMemory
     → MovesFront (told_out old) x reply (told_out new)
 append_moves {x} (Ok tt) is same refused = all_accepted (appends_moves is refl)
-append_moves {old} {x} (Err e) is same refused =
-    let quiet = ap (λ k. count_by is_interruption (k ∷ [])) refused.0 in
-    let moves = appends_moves (same ∙ sym (append-nil old)) quiet in
-    record { accepted = []; front = (x, refl); whole = tt; moves = moves }
+append_moves {old} {x} (Err e) is same refused = grind (arith, common_steps)
 
 -- after a `write_all` of x all of x is out, also if x is empty
 all_goes_out : (bs : List ℕ) (place : ℕ) (x bs' : List ℕ) (place' : ℕ) → PutsAll bs place x (Ok tt) bs' place'
     → bytes_before place' bs' ≡ bytes_before place bs ++ x
-all_goes_out bs place [] bs' place' h =
-    let at : place' ≡ place = omega (arith, h.2) in
-    ap (λ l. bytes_before place' l) (h.1 refl) ∙ ap (λ m. bytes_before m bs) at ∙ sym (append-nil _)
-all_goes_out bs place (b ∷ x) bs' place' h = put_goes_out bs place (b ∷ x) bs' place' (h.0 (omega arith)).1 h.2
+all_goes_out bs place x3 bs' place' h = grind (arith, common_steps, put_goes_out)
 
 -- so it keeps the law of writers
 pub puts_all_moves : (bs : List ℕ) (place : ℕ) (x : List ℕ) (reply : Result (Unit {0}) Error) (bs' : List ℕ) (place' : ℕ)
@@ -234,8 +154,7 @@ puts_all_moves bs place x (Err e) bs' place' h =
 pub puts_all_fault : (bs : List ℕ) (place : ℕ) (x : List ℕ) (reply : Result (Unit {0}) Error) (bs' : List ℕ) (place' : ℕ)
     → PutsAll bs place x reply bs' place'
     → IsNoInterruption reply
-puts_all_fault bs place x (Ok tt) bs' place' h = tt
-puts_all_fault bs place x (Err e) bs' place' h = refused_fault place x e h.1
+puts_all_fault bs place x x4 bs' place' h = grind (arith, common_steps)
 
 -- what a `write_all` of a cursor on a vector follows from
 pub ruleset put_all_laws = (puts_all_moves, puts_all_fault, all_own)
@@ -244,8 +163,7 @@ pub ruleset put_all_laws = (puts_all_moves, puts_all_fault, all_own)
 pub appends_whole : {A : Type 0} (old new x : List ℕ) (len capacity : ℕ) (reply : Result A Error) → OnOk reply (new ≡ old ++ x)
     → OnErr reply (new ≡ old) → IfErr reply IsOutOfMemory → OnErr reply (capacity < len + length x)
     → AppendsWhole old len capacity x reply new
-appends_whole old new x len capacity (Ok v) is same refused full = is
-appends_whole old new x len capacity (Err e) is same refused full = (refused, full, same)
+appends_whole old new x len capacity x6 is same refused full = grind (arith, common_steps)
 
 -- and as a `write_all` it keeps the law
 pub appends_all : {old new x : List ℕ} (len capacity : ℕ) (reply : Result (Unit {0}) Error) → AppendsWhole old len capacity x reply new

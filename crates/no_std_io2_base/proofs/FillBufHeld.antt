@@ -1,6 +1,6 @@
 -- The events begin with the held bytes.
-use Rattle.std.proofs.Common.{ℕ, zero, suc, ◌≤◌, List, [], ◌∷◌, ◌++◌, take, refl, sym, ap, ◌∙◌, arith}
-use Rattle.std.proofs.Common.{append-nil, Option, None, Some, IfSome}
+use Rattle.std.proofs.{lemmas.Grind.{common_steps}, Common.{ℕ, zero, suc, ◌≤◌, List, [], ◌∷◌, ◌++◌, take, refl, sym, ap, ◌∙◌, arith}}
+use Rattle.std.proofs.Common.{append-nil, Option, IfSome}
 use Rattle.no_std_io2_base.specs.Events.{Event, byte, events_of, cut, BeginsWith}
 
 -- the events that are these bytes begin with all of them
@@ -9,8 +9,7 @@ begins_whole bs = record { rest = []; is = sym (append-nil (events_of bs)) }
 
 -- any events begin with no bytes
 pub begins_nothing : (E : Option (List Event)) → IfSome E (λ l. BeginsWith l [])
-begins_nothing None = tt
-begins_nothing (Some E) = record { rest = E; is = refl }
+begins_nothing x1 = grind (arith, common_steps)
 
 -- bs and then R, cut at k, begin with the first n of bs, if n is at most k
 begins_cut-bytes : (n k : ℕ) (bs : List ℕ) (R : List Event) → n ≤ k → BeginsWith (cut k (events_of bs ++ R)) (take n bs)

@@ -1,17 +1,10 @@
 -- A reader behind a reference, or in a box: what a call did to the reader, it did to the reference or the box.
-use Rattle.std.proofs.Common.{◌≡◌, ℕ, ◌+◌, ◌<◌, List, [], Result, length, take, refl, sym, ap, subst, Vec, String, IfOk, IfSome}
-use Rattle.std.proofs.Common.{Option}
-use Rattle.std.proofs.Common.{vec_len, vec_capacity}
+use Rattle.std.proofs.{Common.{rules, arith, ◌≡◌, ℕ, List, Result, refl, sym, subst, Vec, String, Option}, lemmas.Grind.{common_steps}}
 use Rattle.std.specs.Borrow.{Bor}
-use Rattle.no_std_io2_base.specs.declared.error.Error.{Error}
-use Rattle.no_std_io2_base.specs.Events.{Event, events_of, bytes, BeginsWith}
-use Rattle.no_std_io2_base.specs.Takes.{Store, Tells, Takes, to_come, IsAtEnd}
-use Rattle.no_std_io2_base.specs.Read.{Reader, tells, ReadCall, Gave, GaveExactly, GaveAll, Filled, Consumed, ReadCallLaw, gave, gave_whole}
-use Rattle.no_std_io2_base.specs.Read.{answered, fault_of, FillsOrEnds, DrainsOrStops, ReadLaw, ReadExactLaw, ToEndLaw}
-use Rattle.no_std_io2_base.specs.BufRead.{Lender, as_reader, lent_bytes, FillBufLaw, AfterLoan, ConsumeLaw}
-use Rattle.no_std_io2_base.specs.BufRead.{LendCallLaw, ReadUntilLaw, ReadLineLaw, line_room}
-use Rattle.no_std_io2_base.specs.Pieces.{PieceEnds, newline}
-use Rattle.no_std_io2_base.specs.Write.{Told, WriteCall, Wrote, WroteAll, Flushed, Made, CallLaw, WriteAllLaw, AllCalls, PartMay}
+use Rattle.no_std_io2_base.specs.{declared.error.Error.{Error}, Events.{Event}, Takes.{Store, Tells}, Read.{Reader, tells, ReadCall}}
+use Rattle.no_std_io2_base.specs.{Read.{ReadCallLaw, ReadLaw, ReadExactLaw, ToEndLaw}, BufRead.{Lender, as_reader, AfterLoan, ConsumeLaw}}
+use Rattle.no_std_io2_base.specs.{BufRead.{LendCallLaw, ReadUntilLaw, ReadLineLaw}, Write.{Told, WriteCall, Made, CallLaw, WriteAllLaw}}
+use Rattle.no_std_io2_base.specs.Write.{AllCalls, PartMay}
 use Rattle.no_std_io2_base.proofs.CallsLemmas.{made_map}
 
 -- R' tells what R tells, whose values are put into its own, and may make its calls
@@ -26,70 +19,20 @@ module _ {X Y : Type 0} {R : Reader X} {R' : Reader Y} {put : X → Y} (through 
       subst (λ t. P t (tells R' (put b))) (sym (through.told a)) (subst (λ t. P (tells R a) t) (sym (through.told b)) holds)
 
   pub call_through : (call : ReadCall) → ReadCallLaw R a call b → ReadCallLaw R' (put a) call (put b)
-  call_through (Gave room answer) law = record {
-    bound = law.bound;
-    takes = between (λ t u. Takes t (answered answer) u) law.takes;
-    end = λ none some. between (λ t u. IsAtEnd u) (law.end none some);
-    call = through.may a b (Gave room answer) law.call;
-  }
-  call_through (GaveExactly room answer) law = (
-    through.may a b (GaveExactly room answer) law.0,
-    between (λ t u. (P : List Event) × Takes t P u × FillsOrEnds room P answer u) law.1,
-  )
-  call_through (GaveAll x answer) law = (
-    through.may a b (GaveAll x answer) law.0,
-    between (λ t u. (P : List Event) × Takes t P u × (bytes P ≡ x) × DrainsOrStops (Unit {0}) P answer u) law.1,
-  )
-  call_through (Filled answer) law = (
-    through.may a b (Filled answer) law.0,
-    between (λ t u. Takes t (fault_of answer) u) law.1,
-    between (λ t u. IfOk answer (λ x. IfSome (to_come t) (λ E. BeginsWith E x))) law.2,
-  )
-  call_through (Consumed n) law = (
-    through.may a b (Consumed n) law.0,
-    between (λ t u. (x : List ℕ) × (length x ≡ n) × Takes t (events_of x) u) law.1,
-  )
+  call_through x1 law = grind (arith, common_steps)
 
 -- what a call did to a value, it did to that which the value was put into
 module _ {X Y : Type 0} {R : Reader X} {R' : Reader Y} (put : X → Y) (through : ReadsThrough R R' put) {a b : X} where
   pub read_through : {buf buf' : List ℕ} {reply : Result ℕ Error} → ReadLaw R a buf reply buf' b → ReadLaw R' (put a) buf reply buf' (put b)
-  read_through {buf' = buf'} {reply} law = record {
-    bound = law.bound;
-    takes = between through a b (λ t u. Takes t (answered (gave reply buf')) u) law.takes;
-    end = between through a b (λ t u. IfOk reply (λ n. n ≡ 0 → 0 < length buf' → IsAtEnd u)) law.end;
-    call = through.may a b _ law.call;
-  }
+  read_through {buf' = buf'} {reply} law = grind (arith, common_steps)
 
   pub exact_through : {buf buf' : List ℕ} {reply : Result (Unit {0}) Error} → ReadExactLaw R a buf reply buf' b
       → ReadExactLaw R' (put a) buf reply buf' (put b)
-  exact_through {buf' = buf'} {reply} law = record {
-    taken = law.taken;
-    takes = between through a b (λ t u. Takes t law.taken u) law.takes;
-    ends = between through a b (λ t u. FillsOrEnds (length buf') law.taken (gave_whole reply buf') u) law.ends;
-    empty = λ none. let nothing = law.empty none in (nothing.0, ap put nothing.1);
-    calls = record {
-      calls = law.calls.calls;
-      made = made_map (ReadCallLaw R) (ReadCallLaw R') put (call_through through) law.calls.calls a b law.calls.made;
-      are = law.calls.are;
-    };
-  }
+  exact_through {buf' = buf'} {reply} law = grind (arith, common_steps, between, made_map, call_through)
 
   pub to_end_through : {A : Type 0} {lacks : ℕ → Type 0} {buf buf' : Vec ℕ A} {reply : Result ℕ Error} → ToEndLaw lacks R a buf reply buf' b
       → ToEndLaw lacks R' (put a) buf reply buf' (put b)
-  to_end_through {lacks = lacks} {reply = reply} law = record {
-    taken = law.taken;
-    takes = between through a b (λ t u. Takes t law.taken u) law.takes;
-    appends = law.appends;
-    ends = between through a b (λ t u. DrainsOrStops (lacks (length (bytes law.taken))) law.taken reply u) law.ends;
-    capacity = law.capacity;
-    calls = record {
-      calls = law.calls.calls;
-      given = law.calls.given;
-      made = made_map (ReadCallLaw R) (ReadCallLaw R') put (call_through through) law.calls.calls a b law.calls.made;
-      appended = law.calls.appended;
-      are = law.calls.are;
-    };
-  }
+  to_end_through {lacks = lacks} {reply = reply} law = grind (arith, common_steps, between, made_map, call_through)
 
 -- and R' holds what R holds
 pub record LendsThrough {X Y : Type 0} (R : Lender X) (R' : Lender Y) (put : X → Y) : Type 0 where
@@ -102,100 +45,40 @@ module _ {X Y : Type 0} {R : Lender X} {R' : Lender Y} {put : X → Y} (through 
   lend_between P holds = between through.reads a b P holds
 
   consumed_through : (n : ℕ) → ConsumeLaw R a n b → ConsumeLaw R' (put a) n (put b)
-  consumed_through n law = record {
-    held = rw (through.held a, through.held b) law.held;
-    takes = rw (through.held a) (lend_between (λ t u. Takes t (events_of (take n (R.held a))) u) law.takes);
-    call = through.reads.may a b (Consumed n) law.call;
-  }
+  consumed_through n law = grind (arith, common_steps)
 
   pub lend_through : (call : ReadCall) → LendCallLaw R a call b → LendCallLaw R' (put a) call (put b)
-  lend_through (Gave room answer) law = call_through through.reads a b (Gave room answer) law
-  lend_through (GaveExactly room answer) law = call_through through.reads a b (GaveExactly room answer) law
-  lend_through (GaveAll x answer) law = call_through through.reads a b (GaveAll x answer) law
-  lend_through (Filled answer) law = record {
-    held = rw (through.held a) (λ some. let same = law.held some in (same.0, ap put same.1));
-    front = lend_between (λ t u. IfOk answer (λ x. IfSome (to_come t) (λ E. BeginsWith E x))) law.front;
-    lends = rw (through.held b) law.lends;
-    end = λ none. lend_between (λ t u. IsAtEnd t) (law.end none);
-    takes = lend_between (λ t u. Takes t (fault_of answer) u) law.takes;
-    call = through.reads.may a b (Filled answer) law.call;
-  }
-  lend_through (Consumed n) law = (rw (through.held a) law.0, consumed_through n law.1)
+  lend_through x1 law = grind (arith, common_steps)
 
 module _ {X Y : Type 0} {R : Lender X} {R' : Lender Y} (put : X → Y) (through : LendsThrough R R' put) {a b : X} where
   pub consume_through : {n : ℕ} → ConsumeLaw R a n b → ConsumeLaw R' (put a) n (put b)
   consume_through {n} law = consumed_through through a b n law
 
   pub loan_through : (reply : Result (Bor (List ℕ)) Error) → AfterLoan R a reply b → AfterLoan R' (put a) reply (put b)
-  loan_through reply after = record {
-    lends = rw (through.held b) after.lends;
-    takes = lend_between through a b (λ t u. Takes t (fault_of (lent_bytes reply)) u) after.takes;
-    unchanged = rw (through.held a) (λ some. ap put (after.unchanged some));
-    call = through.reads.may a b _ after.call;
-  }
+  loan_through reply after = grind (arith, common_steps)
 
   pub until_through : {A : Type 0} {d : ℕ} {buf buf' : Vec ℕ A} {reply : Result ℕ Error} → ReadUntilLaw R a d buf reply buf' b
       → ReadUntilLaw R' (put a) d buf reply buf' (put b)
-  until_through {d = d} {buf} {reply = reply} law = record {
-    taken = law.taken;
-    takes = lend_between through a b (λ t u. Takes t law.taken u) law.takes;
-    appends = law.appends;
-    ends = lend_between through a b (λ t u. PieceEnds (λ n. vec_capacity buf < vec_len buf + n) d t law.taken reply) law.ends;
-    capacity = law.capacity;
-    calls = record {
-      calls = law.calls.calls;
-      made = made_map (LendCallLaw R) (LendCallLaw R') put (lend_through through) law.calls.calls a b law.calls.made;
-      are = law.calls.are;
-    };
-  }
+  until_through {d = d} {buf} {reply = reply} law = grind (arith, common_steps, lend_between, made_map, lend_through)
 
   pub line_through : {A : Type 0} {buf buf' : String A} {reply : Result ℕ Error} → ReadLineLaw R a buf reply buf' b
       → ReadLineLaw R' (put a) buf reply buf' (put b)
-  line_through {buf = buf} law = record {
-    taken = law.taken;
-    takes = lend_between through a b (λ t u. Takes t law.taken u) law.takes;
-    read = law.read;
-    ends = lend_between through a b (λ t u. PieceEnds (λ n. line_room buf < n) newline t law.taken law.read) law.ends;
-    answers = law.answers;
-    capacity = law.capacity;
-    calls = record {
-      calls = law.calls.calls;
-      made = made_map (LendCallLaw R) (LendCallLaw R') put (lend_through through) law.calls.calls a b law.calls.made;
-      are = law.calls.are;
-    };
-  }
-
--- what a `fill_buf` lends to the one, it lends to the other
-pub fill_through : {X Y : Type 0} {R : Lender X} {R' : Lender Y} (put : X → Y) → LendsThrough R R' put → {a : X}
-    {reply : Result (Bor (List ℕ)) Error} → FillBufLaw R a reply → FillBufLaw R' (put a) reply
-fill_through put through {a} {reply} law = record {
-  held = rw (through.held a) law.held;
-  front = subst (λ t. IfOk reply (λ s. IfSome (to_come t) (λ E. BeginsWith E s.now))) (sym (through.reads.told a)) law.front;
-  end = subst (λ t. IfOk reply (λ s. s.now ≡ [] → IsAtEnd t)) (sym (through.reads.told a)) law.end;
-}
+  line_through {buf = buf} law = grind (arith, common_steps, lend_between, made_map, lend_through)
 
 -- a writer that a part is put into: what a call did to the part, it did to the whole
 pub wrote_through : {W V : Type 0} (told : V → Told) (takes_all : V → Type 0) (may : W → WriteCall → W → Type 0)
     (may' : V → WriteCall → V → Type 0) (put : W → V) → ((a b : W) (call : WriteCall) → may a call b → may' (put a) call (put b))
     → (a b : W) (call : WriteCall) → CallLaw (λ w. told (put w)) (λ w. takes_all (put w)) may a call b
     → CallLaw told takes_all may' (put a) call (put b)
-wrote_through told takes_all may may' put each a b (Wrote x reply) law =
-    record { bound = law.bound; moves = law.moves; all = law.all; call = each a b _ law.call }
-wrote_through told takes_all may may' put each a b (Flushed reply) law =
-    record { empty = law.empty; moves = law.moves; all = law.all; call = each a b _ law.call }
-wrote_through told takes_all may may' put each a b (WroteAll x reply) law = (each a b _ law.0, law.1, law.2, law.3)
+wrote_through told takes_all may may' put each a b x9 law = grind (arith, common_steps)
 
 module _ {W V : Type 0} {told : V → Told} {takes_all : V → Type 0} {may : W → WriteCall → W → Type 0} {may' : V → WriteCall → V → Type 0}
     (put : W → V) (each : (a b : W) (call : WriteCall) → may a call b → may' (put a) call (put b)) where
   pub write_all_through : {a b : W} {x : List ℕ} {reply : Result (Unit {0}) Error}
       → WriteAllLaw (λ w. told (put w)) (λ w. takes_all (put w)) may a x reply b
       → WriteAllLaw told takes_all may' (put a) x reply (put b)
-  write_all_through {a} {b} law = record {
-    never_interrupted = law.never_interrupted;
-    moves = law.moves;
-    all = law.all;
-    calls = (law.calls.0, made_map _ _ put (wrote_through told takes_all may may' put each) law.calls.0 a b law.calls.1, law.calls.2);
-  }
+  write_all_through {a} {b} law =
+      search (arith, rules, made_map, wrote_through)
 
 -- a wrapper that passes each call on to a part of it, and leaves the rest as it is
 passed_on : {W V A : Type 0} {may : W → A → W → Type 0} {get : V → W} {put : V → W → V} (old : V) → ((w : W) → get (put old w) ≡ w)

@@ -1,20 +1,15 @@
 -- What a call that takes one piece says of all pieces that are to come, if the reader tells its events; and what its error is.
-use Rattle.std.proofs.Common.{◌≡◌, ℕ, ◌+◌, ◌<◌, ◌≤◌, ◌⊎◌, false, cond, if◌then◌else◌, Option, Some, None, List, [], ◌∷◌}
-use Rattle.std.proofs.Common.{◌++◌, length, filter, refl, sym, ap, ap₂, ◌∙◌, subst, arith, append-nil, append_assoc, Result, Ok, Err}
-use Rattle.std.proofs.Common.{inl, inr, ⊎_elim, length-append, IfSome, OnSome, IfErr}
-use Rattle.std.proofs.Common.{suc, Vec, String, vec_len, vec_capacity}
-use Rattle.std.proofs.lemmas.List.{append_cancel_left, nil_from_length}
-use Rattle.no_std_io2_base.specs.declared.error.Error.{Error}
-use Rattle.no_std_io2_base.specs.Errors.{IsFault, IsOutOfMemory}
-use Rattle.no_std_io2_base.specs.Events.{Event, byte, fails, events_of, bytes, HasNoFault, EndsInFault, bytes_to_fault, first_fault}
-use Rattle.no_std_io2_base.specs.Takes.{Tells, Takes, AreTaken, to_come}
-use Rattle.no_std_io2_base.specs.BufRead.{Lender, lender_tells, NextPieceLaw, ReadUntilLaw, ReadLineLaw, line_room}
-use Rattle.no_std_io2_base.specs.Pieces.{Lacks, EndsAt, PieceEnds, YieldsRead, ends_in, pieces}
-use Rattle.no_std_io2_base.specs.Pieces.{pieces_before, pieces_given, ends_at, items_left, newline}
-use Rattle.no_std_io2_base.proofs.EventLemmas.{bytes-append, bytes-events_of, HasNoFault-events_of}
+use Rattle.no_std_io2_base.proofs.{TakesLemmas.{left_of, spends}, EventLemmas.{bytes-append, bytes-events_of, HasNoFault-events_of}}
 use Rattle.no_std_io2_base.proofs.PieceLaws.{pieces-first, pieces-last, ends_in-end, ends_in-lacks}
-use Rattle.no_std_io2_base.proofs.PieceLemmas.{memory_fault}
-use Rattle.no_std_io2_base.proofs.TakesLemmas.{spends}
+use Rattle.std.proofs.Common.{rules, ◌≡◌, ℕ, ◌+◌, ◌<◌, ◌≤◌, ◌⊎◌, false, cond, if◌then◌else◌, Option, Some, None, List, [], ◌∷◌, ◌++◌}
+use Rattle.std.proofs.Common.{length, filter, refl, sym, ap, ap₂, ◌∙◌, subst, arith, append-nil, append_assoc, Result, Ok, Err, inl, inr}
+use Rattle.std.proofs.Common.{⊎_elim, length-append, IfSome, OnSome, IfErr, Vec, String, vec_len, vec_capacity}
+use Rattle.std.proofs.{lemmas.Grind.{common_steps}, lemmas.List.{append_cancel_left, nil_from_length}}
+use Rattle.no_std_io2_base.specs.{declared.error.Error.{Error}, Errors.{IsFault, IsOutOfMemory}, Events.{Event, byte, fails, events_of}}
+use Rattle.no_std_io2_base.specs.{Events.{bytes, HasNoFault, EndsInFault, bytes_to_fault, first_fault}, Takes.{Tells, Takes, to_come}}
+use Rattle.no_std_io2_base.specs.{BufRead.{Lender, lender_tells, NextPieceLaw, ReadUntilLaw, ReadLineLaw, line_room}, Pieces.{Lacks}}
+use Rattle.no_std_io2_base.specs.Pieces.{EndsAt, PieceEnds, YieldsRead, ends_in, pieces, pieces_before, pieces_given, ends_at, items_left}
+use Rattle.no_std_io2_base.specs.Pieces.{newline}
 
 -- the first fault of events without a fault, followed by others, is that of the others
 pub first_fault-append : (P Q : List Event) → HasNoFault P → first_fault (P ++ Q) ≡ first_fault Q
@@ -31,9 +26,7 @@ bytes_to_fault-append (fails e ∷ P) Q h = ap (λ t. if t then bytes_to_fault (
 -- a piece that ends in d is the first piece, whatever follows
 before-first : (d : ℕ) (f : Option Error) (bs cs : List ℕ) → Lacks d bs
     → pieces_before d f (bs ++ d ∷ cs) ≡ (bs ++ d ∷ []) ∷ pieces_before d f cs
-before-first d None bs cs h = pieces-first d bs cs h
-before-first d (Some e) bs cs h = ap (filter (ends_in d)) (pieces-first d bs cs h)
-    ∙ ap (λ t. cond t ((bs ++ d ∷ []) ∷ filter (ends_in d) (pieces d cs)) (filter (ends_in d) (pieces d cs))) (ends_in-end d bs)
+before-first d x2 bs cs h = grind (arith, common_steps, pieces-first, filter, cond, ends_in-end)
 
 -- what a front without faults is in what is given
 given-front : (d : ℕ) (P Q : List Event) → HasNoFault P
@@ -65,34 +58,13 @@ GivenRead d E piece (Err e) after = ((pieces_given d E ≡ []) × (first_fault E
 -- events that end in d, or all, are the next piece
 given_next : (d : ℕ) (E P after : List Event) → E ≡ P ++ after → HasNoFault P → EndsAt d P ⊎ (Lacks d (bytes P) × (after ≡ []))
     → 0 < length (bytes P) → GivesNext d E (bytes P) after
-given_next d E P after split free ends some = record {
-  pieces = by_end ends;
-  fault = ap first_fault split ∙ first_fault-append P after free;
-  bytes = ap bytes_to_fault split ∙ bytes_to_fault-append P after free;
-}
-  where
-    by_end : EndsAt d P ⊎ (Lacks d (bytes P) × (after ≡ [])) → pieces_given d E ≡ bytes P ∷ pieces_given d after
-    by_end (inl end) =
-        let is : bytes P ≡ bytes end.0 ++ d ∷ [] = ap bytes end.1 ∙ bytes-append end.0 (byte d ∷ []) in
-        let rest = bytes_to_fault after in
-        let whole : bytes P ++ rest ≡ bytes end.0 ++ d ∷ rest = ap (λ l. l ++ rest) is ∙ append_assoc (bytes end.0) (d ∷ []) rest in
-        ap (pieces_given d) split ∙ given-front d P after free ∙ ap (pieces_before d (first_fault after)) whole
-        ∙ before-first d (first_fault after) (bytes end.0) rest end.2 ∙ ap (λ l. l ∷ pieces_given d after) (sym is)
-    by_end (inr end) =
-        let all : E ≡ P ++ [] = split ∙ ap (λ l. P ++ l) end.1 in
-        ap (pieces_given d) all ∙ given-front d P [] free ∙ given-last d (bytes P) end.0 some
-        ∙ ap (λ l. bytes P ∷ pieces_given d l) (sym end.1)
+given_next d E P after split free ends some =
+    grind (arith, common_steps, first_fault-append, bytes_to_fault-append, bytes-append, append_assoc, given-front, before-first, given-last)
 
 -- if they have no byte, they are all
 given_none : (d : ℕ) (E P after : List Event) → E ≡ P ++ after → HasNoFault P → EndsAt d P ⊎ (Lacks d (bytes P) × (after ≡ []))
     → length (bytes P) ≡ 0 → GivesNone d E
-given_none d E P after split free (inl end) none =
-    absurd (omega (arith, none, ap length (ap bytes end.1 ∙ bytes-append end.0 (byte d ∷ [])), length-append (bytes end.0) (d ∷ [])))
-given_none d E P after split free (inr end) none =
-    let all : E ≡ P ++ [] = split ∙ ap (λ l. P ++ l) end.1 in (
-      ap (pieces_given d) all ∙ given-front d P [] free ∙ ap (λ l. pieces d (l ++ [])) (nil_from_length (bytes P) none),
-      ap first_fault all ∙ first_fault-append P [] free,
-    )
+given_none d x2 x3 after split free x7 x8 = grind (arith, common_steps, bytes-append, length-append, common_steps, given-front, nil_from_length, first_fault-append)
 
 -- bytes without a d give no piece that a d ended
 none_ended : (d : ℕ) (bs : List ℕ) → Lacks d bs → filter (ends_in d) (pieces d bs) ≡ []
@@ -104,28 +76,12 @@ pub given_fault : (d : ℕ) (E : List Event) (e : Error) (taken after : List Eve
     → Lacks d (bytes taken) → EndsInFault taken e
     → (pieces_given d E ≡ []) × (first_fault E ≡ Some e)
 given_fault d E e taken after split none f =
-    let all : E ≡ f.0 ++ fails e ∷ after = split ∙ ap (λ l. l ++ after) f.1 ∙ append_assoc f.0 (fails e ∷ []) after in
-    let front : bytes taken ≡ bytes f.0 = ap bytes f.1 ∙ bytes-append f.0 (fails e ∷ []) ∙ append-nil (bytes f.0) in
-    let here : first_fault (fails e ∷ after) ≡ Some e = ap (λ t. if t then first_fault after else Some e) f.3 in
-    let stops : bytes_to_fault (fails e ∷ after) ≡ [] = ap (λ t. if t then bytes_to_fault after else []) f.3 in (
-      ap (pieces_given d) all ∙ given-front d f.0 (fails e ∷ after) f.2 ∙ ap₂ (λ g l. pieces_before d g (bytes f.0 ++ l)) here stops
-          ∙ ap (λ l. filter (ends_in d) (pieces d l)) (append-nil (bytes f.0)) ∙ none_ended d (bytes f.0) (subst (Lacks d) front none),
-      ap first_fault all ∙ first_fault-append f.0 (fails e ∷ after) f.2 ∙ here,
-    )
+    grind (arith, common_steps, append_assoc, bytes-append, append-nil, given-front, ap₂, filter, none_ended, first_fault-append)
 
 -- a part of a piece comes before the first fault
 part_comes : (P rest : List Event) (part : List ℕ) → HasNoFault P
     → bytes_to_fault (P ++ (events_of part ++ rest)) ≡ bytes P ++ (part ++ bytes_to_fault rest)
-part_comes P rest part free = bytes_to_fault-append P _ free
-    ∙ ap (λ l. bytes P ++ l) (bytes_to_fault-append (events_of part) rest (HasNoFault-events_of part)
-    ∙ ap (λ l. l ++ bytes_to_fault rest) (bytes-events_of part))
-
--- if events are told, they still are, and P is gone
-pub told_after : (E : List Event) (P : List Event) (old new : Option (List Event)) → AreTaken old P new → old ≡ Some E
-    → (after : List Event) × (new ≡ Some after) × (E ≡ P ++ after)
-told_after E P None new are is = absurd (let no : ⊥ = cc in no)
-told_after E P (Some F) None are is = absurd are
-told_after E P (Some F) (Some after) are is = (after, refl, let same : E ≡ F = cc in same ∙ are)
+part_comes P rest part free = grind (arith, common_steps, bytes_to_fault-append, HasNoFault-events_of, bytes-events_of)
 
 -- what holds if events are told holds of them
 of_told : {E : List Event} (t : Option (List Event)) (Q : List Event → Type 0) → t ≡ Some E → IfSome t Q → Q E
@@ -138,30 +94,17 @@ none_left E P after split all = append_cancel_left P after [] (sym split ∙ all
 -- what a piece says of all
 given_read : (lacks : ℕ → Type 0) (d : ℕ) (t : Tells) (E P after : List Event) (read : Result ℕ Error) → to_come t ≡ Some E → E ≡ P ++ after
     → PieceEnds lacks d t P read → GivenRead d E (bytes P) read after
-given_read lacks d t E P after (Ok n) told split (free, count, ends) = by_length (bytes P) refl
-  where
-    ends_by : EndsAt d P ⊎ (Lacks d (bytes P) × (after ≡ []))
-    ends_by = ⊎_elim inl (λ all. inr (all.0, none_left E P after split (of_told (to_come t) (λ l. l ≡ P) told all.1))) ends
-
-    by_length : (bs : List ℕ) → bytes P ≡ bs
-        → ((0 < length (bytes P)) × GivesNext d E (bytes P) after) ⊎ ((length (bytes P) ≡ 0) × GivesNone d E)
-    by_length [] is = let none = ap length is in inr (none, given_none d E P after split free ends_by none)
-    by_length (b ∷ bs) is =
-        let some : 0 < length (bytes P) = omega (arith, ap length is) in inl (some, given_next d E P after split free ends_by some)
+given_read lacks d t E P after (Ok n) told split (free, count, ends) =
+    search (arith, rules, ⊎_elim, none_left, of_told, GivesNone, given_none, given_next)
 given_read lacks d t E P after (Err e) told split (none, inl fault) = inl (given_fault d E e P after split none fault)
 given_read lacks d t E P after (Err e) told split (none, inr (free, refused, (part, is_part, comes, why))) =
-    let here = of_told (to_come t) (λ l. (rest : List Event) × (l ≡ P ++ (events_of part ++ rest))) told comes in
-    let is = ap length (ap bytes_to_fault here.1 ∙ part_comes P here.0 part free) in
-    let rest = bytes_to_fault here.0 in
-    inr (refused, omega (arith, is_part.0, is, length-append (bytes P) (part ++ rest), length-append part rest))
+    grind (arith, common_steps, of_told, part_comes, length-append)
 
 -- A call that takes one piece from a reader that tells the events E: those after it are told, and the piece says this of all pieces of E.
 pub piece_given : (lacks : ℕ → Type 0) (d : ℕ) (t t' : Tells) (E P : List Event) (read : Result ℕ Error) → Takes t P t'
     → PieceEnds lacks d t P read → to_come t ≡ Some E
     → (after : List Event) × (to_come t' ≡ Some after) × (E ≡ P ++ after) × GivenRead d E (bytes P) read after
-piece_given lacks d t t' E P read takes ends told =
-    let (after, still, split) = told_after E P (to_come t) (to_come t') takes.events told in
-    (after, still, split, given_read lacks d t E P after read told split ends)
+piece_given lacks d t t' E P read takes ends told = grind (arith, common_steps, left_of, given_read)
 
 -- so a `read_until`,
 pub until_given : {X A : Type 0} {R : Lender X} {old new : X} {d : ℕ} {buf buf' : Vec ℕ A} {reply : Result ℕ Error} {E : List Event}
@@ -179,12 +122,6 @@ pub line_given : {X A : Type 0} {R : Lender X} {old new : X} {buf buf' : String 
 line_given {buf = buf} {E = E} law told =
     piece_given (λ n. line_room buf < n) _ _ _ E law.taken law.read law.takes law.ends told
 
--- each error of such a call is a fault
-pub piece_fault : (lacks : ℕ → Type 0) (d : ℕ) (t : Tells) (P : List Event) (read : Result ℕ Error) → PieceEnds lacks d t P read
-    → IfErr read IsFault
-piece_fault lacks d t P (Ok n) ends = tt
-piece_fault lacks d t P (Err e) ends = ⊎_elim (λ fault. fault.3) (λ memory. memory_fault e memory.1) ends.1
-
 -- there are no more bytes than events
 pub few_bytes : (P : List Event) → length (bytes P) ≤ length P
 few_bytes [] = omega arith
@@ -201,27 +138,12 @@ module _ {X T : Type 0} {R : Lender X} {old new : X} {view : T → List ℕ} {tr
     -- each item of `Split` and `Lines` spends a turn
     pub next_turns : (result : Option (Result T Error)) → NextPieceLaw R old view trim refuses d result new
         → OnSome result (items_left (ends_at result) (R.turns new) < items_left false (R.turns old))
-    next_turns None law = tt
-    next_turns (Some (Err e)) law = omega arith
-    next_turns (Some (Ok item)) law = by_read law.read law.yields
-      where
-        by_read : (read : Result ℕ Error) → YieldsRead view trim refuses (bytes law.taken) read (Some (Ok item))
-            → suc (R.turns new) < suc (R.turns old)
-        by_read (Ok n) yields = let less : R.turns new < R.turns old = piece_spends law.takes yields.0 in omega (arith, less)
-        by_read (Err e) yields = absurd (let no : ⊥ = cc in no)
+    next_turns x1 law = grind (arith, common_steps)
 
     -- and each of their errors is a fault
     pub next_fault : (result : Option (Result T Error)) → ((piece : List ℕ) (e : Error) → refuses piece e → IsFault e)
         → NextPieceLaw R old view trim refuses d result new → IfSome result (λ item. IfErr item IsFault)
-    next_fault None refused law = tt
-    next_fault (Some (Ok item)) refused law = tt
-    next_fault (Some (Err e)) refused law = by_read law.read law.yields law.ends
-      where
-        by_read : (read : Result ℕ Error) → YieldsRead view trim refuses (bytes law.taken) read (Some (Err e))
-            → PieceEnds (λ _. Unit {0}) d (lender_tells R old) law.taken read → IsFault e
-        by_read (Ok n) yields ends = refused (bytes law.taken) e yields.1
-        by_read (Err f) yields ends =
-            let same : f ≡ e = cc in subst IsFault same (piece_fault (λ _. Unit {0}) d (lender_tells R old) law.taken (Err f) ends)
+    next_fault x1 refused law = grind (arith, common_steps)
 
     module _ {E : List Event} (told : to_come (lender_tells R old) ≡ Some E) where
       -- an item is the next piece, trimmed

@@ -1,12 +1,11 @@
 -- The lines of a list of bytes, and what follows them.
-use Rattle.std.proofs.lemmas.Grind.{common_steps}
-use Rattle.std.proofs.Common.{◌≡◌, ◌≢◌, ℕ, ◌<◌, ◌≤◌, ◌==◌, ◌⊎◌, Bool, true, false, List, [], ◌∷◌, ◌++◌, length, refl, sym, ap, ◌∙◌}
-use Rattle.std.proofs.lemmas.List.{get_or_default}
-use Rattle.std.proofs.lemmas.List.Elements.{recursion_from_All, All-from_recursion, Contains-append_left, Contains-append_right}
-use Rattle.std.proofs.Common.{suc, subst, arith, true≢false, eqb-true, eq-eqb, Contains, take, drop}
-use Rattle.no_std_io2_base.specs.Pieces.{Lacks, ends_in, pieces, newline, ArePieces}
-use Rattle.no_std_io2_base.specs.Lines.{lines_of, unfinished_line, lines_len, IsLineState}
-use Rattle.no_std_io2_base.proofs.PieceLaws.{pieces-at, pieces-other, pieces_are, ends_in-lacks}
+use Rattle.std.proofs.{lemmas.Grind.{common_steps}, Common.{◌≡◌, ◌≢◌, ℕ, ◌<◌, ◌≤◌, ◌==◌, ◌⊎◌, Bool, true, false, List, [], ◌∷◌, ◌++◌}}
+use Rattle.std.proofs.Common.{length, refl, sym, ap, ◌∙◌, suc, subst, arith, true≢false, eqb-true, eq-eqb, Contains, take, drop}
+use Rattle.std.proofs.{lemmas.List.{get_or_default}, lemmas.List.Elements.{recursion_from_All, All-from_recursion, Contains-append_left}}
+use Rattle.std.proofs.lemmas.List.Elements.{Contains-append_right}
+use Rattle.no_std_io2_base.specs.{Pieces.{Lacks, ends_in, pieces, newline, ArePieces}, Lines.{lines_of, unfinished_line, lines_len}}
+use Rattle.no_std_io2_base.specs.Lines.{IsLineState}
+use Rattle.no_std_io2_base.proofs.PieceLaws.{pieces_are, ends_in-lacks}
 
 -- one byte more in front: it belongs to the lines, if there are some or it is a newline; if not, to the unfinished line
 abbrev Joins : ℕ → List ℕ → Type 0
@@ -19,11 +18,11 @@ joins b bs = by_byte (b == newline) refl
   where
     by_end : (ps : List (List ℕ)) → b ≢ newline → pieces newline bs ≡ ps → ArePieces newline bs ps → Joins b bs
     by_end ([] ∷ ps) other is h = absurd (omega (arith, h.none_empty.0))
-    by_end ((c ∷ p) ∷ q ∷ ps) other is h = grind (arith, common_steps, pieces-other newline b bs other, h.ended.0)
-    by_end ps other is h = grind (arith, common_steps, pieces-other newline b bs other)
+    by_end ((c ∷ p) ∷ q ∷ ps) other is h = grind (arith, common_steps)
+    by_end ps other is h = grind (arith, common_steps)
 
     by_byte : (t : Bool) → (b == newline) ≡ t → Joins b bs
-    by_byte true e = grind (arith, common_steps, eqb-true b newline e, pieces-at newline b bs)
+    by_byte true e = grind (arith, common_steps)
     by_byte false e =
         by_end (pieces newline bs) (λ is. true≢false (sym (eq-eqb b newline is) ∙ e)) refl (pieces_are newline bs)
 

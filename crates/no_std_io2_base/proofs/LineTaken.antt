@@ -1,19 +1,13 @@
 -- A line that goes to a string: through a vector, which has the memory of an empty string, or straight from what a reader lends.
-use Rattle.std.proofs.Common.{◌≡◌, ℕ, ◌+◌, ◌<◌, ◌≤◌, ◌⊎◌, List, [], ◌∷◌, ◌++◌, length, take, Ok, Bool, true}
-use Rattle.std.proofs.Common.{Result, Err, String, string_bytes, string_len, string_capacity, Vec, vec_len, vec_capacity, refl, sym}
-use Rattle.std.proofs.Common.{ap, ◌∙◌, subst, arith, le_refl, le_trans, IsUtf8, length-take-le, append-nil}
-use Rattle.std.proofs.Common.{⊎_elim, inl, inr}
-use Rattle.std.proofs.lemmas.Str.{IsUtf8-nil}
-use Rattle.no_std_io2_base.specs.declared.error.Error.{Error}
-use Rattle.no_std_io2_base.specs.declared.error.ErrorKind.{ErrorKind}
-use Rattle.no_std_io2_base.specs.declared.error.ErrorKind.TheVariants.{OutOfMemory}
-use Rattle.no_std_io2_base.specs.Errors.{error_kind, IsFault}
-use Rattle.no_std_io2_base.specs.Events.{bytes, events_of, fails}
-use Rattle.no_std_io2_base.specs.BufRead.{Lender, lender_tells, ConsumeLaw, FilledLaw, ReadUntilLaw, ReadLineLaw, line_room, text_room}
-use Rattle.no_std_io2_base.specs.Pieces.{AnswersLine, FindsPiece, Follows, newline}
-use Rattle.no_std_io2_base.proofs.EventLemmas.{bytes-events_of}
-use Rattle.no_std_io2_base.proofs.TextRoom.{room_lent, room_grown, text_answers}
-use Rattle.no_std_io2_base.proofs.PieceLoop.{PieceTaken, part_none, piece_whole, piece_faulted, piece_since}
+use Rattle.std.proofs.{lemmas.Grind.{common_steps}, Common.{◌≡◌, ℕ, ◌+◌, ◌<◌, ◌≤◌, ◌⊎◌, List, [], ◌∷◌, length, take, Ok, Bool, true}}
+use Rattle.std.proofs.Common.{Result, Err, String, string_bytes, string_len, string_capacity, Vec, refl, sym, ap, ◌∙◌, subst, arith}
+use Rattle.std.proofs.{Common.{le_refl, le_trans, IsUtf8, length-take-le, append-nil, ⊎_elim, inl, inr}, lemmas.Str.{IsUtf8-nil}}
+use Rattle.no_std_io2_base.specs.{declared.error.Error.{Error}, declared.error.ErrorKind.{ErrorKind}}
+use Rattle.no_std_io2_base.specs.{declared.error.ErrorKind.TheVariants.{OutOfMemory}, Errors.{error_kind, IsFault}, Events.{bytes}}
+use Rattle.no_std_io2_base.specs.{Events.{events_of, fails}, BufRead.{Lender, ConsumeLaw, FilledLaw, ReadUntilLaw, ReadLineLaw, line_room}}
+use Rattle.no_std_io2_base.specs.{BufRead.{text_room}, Pieces.{AnswersLine, FindsPiece, Follows, newline}}
+use Rattle.no_std_io2_base.proofs.{EventLemmas.{bytes-events_of}, TextRoom.{room_lent, room_grown, text_answers}, PieceLoop.{PieceTaken}}
+use Rattle.no_std_io2_base.proofs.PieceLoop.{part_none, piece_whole, piece_faulted, piece_since}
 
 -- a line that was read into a vector, which has the memory of an empty text
 pub line_law : {X A : Type 0} {R : Lender X} {old new : X} (text taken : String A) (none line : Vec ℕ A) {read reply : Result ℕ Error}
@@ -22,19 +16,7 @@ pub line_law : {X A : Type 0} {R : Lender X} {old new : X} (text taken : String 
     → AnswersLine line.items read (string_len taken) (text_room taken line) reply (string_bytes taken) (string_bytes text')
     → text_room taken line ≤ string_capacity text' → ReadLineLaw R old text reply text' new
 line_law {R = R} {old} text taken none line {read} {reply} {text'} len same empty lent until answers more =
-    let is = until.appends ∙ ap (λ l. l ++ bytes until.taken) empty in
-    let since : (n : ℕ) → vec_capacity none < vec_len none + n → line_room text < n =
-    λ n short. omega (arith, room_lent text taken none len lent, none.ok.0, ap length empty) in
-    record {
-      taken = until.taken;
-      takes = until.takes;
-      read = read;
-      ends = piece_since newline (lender_tells R old) until.taken read since until.ends;
-      answers = text_answers text taken none line (bytes until.taken)
-          (string_bytes text') read reply same len lent until.capacity is answers;
-      capacity = le_trans (room_grown taken none line until.capacity lent) more;
-      calls = until.calls;
-    }
+    grind (arith, common_steps, room_lent, piece_since, text_answers, string_bytes, le_trans, room_grown)
 
 -- a line that was lent whole went straight to the text
 pub line_at_once : {X A : Type 0} {R : Lender X} {old now new : X} {lent : List ℕ} {n : ℕ} {is_whole : Bool} {buf buf' : String A}
@@ -58,8 +40,7 @@ line_at_once {R = R} {old} {lent = lent} {n} {buf = buf} {buf'} filled found who
     }
 
 memory_or_other : (kind : ErrorKind) → (kind ≡ OutOfMemory) ⊎ (kind ≡ OutOfMemory → ⊥)
-memory_or_other OutOfMemory = inl refl
-memory_or_other _ = inr (λ is. cc)
+memory_or_other x1 = grind (arith, common_steps)
 
 -- before a fault no byte of a line came, and the text stays
 pub line_faulted : {X A : Type 0} {R : Lender X} {old new : X} {e : Error} {buf : String A} → FilledLaw R old (Err e) new → IsFault e
@@ -82,6 +63,4 @@ line_faulted {R = R} {old} {e = e} {buf} filled fault =
 -- a text refuses only a line that has some bytes
 pub line_some : {A : Type 0} (buf : String A) (line : List ℕ)
     → (string_capacity buf < string_len buf + length line) ⊎ (IsUtf8 line → ⊥) → 0 < length line
-line_some buf [] (inl full) = absurd (omega (arith, full, buf.bytes.ok.1))
-line_some buf [] (inr bad) = absurd (bad IsUtf8-nil)
-line_some buf (b ∷ line) refused = omega arith
+line_some buf x2 refused = grind (arith, common_steps)

@@ -1,14 +1,9 @@
 -- What calls of a writer cost, and how many calls the calls of the trait's loops count as.
-use Rattle.no_std_io2_base.specs.Writers.{TakesAll, CallOf}
-use Rattle.std.proofs.Common.{◌≡◌, ℕ, ◌+◌, List, [], ◌∷◌, ◌++◌, length, Result, IsOk, arith, ap, ◌∙◌, inl, inr}
-use Rattle.no_std_io2_base.specs.declared.error.Error.{Error}
-use Rattle.no_std_io2_base.specs.Write.{WriteCall, Made, AllCalls, calls_for}
-use Rattle.no_std_io2_base.specs.Write.{Writes, none, took, again, stuck, fault}
-use Rattle.no_std_io2_base.specs.Writers.{Writer}
-use Rattle.no_std_io2_base.proofs.CallsLemmas.{law_may}
-use Rattle.no_std_io2_base.proofs.WritesFacts.{writes_all}
-use Rattle.no_std_io2_base.proofs.AllFacts.{all_calls}
-use Rattle.no_std_io2_base.specs.Meter.{charges, IsMeter}
+use Rattle.std.proofs.{lemmas.Grind.{common_steps}, Common.{◌≡◌, ℕ, ◌+◌, List, [], ◌∷◌, ◌++◌, length, Result, IsOk, arith, ap, ◌∙◌, inl}}
+use Rattle.std.proofs.Common.{inr}
+use Rattle.no_std_io2_base.specs.{Writers.{TakesAll, CallOf, Writer}, declared.error.Error.{Error}, Write.{WriteCall, Made, AllCalls}}
+use Rattle.no_std_io2_base.specs.{Write.{calls_for, Writes, none, took, again, stuck, fault}, Meter.{charges, IsMeter}}
+use Rattle.no_std_io2_base.proofs.{CallsLemmas.{law_may}, WritesFacts.{writes_all}, AllFacts.{all_calls}}
 
 -- calls and then others count as both
 pub charges-append : (C D : List WriteCall) → charges (C ++ D) ≡ charges C + charges D
@@ -37,9 +32,7 @@ module _ {W : Type 0} (I : Writer W) where
   pub writes_count : {text : List ℕ} {C : List WriteCall} {x left : List ℕ} {reply : Result (Unit {0}) Error}
       → Writes text C x reply left → (a b : W) → Made (CallOf I) a C b → TakesAll I a
       → TakesAll I b × IsOk reply × (charges C ≡ calls_for x)
-  writes_count w a b made takes =
-      let all = writes_all I w a b made takes in
-      (all.0, all.1, writes_charge w ∙ all.2)
+  writes_count w a b made takes = grind (arith, common_steps, writes_all, writes_charge)
 
   -- and so does a `write_all`
   pub all_count : {C : List WriteCall} {x : List ℕ}

@@ -1,19 +1,14 @@
 -- How calls of a writer follow one another.
-use Rattle.std.proofs.Common.{◌≡◌, Result, Ok, Err, ℕ, ◌+◌, ◌≤◌, length, Bool, true, subst, List, [], ◌∷◌, ◌++◌, Option}
-use Rattle.std.proofs.Common.{None, Some, refl, sym, ap, ◌∙◌, arith, count_by, append_assoc, append-nil}
-use Rattle.std.proofs.lemmas.List.Sums.{sum_by-append, sum_by-cons}
-use Rattle.std.proofs.lemmas.Bool.Decides.{nat_tests}
-use Rattle.no_std_io2_base.specs.declared.error.ErrorKind.{ErrorKind}
-use Rattle.std.specs.List.{concat}
-use Rattle.std.specs.Result.{OnOk}
-use Rattle.no_std_io2_base.specs.declared.error.Error.{Error}
-use Rattle.no_std_io2_base.specs.Errors.{is_interruption}
-use Rattle.no_std_io2_base.specs.Write.{Told, IsFront, HasSpent, Moves, MovesFront, MovesEach, Sends, call_mishap, zero_write}
+use Rattle.std.proofs.{lemmas.Grind.{common_steps}, Common.{◌≡◌, Result, Ok, Err, ℕ, ◌+◌, ◌≤◌, length, Bool, true, subst, List, [], ◌∷◌}}
+use Rattle.std.proofs.Common.{◌++◌, Option, None, Some, refl, sym, ap, ◌∙◌, arith, count_by, append_assoc, append-nil}
+use Rattle.std.proofs.{lemmas.List.Sums.{sum_by-append, sum_by-cons}, lemmas.Bool.Decides.{nat_tests}}
+use Rattle.no_std_io2_base.specs.{declared.error.ErrorKind.{ErrorKind}, declared.error.Error.{Error}, Write.{Told, IsFront, HasSpent}}
+use Rattle.no_std_io2_base.specs.Write.{Moves, MovesFront, MovesEach, Sends, call_mishap, zero_write}
+use Rattle.std.specs.{List.{concat}, Result.{OnOk}}
 
 -- what holds, holds after an `Ok`
 pub after_ok : {A E : Type 0} {P : Type 0} (reply : Result A E) → P → OnOk reply P
-after_ok (Ok a) p = p
-after_ok (Err e) p = tt
+after_ok x1 p = grind (arith, common_steps)
 
 -- a list is a front of itself
 pub IsFront-refl : (xs : List ℕ) → IsFront xs xs
@@ -27,55 +22,18 @@ IsFront-trans xs ys zs f g = (f.0 ++ g.0, g.1 ∙ ap (λ l. l ++ g.0) f.1 ∙ ap
 pub count_by-append : {X : Type 0} (p : X → Bool) (xs ys : List X) → count_by p (xs ++ ys) ≡ count_by p xs + count_by p ys
 count_by-append p xs ys = sum_by-append _ xs ys
 
--- if no mishap happened, the mishaps to come may be unchanged
-pub HasSpent-refl : (old : Option (List ErrorKind)) → HasSpent old [] old
-HasSpent-refl None = tt
-HasSpent-refl (Some old) = λ p. omega arith
-
--- the mishaps that one step spent, and those that the next one spent, are spent by both together
-pub HasSpent-trans : (a : Option (List ErrorKind)) (k : List ErrorKind) (b : Option (List ErrorKind))
-    (l : List ErrorKind) (c : Option (List ErrorKind))
-    → HasSpent a k b → HasSpent b l c → HasSpent a (k ++ l) c
-HasSpent-trans None k b l c f g = tt
-HasSpent-trans (Some a) k None l c f g = absurd f
-HasSpent-trans (Some a) k (Some b) l None f g = absurd g
-HasSpent-trans (Some a) k (Some b) l (Some c) f g = λ p. omega (arith, f p, g p, count_by-append p k l)
-
--- fewer mishaps than happened may be told
-HasSpent-less : (a : Option (List ErrorKind)) (k l : List ErrorKind) (c : Option (List ErrorKind))
-    → ((p : ErrorKind → Bool) → count_by p l ≤ count_by p k) → HasSpent a k c → HasSpent a l c
-HasSpent-less None k l c fewer f = tt
-HasSpent-less (Some a) k l None fewer f = absurd f
-HasSpent-less (Some a) k l (Some c) fewer f = λ p. omega (arith, f p, fewer p)
-
 -- a writer that does nothing has accepted no byte and had no mishap
 pub Moves-refl : (a : Told) → Moves a [] [] a
-Moves-refl a =
-    record {
-      front = IsFront-refl a.out;
-      bytes = sym (append-nil (a.out ++ a.held));
-      mishaps = HasSpent-refl a.mishaps;
-      turns = omega arith;
-    }
+Moves-refl a = grind (arith, common_steps)
 
 -- one step after another
 pub Moves-trans : {a b c : Told} {x y : List ℕ} {k l : List ErrorKind} → Moves a x k b → Moves b y l c → Moves a (x ++ y) (k ++ l) c
-Moves-trans {a} {b} {c} {x} {y} {k} {l} f g = record {
-  front = IsFront-trans a.out b.out c.out f.front g.front;
-  bytes = g.bytes ∙ ap (λ s. s ++ y) f.bytes ∙ append_assoc (a.out ++ a.held) x y;
-  mishaps = HasSpent-trans a.mishaps k b.mishaps l c.mishaps f.mishaps g.mishaps;
-  turns = omega (arith, f.turns, g.turns, count_by-append is_interruption k l);
-}
+Moves-trans {a} {b} {c} {x} {y} {k} {l} f g = grind (arith, common_steps)
 
 -- fewer mishaps need be told
 Moves-less : {a c : Told} {x : List ℕ} {k l : List ErrorKind} → ((p : ErrorKind → Bool) → count_by p l ≤ count_by p k)
     → Moves a x k c → Moves a x l c
-Moves-less {a} {c} {k = k} {l} fewer f = record {
-  front = f.front;
-  bytes = f.bytes;
-  mishaps = HasSpent-less a.mishaps k l c.mishaps fewer f.mishaps;
-  turns = omega (arith, f.turns, fewer is_interruption);
-}
+Moves-less {a} {c} {k = k} {l} fewer f = grind (arith, common_steps)
 
 -- some mishaps need not be told
 pub Moves-forget : {a c : Told} {x : List ℕ} (k : List ErrorKind) {l : List ErrorKind} → Moves a x (k ++ l) c → Moves a x l c
@@ -125,12 +83,7 @@ MovesFront-join x y r f g = record {
 
 -- the same, if the first failed: the second made no call
 pub MovesFront-first : {a b : Told} (x y : List ℕ) (e : Error) → MovesFront a x (Err e) b → MovesFront a (x ++ y) (Err e) b
-MovesFront-first x y e f = record {
-  accepted = f.accepted;
-  front = (f.front.0 ++ y, ap (λ l. l ++ y) f.front.1 ∙ append_assoc f.accepted f.front.0 y);
-  whole = tt;
-  moves = f.moves;
-}
+MovesFront-first x y e f = grind (arith, common_steps)
 
 -- if x was accepted whole, and then a call accepted nothing: together they do what a `write_all` of x does, with that call's result
 pub MovesFront-ends : {a b c : Told} (x : List ℕ) (r : Result (Unit {0}) Error) → Moves a x [] b
@@ -155,20 +108,12 @@ MovesFront-flush x u r f g = MovesFront-ends x r (MovesFront-whole x u f) g
 -- a call that says what is left is a call that accepted some front
 pub MovesFront-sends : {a b : Told} {r : Result (Unit {0}) Error} (x rest : List ℕ) → Sends a x r b rest
     → OnOk r (rest ≡ []) → MovesFront a x r b
-MovesFront-sends {r} x rest f none = record { accepted = f.sent; front = (rest, f.split); whole = whole r none; moves = f.moves }
-  where
-    whole : (r : Result (Unit {0}) Error) → OnOk r (rest ≡ []) → OnOk r (f.sent ≡ x)
-    whole (Ok u) e = sym (f.split ∙ ap (λ l. f.sent ++ l) e ∙ append-nil f.sent)
-    whole (Err e) h = tt
+MovesFront-sends {r} x rest f none = grind (arith, common_steps)
 
 -- two calls that say what is left, one after the other: nothing went out twice
 pub Sends-then : {a b c : Told} {r s : Result (Unit {0}) Error} {x rest left : List ℕ} → Sends a x r b rest
     → Sends b rest s c left → Sends a x s c left
-Sends-then {left} f g = record {
-  sent = f.sent ++ g.sent;
-  split = f.split ∙ ap (λ l. f.sent ++ l) g.split ∙ sym (append_assoc f.sent g.sent left);
-  moves = Moves-then f.moves g.moves;
-}
+Sends-then {left} f g = grind (arith, common_steps)
 
 -- a list of calls accepted the lists joined
 pub Moves-each : (a c : Told) (xs : List (List ℕ)) → MovesEach a xs c → Moves a (concat xs) [] c

@@ -1,11 +1,8 @@
 -- What a `next` of `Bytes` has done at each of its ends, after reads that were interrupted.
 use Rattle.std.proofs.Common.{◌≡◌, ℕ, List, [], ◌∷◌, ◌++◌, ap, subst, refl, None, Some, Result, Ok, Err, length, take, arith}
-use Rattle.no_std_io2_base.specs.declared.error.Error.{Error}
-use Rattle.no_std_io2_base.specs.Errors.{IsFault}
-use Rattle.no_std_io2_base.specs.Events.{fails, events_of}
-use Rattle.no_std_io2_base.specs.Read.{Reader, ReadLaw, GaveLaw, NextLaw}
-use Rattle.no_std_io2_base.proofs.ReadLoop.{ReadsSoFar, reads_until}
-use Rattle.no_std_io2_base.proofs.TakesLemmas.{takes_then, takes_still, nothing_read, read_law}
+use Rattle.no_std_io2_base.specs.{declared.error.Error.{Error}, Errors.{IsFault}, Events.{fails, events_of}, Read.{Reader, ReadLaw}}
+use Rattle.no_std_io2_base.specs.Read.{GaveLaw, NextLaw}
+use Rattle.no_std_io2_base.proofs.{ReadLoop.{ReadsSoFar, reads_until}, TakesLemmas.{takes_then, takes_still, nothing_read, read_law}}
 
 module _ {S : Type 0} {R : Reader S} {old now new : S} {part ys : List ℕ} (before : ReadsSoFar R (λ _ room. room ≡ 1) old [] now) where
   -- at the end

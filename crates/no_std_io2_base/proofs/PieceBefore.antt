@@ -1,16 +1,11 @@
 -- A `fill_buf` of which nothing was consumed, before a loop that takes a piece.
-use Rattle.std.proofs.Common.{◌≡◌, ℕ, ◌+◌, ◌<◌, Option, None, Some, IfSome, List, [], ◌∷◌, ◌++◌, Result, Ok, Err, Vec, length}
-use Rattle.std.proofs.Common.{vec_len, vec_capacity, refl, sym, ap, subst, ◌∙◌, append_assoc, ⊎_elim, inl, inr}
-use Rattle.no_std_io2_base.specs.declared.error.Error.{Error}
-use Rattle.no_std_io2_base.specs.Errors.{IsInterruption}
-use Rattle.no_std_io2_base.specs.Events.{Event, byte, fails, events_of, bytes, HasNoFault}
-use Rattle.no_std_io2_base.specs.Takes.{Tells, Takes, AreTaken, to_come}
-use Rattle.no_std_io2_base.specs.Read.{ReadCall, Filled, Consumed}
-use Rattle.no_std_io2_base.specs.BufRead.{Lender, FilledLaw, LendCallLaw, ReadUntilLaw}
+use Rattle.std.proofs.Common.{rules, arith, ◌≡◌, ℕ, ◌+◌, ◌<◌, List, [], ◌∷◌, ◌++◌, Result, Ok, Err, Vec, length, vec_len, vec_capacity}
+use Rattle.std.proofs.{Common.{refl, sym, ap, subst, ◌∙◌, append_assoc, ⊎_elim, inl, inr}, lemmas.Grind.{common_steps}}
+use Rattle.no_std_io2_base.specs.{declared.error.Error.{Error}, Errors.{IsInterruption}, Events.{Event, byte, fails, bytes, HasNoFault}}
+use Rattle.no_std_io2_base.specs.{Takes.{Tells, Takes}, Read.{ReadCall, Filled, Consumed}, BufRead.{Lender, FilledLaw, ReadUntilLaw}}
 use Rattle.no_std_io2_base.specs.Pieces.{Lacks, ComesBehind, PieceEnds, PartCalls, no_part, and_part, and_waited, PieceCalls}
-use Rattle.no_std_io2_base.specs.Write.{Made}
-use Rattle.no_std_io2_base.proofs.EventLemmas.{bytes-append, HasNoFault-append}
-use Rattle.no_std_io2_base.proofs.TakesLemmas.{takes_then, IsAll-behind, EndsInFault-behind}
+use Rattle.no_std_io2_base.proofs.{EventLemmas.{bytes-append, HasNoFault-append}, TakesLemmas.{takes_then, IsAll-behind}}
+use Rattle.no_std_io2_base.proofs.TakesLemmas.{EndsInFault-behind}
 
 -- the calls of a loop begin with a `fill_buf`
 parts_first : {d : ℕ} {C : List ReadCall} {x : List ℕ} → PartCalls d C x → (a : Result (List ℕ) Error) (D : List ReadCall)
@@ -52,14 +47,7 @@ piece_waited may_refuse d e C x (Err f) again (D, parts, inr (may, memory, lent,
 
 -- what comes behind Q comes behind P and Q, if P was taken before
 behind_both : {a b : Tells} (P Q : List Event) (x : List ℕ) → Takes a P b → ComesBehind b Q x → ComesBehind a (P ++ Q) x
-behind_both {a} {b} P Q x takes comes = by (to_come a) (to_come b) takes.events comes
-  where
-    by : (E E' : Option (List Event)) → AreTaken E P E' → IfSome E' (λ l. (rest : List Event) × (l ≡ Q ++ (events_of x ++ rest)))
-        → IfSome E (λ l. (rest : List Event) × (l ≡ (P ++ Q) ++ (events_of x ++ rest)))
-    by None E' are comes = tt
-    by (Some E) None are comes = absurd are
-    by (Some E) (Some E') are comes =
-        (comes.0, are ∙ ap (λ l. P ++ l) comes.1 ∙ sym (append_assoc P Q (events_of x ++ comes.0)))
+behind_both {a} {b} P Q x takes comes = grind (arith, common_steps)
 
 -- the ends of a piece, if events without bytes and without a fault were taken before
 ends_behind : (lacks : ℕ → Type 0) {a b : Tells} (d : ℕ) (P Q : List Event) (read : Result ℕ Error) → Takes a P b → HasNoFault P
@@ -79,15 +67,7 @@ ends_behind lacks d P Q (Ok n) takes free none ends = (
     same : (R : List Event) → bytes R ≡ bytes (P ++ R)
     same R = sym (bytes-append P R ∙ ap (λ l. l ++ bytes R) none)
 ends_behind lacks d P Q (Err e) takes free none ends =
-    let same : bytes Q ≡ bytes (P ++ Q) = sym (bytes-append P Q ∙ ap (λ l. l ++ bytes Q) none) in (
-      subst (Lacks d) same ends.0,
-      ⊎_elim (λ fault. inl (EndsInFault-behind P Q free fault))
-          (λ m. inr (
-            HasNoFault-append P Q free m.0,
-            m.1,
-            (m.2.0, m.2.1, behind_both P Q m.2.0 takes m.2.2, subst (λ l. lacks (length l + length m.2.0)) same m.2.3),
-          )) ends.1,
-    )
+    grind (arith, common_steps, bytes-append, ⊎_elim, EndsInFault-behind, HasNoFault-append, behind_both)
 
 -- A `fill_buf` of which nothing was consumed came before such a loop.
 module _ {X A : Type 0} {R : Lender X} {d : ℕ} {old now new : X} {buf buf' : Vec ℕ A} {reply : Result ℕ Error}
@@ -95,22 +75,7 @@ module _ {X A : Type 0} {R : Lender X} {d : ℕ} {old now new : X} {buf buf' : V
   -- if it lent some bytes, the loop's first one lends the same and changes nothing, so both are as one
   pub until_lent : {lent : List ℕ} → FilledLaw R old (Ok lent) now → 0 < length lent → ReadUntilLaw R old d buf reply buf' new
   until_lent {lent} filled some =
-      let (b, E, is) = piece_first (Unit {0}) d (bytes until.taken) reply until.calls.are in
-      let made = subst (λ C. Made (LendCallLaw R) now C new) is until.calls.made in
-      let second = made.1.held (subst (λ l. 0 < length l) (sym filled.lends) some) in
-      let first = subst (λ a. FilledLaw R old a now) (sym (second.0 ∙ ap Ok filled.lends)) filled in
-      record {
-        taken = until.taken;
-        takes = takes_then filled.takes until.takes;
-        appends = until.appends;
-        ends = ends_behind (λ n. vec_capacity buf < vec_len buf + n) d [] until.taken reply filled.takes tt refl until.ends;
-        capacity = until.capacity;
-        calls = record {
-          calls = Filled b ∷ E;
-          made = (now, first, subst (λ s. Made (LendCallLaw R) s E new) second.1 made.2);
-          are = subst (λ C. PieceCalls (Unit {0}) d C (bytes until.taken) reply) is until.calls.are;
-        };
-      }
+      search (arith, rules, piece_first, takes_then, ends_behind)
 
   -- if it was interrupted, it is one more
   pub until_waited : {e : Error} → FilledLaw R old (Err e) now → IsInterruption e → ReadUntilLaw R old d buf reply buf' new

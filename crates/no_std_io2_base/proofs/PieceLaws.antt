@@ -1,7 +1,6 @@
 -- The laws that determine the pieces of some bytes.
-use Rattle.std.proofs.Common.{◌≡◌, ◌≢◌, ℕ, ◌==◌, true, false, Bool, if◌then◌else◌, List, [], ◌∷◌, ◌++◌, length, refl}
-use Rattle.std.proofs.Common.{sym, ap, ◌∙◌, subst, arith, true≢false, eqb-true, eq-eqb, ne_eqb, suc-ne-zero, get_or}
-use Rattle.std.proofs.Common.{drop}
+use Rattle.std.proofs.{lemmas.Grind.{common_steps}, Common.{◌≡◌, ◌≢◌, ℕ, ◌==◌, true, false, Bool, if◌then◌else◌, List, [], ◌∷◌, ◌++◌}}
+use Rattle.std.proofs.Common.{length, refl, sym, ap, ◌∙◌, subst, arith, true≢false, eqb-true, eq-eqb, ne_eqb, suc-ne-zero, get_or, drop}
 use Rattle.std.specs.List.{concat}
 use Rattle.no_std_io2_base.specs.Pieces.{Lacks, ends_in, in_front, pieces, ArePieces}
 
@@ -13,43 +12,14 @@ pieces-at d b bs is = ap (λ t. if t then (b ∷ []) ∷ pieces d bs else in_fro
 pub pieces-other : (d b : ℕ) (bs : List ℕ) → b ≢ d → pieces d (b ∷ bs) ≡ in_front b (pieces d bs)
 pieces-other d b bs differ = ap (λ t. if t then (b ∷ []) ∷ pieces d bs else in_front b (pieces d bs)) (ne_eqb b d differ)
 
--- a byte in front of the first piece
-front_are : (d b : ℕ) (bs : List ℕ) (ps : List (List ℕ)) → b ≢ d → ArePieces d bs ps → ArePieces d (b ∷ bs) (in_front b ps)
-front_are d b bs [] differ h =
-    record { joined = ap (λ l. b ∷ l) h.joined; none_empty = (omega arith, tt); ended = tt; nowhere_else = (tt, tt) }
-front_are d b bs ([] ∷ ps) differ h = absurd (omega (arith, h.none_empty.0))
-front_are d b bs ((c ∷ p) ∷ []) differ h =
-    record {
-      joined = ap (λ l. b ∷ l) h.joined;
-      none_empty = (omega arith, tt);
-      ended = tt;
-      nowhere_else = ((differ, h.nowhere_else.0), tt);
-    }
-front_are d b bs ((c ∷ p) ∷ q ∷ ps) differ h =
-    record {
-      joined = ap (λ l. b ∷ l) h.joined;
-      none_empty = (omega arith, h.none_empty.1);
-      ended = h.ended;
-      nowhere_else = ((differ, h.nowhere_else.0), h.nowhere_else.1);
-    }
-
 -- if the first byte is d, it is a piece by itself, followed by the pieces of the rest
 end_are : (d b : ℕ) (bs : List ℕ) (ps : List (List ℕ)) → b ≡ d → ArePieces d bs ps → ArePieces d (b ∷ bs) ((b ∷ []) ∷ ps)
-end_are d b bs [] is h = record { joined = ap (λ l. b ∷ l) h.joined; none_empty = (omega arith, tt); ended = tt; nowhere_else = (tt, tt) }
-end_are d b bs (p ∷ ps) is h =
-    record {
-      joined = ap (λ l. b ∷ l) h.joined;
-      none_empty = (omega arith, h.none_empty);
-      ended = (eq-eqb b d is, h.ended);
-      nowhere_else = (tt, h.nowhere_else);
-    }
+end_are d b bs x4 is h = grind (arith, common_steps)
 
 -- of one byte more, by whether that is d
 more_are : (d b : ℕ) (bs : List ℕ) (t : Bool) → (b == d) ≡ t → ArePieces d bs (pieces d bs) → ArePieces d (b ∷ bs) (pieces d (b ∷ bs))
 more_are d b bs true e h = let is = eqb-true b d e in subst (ArePieces d (b ∷ bs)) (sym (pieces-at d b bs is)) (end_are d b bs _ is h)
-more_are d b bs false e h =
-    let differ : b ≢ d = λ same. true≢false (sym (eq-eqb b d same) ∙ e) in
-    subst (ArePieces d (b ∷ bs)) (sym (pieces-other d b bs differ)) (front_are d b bs _ differ h)
+more_are d b bs false e h = grind (arith, common_steps)
 
 -- what `pieces` gives keeps all the laws of the pieces
 pub pieces_are : (d : ℕ) (bs : List ℕ) → ArePieces d bs (pieces d bs)
@@ -77,9 +47,7 @@ pieces_only d [] ps h = none_only d ps h
 pieces_only d (b ∷ bs) [] h = absurd (suc-ne-zero _ (sym (ap length h.joined)))
 pieces_only d (b ∷ bs) ([] ∷ ps) h = absurd (omega (arith, h.none_empty.0))
 -- d alone
-pieces_only d (b ∷ bs) ((c ∷ []) ∷ []) h =
-    let is = joined_rest b c bs [] h.joined in
-    ap (λ n. (n ∷ []) ∷ []) is.0 ∙ sym (ap (λ l. pieces d (b ∷ l)) (sym is.1) ∙ single d b (b == d) refl)
+pieces_only d (b ∷ bs) ((c ∷ []) ∷ []) h = grind (arith, common_steps)
 pieces_only d (b ∷ bs) ((c ∷ []) ∷ q ∷ ps) h =
     let is = joined_rest b c bs (concat (q ∷ ps)) h.joined in
     let end : c ≡ d = eqb-true c d h.ended.0 in

@@ -1,24 +1,12 @@
 -- Bytes that belong to one piece.
-use Rattle.std.proofs.Common.{◌≡◌, ◌≢◌, ℕ, ◌+◌, ◌<◌, ◌≤◌, ◌==◌, ◌⊎◌, Bool, true, false, List, [], ◌∷◌, ◌++◌, length, take, drop, All}
-use Rattle.std.proofs.Common.{Option, None, Some, IfSome, refl, sym, ap, ◌∙◌, subst, arith, append_assoc, append-nil, inl, add-one}
-use Rattle.std.proofs.Common.{take-suc}
-use Rattle.std.proofs.Common.{slice_index, true≢false, eqb-true, eq-eqb, drop_of_length-le, take_all, le_refl, length-take, length-take-le}
-use Rattle.std.proofs.Common.{inr}
-use Rattle.std.proofs.Common.{take-append-drop}
-use Rattle.std.proofs.lemmas.List.{get_or-take}
-use Rattle.std.proofs.lemmas.List.Elements.{recursion_from_All}
+use Rattle.std.proofs.{lemmas.Grind.{common_steps}, Common.{◌≡◌, ◌≢◌, ℕ, ◌+◌, ◌<◌, ◌≤◌, ◌==◌, Bool, true, false, List, [], ◌∷◌, ◌++◌}}
+use Rattle.std.proofs.Common.{length, take, drop, All, Option, None, Some, IfSome, refl, sym, ap, ◌∙◌, arith, append_assoc, append-nil}
+use Rattle.std.proofs.Common.{inl, add-one, take-suc, slice_index, true≢false, eqb-true, eq-eqb, drop_of_length-le, take_all, le_refl}
+use Rattle.std.proofs.{Common.{length-take, take-append-drop}, lemmas.List.Elements.{recursion_from_All}}
 use Rattle.std.specs.List.{AllWithin}
-use Rattle.no_std_io2_base.specs.declared.error.Error.{Error}
-use Rattle.no_std_io2_base.specs.Errors.{is_interruption, IsFault, IsOutOfMemory}
-use Rattle.no_std_io2_base.specs.Events.{Event, fails, events_of, bytes}
-use Rattle.no_std_io2_base.specs.Takes.{Tells, Takes, AreTaken, to_come}
-use Rattle.no_std_io2_base.specs.Events.{BeginsWith}
-use Rattle.no_std_io2_base.specs.Pieces.{Lacks, but_last, EndsPiece, FindsPiece, IsPiecePart, ComesBehind}
+use Rattle.no_std_io2_base.specs.{declared.error.Error.{Error}, Events.{Event, fails, events_of, bytes, BeginsWith}, Takes.{Tells, Takes}}
+use Rattle.no_std_io2_base.specs.{Takes.{AreTaken, to_come}, Pieces.{Lacks, but_last, EndsPiece, FindsPiece, IsPiecePart, ComesBehind}}
 use Rattle.no_std_io2_base.proofs.EventLemmas.{bytes-append, bytes-events_of, events_of-append}
-
--- a failed allocation is a fault
-pub memory_fault : (e : Error) → IsOutOfMemory e → IsFault e
-memory_fault e refused = ap is_interruption refused.0
 
 -- some bytes more
 pub bytes_more : (P : List Event) (x : List ℕ) → bytes (P ++ events_of x) ≡ bytes P ++ x
@@ -47,10 +35,7 @@ but_last-end (a ∷ c ∷ bs) b = ap (λ l. a ∷ l) (but_last-end (c ∷ bs) b)
 
 -- what holds of each element below a place holds of those before it
 pub all_before : (P : ℕ → Type 0) (bs : List ℕ) (at : ℕ) → at < length bs → AllWithin P bs 0 at → All P (take at bs)
-all_before P bs at within each k e short =
-    let long : length (take at bs) ≡ at = length-take-le at bs (omega (arith, within)) in
-    let below : k < at = omega (arith, short, long) in
-    subst P (sym (get_or-take at bs k e below)) (each k e (omega arith) below)
+all_before P bs at within each k e short = grind (arith, common_steps)
 
 -- if a part ends in d, it is the piece
 pub found_end : {d n : ℕ} {bs : List ℕ} → n ≤ length bs → EndsPiece d (take n bs) → FindsPiece d bs n true
@@ -59,24 +44,13 @@ found_end within ends = record { within = within; whole = λ _. inl ends; open_e
 -- if d is found, the piece ends there
 pub found_at : (d : ℕ) (bs : List ℕ) (at : ℕ) → at < length bs → slice_index bs at ≡ d → All (λ b. b ≢ d) (take at bs)
     → FindsPiece d bs (at + 1) true
-found_at d bs at within is none = found_end (omega (arith, within)) (
-  take at bs,
-  ap (λ k. take k bs) (add-one at) ∙ take-suc bs at 0 within ∙ ap (λ b. take at bs ++ b ∷ []) is,
-  recursion_from_All (λ b. b ≢ d) (take at bs) none,
-)
+found_at d bs at within is none = grind (arith, common_steps, found_end, add-one, take-suc, recursion_from_All)
 
 -- if d is not among the bytes, all belong to the piece
 pub found_none : {d : ℕ} {bs : List ℕ} {is_whole : Bool} → is_whole ≡ (length bs == 0) → All (λ b. b ≢ d) bs
     → FindsPiece d bs (length bs) is_whole
-found_none {d} {bs} is none = record {
-  within = omega arith;
-  whole = λ e. inr (drop_of_length-le bs {i = 0} (omega (arith, eqb-true (length bs) 0 (sym is ∙ e))));
-  open_ended = λ e. (
-    omega (arith, λ (zero : length bs ≡ 0). true≢false (sym (eq-eqb (length bs) 0 zero) ∙ sym is ∙ e)),
-    subst (Lacks d) (sym (take_all (length bs) bs (le_refl _))) (recursion_from_All (λ b. b ≢ d) bs none),
-    refl,
-  );
-}
+found_none {d} {bs} is none =
+    grind (arith, common_steps, drop_of_length-le, eqb-true, true≢false, eq-eqb, take_all, le_refl, recursion_from_All)
 
 -- if none are lent, none are found
 found_nothing : (n : ℕ) (lent : List ℕ) → lent ≡ [] → length (take n lent) ≡ 0
@@ -85,11 +59,7 @@ found_nothing n lent none = omega (arith, length-take n lent, ap length none)
 -- some lent bytes that belong to a piece are a part of it
 pub found_part : (d : ℕ) (lent : List ℕ) (n : ℕ) (is_whole : Bool) → FindsPiece d lent n is_whole → 0 < length (take n lent)
     → IsPiecePart d (take n lent)
-found_part d lent n true found some = (some, by_end (found.whole refl))
-  where
-    by_end : EndsPiece d (take n lent) ⊎ (lent ≡ []) → Lacks d (but_last (take n lent))
-    by_end (inl end) = subst (Lacks d) (sym (ap but_last end.1 ∙ but_last-end end.0 d)) end.2
-    by_end (inr none) = absurd (omega (arith, some, found_nothing n lent none))
+found_part d lent n true found some = grind (arith, common_steps, but_last-end, found_nothing)
 found_part d lent n false found some = (some, Lacks-but_last d (take n lent) (found.open_ended refl).1)
 
 -- of lent bytes, which come next, the first ones do

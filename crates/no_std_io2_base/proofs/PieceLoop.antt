@@ -1,42 +1,22 @@
 -- A loop that takes one piece, by what its calls do, for any reader that lends.
-use Rattle.std.proofs.Common.{◌≡◌, ℕ, ◌+◌, ◌-◌, ◌<◌, ◌≤◌, ◌⊎◌, Bool, true, false, List, [], ◌∷◌, ◌++◌, Result, Ok, Err, Vec, vec_len}
-use Rattle.std.proofs.Common.{vec_capacity, length, take, refl, sym, ap, subst, ◌∙◌, arith, append_assoc, append-nil, le_refl, le_trans}
-use Rattle.std.proofs.Common.{⊎_elim, inl, inr, length-append, length-take-le, take_all}
+use Rattle.std.proofs.{lemmas.Grind.{common_steps}, Common.{◌≡◌, ℕ, ◌+◌, ◌-◌, ◌<◌, ◌≤◌, ◌⊎◌, Bool, true, false, List, [], ◌∷◌, ◌++◌}}
+use Rattle.std.proofs.Common.{Result, Ok, Err, Vec, vec_len, vec_capacity, length, take, refl, sym, ap, subst, ◌∙◌, arith, append_assoc}
+use Rattle.std.proofs.Common.{append-nil, le_refl, le_trans, inl, inr, length-append, length-take-le, take_all}
 use Rattle.std.specs.Borrow.{Bor}
-use Rattle.no_std_io2_base.specs.declared.error.Error.{Error}
-use Rattle.no_std_io2_base.specs.Errors.{IsInterruption, IsFault, IsOutOfMemory}
-use Rattle.no_std_io2_base.specs.Events.{Event, byte, fails, events_of, bytes, HasNoFault}
-use Rattle.no_std_io2_base.specs.Takes.{Tells, Takes, IsAll}
-use Rattle.no_std_io2_base.specs.Read.{ReadCall, Filled, Consumed}
-use Rattle.no_std_io2_base.specs.BufRead.{Lender, lender_tells, FillBufLaw, AfterLoan, ConsumeLaw, FilledLaw, LendCallLaw, ReadUntilLaw}
-use Rattle.no_std_io2_base.specs.BufRead.{lent_bytes}
-use Rattle.no_std_io2_base.specs.Pieces.{Lacks, EndsPiece, EndsAt, FindsPiece, PieceEnds, PartCalls, no_part, and_part, and_waited}
-use Rattle.no_std_io2_base.specs.Pieces.{PieceMade}
-use Rattle.no_std_io2_base.specs.Write.{Made}
-use Rattle.no_std_io2_base.proofs.CallsLemmas.{made_more, made_then}
-use Rattle.no_std_io2_base.proofs.EventLemmas.{events_of-append, HasNoFault-append, HasNoFault-events_of, length-events_of}
-use Rattle.no_std_io2_base.proofs.PieceLemmas.{bytes_more, bytes_still, Lacks-append, found_part, comes_behind}
-use Rattle.no_std_io2_base.proofs.TakesLemmas.{takes_none, takes_then, takes_still, takes_turns, takes_all, spends}
+use Rattle.no_std_io2_base.specs.{declared.error.Error.{Error}, Errors.{IsInterruption, IsFault, IsOutOfMemory}, Events.{Event, byte}}
+use Rattle.no_std_io2_base.specs.{Events.{fails, events_of, bytes, HasNoFault}, Takes.{Tells, Takes, IsAll}, Read.{ReadCall, Filled}}
+use Rattle.no_std_io2_base.specs.{Read.{Consumed}, BufRead.{Lender, lender_tells, FillBufLaw, AfterLoan, ConsumeLaw, FilledLaw}}
+use Rattle.no_std_io2_base.specs.{BufRead.{LendCallLaw, ReadUntilLaw, lent_bytes}, Pieces.{Lacks, EndsPiece, EndsAt, FindsPiece, PieceEnds}}
+use Rattle.no_std_io2_base.specs.{Pieces.{PartCalls, no_part, and_part, and_waited, PieceMade}, Write.{Made}}
+use Rattle.no_std_io2_base.proofs.{CallsLemmas.{made_more, made_then}, EventLemmas.{events_of-append, HasNoFault-append}}
+use Rattle.no_std_io2_base.proofs.{EventLemmas.{HasNoFault-events_of, length-events_of}, PieceLemmas.{bytes_more, bytes_still}}
+use Rattle.no_std_io2_base.proofs.{PieceLemmas.{Lacks-append, found_part, comes_behind}, TakesLemmas.{takes_none, takes_then, takes_still}}
+use Rattle.no_std_io2_base.proofs.TakesLemmas.{takes_turns, takes_all, spends}
 
 -- a `fill_buf` and its loan are a call
 fill_law : {X : Type 0} {R : Lender X} {old new : X} (reply : Result (Bor (List ℕ)) Error) → FillBufLaw R old reply
     → AfterLoan R old reply new → FilledLaw R old (lent_bytes reply) new
-fill_law (Ok s) law loan = record {
-  held = λ some. (ap Ok (law.held some), loan.unchanged some);
-  front = law.front;
-  lends = loan.lends;
-  end = λ is. law.end (let none : s.now ≡ [] = cc in none);
-  takes = loan.takes;
-  call = loan.call;
-}
-fill_law (Err e) law loan = record {
-  held = λ some. absurd (law.held some);
-  front = tt;
-  lends = loan.lends;
-  end = λ is. absurd (let no : ⊥ = cc in no);
-  takes = loan.takes;
-  call = loan.call;
-}
+fill_law x1 law loan = grind (arith, common_steps)
 
 pub filled_law : {X : Type 0} {R : Lender X} {old new : X} {reply answer : Result (Bor (List ℕ)) Error} → reply ≡ answer
     → FillBufLaw R old reply → AfterLoan R old reply new → FilledLaw R old (lent_bytes answer) new
@@ -45,9 +25,7 @@ filled_law {R = R} {old} {new} {reply} is law loan = subst (λ r. FilledLaw R ol
 -- why an allocation failed, in weaker words
 pub piece_since : {lacks lacks' : ℕ → Type 0} (d : ℕ) (old : Tells) (P : List Event) (read : Result ℕ Error)
     → ((n : ℕ) → lacks n → lacks' n) → PieceEnds lacks d old P read → PieceEnds lacks' d old P read
-piece_since d old P (Ok n) since ends = ends
-piece_since d old P (Err e) since ends =
-    (ends.0, ⊎_elim inl (λ m. inr (m.0, m.1, (m.2.0, m.2.1, m.2.2, since _ m.2.3))) ends.1)
+piece_since d old x3 x4 since ends = grind (arith, common_steps)
 
 -- Such a loop took the events P so far, of one piece, and no d.
 pub record PartTaken {X : Type 0} (R : Lender X) (d : ℕ) (old : X) (P : List Event) (now : X) : Type 0 where

@@ -1,17 +1,11 @@
 -- A read after a seek.
-use Rattle.std.proofs.lemmas.Grind.{common_steps}
-use Rattle.std.proofs.Common.{◌≡◌, ℕ, ◌+◌, List, ◌++◌, length, take, drop, Result, Ok, Err, ◌∙◌, sym, ap, refl, [], Option, None, Some}
-use Rattle.std.proofs.Common.{arith, append-nil, length-drop, IfSome, IsSomeAnd, IsOk, OnOk}
+use Rattle.std.proofs.Common.{rules, ◌≡◌, ℕ, ◌+◌, List, ◌++◌, length, take, drop, Result, Ok, ◌∙◌, sym, ap, [], Option, None, Some, arith}
+use Rattle.std.proofs.{Common.{append-nil, length-drop, IfSome, IsSomeAnd, IsOk, OnOk}, lemmas.Grind.{common_steps}}
 use Rattle.std.proofs.Math.Seq.{take-append_seam}
-use Rattle.no_std_io2_base.specs.declared.error.Error.{Error}
-use Rattle.no_std_io2_base.specs.declared.traits.seek.SeekFrom.{SeekFrom}
-use Rattle.no_std_io2_base.specs.Events.{Event, events_of, bytes}
-use Rattle.no_std_io2_base.specs.Takes.{Store, Tells, Takes, AreTaken, KeepsContent, events_by, to_come}
-use Rattle.no_std_io2_base.specs.Read.{Reader, tells, ReadExactLaw, FillsOrEnds, gave_whole}
-use Rattle.no_std_io2_base.proofs.EventLemmas.{bytes-append, bytes-events_of}
-use Rattle.no_std_io2_base.specs.Seek.{Seeks, IsTarget}
-use Rattle.no_std_io2_base.specs.ReadAt.{ReadsAt, HasBytesAt}
-use Rattle.no_std_io2_base.proofs.ExactLemmas.{ReadsExact-enough}
+use Rattle.no_std_io2_base.specs.{declared.error.Error.{Error}, declared.traits.seek.SeekFrom.{SeekFrom}, Events.{Event, events_of, bytes}}
+use Rattle.no_std_io2_base.specs.{Takes.{Store, Tells, Takes, KeepsContent, to_come}, Read.{Reader, tells, ReadExactLaw}, Seek.{Seeks}}
+use Rattle.no_std_io2_base.specs.{Seek.{IsTarget}, ReadAt.{ReadsAt, HasBytesAt}}
+use Rattle.no_std_io2_base.proofs.{EventLemmas.{bytes-append, bytes-events_of}, KnownBytes.{ReadsExact-enough}}
 
 -- a seek has one target
 pub IsTarget-unique : (len position : ℕ) (at : SeekFrom) (p q : ℕ) → IsTarget len position at p → IsTarget len position at q → p ≡ q
@@ -25,21 +19,11 @@ pub record StoreTaken (s : Store) (P : List Event) (t : Store) : Type 0 where
 
 -- what is taken of a told store
 pub store_taken : {a b : Tells} {P : List Event} → Takes a P b → IfSome a.store (λ s. IsSomeAnd b.store (StoreTaken s P))
-store_taken {a} {b} {P} takes = by a.store b.store takes.store takes.events
-  where
-    by : (s t : Option Store) → KeepsContent s (λ len was now. now ≡ was + length (bytes P)) t
-        → AreTaken (events_by s a.events) P (events_by t b.events) → IfSome s (λ s. IsSomeAnd t (StoreTaken s P))
-    by None t keeps are = tt
-    by (Some s) None keeps are = absurd keeps
-    by (Some s) (Some t) keeps are = record { content = keeps.0; position = keeps.1; split = are }
+store_taken {a} {b} {P} takes = grind (arith, common_steps)
 
 -- a told store tells its bytes
 pub store_tells : (a : Tells) → IfSome a.store (λ s. to_come a ≡ Some (events_of (drop s.position s.content)))
-store_tells a = by a.store
-  where
-    by : (s : Option Store) → IfSome s (λ t. events_by s a.events ≡ Some (events_of (drop t.position t.content)))
-    by None = tt
-    by (Some s) = refl
+store_tells a = grind (arith, common_steps)
 
 -- the bytes that were taken are those at the target of the seek
 reads_there : {at : SeekFrom} {n : ℕ} {P : List Event} {buf : List ℕ} (s m t : Store) → m.content ≡ s.content
@@ -63,26 +47,8 @@ module _ {X : Type 0} {R : Reader X} {mid new : X} {buf buf' : List ℕ} (s : Op
   -- after a seek that succeeded, a read fills the buffer with the bytes from its target on
   pub stands_there : (reply : Result (Unit {0}) Error) → ReadExactLaw R mid buf reply buf' new
       → IfSome s (λ s. IsSomeAnd (R.store new) (λ t. (t.content ≡ s.content) × OnOk reply (ReadsAt s at buf' t.position)))
-  stands_there reply law = by s (R.store mid) (R.store new) sought (store_taken law.takes)
-    where
-      given : (reply : Result (Unit {0}) Error) → FillsOrEnds (length buf') law.taken (gave_whole reply buf') (tells R new)
-          → OnOk reply (bytes law.taken ≡ buf')
-      given (Ok done) ends = ends.0.given
-      given (Err e) ends = tt
-
-      read : (reply : Result (Unit {0}) Error) → OnOk reply (bytes law.taken ≡ buf') → (s m t : Store) → m.content ≡ s.content
-          → Seeks (length s.content) s.position at (Ok n) m.position → StoreTaken m law.taken t → OnOk reply (ReadsAt s at buf' t.position)
-      read (Ok done) is s m t kept sought took = reads_there s m t kept sought took is
-      read (Err e) is s m t kept sought took = tt
-
-      by : (s m t : Option Store) → KeepsContent s (λ len was now. Seeks len was at (Ok n) now) m
-          → IfSome m (λ m. IsSomeAnd t (StoreTaken m law.taken))
-          → IfSome s (λ s. IsSomeAnd t (λ t. (t.content ≡ s.content) × OnOk reply (ReadsAt s at buf' t.position)))
-      by None m t sought took = tt
-      by (Some s) None t sought took = absurd sought
-      by (Some s) (Some m) None sought took = absurd took
-      by (Some s) (Some m) (Some t) sought took =
-          (took.content ∙ sought.0, read reply (given reply law.ends) s m t sought.0 sought.1 took)
+  stands_there reply law =
+      search (arith, rules, store_taken, reads_there)
 
   -- it does not fail if there are enough bytes
   pub enough_there : (reply : Result (Unit {0}) Error) {room : ℕ} → ReadExactLaw R mid buf reply buf' new → length buf' ≡ room
@@ -97,5 +63,5 @@ module _ {X : Type 0} {R : Reader X} {mid new : X} {buf buf' : List ℕ} (s : Op
       by (Some s) (Some m) sought told has =
           let bs = drop m.position m.content in
           let one = IsTarget-unique (length s.content) s.position at n has.0 sought.1.0 has.1 in
-          ReadsExact-enough bs [] (told ∙ ap Some (sym (append-nil (events_of bs)))) reply law
+          ReadsExact-enough bs [] (told ∙ ap Some (sym (append-nil (events_of bs)))) law
           (omega (arith, one, has.2, long, sought.1.1, ap length sought.0, length-drop m.position m.content))

@@ -1,18 +1,13 @@
 -- A loop that takes a number of bytes, by what its calls do, for any reader that lends.
-use Rattle.std.proofs.Common.{◌≡◌, ℕ, ◌+◌, ◌-◌, ◌<◌, ◌≤◌, List, [], ◌∷◌, ◌++◌, Ok, Err, min, length, take, refl, sym, ap, subst, ◌∙◌, arith}
-use Rattle.std.proofs.Common.{inl, inr, length-append, length-take-le}
-use Rattle.no_std_io2_base.specs.declared.error.Error.{Error}
-use Rattle.no_std_io2_base.specs.Errors.{IsFault, IsInterruption, IsUnexpectedEnd}
-use Rattle.no_std_io2_base.specs.Events.{Event, fails, events_of, bytes, HasNoFault}
-use Rattle.no_std_io2_base.specs.Takes.{Takes}
-use Rattle.no_std_io2_base.specs.Read.{ReadCall, Filled, Consumed}
-use Rattle.no_std_io2_base.specs.BufRead.{Lender, lender_tells, ConsumeLaw, FilledLaw, LendCallLaw}
-use Rattle.no_std_io2_base.specs.Write.{Made}
-use Rattle.no_std_io2_base.proofs.CallsLemmas.{made_more, made_then}
-use Rattle.no_std_io2_base.proofs.EventLemmas.{HasNoFault-append, HasNoFault-events_of, length-events_of}
-use Rattle.no_std_io2_base.proofs.PieceLemmas.{bytes_more, bytes_still}
-use Rattle.no_std_io2_base.proofs.TakesLemmas.{takes_none, takes_then, takes_still, takes_turns, takes_all, spends}
-use Rattle.no_std_io2_base.specs.Passing.{PortionCalls, no_portion, and_portion, and_waited, Skipped}
+use Rattle.std.proofs.{lemmas.Grind.{common_steps}, Common.{◌≡◌, ℕ, ◌+◌, ◌-◌, ◌<◌, ◌≤◌, List, [], ◌∷◌, ◌++◌, Ok, Err, min, length, take}}
+use Rattle.std.proofs.Common.{refl, sym, ap, subst, ◌∙◌, arith, inl, inr, length-append, length-take-le}
+use Rattle.no_std_io2_base.specs.{declared.error.Error.{Error}, Errors.{IsFault, IsInterruption, IsUnexpectedEnd}, Events.{Event, fails}}
+use Rattle.no_std_io2_base.specs.{Events.{events_of, bytes, HasNoFault}, Takes.{Takes}, Read.{ReadCall, Filled, Consumed}, BufRead.{Lender}}
+use Rattle.no_std_io2_base.specs.{BufRead.{lender_tells, ConsumeLaw, FilledLaw, LendCallLaw}, Write.{Made}, Passing.{PortionCalls}}
+use Rattle.no_std_io2_base.specs.Passing.{no_portion, and_portion, and_waited, Skipped}
+use Rattle.no_std_io2_base.proofs.{CallsLemmas.{made_more, made_then}, EventLemmas.{HasNoFault-append, HasNoFault-events_of}}
+use Rattle.no_std_io2_base.proofs.{EventLemmas.{length-events_of}, PieceLemmas.{bytes_more, bytes_still}, TakesLemmas.{takes_none}}
+use Rattle.no_std_io2_base.proofs.TakesLemmas.{takes_then, takes_still, takes_turns, takes_all, spends}
 
 -- Of n bytes, `left` are still wanted; the others were taken, by these calls.
 pub record PortionsTaken {X : Type 0} (R : Lender X) (old : X) (n left : ℕ) (now : X) : Type 0 where
@@ -39,13 +34,7 @@ portions_none {R = R} {old} = record {
 -- all were skipped
 pub skip_whole : {X : Type 0} {R : Lender X} {old now : X} {n left : ℕ} {done : Unit {0}} → PortionsTaken R old n left now → left ≡ 0
     → Skipped R old n (Ok done) left now
-skip_whole before none = record {
-  taken = before.taken;
-  takes = before.takes;
-  count = before.count;
-  ends = (before.no_fault, none);
-  calls = (before.calls, before.made, before.are);
-}
+skip_whole before none = grind (arith, common_steps)
 
 module _ {X : Type 0} {R : Lender X} {old now : X} {n left : ℕ} (before : PortionsTaken R old n left now) (more : 0 < left) where
   -- some bytes are still wanted

@@ -1,11 +1,10 @@
 -- The calls of a reader, one after another.
-use Rattle.std.proofs.Common.{◌≡◌, ℕ, List, [], ◌∷◌, ◌++◌, ◌+◌, Result, Ok, Err, length, length-append}
-use Rattle.std.proofs.Common.{refl, sym, ap, subst, ◌∙◌, append_assoc, append-nil, inl, inr}
-use Rattle.no_std_io2_base.specs.declared.error.Error.{Error}
-use Rattle.no_std_io2_base.specs.Write.{Made}
+use Rattle.std.proofs.{lemmas.Grind.{common_steps}, Common.{arith, ◌≡◌, ℕ, List, [], ◌∷◌, ◌++◌, ◌+◌, Result, Ok, Err, length}}
+use Rattle.std.proofs.Common.{length-append, refl, sym, ap, subst, ◌∙◌, append_assoc, append-nil, inl, inr}
+use Rattle.no_std_io2_base.specs.{declared.error.Error.{Error}, Write.{Made}, Read.{ReadCall, Gave, GaveExactly, GaveAll, gave_whole}}
+use Rattle.no_std_io2_base.specs.Read.{ended, Gathers, no_read, and_gave, and_again, GathersUntil, IsRoom, ToEndCalls, ExactMade}
+use Rattle.no_std_io2_base.specs.Read.{ToEndMade, Drains}
 use Rattle.no_std_io2_base.proofs.CallsLemmas.{made_then}
-use Rattle.no_std_io2_base.specs.Read.{ReadCall, Gave, GaveExactly, GaveAll, gave_whole, ended, Gathers, no_read, and_gave, and_again}
-use Rattle.no_std_io2_base.specs.Read.{GathersUntil, IsRoom, ToEndCalls, ExactMade, ToEndMade, Drains}
 
 -- the `read_exact` of a type that has a body of its own for it is one call
 pub exact_own : {S : Type 0} {may : S → ReadCall → S → Type 0} {old new : S} {reply : Result (Unit {0}) Error} {buf : List ℕ}
@@ -60,9 +59,7 @@ to_end_then (Err e) (Ok n) same first (inr reads) = absurd (let no : ⊥ = cc in
 to_end_then {C} {D} {x} {y} (Err e) (Err f) same first (inr (inl fault)) =
     let is : e ≡ f = cc in
     subst (λ k. ToEndCalls (C ++ D) (x ++ y) (Err k)) is (inr (inl (fault.0, until_then first fault.1)))
-to_end_then {C} {D} {x} {y} (Err e) (Err f) same first (inr (inr refused)) =
-    let is : e ≡ f = cc in
-    subst (λ k. ToEndCalls (C ++ D) (x ++ y) (Err k)) is (inr (inr (refused.0, gathers_then first refused.1)))
+to_end_then {C} {D} {x} {y} (Err e) (Err f) same first (inr (inr refused)) = grind (arith, common_steps, gathers_then)
 
 -- what they made of the reader and of the vector
 pub to_end_after : {S : Type 0} (may : S → ReadCall → S → Type 0) {old mid new : S} {buf v v' : List ℕ} {reply reply' : Result ℕ Error}

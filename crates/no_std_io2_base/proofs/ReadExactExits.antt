@@ -1,6 +1,5 @@
 -- What each exit of a loop that fills a buffer says.
-use Rattle.std.proofs.Common.{◌≡◌, ℕ, ◌-◌, ◌<◌, List, length, take, drop, arith}
-use Rattle.std.proofs.Common.{length-take, length-drop}
+use Rattle.std.proofs.Common.{◌≡◌, ℕ, ◌-◌, ◌<◌, List, length, take, drop, arith, length-take, length-drop}
 use borrow.Rule.Slice.PartMut.{put_mid, same_len_mid}
 
 -- a buffer keeps its length if a part of it is written

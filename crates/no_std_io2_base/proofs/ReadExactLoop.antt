@@ -1,11 +1,8 @@
 -- What a `read_exact` did, by what its `read_full` did.
-use Rattle.std.proofs.Common.{◌≡◌, ℕ, ◌<◌, ◌≤◌, ◌-◌, List, [], ◌++◌, Ok, Err, length, take, drop, refl, sym, ap, subst, ◌∙◌, arith}
-use Rattle.std.proofs.Common.{inl, inr, take-append-drop, take_all}
-use Rattle.no_std_io2_base.specs.declared.error.Error.{Error}
-use Rattle.no_std_io2_base.specs.Errors.{IsUnexpectedEnd}
-use Rattle.no_std_io2_base.specs.Events.{bytes, cut}
-use Rattle.no_std_io2_base.specs.Write.{IsFront}
-use Rattle.no_std_io2_base.specs.Read.{Reader, ReadCall, ReadFullLaw, ReadExactLaw, FullCalls, ExactCalls, GathersUntil, Gathers, IsRest}
+use Rattle.std.proofs.{lemmas.Grind.{common_steps}, Common.{◌≡◌, ℕ, ◌<◌, ◌≤◌, ◌-◌, List, [], ◌++◌, Ok, Err, length, take, drop, sym, subst}}
+use Rattle.std.proofs.Common.{arith, inl, inr, take-append-drop}
+use Rattle.no_std_io2_base.specs.{declared.error.Error.{Error}, Errors.{IsUnexpectedEnd}, Events.{bytes}, Write.{IsFront}, Read.{Reader}}
+use Rattle.no_std_io2_base.specs.Read.{ReadCall, ReadFullLaw, ReadExactLaw, FullCalls, ExactCalls, GathersUntil, IsRest}
 use Rattle.no_std_io2_base.proofs.TakesLemmas.{all_taken}
 
 -- a buffer begins with its first bytes
@@ -15,24 +12,7 @@ begins at buf is = (drop at buf, subst (λ l. buf ≡ l ++ drop at buf) is (sym 
 module _ {S : Type 0} {R : Reader S} {old new : S} {buf buf' : List ℕ} {at : ℕ} (long : length buf' ≡ length buf) where
   -- all of it is filled
   pub exact_all : {u : Unit {0}} → ReadFullLaw R old buf 0 (Ok u) buf' at new → length buf' ≤ at → ReadExactLaw R old buf (Ok u) buf' new
-  exact_all {u} full past =
-      let room : length buf - 0 ≡ length buf' = omega (arith, long) in
-      let whole : bytes full.taken ≡ buf' = sym full.fills ∙ take_all at buf' past in
-      record {
-        taken = full.taken;
-        takes = full.takes;
-        ends = (
-          record { no_fault = full.ends.0; given = whole; within = subst (λ k. cut k full.taken ≡ full.taken) room full.ends.1 },
-          refl,
-        );
-        empty = λ none. full.full (omega (arith, none));
-        calls = record { calls = full.calls.0; made = full.calls.1; are = by whole full.calls.2 };
-      }
-    where
-      by : {C : List ReadCall} {x : List ℕ} → x ≡ buf' → FullCalls C (length buf - 0) x (Ok u) → ExactCalls C (Ok u) buf'
-      by {C} whole (inl (reads, all)) =
-          inr (subst (λ k. Gathers (IsRest k) C buf') (omega (arith, long)) (subst (Gathers (IsRest (length buf - 0)) C) whole reads))
-      by {C} whole (inr (D, size, reads, into, is)) = absurd (omega (arith, ap length whole, into.0, into.1, long))
+  exact_all {u} full past = grind (arith, common_steps)
 
   -- the end came first
   pub exact_end : {u : Unit {0}} {e : Error} → ReadFullLaw R old buf 0 (Ok u) buf' at new → at < length buf' → IsUnexpectedEnd e

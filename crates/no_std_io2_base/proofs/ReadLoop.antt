@@ -1,14 +1,10 @@
 -- What a loop of reads has done so far.
 use Rattle.std.proofs.Common.{◌≡◌, ℕ, List, [], ◌∷◌, ◌++◌, Result, Ok, Err, length, take, refl, arith, length-take-le}
-use Rattle.no_std_io2_base.specs.declared.error.Error.{Error}
-use Rattle.no_std_io2_base.specs.Errors.{IsInterruption}
-use Rattle.no_std_io2_base.specs.Takes.{TakesBytes}
-use Rattle.no_std_io2_base.specs.Read.{Reader, tells, ReadLaw, GaveLaw, ReadCallLaw, ReadCall, Gave, Gathers, no_read, and_gave, and_again}
-use Rattle.no_std_io2_base.specs.Read.{GathersUntil}
+use Rattle.no_std_io2_base.specs.{declared.error.Error.{Error}, Errors.{IsInterruption}, Takes.{TakesBytes}, Read.{Reader, tells, ReadLaw}}
+use Rattle.no_std_io2_base.specs.Read.{GaveLaw, ReadCallLaw, ReadCall, Gave, Gathers, no_read, and_gave, and_again, GathersUntil}
 use Rattle.no_std_io2_base.specs.Write.{Made}
-use Rattle.no_std_io2_base.proofs.CallsLemmas.{made_more}
-use Rattle.no_std_io2_base.proofs.ReadExactExits.{some_bytes}
-use Rattle.no_std_io2_base.proofs.TakesLemmas.{takes_none, bytes_more, bytes_still, read_law}
+use Rattle.no_std_io2_base.proofs.{CallsLemmas.{made_more}, ReadExactExits.{some_bytes}, TakesLemmas.{takes_none, bytes_more, bytes_still}}
+use Rattle.no_std_io2_base.proofs.TakesLemmas.{read_law}
 
 -- the bytes x were taken, by these reads
 pub record ReadsSoFar {S : Type 0} (R : Reader S) (asks : ℕ → ℕ → Type 0) (old : S) (x : List ℕ) (now : S) : Type 0 where

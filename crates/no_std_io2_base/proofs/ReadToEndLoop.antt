@@ -1,17 +1,14 @@
 -- What a loop that reads to the end into a vector has done so far, and what it has done at each of its ends.
-use Rattle.std.proofs.Common.{◌≡◌, ℕ, ◌+◌, ◌-◌, ◌<◌, ◌≤◌, List, [], ◌∷◌, ◌++◌, Result, Ok, Err, length, take, drop, refl, sym, ap, ◌∙◌}
-use Rattle.std.proofs.Common.{arith, le_refl, le_trans, length-take, length-take-le, length-drop, Vec, vec_len, vec_capacity, inl, inr}
-use Rattle.std.proofs.Common.{append_assoc, append-nil, take_all, OnOk, IfOk, length-append}
-use Rattle.no_std_io2_base.specs.declared.error.Error.{Error}
-use Rattle.no_std_io2_base.specs.Errors.{IsInterruption, IsFault, IsOutOfMemory}
-use Rattle.no_std_io2_base.specs.Events.{Event, fails, bytes}
-use Rattle.no_std_io2_base.specs.Read.{Reader, tells, ReadLaw, ToEndLaw, ReadToEndLaw, ReadCallLaw, IsRoom, no_read}
+use Rattle.std.proofs.{lemmas.Grind.{common_steps}, Common.{◌≡◌, ℕ, ◌+◌, ◌-◌, ◌<◌, ◌≤◌, List, [], ◌∷◌, ◌++◌, Result, Ok, Err, length, take}}
+use Rattle.std.proofs.Common.{drop, refl, sym, ap, ◌∙◌, arith, le_refl, le_trans, length-take, length-take-le, length-drop, Vec, vec_len}
+use Rattle.std.proofs.Common.{vec_capacity, inl, inr, append_assoc, append-nil, take_all, OnOk, IfOk, length-append}
+use Rattle.no_std_io2_base.specs.{declared.error.Error.{Error}, Errors.{IsInterruption, IsFault, IsOutOfMemory}, Events.{Event, fails}}
+use Rattle.no_std_io2_base.specs.{Events.{bytes}, Read.{Reader, tells, ReadLaw, ToEndLaw, ReadToEndLaw, ReadCallLaw, IsRoom, no_read}}
 use Rattle.no_std_io2_base.specs.Read.{DrainsOrStops, least_room, ended}
-use Rattle.no_std_io2_base.proofs.EventLemmas.{bytes-append, HasNoFault-append}
-use Rattle.no_std_io2_base.proofs.ReadCalls.{to_end_after}
-use Rattle.no_std_io2_base.proofs.ReadLoop.{ReadsSoFar, reads_none, reads_more, reads_again, reads_until}
-use Rattle.no_std_io2_base.proofs.ReadParts.{written, take-written, take-written_below}
-use Rattle.no_std_io2_base.proofs.TakesLemmas.{takes_none, takes_then, takes_still, nothing_read, read_law}
+use Rattle.no_std_io2_base.proofs.{EventLemmas.{bytes-append, HasNoFault-append}, ReadCalls.{to_end_after}, ReadLoop.{ReadsSoFar}}
+use Rattle.no_std_io2_base.proofs.{ReadLoop.{reads_none, reads_more, reads_again, reads_until}, ReadParts.{written, take-written}}
+use Rattle.no_std_io2_base.proofs.{ReadParts.{take-written_below}, TakesLemmas.{takes_none, takes_then, takes_still, nothing_read}}
+use Rattle.no_std_io2_base.proofs.TakesLemmas.{read_law}
 
 -- the bytes up to `filled` are what was taken
 pub record ToEndSoFar {S A : Type 0} (R : Reader S) (old : S) (buf : Vec ℕ A) (filled : ℕ) (buf' : Vec ℕ A) (now : S) : Type 0 where
@@ -35,15 +32,7 @@ pub wrote : {filled len : ℕ} {slice items part was : List ℕ} → filled ≤ 
     → length part ≡ length (take (length slice - filled) (drop filled slice)) → take filled items ≡ take filled was
     → filled < len → Wrote filled len was (written len filled slice items part) part
 wrote {filled} {len} {slice} {items} {part} within long is room front opened =
-    let fits : filled + length part ≡ len =
-    omega (arith, within, long, ap length is, room, length-take (length slice - filled) (drop filled slice), length-drop filled slice) in
-    record {
-      fits = fits;
-      some = omega (arith, fits, opened);
-      kept = take-written_below filled len filled slice items part (le_refl _) within long is ∙ front;
-      shown = λ n small.
-          take-written n len filled slice items part (omega (arith, fits, small)) small long is ∙ ap (λ l. l ++ take n part) front;
-    }
+    grind (arith, common_steps, length-take, length-drop, take-written_below, le_refl, take-written)
 
 -- before the first read nothing is taken
 pub to_end_none : {S A : Type 0} {R : Reader S} {old : S} {buf mid : Vec ℕ A} {start : ℕ} → start ≡ vec_len buf → mid.items ≡ buf.items
@@ -85,22 +74,7 @@ module _ {S A : Type 0} {R : Reader S} {old now : S} {buf xs : Vec ℕ A} {fille
   pub to_end_refused : {lacks : ℕ → Type 0} {v : Vec ℕ A} {e : Error} → IsOutOfMemory e → vec_len v ≡ filled
       → take filled v.items ≡ take filled xs.items → vec_capacity xs ≤ vec_capacity v
       → ((n : ℕ) → filled ≡ vec_len buf + n → lacks n) → ToEndLaw lacks R old buf (Err e) v now
-  to_end_refused {v = v} refused len front grown why =
-      let same = sym (take_all filled v.items (omega (arith, len, v.ok.0))) ∙ front in
-      record {
-        taken = before.taken;
-        takes = before.takes;
-        appends = (given_bytes same, tt);
-        ends = inr (before.no_fault, refused, why _ (before.count ∙ ap (λ l. vec_len buf + length l) (sym before.are)));
-        capacity = le_trans before.capacity grown;
-        calls = record {
-          calls = before.calls;
-          given = before.given;
-          made = before.made;
-          appended = same ∙ before.shown;
-          are = inr (inr (refused, before.gathers));
-        };
-      }
+  to_end_refused {v = v} refused len front grown why = grind (arith, common_steps)
 
   -- the room is full, and the reader's own `read_to_end` read on: k bytes in all
   pub to_end_then : {v : Vec ℕ A} {new : S} (reply : Result ℕ Error) (k : ℕ) → vec_len xs ≤ filled → ReadToEndLaw R now xs reply v new
@@ -158,27 +132,13 @@ module _ {S A : Type 0} {R : Reader S} {old now : S} {buf xs : Vec ℕ A} {fille
     pub to_end_read : {xs' : Vec ℕ A} {n : ℕ} → ReadLaw R now room (Ok n) part new → (n ≡ 0 → ⊥)
         → Wrote filled (vec_len xs') xs.items xs'.items part
         → vec_capacity xs ≤ vec_capacity xs' → ToEndSoFar R old buf (filled + n) xs' new
-    to_end_read {n = n} read some w grown = record {
-      within = omega (arith, w.fits, read.bound);
-      capacity = le_trans before.capacity grown;
-      given = before.given ++ take n part;
-      count = omega (arith, before.count, length-append before.given (take n part), length-take-le n part read.bound);
-      shown = w.shown n read.bound ∙ ap (λ l. l ++ take n part) before.shown ∙ append_assoc buf.items before.given (take n part);
-      reads = reads_more before.reads read some w.some;
-    }
+    to_end_read {n = n} read some w grown = grind (arith, common_steps, le_trans, length-append, length-take-le, append_assoc, reads_more)
 
     -- a read was interrupted
     pub to_end_interruption : {xs' : Vec ℕ A} {e : Error} → ReadLaw R now room (Err e) part new → IsInterruption e
         → Wrote filled (vec_len xs') xs.items xs'.items part
         → vec_capacity xs ≤ vec_capacity xs' → ToEndSoFar R old buf filled xs' new
-    to_end_interruption read interrupted w grown = record {
-      within = omega (arith, w.fits);
-      capacity = le_trans before.capacity grown;
-      given = before.given;
-      count = before.count;
-      shown = w.kept ∙ before.shown;
-      reads = reads_again before.reads read interrupted w.some;
-    }
+    to_end_interruption read interrupted w grown = grind (arith, common_steps, le_trans, reads_again)
 
     -- a read met the end
     pub to_end_done : {lacks : ℕ → Type 0} {v : Vec ℕ A} {reply : Result ℕ Error} {n start : ℕ} → ReadLaw R now room reply part new

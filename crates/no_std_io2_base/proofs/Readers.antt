@@ -1,9 +1,6 @@
 -- Readers, as the laws of their calls take them.
-use Rattle.no_std_io2_base.specs.declared.traits.read.Read.{Ghosts as Reads}
-use Rattle.no_std_io2_base.specs.declared.traits.stored.Stored.{Ghosts as Stores}
-use Rattle.no_std_io2_base.specs.declared.traits.buf_read.BufRead.{Ghosts as BufReads}
-use Rattle.no_std_io2_base.specs.Read.{Reader}
-use Rattle.no_std_io2_base.specs.BufRead.{Lender}
+use Rattle.no_std_io2_base.specs.{declared.traits.read.Read.{Ghosts as Reads}, declared.traits.stored.Stored.{Ghosts as Stores}}
+use Rattle.no_std_io2_base.specs.{declared.traits.buf_read.BufRead.{Ghosts as BufReads}, Read.{Reader}, BufRead.{Lender}}
 
 -- the members of a bound
 abbrev pub reader : {S : Type 0} → Stores S → Reads S → Reader S

@@ -1,14 +1,10 @@
 -- If each call adds something to a reader's own state, the calls of a loop add it together.
-use Rattle.std.proofs.Common.{◌≡◌, ℕ, List, [], ◌∷◌, ◌++◌, Result, Ok, Err, OnOk, IfOk, ◌≤◌, length, take, le_refl, refl, sym, subst}
-use Rattle.std.proofs.Common.{append-nil, inl, inr}
-use Rattle.std.proofs.lemmas.List.{take_all}
-use Rattle.no_std_io2_base.specs.declared.error.Error.{Error}
-use Rattle.no_std_io2_base.specs.Write.{Made}
-use Rattle.no_std_io2_base.specs.Read.{ReadCall, Gave, GaveExactly, GaveAll, Filled, Consumed, ended, Gathers, no_read, and_gave, and_again}
-use Rattle.no_std_io2_base.specs.Read.{bytes_given, gave_whole, FillCalls, GathersUntil, ExactMade, ToEndCalls, ToEndMade}
-use Rattle.no_std_io2_base.specs.Pieces.{PartCalls, no_part, and_part, and_waited, PieceMade, AnswersLine}
-use Rattle.no_std_io2_base.proofs.CallsLemmas.{made_split}
-use Rattle.no_std_io2_base.proofs.CallsAdd.{Joins}
+use Rattle.std.proofs.{lemmas.Grind.{common_steps}, Common.{arith, ◌≡◌, ℕ, List, [], ◌∷◌, ◌++◌, Result, Ok, Err, OnOk, IfOk, ◌≤◌, length}}
+use Rattle.std.proofs.{Common.{take, le_refl, refl, sym, subst, append-nil, inl, inr}, lemmas.List.{take_all}}
+use Rattle.no_std_io2_base.specs.{declared.error.Error.{Error}, Write.{Made}, Read.{ReadCall, Gave, GaveExactly, GaveAll, Filled, Consumed}}
+use Rattle.no_std_io2_base.specs.Read.{Gathers, no_read, and_gave, and_again, bytes_given, gave_whole, FillCalls, GathersUntil, ExactMade}
+use Rattle.no_std_io2_base.specs.{Read.{ToEndCalls, ToEndMade}, Pieces.{PartCalls, no_part, and_part, and_waited, PieceMade, AnswersLine}}
+use Rattle.no_std_io2_base.proofs.{CallsLemmas.{made_split}, CallsAdd.{Joins}}
 
 -- Each call adds the bytes that it gave. A failed `read_exact`, of a type with a body of its own for it, may have taken bytes that it does
 -- not show.
@@ -24,40 +20,23 @@ pub record EachAdds {R : Type 0} (may : R → ReadCall → R → Type 0) (Adds :
 -- so do calls that are among these
 pub each_of : {R : Type 0} {may may' : R → ReadCall → R → Type 0} {Adds : R → List ℕ → R → Type 0}
     → ((a b : R) (call : ReadCall) → may' a call b → may a call b) → EachAdds may Adds → EachAdds may' Adds
-each_of among each = record {
-  joins = each.joins;
-  gave = λ a b room answer call. each.gave a b room answer (among a b (Gave room answer) call);
-  exactly = λ a b room answer call. each.exactly a b room answer (among a b (GaveExactly room answer) call);
-  all = λ a b x answer call. each.all a b x answer (among a b (GaveAll x answer) call);
-  lent = λ a b answer call. each.lent a b answer (among a b (Filled answer) call);
-  took = λ a b c x n lent took. each.took a b c x n (among a b (Filled (Ok x)) lent) (among b c (Consumed n) took);
-}
+each_of among each = grind (arith, common_steps)
 
 -- after `Ok` a line was appended
 pub line_appended : (old old' line : List ℕ) (len capacity : ℕ) (reply read : Result ℕ Error)
     → AnswersLine line read len capacity reply old old' → OnOk reply (old' ≡ old ++ line)
-line_appended old old' line len capacity (Ok m) (Ok n) answers = answers.0.1
-line_appended old old' line len capacity (Ok m) (Err f) answers = absurd answers
-line_appended old old' line len capacity (Err e) read answers = tt
+line_appended old old' line len capacity x6 read answers = grind (arith, common_steps)
 
 module _ {R : Type 0} {may : R → ReadCall → R → Type 0} {Adds : R → List ℕ → R → Type 0} (each : EachAdds may Adds) where
   -- calls, and one more
   and_last : (C : List ReadCall) {x y : List ℕ} (call : ReadCall) (a b : R) → ((mid : R) → Made may a C mid → Adds a x mid)
       → ((c d : R) → may c call d → Adds c y d) → Made may a (C ++ call ∷ []) b → Adds a (x ++ y) b
-  and_last C {x} {y} call a b before adds made =
-      let parts = made_split may C a (call ∷ []) b made in
-      let last = parts.2 in
-      each.joins.more a parts.0 b x y (before parts.0 parts.1) (subst (Adds parts.0 y) (sym last.2) (adds parts.0 last.0 last.1))
+  and_last C {x} {y} call a b before adds made = grind (arith, common_steps, made_split)
 
   -- calls, and then a `fill_buf` and a `consume`
   then_took : (C : List ReadCall) {x : List ℕ} (lent : List ℕ) (n : ℕ) (a b : R) → ((mid : R) → Made may a C mid → Adds a x mid)
       → n ≤ length lent → Made may a (C ++ Filled (Ok lent) ∷ Consumed n ∷ []) b → Adds a (x ++ take n lent) b
-  then_took C {x} lent n a b before within made =
-      let parts = made_split may C a (Filled (Ok lent) ∷ Consumed n ∷ []) b made in
-      let last = parts.2 in
-      let end : b ≡ last.2.0 = last.2.2 in
-      each.joins.more a parts.0 b x (take n lent) (before parts.0 parts.1)
-      (subst (Adds parts.0 (take n lent)) (sym end) (each.took parts.0 last.0 last.2.0 lent n last.1 last.2.1 within))
+  then_took C {x} lent n a b before within made = grind (arith, common_steps, made_split)
 
   -- reads in a row
   pub gathers_add : {asks : ℕ → ℕ → Type 0} {C : List ReadCall} {x : List ℕ} → Gathers asks C x → (a b : R) → Made may a C b → Adds a x b
@@ -80,8 +59,7 @@ module _ {R : Type 0} {may : R → ReadCall → R → Type 0} {Adds : R → List
   -- one `read_exact` of a type with a body of its own for it
   exactly_adds : (buf : List ℕ) (reply : Result (Unit {0}) Error) (a b : R) → may a (GaveExactly (length buf) (gave_whole reply buf)) b
       → (x : List ℕ) × OnOk reply (x ≡ buf) × Adds a x b
-  exactly_adds buf (Ok u) a b call = each.exactly a b (length buf) (Ok buf) call
-  exactly_adds buf (Err e) a b call = each.exactly a b (length buf) (Err e) call
+  exactly_adds buf x2 a b call = grind (arith, common_steps)
 
   -- the reads of a `read_exact`
   fill_adds : (C : List ReadCall) (buf : List ℕ) (reply : Result (Unit {0}) Error) (a b : R) → FillCalls C reply buf → Made may a C b
@@ -93,20 +71,11 @@ module _ {R : Type 0} {may : R → ReadCall → R → Type 0} {Adds : R → List
   -- those of a `read_exact`: all of the buffer after `Ok`, and the bytes that were taken after an error
   pub exact_adds : {buf : List ℕ} (reply : Result (Unit {0}) Error) (a b : R) → ExactMade may a reply buf b
       → (x : List ℕ) × OnOk reply (x ≡ buf) × Adds a x b
-  exact_adds {buf} reply a b m = elim (m.are) [
-    | inl own ↦
-        let one = subst (λ K. Made may a K b) own m.made in
-        exactly_adds buf reply a b (subst (λ s. may a (GaveExactly (length buf) (gave_whole reply buf)) s) (sym one.2) one.1)
-    | inr reads ↦ fill_adds m.calls buf reply a b reads m.made
-  ]
+  exact_adds {buf} reply a b m = grind (arith, common_steps, exactly_adds, fill_adds)
 
   -- those of a `read_to_end`
   calls_add : {C : List ReadCall} {x : List ℕ} (reply : Result ℕ Error) → ToEndCalls C x reply → (a b : R) → Made may a C b → Adds a x b
-  calls_add reply (inl own) a b made =
-      subst (λ l. Adds a l b) (sym own.4)
-      (and_last own.0 (GaveAll own.2 (ended reply)) a b (λ mid m. gathers_add own.3 a mid m)
-      (λ c d call. each.all c d own.2 (ended reply) call)
-      (subst (λ K. Made may a K b) own.5 made))
+  calls_add reply (inl own) a b made = grind (arith, common_steps, and_last, gathers_add)
   calls_add (Ok n) (inr until) a b made = until_add (Ok []) refl until a b made
   calls_add (Err e) (inr (inl fault)) a b made = until_add (Err e) refl fault.1 a b made
   calls_add (Err e) (inr (inr refused)) a b made = gathers_add refused.1 a b made
@@ -129,10 +98,7 @@ module _ {R : Type 0} {may : R → ReadCall → R → Type 0} {Adds : R → List
   -- those of a `read_until` or a `skip_until`, also before an error: x was taken
   pub piece_adds : {may_refuse : Type 0} {d : ℕ} {x : List ℕ} (reply : Result ℕ Error) (a b : R) → PieceMade may_refuse may a d reply x b
       → Adds a x b
-  piece_adds (Ok n) a b m =
-      let are = m.are in
-      subst (λ l. Adds a l b) (sym are.6)
-      (then_took are.0 are.2 are.3 a b (λ mid c. parts_add are.4 a mid c) are.5.within (subst (λ K. Made may a K b) are.7 m.made))
+  piece_adds (Ok n) a b m = grind (arith, common_steps, then_took, parts_add)
   piece_adds {x = x} (Err e) a b m =
       let are = m.are in
       let last : (answer : Result (List ℕ) Error) × (m.calls ≡ are.0 ++ Filled answer ∷ []) =

@@ -1,12 +1,9 @@
 -- How tries follow one another.
-use Rattle.std.proofs.lemmas.Grind.{common_steps}
-use Rattle.std.proofs.Common.{◌≡◌, ℕ, ◌+◌, List, ◌∷◌, length, true, Option, None, Some, Result, Ok, Err, refl, subst, arith, count_by, []}
-use Rattle.std.proofs.lemmas.List.Recursion.{is_count_by}
-use Rattle.no_std_io2_base.specs.declared.error.Error.{Error}
-use Rattle.no_std_io2_base.specs.declared.error.ErrorKind.{ErrorKind}
-use Rattle.no_std_io2_base.specs.Write.{Told, Sends, HasSpent}
-use Rattle.no_std_io2_base.proofs.MovesLemmas.{Moves-refl}
+use Rattle.std.proofs.{lemmas.Grind.{common_steps}, Common.{◌≡◌, ℕ, ◌+◌, List, ◌∷◌, length, true, Option, Result, Ok, Err, refl, subst}}
+use Rattle.std.proofs.{Common.{arith, count_by, []}, lemmas.List.Recursion.{is_count_by}}
+use Rattle.no_std_io2_base.specs.{declared.error.Error.{Error}, declared.error.ErrorKind.{ErrorKind}, Write.{Told, Sends, HasSpent}}
 use Rattle.no_std_io2_base.specs.Retries.{HasAtMost, HasSpentTries, Tries, again}
+use Rattle.no_std_io2_base.proofs.MovesLemmas.{Moves-refl}
 
 -- at the start nothing went, and all is still to go
 pub sends_none : (a : Told) (to_go : List ℕ) → Sends a to_go (Ok tt) a to_go
@@ -33,10 +30,7 @@ spent_all = grind (arith, common_steps, count_all)
 -- if there were enough retries, enough are left
 pub spent_left : (n left : ℕ) (old mid new : Option (List ErrorKind)) → HasSpentTries n left old mid → HasSpent mid [] new
     → HasAtMost n old → HasAtMost left new
-spent_left n left None mid new f g most = absurd most
-spent_left n left (Some old) None new f g most = absurd f
-spent_left n left (Some old) (Some mid) None f g most = absurd g
-spent_left n left (Some old) (Some mid) (Some new) f g most = omega (arith, f, g (λ _. true), count_all mid, count_all new, most)
+spent_left n left x3 mid new f g most = grind (arith, common_steps, count_all)
 
 -- a try that failed, and then the others, one fewer
 pub tries_again : {W : Type 0} (law : W → List ℕ → Result (Unit {0}) Error → W → List ℕ → Type 0) (retries less : ℕ)

@@ -1,13 +1,10 @@
 -- The calls of a `stream_len`, and those of a reference, a box and a boxed object.
-use Rattle.std.proofs.Common.{◌≡◌, ◌≢◌, ℕ, ℤ, pos, List, [], ◌∷◌, Result, Ok, Err, refl, subst, inl, inr}
+use Rattle.std.proofs.{lemmas.Grind.{common_steps}, Common.{arith, ◌≡◌, ◌≢◌, ℕ, ℤ, pos, List, [], ◌∷◌, Result, Ok, Err, refl, subst}}
 use Rattle.std.specs.declared.dyn_box.DynBox.{DynBox}
-use Rattle.no_std_io2_base.specs.declared.error.Error.{Error}
-use Rattle.no_std_io2_base.specs.declared.traits.seek.SeekFrom.{SeekFrom}
-use Rattle.no_std_io2_base.specs.declared.traits.seek.SeekFrom.TheVariants.{Start, End, Current}
-use Rattle.no_std_io2_base.specs.Seek.{SeekCall, Sought, Measured, LenCalls, measured, no_place, no_end, at_end, back, no_way_back, here}
-use Rattle.no_std_io2_base.specs.Seek.{Seeker, SeekLaw, StreamPositionLaw, RewindLaw, StreamLenLaw, SeekRelativeLaw, WithoutPosition}
-use Rattle.no_std_io2_base.specs.Write.{Made, BoxMay}
-use Rattle.no_std_io2_base.proofs.CallsLemmas.{made_map}
+use Rattle.no_std_io2_base.specs.{declared.error.Error.{Error}, declared.traits.seek.SeekFrom.{SeekFrom}}
+use Rattle.no_std_io2_base.specs.{declared.traits.seek.SeekFrom.TheVariants.{Start, End}, Seek.{SeekCall, Sought, Measured, LenCalls}}
+use Rattle.no_std_io2_base.specs.Seek.{measured, no_place, no_end, at_end, back, no_way_back, here, Seeker, SeekLaw, StreamPositionLaw}
+use Rattle.no_std_io2_base.specs.{Seek.{RewindLaw, StreamLenLaw, SeekRelativeLaw}, Write.{Made, BoxMay}}
 use Rattle.no_std_io2_base.proofs.BoxedObjects.{holding, in_box}
 
 -- some calls were made, with this result
@@ -61,49 +58,23 @@ pub record SeeksThrough {X Y : Type 0} (S : Seeker X) (S' : Seeker Y) (put : X �
   pub store : (x : X) → S'.store (put x) ≡ S.store x
   pub may : (x y : X) (call : SeekCall) → S.may x call y → S'.may (put x) call (put y)
 
-sought_through : {X Y : Type 0} {S : Seeker X} {S' : Seeker Y} {put : X → Y} → SeeksThrough S S' put → (a b : X) (target : SeekFrom)
-    (reply : Result (Unit {0}) Error) → WithoutPosition (λ answer. S.may a (Sought target answer) b) reply
-    → WithoutPosition (λ answer. S'.may (put a) (Sought target answer) (put b)) reply
-sought_through through a b target (Ok done) call = (call.0, through.may _ _ _ call.1)
-sought_through through a b target (Err e) call = through.may _ _ _ call
-
 -- what a call did to a value, it did to that which the value was put into
 module _ {X Y : Type 0} {S : Seeker X} {S' : Seeker Y} (put : X → Y) (through : SeeksThrough S S' put) {a b : X} where
   pub seek_through : {target : SeekFrom} {reply : Result ℕ Error} → SeekLaw S a target reply b → SeekLaw S' (put a) target reply (put b)
-  seek_through law = record {
-    store = rw (through.store a, through.store b) law.store;
-    position = rw (through.store b) law.position;
-    call = through.may _ _ _ law.call;
-  }
+  seek_through law = grind (arith, common_steps)
 
   pub stream_position_through : {reply : Result ℕ Error} → StreamPositionLaw S a reply b → StreamPositionLaw S' (put a) reply (put b)
-  stream_position_through law = record {
-    store = rw (through.store a, through.store b) law.store;
-    position = rw (through.store b) law.position;
-    call = through.may _ _ _ law.call;
-  }
+  stream_position_through law = grind (arith, common_steps)
 
   pub rewind_through : {reply : Result (Unit {0}) Error} → RewindLaw S a reply b → RewindLaw S' (put a) reply (put b)
-  rewind_through {reply} law = record {
-    store = rw (through.store a, through.store b) law.store;
-    call = sought_through through a b (Start 0) reply law.call;
-  }
+  rewind_through {reply} law = grind (arith, common_steps)
 
   pub stream_len_through : {reply : Result ℕ Error} → StreamLenLaw S a reply b → StreamLenLaw S' (put a) reply (put b)
-  stream_len_through law = record {
-    store = rw (through.store a, through.store b) law.store;
-    calls = (law.calls.0, made_map S.may S'.may put through.may law.calls.0 a b law.calls.1, law.calls.2);
-  }
+  stream_len_through law = grind (arith, common_steps)
 
   pub seek_relative_through : {offset : ℤ} {reply : Result (Unit {0}) Error} → SeekRelativeLaw S a offset reply b
       → SeekRelativeLaw S' (put a) offset reply (put b)
-  seek_relative_through {offset} {reply} law = record {
-    store = rw (through.store a, through.store b) law.store;
-    call = elim law.call [
-      | inl one ↦ inl (sought_through through a b (Current offset) reply one)
-      | inr moved ↦ inr (through.may _ _ _ moved)
-    ];
-  }
+  seek_relative_through {offset} {reply} law = grind (arith, common_steps)
 
 module _ {I A : Type 0} {V : I → Type 0} (o : (p : (x : I) × V x) → Seeker (V p.0)) (box : DynBox I A V) where
   -- the value in a box, by what its trait object tells, and the box

@@ -1,13 +1,10 @@
 -- A loop that skips one piece, for any reader that lends.
-use Rattle.std.proofs.Common.{◌≡◌, ℕ, ◌+◌, ◌-◌, ◌^◌, Bool, true, false, List, [], ◌∷◌, ◌++◌, Result, Ok, Err, min, length, take}
-use Rattle.std.proofs.Common.{refl, sym, ap, ◌∙◌, arith, length-append, length-take-le}
-use Rattle.no_std_io2_base.specs.declared.error.Error.{Error}
-use Rattle.no_std_io2_base.specs.Errors.{IsInterruption, IsFault}
-use Rattle.no_std_io2_base.specs.Events.{Event, fails, events_of, bytes}
-use Rattle.no_std_io2_base.specs.BufRead.{Lender, ConsumeLaw, FilledLaw, SkipUntilLaw, at_most_max}
-use Rattle.no_std_io2_base.specs.Pieces.{FindsPiece}
-use Rattle.no_std_io2_base.proofs.PieceLemmas.{bytes_more, bytes_still}
-use Rattle.no_std_io2_base.proofs.PieceLoop.{PartTaken, PieceTaken, part_none, part_waited, part_more, piece_faulted, piece_whole}
+use Rattle.std.proofs.{lemmas.Grind.{common_steps}, Common.{◌≡◌, ℕ, ◌+◌, ◌-◌, ◌^◌, Bool, true, false, List, [], ◌∷◌, ◌++◌, Result, Ok, Err}}
+use Rattle.std.proofs.Common.{min, length, take, refl, sym, ap, ◌∙◌, arith, length-append, length-take-le}
+use Rattle.no_std_io2_base.specs.{declared.error.Error.{Error}, Errors.{IsInterruption, IsFault}, Events.{Event, fails, events_of, bytes}}
+use Rattle.no_std_io2_base.specs.{BufRead.{Lender, ConsumeLaw, FilledLaw, SkipUntilLaw, at_most_max}, Pieces.{FindsPiece}}
+use Rattle.no_std_io2_base.proofs.{PieceLemmas.{bytes_more, bytes_still}, PieceLoop.{PartTaken, PieceTaken, part_none, part_waited}}
+use Rattle.no_std_io2_base.proofs.PieceLoop.{part_more, piece_faulted, piece_whole}
 
 -- A part of a piece was skipped so far. The count is its length, at most `usize::MAX`.
 pub record SkipSoFar {X : Type 0} (R : Lender X) (d : ℕ) (old : X) (skipped : ℕ) (now : X) : Type 0 where
@@ -44,17 +41,11 @@ module _ {X : Type 0} {R : Lender X} {d : ℕ} {old now after : X} {skipped : �
       (total_is : total ≡ min (skipped + n) (2 ^ 64 - 1)) where
     -- the count
     counted : total ≡ min (length (bytes (before.taken ++ events_of (take n lent)))) (2 ^ 64 - 1)
-    counted =
-        let more = ap length (bytes_more before.taken (take n lent)) ∙ length-append (bytes before.taken) (take n lent) in
-        omega (arith, before.count, total_is, more, length-take-le n lent found.within)
+    counted = grind (arith, common_steps, bytes_more, length-append, length-take-le)
 
     -- after a part of the piece the loop continues
     pub skip_more : is_whole ≡ false → SkipSoFar R d old total new
-    skip_more going = record {
-      taken = before.taken ++ events_of (take n lent);
-      part = part_more before.part filled found dropped going;
-      count = counted;
-    }
+    skip_more going = grind (arith, common_steps, part_more, counted)
 
     -- the end of the piece ends it
     pub skip_whole : is_whole ≡ true → SkipUntilLaw R old d (Ok total) new

@@ -1,23 +1,14 @@
 -- At limit 0 a `Take` gives nothing, over every reader.
-use Rattle.std.proofs.Common.{◌≡◌, ℕ, ◌<◌, ◌⊎◌, List, [], ◌∷◌, ◌++◌, Result, Ok, Err, OnOk, IfOk, IfErr, IsUtf8, length}
-use Rattle.std.proofs.Common.{refl, sym, ap, subst}
-use Rattle.std.proofs.Common.{◌∙◌, arith, inl, inr, append-nil, Vec, String, string_bytes, string_len, string_capacity}
+use Rattle.std.proofs.Common.{◌≡◌, ℕ, ◌<◌, ◌⊎◌, List, [], ◌∷◌, ◌++◌, Result, Ok, Err, OnOk, IfOk, IfErr, IsUtf8, length, refl, sym, ap}
+use Rattle.std.proofs.Common.{subst, ◌∙◌, arith, inl, inr, append-nil, Vec, String, string_bytes, string_len, string_capacity}
 use Rattle.std.proofs.lemmas.Str.{IsUtf8-nil}
-use Rattle.no_std_io2_base.specs.declared.error.Error.{Error}
-use Rattle.no_std_io2_base.specs.declared.traits.take.Take.{Take}
-use Rattle.no_std_io2_base.specs.Errors.{IsUnexpectedEnd}
-use Rattle.no_std_io2_base.specs.Events.{Event, bytes, cut}
-use Rattle.no_std_io2_base.specs.Read.{Reader, ReadCall, Gave, GaveExactly, GaveAll, Filled, Consumed, ReadCallLaw, ReadExactLaw}
-use Rattle.no_std_io2_base.specs.Read.{FillCalls, gave_whole}
-use Rattle.no_std_io2_base.specs.BufRead.{Lender, as_reader, lender_tells, LendCallLaw, ReadUntilLaw, ReadLineLaw, line_room}
-use Rattle.no_std_io2_base.specs.Pieces.{newline, PieceMade, PieceEnds, AnswersLine}
-use Rattle.no_std_io2_base.specs.Take.{take_limit, TakeTakes}
-use Rattle.no_std_io2_base.specs.Write.{Made}
-use Rattle.no_std_io2_base.proofs.CallsLemmas.{made_split}
-use Rattle.no_std_io2_base.proofs.ReadsAdd.{each_of, piece_adds}
-use Rattle.no_std_io2_base.proofs.TakesLemmas.{lend_law, made_lend}
-use Rattle.no_std_io2_base.proofs.TakeLemmas.{take_reader, take_lender}
-use Rattle.no_std_io2_base.proofs.TakeLoops.{take_each, take_exact}
+use Rattle.no_std_io2_base.specs.{declared.error.Error.{Error}, declared.traits.take.Take.{Take}, Errors.{IsUnexpectedEnd}, Events.{Event}}
+use Rattle.no_std_io2_base.specs.{Events.{bytes, cut}, Read.{Reader, ReadCall, Gave, GaveExactly, GaveAll, Filled, Consumed, ReadCallLaw}}
+use Rattle.no_std_io2_base.specs.{Read.{ReadExactLaw, FillCalls, gave_whole}, BufRead.{Lender, as_reader, lender_tells, LendCallLaw}}
+use Rattle.no_std_io2_base.specs.{BufRead.{ReadUntilLaw, ReadLineLaw, line_room}, Pieces.{newline, PieceMade, PieceEnds, AnswersLine}}
+use Rattle.no_std_io2_base.specs.{Take.{take_limit, TakeTakes}, Write.{Made}}
+use Rattle.no_std_io2_base.proofs.{CallsLemmas.{made_split}, ReadsAdd.{each_of, piece_adds}, TakesLemmas.{lend_law, made_lend}}
+use Rattle.no_std_io2_base.proofs.{TakeLemmas.{take_reader, take_lender}, TakeLoops.{take_each, take_exact}}
 
 -- nothing is taken
 pub took_nothing : {T : Type 0} {inner : Reader T} {old new : Take T} {P : List Event} → TakeTakes inner old P new → take_limit old ≡ 0

@@ -1,23 +1,15 @@
 -- What a `Take` takes, its inner reader takes.
-use Rattle.std.proofs.Common.{◌≡◌, ℕ, zero, suc, ◌+◌, ◌-◌, ◌<◌, ◌≤◌, min, List, [], ◌∷◌, ◌++◌, Result, Ok, Err, IfOk, IsOkAnd, IfSome}
-use Rattle.std.proofs.Common.{length, take, drop}
-use Rattle.std.proofs.Common.{refl, sym, ap, subst, ◌∙◌, arith, Option, None, Some, inl, inr, length-append}
-use Rattle.std.proofs.Common.{length-take, length-take-le, length-drop}
-use Rattle.std.proofs.lemmas.Bool.{cases_lt}
-use Rattle.std.proofs.lemmas.List.{take_all, drop-take}
-use Rattle.no_std_io2_base.specs.declared.error.Error.{Error}
-use Rattle.no_std_io2_base.specs.declared.traits.take.Take.{Take}
-use Rattle.no_std_io2_base.specs.Events.{Event, byte, fails, events_of, bytes, cut, BeginsWith}
-use Rattle.no_std_io2_base.specs.Takes.{Takes, to_come, AreTaken}
-use Rattle.no_std_io2_base.specs.Read.{Reader, tells, ReadCall, Gave, Filled, Consumed, ReadCallLaw, GaveLaw, ReadLaw, gave, bytes_given}
-use Rattle.no_std_io2_base.specs.Read.{answered, fault_of}
-use Rattle.no_std_io2_base.specs.ReadMeter.{FillsRoom}
-use Rattle.no_std_io2_base.specs.BufRead.{Lender, as_reader, lender_tells, ConsumeLaw}
-use Rattle.no_std_io2_base.specs.Take.{take_held, take_inner, take_limit, take_len, take_events, cut_to_come, lent_within, TakeTakes}
-use Rattle.no_std_io2_base.specs.Take.{TakeAsks, TakeMay}
-use Rattle.no_std_io2_base.proofs.EventLemmas.{bytes-append, bytes-events_of}
-use Rattle.no_std_io2_base.proofs.FillBufHeld.{begins_cut}
-use Rattle.no_std_io2_base.proofs.TakesLemmas.{takes_none, takes_then, cut-none, cut-fitting, cut-error, read_law, read_by, lend_law}
+use Rattle.std.proofs.{lemmas.Grind.{common_steps}, Common.{◌≡◌, ℕ, zero, suc, ◌+◌, ◌-◌, ◌<◌, ◌≤◌, min, List, [], ◌∷◌, ◌++◌, Result, Ok}}
+use Rattle.std.proofs.Common.{IsOkAnd, IfSome, length, take, drop, refl, sym, ap, subst, ◌∙◌, arith, Option, None, Some, inl, inr}
+use Rattle.std.proofs.{Common.{length-append, length-take, length-take-le, length-drop}, lemmas.Bool.{cases_lt}, lemmas.List.{drop-take}}
+use Rattle.no_std_io2_base.specs.{declared.error.Error.{Error}, declared.traits.take.Take.{Take}, Events.{Event, byte, fails, events_of}}
+use Rattle.no_std_io2_base.specs.{Events.{bytes, cut, BeginsWith}, Takes.{Takes, AreTaken}, Read.{Reader, tells, ReadCall, Gave, Filled}}
+use Rattle.no_std_io2_base.specs.Read.{Consumed, ReadCallLaw, GaveLaw, ReadLaw, gave, bytes_given, answered, fault_of}
+use Rattle.no_std_io2_base.specs.{ReadMeter.{FillsRoom}, BufRead.{Lender, as_reader, lender_tells, ConsumeLaw}, Take.{take_held}}
+use Rattle.no_std_io2_base.specs.Take.{take_inner, take_limit, take_len, take_events, cut_to_come, lent_within, TakeTakes, TakeAsks}
+use Rattle.no_std_io2_base.specs.Take.{TakeMay}
+use Rattle.no_std_io2_base.proofs.{EventLemmas.{bytes-append, bytes-events_of}, FillBufHeld.{begins_cut}, TakesLemmas.{takes_then}}
+use Rattle.no_std_io2_base.proofs.TakesLemmas.{cut-none, cut-fitting, cut-error, read_law, read_by, lend_law}
 use lib.Seq.{take-take}
 
 -- a `Take`, as the laws of its calls see it
@@ -41,42 +33,33 @@ cut-within (fails e ∷ P) R (suc k) k' within falls =
 
 cut_taken : (E E' : Option (List Event)) (P : List Event) (k k' : ℕ) → AreTaken E P E' → cut k P ≡ P → k' + length (bytes P) ≡ k
     → AreTaken (cut_to_come k E) P (cut_to_come k' E')
-cut_taken None E' P k k' taken within falls = tt
-cut_taken (Some E) None P k k' taken within falls = absurd taken
-cut_taken (Some E) (Some E') P k k' taken within falls = ap (cut k) taken ∙ cut-within P E' k k' within falls
+cut_taken x1 x2 x3 k k' taken within falls = grind (arith, common_steps, cut-within)
 
 -- the end is the end of the cut events
 pub cut_end : (k : ℕ) (E : Option (List Event)) → IfSome E (λ l. l ≡ []) → IfSome (cut_to_come k E) (λ l. l ≡ [])
-cut_end k None end = tt
-cut_end k (Some E) end = ap (cut k) end ∙ cut-none k
+cut_end k x2 end = grind (arith, common_steps, cut-none)
 
 -- at limit 0 it is at its end
 pub cut_zero : (k : ℕ) (E : Option (List Event)) → k ≡ 0 → IfSome (cut_to_come k E) (λ l. l ≡ [])
-cut_zero k None none = tt
-cut_zero k (Some E) none = ap (λ n. cut n E) none
+cut_zero k x2 x3 = grind (arith, common_steps)
 
 -- bytes that fit and an error before the last of them are within
 answered_within : (k : ℕ) (answer : Result (List ℕ) Error) → 0 < k → length (bytes_given answer) ≤ k
     → cut k (answered answer) ≡ answered answer
-answered_within k (Ok x) some fits = cut-fitting k x fits
-answered_within k (Err e) some fits = cut-error k e some
+answered_within k x2 some fits = grind (arith, common_steps, cut-fitting, cut-error)
 
 pub bytes-answered : (answer : Result (List ℕ) Error) → bytes (answered answer) ≡ bytes_given answer
-bytes-answered (Ok x) = bytes-events_of x
-bytes-answered (Err e) = refl
+bytes-answered x1 = grind (arith, common_steps, bytes-events_of)
 
 -- the error that was lent is that which came from the inner reader
 fault_within : (k : ℕ) (lent : Result (List ℕ) Error) → fault_of (lent_within k lent) ≡ fault_of lent
-fault_within k (Ok x) = refl
-fault_within k (Err e) = refl
+fault_within k x2 = grind (arith, common_steps)
 
 pub fault-bytes : (answer : Result (List ℕ) Error) → bytes (fault_of answer) ≡ []
-fault-bytes (Ok x) = refl
-fault-bytes (Err e) = refl
+fault-bytes x1 = grind (arith, common_steps)
 
 fault-within : (k : ℕ) (answer : Result (List ℕ) Error) → 0 < k → cut k (fault_of answer) ≡ fault_of answer
-fault-within k (Ok x) some = cut-none k
-fault-within k (Err e) some = cut-error k e some
+fault-within k x2 some = grind (arith, common_steps)
 
 -- bytes that are cut are their first ones
 pub cut-events_of : (k : ℕ) (bs : List ℕ) → cut k (events_of bs) ≡ events_of (take k bs)
@@ -87,121 +70,50 @@ cut-events_of (suc k) (b ∷ bs) = ap (λ l. byte b ∷ l) (cut-events_of k bs)
 -- as many bytes as fit in the room up to the limit are as many of those up to the limit as fit in the room
 gave_most : (room limit left some : ℕ) (answer : Result (List ℕ) Error) → some ≡ min limit left
     → IsOkAnd answer (λ x. length x ≡ min (min room limit) left) → IsOkAnd answer (λ x. length x ≡ min room some)
-gave_most room limit left some (Ok x) is gave = omega (arith, is, gave)
-gave_most room limit left some (Err e) is gave = gave
+gave_most room limit left some x5 is gave = grind (arith, common_steps)
 
 module _ {T : Type 0} {inner : Reader T} where
   -- what the inner reader took, the `Take` took
   pub take_takes : {old new : Take T} (P : List Event) → TakeTakes inner old P new
       → Takes (tells (take_reader inner) old) P (tells (take_reader inner) new)
-  take_takes {old} {new} P took = record {
-    events = cut_taken (to_come (tells inner (take_inner old))) (to_come (tells inner (take_inner new))) P (take_limit old) (take_limit new)
-        took.takes.events took.within took.limit;
-    store = tt;
-    turns = took.takes.turns;
-  }
+  take_takes {old} {new} P took = grind (arith, common_steps, cut_taken)
 
   -- nothing
   pub take_none : (t : Take T) → TakeTakes inner t [] t
-  take_none t = record {
-    takes = takes_none (tells inner (take_inner t));
-    within = cut-none (take_limit t);
-    limit = omega arith;
-    len = refl;
-    at_limit = λ low. refl;
-  }
+  take_none t = grind (arith, common_steps)
 
   -- some events and then others
   pub take_then : {a b c : Take T} {P Q : List Event} → TakeTakes inner a P b → TakeTakes inner b Q c → TakeTakes inner a (P ++ Q) c
-  take_then {P = P} {Q} first next = record {
-    takes = takes_then first.takes next.takes;
-    within = cut-within P Q _ _ first.within first.limit ∙ ap (λ l. P ++ l) next.within;
-    limit = omega (arith, first.limit, next.limit, ap length (bytes-append P Q), length-append (bytes P) (bytes Q));
-    len = next.len ∙ first.len;
-    at_limit = λ low. next.at_limit (omega (arith, low, first.limit)) ∙ first.at_limit low;
-  }
+  take_then {P = P} {Q} first next = grind (arith, common_steps, takes_then, cut-within, bytes-append, length-append)
 
   -- a call took what its inner call took
   asked : {old new : Take T} {call : ReadCall} {n : ℕ} (P : List Event) → TakeAsks inner old call n new → (take_limit old ≡ 0 → P ≡ [])
       → (0 < take_limit old → Takes (tells inner (take_inner old)) P (tells inner (take_inner new)) × (cut (take_limit old) P ≡ P)
       × (length (bytes P) ≡ n)) → TakeTakes inner old P new
-  asked {old} {new} P asks none took = elim (cases_lt 0 (take_limit old)) [
-    | inl some ↦ let (takes, within, count) = took some in record {
-      takes = takes;
-      within = within;
-      limit = omega (arith, asks.limit, count);
-      len = asks.len;
-      at_limit = asks.at_limit;
-    }
-    | inr low ↦
-        let zero : take_limit old ≡ 0 = omega (arith, low) in
-        subst (λ l. TakeTakes inner old l new) (sym (none zero)) (subst (TakeTakes inner old []) (sym (asks.at_limit zero)) (take_none old))
-  ]
+  asked {old} {new} P asks none took = grind (arith, common_steps)
 
   pub gave_took : {old new : Take T} (room : ℕ) (answer : Result (List ℕ) Error) → TakeMay inner old (Gave room answer) new
       → TakeTakes inner old (answered answer) new
-  gave_took {old} room answer (at_limit, asks) = asked (answered answer) asks (λ low. ap answered (at_limit low)) (λ some.
-      let law = asks.asks some in
-      (law.takes, answered_within (take_limit old) answer some (omega (arith, law.bound)), ap length (bytes-answered answer)))
+  gave_took {old} room answer (at_limit, asks) = grind (arith, common_steps, asked, answered_within, bytes-answered)
 
   pub filled_took : {old new : Take T} (answer : Result (List ℕ) Error) → TakeMay inner old (Filled answer) new
       → TakeTakes inner old (fault_of answer) new
-  filled_took {old} {new} answer (lent, at_limit, above, asks) = asked (fault_of answer) asks (λ low. ap fault_of (at_limit low)) (λ some.
-      let same = ap fault_of (above some) ∙ fault_within (take_limit old) lent in (
-        subst (λ l. Takes (tells inner (take_inner old)) l (tells inner (take_inner new))) (sym same) (asks.asks some).1,
-        fault-within (take_limit old) answer some,
-        ap length (fault-bytes answer),
-      ))
+  filled_took {old} {new} answer (lent, at_limit, above, asks) = grind (arith, common_steps, asked, fault_within, fault-within, fault-bytes)
 
   pub consumed_took : {old new : Take T} {n : ℕ} → TakeMay inner old (Consumed n) new
       → (P : List Event) × (length (bytes P) ≡ n) × TakeTakes inner old P new
-  consumed_took {old} {new} {n} asks = elim (cases_lt 0 (take_limit old)) [
-    | inl some ↦
-        let (call, (x, long, takes)) = asks.asks some in
-        let count : length (bytes (events_of x)) ≡ n = ap length (bytes-events_of x) ∙ long in (
-          events_of x,
-          count,
-          record {
-            takes = takes;
-            within = cut-fitting (take_limit old) x (omega (arith, long, asks.limit));
-            limit = omega (arith, asks.limit, count);
-            len = asks.len;
-            at_limit = asks.at_limit;
-          },
-        )
-    | inr low ↦
-        let zero : take_limit old ≡ 0 = omega (arith, low) in
-        ([], omega (arith, zero, asks.limit), subst (TakeTakes inner old []) (sym (asks.at_limit zero)) (take_none old))
-  ]
+  consumed_took {old} {new} {n} asks = grind (arith, common_steps, cases_lt, bytes-events_of, cut-fitting, take_none)
 
   -- at limit 0 a `read` gives nothing
   pub gave_at_limit : {t : Take T} (room : ℕ) → take_limit t ≡ 0 → GaveLaw (take_reader inner) t room (Ok []) t
-  gave_at_limit {t} room low = record {
-    bound = omega arith;
-    takes = takes_none _;
-    end = λ none some. cut_zero (take_limit t) (to_come (tells inner (take_inner t))) low;
-    call = (
-      λ none. refl,
-      record { limit = omega arith; len = refl; at_limit = λ none. refl; asks = λ some. absurd (omega (arith, some, low)) },
-    );
-  }
+  gave_at_limit {t} room low = grind (arith, common_steps)
 
   -- above 0 it is one inner read into as much of the room as the limit allows
   pub gave_inner : {old new : Take T} (room : ℕ) (answer : Result (List ℕ) Error) → 0 < take_limit old
       → GaveLaw inner (take_inner old) (min room (take_limit old)) answer (take_inner new)
       → take_limit new + length (bytes_given answer) ≡ take_limit old → take_len new ≡ take_len old
       → GaveLaw (take_reader inner) old room answer new
-  gave_inner {old} {new} room answer some law falls same =
-      let call : TakeMay inner old (Gave room answer) new = (
-        λ low. absurd (omega (arith, some, low)),
-        record { limit = falls; len = same; at_limit = λ low. absurd (omega (arith, some, low)); asks = λ _. law },
-      ) in
-      record {
-        bound = omega (arith, law.bound);
-        takes = take_takes (answered answer) (gave_took room answer call);
-        end = λ none space. cut_end (take_limit new) (to_come (tells inner (take_inner new))) (law.end none (omega (arith, some, space)));
-        call = call;
-      }
+  gave_inner {old} {new} room answer some law falls same = grind (arith, common_steps, take_takes, gave_took, cut_end)
 
   -- so it is, if the inner reader read into a part of the buffer
   pub reads_inner : {old new : Take T} {before into part : List ℕ} (whole : List ℕ) (reply : Result ℕ Error) → 0 < take_limit old
@@ -209,26 +121,13 @@ module _ {T : Type 0} {inner : Reader T} where
       → gave reply whole ≡ gave reply part → take_limit new + length (bytes_given (gave reply part)) ≡ take_limit old
       → take_len new ≡ take_len old → ReadLaw (take_reader inner) old before reply whole new
   reads_inner {old} {new} {into = into} {part} whole reply some read room same falls stays =
-      read_by reply (fits reply read.bound)
-      (gave_inner (length whole) (gave reply whole) some
-      (subst (λ a. GaveLaw inner (take_inner old) (min (length whole) (take_limit old)) a (take_inner new)) (sym same)
-      (subst (λ r. GaveLaw inner (take_inner old) r (gave reply part) (take_inner new)) room (read_law reply read)))
-      (subst (λ a. take_limit new + length (bytes_given a) ≡ take_limit old) (sym same) falls) stays)
-    where
-      fits : (reply : Result ℕ Error) → IfOk reply (λ n. n ≤ length part) → IfOk reply (λ n. n ≤ length whole)
-      fits (Ok n) bound = omega (arith, bound, room)
-      fits (Err e) bound = tt
+      grind (arith, common_steps, read_by, gave_inner, read_law)
 
   -- above 0 a `fill_buf` is one inner `fill_buf`, of whose bytes a part is lent
   pub filled_inner : {old new : Take T} (lent : Result (List ℕ) Error) {answer : Result (List ℕ) Error} → 0 < take_limit old
       → take_limit new ≡ take_limit old → take_len new ≡ take_len old → answer ≡ lent_within (take_limit old) lent
       → ReadCallLaw inner (take_inner old) (Filled lent) (take_inner new) → TakeMay inner old (Filled answer) new
-  filled_inner lent some same len is law = (
-    lent,
-    λ low. absurd (omega (arith, some, low)),
-    λ _. is,
-    record { limit = omega (arith, same); len = len; at_limit = λ low. absurd (omega (arith, some, low)); asks = λ _. law },
-  )
+  filled_inner lent some same len is law = grind (arith, common_steps)
 
   -- at limit 0 it lends nothing
   pub filled_at_limit : (t : Take T) → take_limit t ≡ 0 → TakeMay inner t (Filled (Ok [])) t
@@ -267,16 +166,6 @@ take_lender inner = record {
 }
 
 module _ {T : Type 0} (inner : Lender T) where
-  -- at limit 0 there is nothing to consume
-  pub consumed_at_limit : {t : Take T} {n : ℕ} → take_limit t ≡ 0 → n ≡ 0 → ConsumeLaw (take_lender inner) t n t
-  consumed_at_limit {t} {n} low none = record {
-    held = ap (λ k. drop k (take_held inner.held t)) (sym none);
-    takes = subst (λ k. Takes (lender_tells (take_lender inner) t) (events_of (take k (take_held inner.held t)))
-        (lender_tells (take_lender inner) t))
-        (sym none) (takes_none _);
-    call = record { limit = omega (arith, none); len = refl; at_limit = λ low. refl; asks = λ some. absurd (omega (arith, some, low)) };
-  }
-
   -- above 0 the inner reader's first bytes are consumed
   pub consumed_inner : {old new : Take T} {n : ℕ} → 0 < take_limit old → n ≤ length (take_held inner.held old)
       → ConsumeLaw inner (take_inner old) n (take_inner new) → take_limit new + n ≡ take_limit old → take_len new ≡ take_len old
@@ -312,8 +201,7 @@ module _ {T : Type 0} (inner : Lender T) where
 -- what comes next under the limit begins with a part of what comes next
 pub front_cut : (E : Option (List Event)) (bs : List ℕ) (n k : ℕ) → n ≤ k → IfSome E (λ l. BeginsWith l bs)
     → IfSome (cut_to_come k E) (λ l. BeginsWith l (take n bs))
-front_cut None bs n k within front = tt
-front_cut (Some E) bs n k within front = begins_cut n k within front
+front_cut x1 bs n k within front = grind (arith, common_steps, begins_cut)
 
 -- some bytes under the limit are some bytes
 pub some_within : (k : ℕ) (bs : List ℕ) → 0 < length (take k bs) → 0 < length bs
@@ -321,14 +209,11 @@ some_within k bs some = omega (arith, some, length-take k bs)
 
 -- no bytes under a limit above 0 are none
 pub none_within : (k : ℕ) (bs : List ℕ) → 0 < k → take k bs ≡ [] → bs ≡ []
-none_within k [] some none = refl
-none_within zero (b ∷ bs) some none = absurd (omega (arith, some))
-none_within (suc k) (b ∷ bs) some none = absurd (let no : ⊥ = cc in no)
+none_within k x2 some x4 = grind (arith, common_steps)
 
 -- of no bytes none are under the limit
 pub none_lent : (k : ℕ) {bs : List ℕ} → bs ≡ [] → take k bs ≡ []
-none_lent zero none = refl
-none_lent (suc k) none = ap (take (suc k)) none
+none_lent x1 x2 = grind (arith, common_steps)
 
 -- at limit 0 nothing is held
 pub none_at_limit : {k : ℕ} (bs : List ℕ) → k ≡ 0 → take k bs ≡ []
@@ -346,7 +231,4 @@ limit_falls k n buf fits within = omega (arith, fits, within, length-take-le n b
 
 -- the first k bytes are cut to as many as there are
 pub take_most : (most k : ℕ) (x : List ℕ) → most ≡ min (length x) k → take most x ≡ take k x
-take_most most k x is = elim (cases_lt k (length x)) [
-  | inl below ↦ ap (λ n. take n x) (omega (arith, is, below))
-  | inr above ↦ take_all most x (omega (arith, is, above)) ∙ sym (take_all k x above)
-]
+take_most most k x is = grind (arith, common_steps)

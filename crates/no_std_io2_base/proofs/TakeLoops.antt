@@ -1,23 +1,16 @@
 -- What the loops of a `Take` take, its inner reader takes.
-use Rattle.std.proofs.Common.{◌≡◌, ℕ, ◌+◌, ◌≤◌, min, List, [], ◌++◌, Result, Ok, Err, OnOk, length, refl, sym, ap, subst}
-use Rattle.std.proofs.Common.{◌∙◌}
-use Rattle.std.proofs.Common.{arith, Option, None, Some, inl, inr, ◌⊎◌, length-append, length-take-le, Vec, String, string_bytes}
-use Rattle.std.proofs.lemmas.List.{append_cancel_right}
-use Rattle.no_std_io2_base.specs.declared.error.Error.{Error}
-use Rattle.no_std_io2_base.specs.declared.traits.take.Take.{Take}
-use Rattle.no_std_io2_base.specs.Events.{Event, events_of, bytes, cut}
-use Rattle.no_std_io2_base.specs.Takes.{Tells, Takes, to_come, AreTaken, KeepsContent}
-use Rattle.no_std_io2_base.specs.Read.{Reader, tells, ReadCallLaw, ReadExactLaw, ToEndLaw, answered, fault_of}
-use Rattle.no_std_io2_base.specs.BufRead.{Lender, as_reader, ReadUntilLaw, ReadLineLaw}
-use Rattle.no_std_io2_base.specs.Take.{take_inner, take_limit, cut_to_come, TakeTakes}
-use Rattle.no_std_io2_base.proofs.EventLemmas.{bytes-append, bytes-events_of, length-events_of}
-use Rattle.no_std_io2_base.proofs.GivenPieces.{few_bytes}
-use Rattle.no_std_io2_base.proofs.ReadLoop.{ReadsSoFar}
-use Rattle.no_std_io2_base.proofs.ReadsAdd.{EachAdds, each_of, gathers_add, exact_adds, to_end_adds, piece_adds, line_appended}
-use Rattle.no_std_io2_base.proofs.TakesLemmas.{cut-fitting, lend_law}
-use Rattle.no_std_io2_base.proofs.TakeLemmas.{take_reader, take_lender, take_none, take_then, gave_took, filled_took}
-use Rattle.no_std_io2_base.proofs.TakeLemmas.{consumed_took}
-use Rattle.no_std_io2_base.proofs.TakeLemmas.{bytes-answered, fault-bytes, cut-within}
+use Rattle.std.proofs.{lemmas.Grind.{common_steps}, Common.{◌≡◌, ℕ, ◌+◌, ◌≤◌, min, List, [], ◌++◌, Result, Ok, Err, OnOk, length, refl}}
+use Rattle.std.proofs.Common.{sym, ap, subst, ◌∙◌, arith, Option, None, Some, inl, inr, ◌⊎◌, length-append, length-take-le, Vec, String}
+use Rattle.std.proofs.{Common.{string_bytes}, lemmas.List.{append_cancel_right}}
+use Rattle.no_std_io2_base.specs.{declared.error.Error.{Error}, declared.traits.take.Take.{Take}, Events.{Event, events_of, bytes, cut}}
+use Rattle.no_std_io2_base.specs.{Takes.{Tells, Takes, to_come, AreTaken}, Read.{Reader, tells, ReadCallLaw, ReadExactLaw, ToEndLaw}}
+use Rattle.no_std_io2_base.specs.{Read.{answered, fault_of}, BufRead.{Lender, as_reader, ReadUntilLaw, ReadLineLaw}, Take.{take_inner}}
+use Rattle.no_std_io2_base.specs.Take.{take_limit, cut_to_come, TakeTakes}
+use Rattle.no_std_io2_base.proofs.{EventLemmas.{bytes-append, bytes-events_of, length-events_of}, GivenPieces.{few_bytes}}
+use Rattle.no_std_io2_base.proofs.{ReadLoop.{ReadsSoFar}, ReadsAdd.{EachAdds, each_of, gathers_add, exact_adds, to_end_adds, piece_adds}}
+use Rattle.no_std_io2_base.proofs.{ReadsAdd.{line_appended}, TakesLemmas.{cut-fitting, lend_law}, TakeLemmas.{take_reader, take_lender}}
+use Rattle.no_std_io2_base.proofs.TakeLemmas.{take_none, take_then, gave_took, filled_took, consumed_took, bytes-answered, fault-bytes}
+use Rattle.no_std_io2_base.proofs.TakeLemmas.{cut-within}
 
 -- Each call of a `Take` takes as many bytes of its inner reader as it gives.
 pub take_each : {T : Type 0} {inner : Reader T}
@@ -67,11 +60,7 @@ lost (Some E) (Some E') k k' P Q above below within falls = inl (append_cancel_r
 -- if no events are told, any with as many bytes were taken
 untold : {a b : Tells} {Q : List Event} (P : List Event) → to_come a ≡ None → length (bytes P) ≡ length (bytes Q)
     → min 1 (length P) ≤ min 1 (length Q) → Takes a Q b → Takes a P b
-untold {a} {b} P none same fewer takes = record {
-  events = rw none tt;
-  store = subst (λ n. KeepsContent a.store (λ len was now. now ≡ was + n) b.store) (sym same) takes.store;
-  turns = omega (arith, takes.turns, fewer);
-}
+untold {a} {b} P none same fewer takes = grind (arith, common_steps)
 
 -- so what the `Take` took, its inner reader took
 pub take_taken : {T : Type 0} {inner : Reader T} {old new : Take T} (P Q : List Event)

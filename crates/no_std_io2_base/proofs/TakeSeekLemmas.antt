@@ -1,12 +1,8 @@
 -- How a `Take` goes to a position, step by step.
 use Rattle.std.proofs.Common.{◌≡◌, ℕ, ◌<◌, ◌^◌, Result, Ok, arith, sym, subst}
-use Rattle.no_std_io2_base.specs.declared.error.Error.{Error}
-use Rattle.no_std_io2_base.specs.declared.traits.seek.Seek.{Ghosts as SeekMembers}
-use Rattle.no_std_io2_base.specs.declared.traits.stored.Stored.{Ghosts as Stores}
-use Rattle.no_std_io2_base.specs.declared.traits.take.Take.{Take}
-use Rattle.no_std_io2_base.specs.Seek.{Seeker, Sought, here}
-use Rattle.no_std_io2_base.specs.Take.{take_position}
-use Rattle.no_std_io2_base.specs.TakeSeeks.{TakeGoes, TakeMaySeek, arrived}
+use Rattle.no_std_io2_base.specs.{declared.error.Error.{Error}, declared.traits.seek.Seek.{Ghosts as SeekMembers}}
+use Rattle.no_std_io2_base.specs.{declared.traits.stored.Stored.{Ghosts as Stores}, declared.traits.take.Take.{Take}, Seek.{Seeker, Sought}}
+use Rattle.no_std_io2_base.specs.{Seek.{here}, Take.{take_position}, TakeSeeks.{TakeGoes, TakeMaySeek, arrived}}
 
 -- the members of a bound `Seek`
 abbrev pub seeker : {S : Type 0} → Stores S → SeekMembers S → Seeker S

@@ -1,56 +1,35 @@
 -- Calls one after another: what they take, and what their laws say of it.
-use Rattle.std.proofs.Common.{◌≡◌, ℕ, zero, suc, ◌+◌, ◌-◌, ◌<◌, ◌≤◌, List, [], ◌∷◌, ◌++◌, Result, Ok, Err, length, take, Option, None, Some}
-use Rattle.std.proofs.Common.{refl, sym, ap, subst, ◌∙◌, arith, append_assoc, append-nil, length-append, length-take-le, IfOk, IfSome}
-use Rattle.std.proofs.Common.{inl, inr}
-use Rattle.no_std_io2_base.specs.declared.error.Error.{Error}
-use Rattle.no_std_io2_base.specs.Errors.{IsInterruption}
-use Rattle.no_std_io2_base.specs.Events.{Event, byte, fails, events_of, bytes, HasNoFault, cut, EndsInFault}
-use Rattle.no_std_io2_base.specs.Takes.{Store, Tells, Takes, TakesBytes, to_come, AreTaken, KeepsContent, IsAtEnd, IsAll}
-use Rattle.no_std_io2_base.specs.Read.{Reader, tells, ReadCall, Gave, GaveExactly, GaveAll, Filled, Consumed, gave, ended, bytes_given}
-use Rattle.no_std_io2_base.specs.Read.{ReadCallLaw, GaveLaw, ReadLaw, ReadExactLaw, Gives, AllOrNone, DrainsOrStops}
-use Rattle.no_std_io2_base.specs.BufRead.{Lender, as_reader, LendCallLaw}
-use Rattle.no_std_io2_base.specs.Write.{Made}
-use Rattle.no_std_io2_base.proofs.CallsLemmas.{made_map}
-use Rattle.no_std_io2_base.proofs.EventLemmas.{bytes-append, bytes-events_of, length-events_of, HasNoFault-append}
-use Rattle.no_std_io2_base.proofs.EventLemmas.{HasNoFault-events_of, cut-append}
-use Rattle.no_std_io2_base.proofs.ReadExactExits.{some_bytes}
+use Rattle.std.proofs.{lemmas.Grind.{common_steps}, Common.{◌≡◌, ℕ, zero, suc, ◌+◌, ◌-◌, ◌<◌, ◌≤◌, List, [], ◌∷◌, ◌++◌, Result, Ok, Err}}
+use Rattle.std.proofs.Common.{length, take, Option, None, Some, refl, sym, ap, subst, ◌∙◌, arith, append_assoc, append-nil, length-append}
+use Rattle.std.proofs.Common.{length-take-le, IfOk, IfSome}
+use Rattle.no_std_io2_base.specs.{declared.error.Error.{Error}, Errors.{IsInterruption}, Events.{Event, byte, fails, events_of, bytes}}
+use Rattle.no_std_io2_base.specs.{Events.{HasNoFault, cut, EndsInFault}, Takes.{Store, Tells, Takes, TakesBytes, to_come, AreTaken}}
+use Rattle.no_std_io2_base.specs.{Takes.{KeepsContent, IsAtEnd, IsAll}, Read.{Reader, tells, ReadCall, gave, ended, bytes_given}}
+use Rattle.no_std_io2_base.specs.{Read.{ReadCallLaw, GaveLaw, ReadLaw, ReadExactLaw, Gives, AllOrNone, DrainsOrStops}, BufRead.{Lender}}
+use Rattle.no_std_io2_base.specs.{BufRead.{as_reader, LendCallLaw}, Write.{Made}}
+use Rattle.no_std_io2_base.proofs.{CallsLemmas.{made_map}, EventLemmas.{bytes-append, bytes-events_of, length-events_of, HasNoFault-append}}
+use Rattle.no_std_io2_base.proofs.{EventLemmas.{HasNoFault-events_of, cut-append}, ReadExactExits.{some_bytes}}
 
 are_none : (E : Option (List Event)) → AreTaken E [] E
-are_none None = tt
-are_none (Some E) = refl
+are_none x1 = grind (arith, common_steps)
 
 stays : (s : Option Store) → KeepsContent s (λ len was now. now ≡ was + 0) s
-stays None = tt
-stays (Some s) = (refl, omega arith)
+stays x1 = grind (arith, common_steps)
 
 -- before the first call nothing is taken
 pub takes_none : (t : Tells) → Takes t [] t
 takes_none t = record { events = are_none (to_come t); store = stays t.store; turns = omega arith }
 
 are_then : (E E' E'' : Option (List Event)) (P Q : List Event) → AreTaken E P E' → AreTaken E' Q E'' → AreTaken E (P ++ Q) E''
-are_then None E' E'' P Q first next = tt
-are_then (Some E) None E'' P Q first next = absurd first
-are_then (Some E) (Some E') None P Q first next = absurd next
-are_then (Some E) (Some E') (Some E'') P Q first next = first ∙ ap (λ l. P ++ l) next ∙ sym (append_assoc P Q E'')
+are_then x1 x2 x3 x4 x5 first next = grind (arith, common_steps)
 
 moves_then : (s s' s'' : Option Store) (j k : ℕ) → KeepsContent s (λ len was now. now ≡ was + j) s'
     → KeepsContent s' (λ len was now. now ≡ was + k) s'' → KeepsContent s (λ len was now. now ≡ was + (j + k)) s''
-moves_then None s' s'' j k first next = tt
-moves_then (Some s) None s'' j k first next = absurd first
-moves_then (Some s) (Some s') None j k first next = absurd next
-moves_then (Some s) (Some s') (Some s'') j k first next = (next.0 ∙ first.0, omega (arith, first.1, next.1))
+moves_then x1 s' s'' j k first next = grind (arith, common_steps)
 
 -- one call after another
 pub takes_then : {a b c : Tells} {P Q : List Event} → Takes a P b → Takes b Q c → Takes a (P ++ Q) c
-takes_then {a} {b} {c} {P} {Q} first next =
-    let long : length (bytes (P ++ Q)) ≡ length (bytes P) + length (bytes Q) =
-    ap length (bytes-append P Q) ∙ length-append (bytes P) (bytes Q) in
-    record {
-      events = are_then (to_come a) (to_come b) (to_come c) P Q first.events next.events;
-      store = subst (λ n. KeepsContent a.store (λ len was now. now ≡ was + n) c.store) (sym long)
-          (moves_then a.store b.store c.store _ _ first.store next.store);
-      turns = omega (arith, first.turns, next.turns, length-append P Q);
-    }
+takes_then {a} {b} {c} {P} {Q} first next = grind (arith, common_steps, bytes-append, length-append, are_then, moves_then)
 
 -- a call that takes nothing, after others
 pub takes_still : {a b c : Tells} {P : List Event} → Takes a P b → Takes b [] c → Takes a P c
@@ -66,12 +45,7 @@ spends takes some = omega (arith, takes.turns)
 
 -- what was taken up to the end is all
 pub takes_all : {a b : Tells} (P : List Event) → Takes a P b → IsAtEnd b → IsAll a P
-takes_all {a} {b} P takes end = by (to_come a) (to_come b) takes.events end
-  where
-    by : (E E' : Option (List Event)) → AreTaken E P E' → IfSome E' (λ l. l ≡ []) → IfSome E (λ l. l ≡ P)
-    by None E' are end = tt
-    by (Some E) None are end = absurd are
-    by (Some E) (Some E') are end = are ∙ ap (λ l. P ++ l) end ∙ append-nil P
+takes_all {a} {b} P takes end = grind (arith, common_steps)
 
 -- a reader stays at its end
 pub stays_at_end : {a b : Tells} → Takes a [] b → IsAtEnd b → IsAtEnd a
@@ -96,6 +70,15 @@ bytes_still {e = e} so_far takes again = record {
   are = bytes-append so_far.taken (fails e ∷ []) ∙ append-nil (bytes so_far.taken) ∙ so_far.are;
 }
 
+-- what is left of told events
+pub left_of : {a b : Tells} {P E : List Event} → Takes a P b → to_come a ≡ Some E → (after : List Event) × (to_come b ≡ Some after)
+    × (E ≡ P ++ after)
+left_of {a} {b} {P} {E} takes told = by (to_come b) (subst (λ o. AreTaken o P (to_come b)) told takes.events)
+  where
+    by : (o : Option (List Event)) → AreTaken (Some E) P o → (after : List Event) × (o ≡ Some after) × (E ≡ P ++ after)
+    by None are = absurd are
+    by (Some after) are = (after, refl, are)
+
 -- bytes, and then bytes
 pub TakesBytes-then : {a b c : Tells} {x y : List ℕ} → TakesBytes a x b → TakesBytes b y c → TakesBytes a (x ++ y) c
 TakesBytes-then {x = x} first next = record {
@@ -112,38 +95,20 @@ TakesBytes-fills law = record { taken = law.taken; takes = law.takes; no_fault =
 
 -- all that is to come behind P is all, with P in front
 pub IsAll-behind : {a b : Tells} (P Q : List Event) → Takes a P b → IsAll b Q → IsAll a (P ++ Q)
-IsAll-behind {a} {b} P Q takes all = by (to_come a) (to_come b) takes.events all
-  where
-    by : (E E' : Option (List Event)) → AreTaken E P E' → IfSome E' (λ l. l ≡ Q) → IfSome E (λ l. l ≡ P ++ Q)
-    by None E' are all = tt
-    by (Some E) None are all = absurd are
-    by (Some E) (Some E') are all = are ∙ ap (λ l. P ++ l) all
+IsAll-behind {a} {b} P Q takes all = grind (arith, common_steps)
 
 -- a fault behind events without one
 pub EndsInFault-behind : (P Q : List Event) {e : Error} → HasNoFault P → EndsInFault Q e → EndsInFault (P ++ Q) e
-EndsInFault-behind P Q {e} no_fault fault = (
-  P ++ fault.0,
-  ap (λ l. P ++ l) fault.1 ∙ sym (append_assoc P fault.0 (fails e ∷ [])),
-  HasNoFault-append P fault.0 no_fault fault.2,
-  fault.3,
-)
+EndsInFault-behind P Q {e} no_fault fault = grind (arith, common_steps, append_assoc, HasNoFault-append)
 
 module _ {S : Type 0} (R : Reader S) where
   -- a call that keeps its law is one that the reader may make
   pub law_may : (a b : S) (call : ReadCall) → ReadCallLaw R a call b → R.may a call b
-  law_may a b (Gave room answer) law = law.call
-  law_may a b (GaveExactly room answer) law = law.0
-  law_may a b (GaveAll x answer) law = law.0
-  law_may a b (Filled answer) law = law.0
-  law_may a b (Consumed n) law = law.0
+  law_may a b x3 law = grind (arith, common_steps)
 
   -- and it takes something
   pub law_takes : (a b : S) (call : ReadCall) → ReadCallLaw R a call b → (P : List Event) × Takes (tells R a) P (tells R b)
-  law_takes a b (Gave room answer) law = (_, law.takes)
-  law_takes a b (GaveExactly room answer) law = (_, law.1.1)
-  law_takes a b (GaveAll x answer) law = (_, law.1.1)
-  law_takes a b (Filled answer) law = (_, law.1)
-  law_takes a b (Consumed n) law = (_, law.1.2)
+  law_takes a b x3 law = grind (arith, common_steps)
 
   -- calls, without their laws
   pub made_may : (C : List ReadCall) (a b : S) → Made (ReadCallLaw R) a C b → Made R.may a C b
@@ -159,11 +124,7 @@ module _ {S : Type 0} (R : Reader S) where
 
 -- a call of a reader that lends is one of a reader
 pub lend_law : {S : Type 0} (R : Lender S) (a b : S) (call : ReadCall) → LendCallLaw R a call b → ReadCallLaw (as_reader R) a call b
-lend_law R a b (Gave room answer) law = law
-lend_law R a b (GaveExactly room answer) law = law
-lend_law R a b (GaveAll x answer) law = law
-lend_law R a b (Filled answer) law = (law.call, law.takes, law.front)
-lend_law R a b (Consumed n) law = (law.1.call, (_, length-take-le n (R.held a) law.0, law.1.takes))
+lend_law x1 a b x4 law = grind (arith, common_steps)
 
 -- and so are many
 pub made_lend : {S : Type 0} (R : Lender S) (C : List ReadCall) (a b : S) → Made (LendCallLaw R) a C b
@@ -184,13 +145,7 @@ read_law (Err e) read = record { bound = omega arith; takes = read.takes; end = 
 -- and a call that fits is a `read`
 pub read_by : {S : Type 0} {R : Reader S} {old new : S} {buf buf' : List ℕ} (reply : Result ℕ Error) → IfOk reply (λ n. n ≤ length buf')
     → GaveLaw R old (length buf') (gave reply buf') new → ReadLaw R old buf reply buf' new
-read_by {buf' = buf'} (Ok n) bound law = record {
-  bound = bound;
-  takes = law.takes;
-  end = λ none room. law.end (ap (λ k. Ok (take k buf')) none) room;
-  call = law.call;
-}
-read_by (Err e) bound law = record { bound = tt; takes = law.takes; end = tt; call = law.call }
+read_by x1 bound law = grind (arith, common_steps)
 
 -- a read that gives some bytes spends a turn
 pub read_spends : {S : Type 0} {R : Reader S} {old new : S} {buf buf' : List ℕ} {n : ℕ} → ReadLaw R old buf (Ok n) buf' new → (n ≡ 0 → ⊥)
@@ -212,25 +167,20 @@ met_end law is none some = let zero = nothing_read law is none in (zero.takes, z
 
 -- then all of it was taken
 pub all_taken : (P : List Event) (room : ℕ) (left : Option (List Event)) → IfSome left (λ E. E ≡ []) → IfSome left (AllOrNone P room)
-all_taken P room None end = tt
-all_taken P room (Some E) end = inl end
+all_taken x1 room x3 end = grind (arith, common_steps)
 
 -- how a `read_to_end` ended, with a weaker reason
 pub drains_lacks : {lacks lacks' : Type 0} (P : List Event) (reply : Result ℕ Error) (new : Tells) → (lacks → lacks')
     → DrainsOrStops lacks P reply new → DrainsOrStops lacks' P reply new
-drains_lacks P (Ok n) new weaker ends = ends
-drains_lacks P (Err e) new weaker (inl fault) = inl fault
-drains_lacks P (Err e) new weaker (inr (none, refused, why)) = inr (none, refused, weaker why)
+drains_lacks x1 x2 new weaker ends = grind (arith, common_steps)
 
 -- and as one call
 pub drains_ended : (lacks : Type 0) (P : List Event) (reply : Result ℕ Error) (new : Tells) → DrainsOrStops lacks P reply new
     → DrainsOrStops (Unit {0}) P (ended reply) new
-drains_ended lacks P (Ok n) new ends = ends
-drains_ended lacks P (Err e) new ends = drains_lacks P (Err e) new (λ why. tt) ends
+drains_ended lacks x2 x3 new ends = grind (arith, common_steps)
 
 pub cut-none : (k : ℕ) → cut k [] ≡ []
-cut-none zero = refl
-cut-none (suc k) = refl
+cut-none x1 = grind (arith, common_steps)
 
 -- a cut past all bytes keeps them
 pub cut-fitting : (k : ℕ) (bs : List ℕ) → length bs ≤ k → cut k (events_of bs) ≡ events_of bs
@@ -240,8 +190,7 @@ cut-fitting (suc k) (b ∷ bs) fits = ap (λ l. byte b ∷ l) (cut-fitting k bs 
 
 -- and an error, if it comes before the last byte
 pub cut-error : (k : ℕ) (e : Error) → 0 < k → cut k (fails e ∷ []) ≡ fails e ∷ []
-cut-error zero e some = absurd (omega arith)
-cut-error (suc k) e some = refl
+cut-error x1 e some = grind (arith, common_steps)
 
 -- no events give no bytes
 pub gives_none : (room : ℕ) → Gives room [] []
@@ -250,11 +199,7 @@ gives_none room = record { no_fault = tt; given = refl; within = cut-none room }
 -- before the room is full, more events give more bytes
 gives_more : {room : ℕ} {P : List Event} {x : List ℕ} (k : ℕ) (Q : List Event) → Gives room P x → room ≡ length x + k → 0 < k
     → HasNoFault Q → cut k Q ≡ Q → Gives room (P ++ Q) (x ++ bytes Q)
-gives_more {P = P} k Q so_far long some no_fault within = record {
-  no_fault = HasNoFault-append P Q so_far.no_fault no_fault;
-  given = bytes-append P Q ∙ ap (λ l. l ++ bytes Q) so_far.given;
-  within = cut-append P Q _ k some (omega (arith, long, ap length so_far.given)) ∙ ap (λ l. P ++ l) within;
-}
+gives_more {P = P} k Q so_far long some no_fault within = grind (arith, common_steps, HasNoFault-append, bytes-append, cut-append)
 
 -- some bytes
 pub gives_bytes : {room : ℕ} {P : List Event} {x : List ℕ} (more : List ℕ) → Gives room P x → length x + length more ≤ room

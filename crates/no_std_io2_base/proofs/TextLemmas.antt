@@ -1,24 +1,14 @@
 -- How the calls that print a text follow one another, and what is known after any formatter.
-use Rattle.std.proofs.Common.{◌≡◌, ℕ, List, [], ◌++◌, Option, None, Some, Result, Ok, Err, OnOk, OnErr, IsOk, is_ok, IfSome}
-use Rattle.std.proofs.Common.{◌∷◌, ◌⊎◌, Bool, true, false, true≢false, IsErrAnd}
-use Rattle.std.proofs.Common.{refl, sym, ap, subst, ◌∙◌, append-nil, length, drop, inl, inr, ⊎_elim}
-use Rattle.std.proofs.Math.Seq.{drop-append_seam}
-use Rattle.std.proofs.Math.Logic.{∥∥₁_elim, ∥∥₁_map}
-use Rattle.std.proofs.Props.{props}
-use Rattle.std.specs.Coded.{le_prop, Π_prop, Unit-prop}
+use Rattle.std.proofs.{lemmas.Grind.{common_steps}, Common.{arith, ◌≡◌, ℕ, List, [], ◌++◌, Option, None, Some, Result, Ok, Err, OnOk}}
+use Rattle.std.proofs.Common.{OnErr, IsOk, is_ok, IfSome, ◌∷◌, ◌⊎◌, Bool, true, false, true≢false, IsErrAnd, refl, sym, ap, subst, ◌∙◌}
+use Rattle.std.proofs.{Common.{append-nil, length, drop, inl, inr, ⊎_elim}, Math.Seq.{drop-append_seam}, Math.Logic.{∥∥₁_elim, ∥∥₁_map}}
+use Rattle.std.proofs.{Props.{props}, lemmas.List.Folds.{concat-append}, lemmas.Fn.{chained_keeps}}
+use Rattle.std.specs.{Coded.{le_prop, Π_prop, Unit-prop}, List.{concat}, Fmt.{WritesInCalls, DisplaysOnOk, IsPlainFormatter}}
+use Rattle.std.specs.{Fmt.{formatter_writer}, declared.fmt.Formatter.{Formatter}, declared.fmt.Error.{Error as FormatError}}
 use mathlib.Core.HLevel.{⊥_prop}
-use Rattle.std.proofs.lemmas.List.Folds.{concat-append}
-use Rattle.std.proofs.lemmas.Fn.{chained_keeps}
-use Rattle.std.specs.List.{concat}
-use Rattle.std.specs.Fmt.{WritesInCalls, DisplaysOnOk, IsPlainFormatter, formatter_writer}
-use Rattle.std.specs.declared.fmt.Formatter.{Formatter}
-use Rattle.std.specs.declared.fmt.Error.{Error as FormatError}
-use Rattle.no_std_io2_base.specs.declared.error.Error.{Error}
-use Rattle.no_std_io2_base.specs.declared.error.ErrorKind.{ErrorKind}
-use Rattle.no_std_io2_base.specs.Write.{Told, Moves, MovesFront, HasSpent, call_mishap}
-use Rattle.no_std_io2_base.specs.Writers.{Writer, WriteAllOf, PrintsOf, WriteFmtOf}
-use Rattle.no_std_io2_base.specs.Text.{nothing, piece, silent, IsTextError, FailsText, MovesText}
-use Rattle.no_std_io2_base.specs.Errors.{is_interruption, IsNoInterruption}
+use Rattle.no_std_io2_base.specs.{declared.error.Error.{Error}, declared.error.ErrorKind.{ErrorKind}, Write.{Told, Moves, MovesFront}}
+use Rattle.no_std_io2_base.specs.{Write.{HasSpent, call_mishap}, Writers.{Writer, WriteAllOf, PrintsOf, WriteFmtOf}, Text.{nothing, piece}}
+use Rattle.no_std_io2_base.specs.{Text.{silent, IsTextError, FailsText, MovesText}, Errors.{IsNoInterruption}}
 use Rattle.no_std_io2_base.proofs.MovesLemmas.{after_ok, IsFront-refl, Moves-refl, MovesFront-join, MovesFront-first, MovesFront-flush}
 
 module _ {S : Type 0} {I : Writer S} {old : S} where
@@ -67,10 +57,7 @@ module _ {W S : Type 0} (prints : S → List ℕ → W → Type 0) where
   pub prints_output : (f g : Formatter W) {s t : W} (old : S) (output : Option (List ℕ)) (formatted : Result (Unit {0}) FormatError)
       → formatter_writer f ≡ s → IsPlainFormatter f → t ≡ formatter_writer g → DisplaysOnOk Then f formatted output g → IsOk formatted
       → prints old [] s → IfSome output (λ bs. prints old bs t)
-  prints_output f g old None formatted over plain back shows ok start = tt
-  prints_output f g old (Some bs) formatted over plain back shows ok start =
-      subst (prints old bs) (sym back) (prints_calls (formatter_writer f) (formatter_writer g) old
-      (shows plain ok).wrote (subst (prints old []) (sym over) start))
+  prints_output f g old x4 formatted over plain back shows ok start = grind (arith, common_steps, prints_calls)
 
   -- a text was printed through a formatter: whatever its `fmt` did, and its output if that is specified
   pub prints_shown : (f g : Formatter W) {s t : W} {old : S} (output : Option (List ℕ)) (formatted : Result (Unit {0}) FormatError)
@@ -163,9 +150,7 @@ IsNoInterruption-prop (Err e) = Prim.hlevel props
 
 -- an error that keeps the kind of a fault is a fault
 text_fault : (met r : Result (Unit {0}) Error) → FailsText met r → IsNoInterruption met → IsNoInterruption r
-text_fault met (Ok u) why fault = absurd why
-text_fault (Ok u) (Err e) why fault = ap is_interruption why.0
-text_fault (Err d) (Err e) why fault = ap is_interruption why.0 ∙ fault
+text_fault met x2 why fault = grind (arith, common_steps)
 
 -- the name of the loan is what it was
 pub name_kept : {S : Type 0} {at : S → Type 0} {name was : ℕ} {R : S → List ℕ → Type 0} {Q : List ℕ → Type 0}
@@ -204,15 +189,7 @@ module _ {S : Type 0} {I : Writer S} {old new : S} {name was : ℕ} {output : Op
 -- if the output is specified
 pub MovesFront-text : {a b : Told} {bs : List ℕ} {r : Result (Unit {0}) Error} → MovesText a (Some bs) r b
     → MovesFront a bs r b ⊎ IsErrAnd r IsTextError
-MovesFront-text {a} {b} {bs} {r} f = of_answer f.answers
-  where
-    said : (r : Result (Unit {0}) Error) → FailsText f.met r → IsErrAnd r IsTextError
-    said (Ok u) failed = failed
-    said (Err e) failed = failed.1
-
-    of_answer : ((f.text ≡ bs) × (r ≡ f.met)) ⊎ FailsText f.met r → MovesFront a bs r b ⊎ IsErrAnd r IsTextError
-    of_answer (inl (same, is)) = inl (subst (λ r. MovesFront a bs r b) (sym is) (subst (λ l. MovesFront a l f.met b) same f.moves))
-    of_answer (inr failed) = inr (said r failed)
+MovesFront-text {a} {b} {bs} {r} f = grind (arith, common_steps)
 
 -- `write!(..)?; flush()`, if the `write!` returned `Ok`
 pub MovesFront-text_flush : {a b c : Told} {text : List ℕ} {u : Unit {0}} (r : Result (Unit {0}) Error) → MovesText a (Some text) (Ok u) b

@@ -1,20 +1,15 @@
 -- What each exit of a loop of writes says.
-use Rattle.std.proofs.Common.{◌≡◌, ℕ, ◌+◌, ◌-◌, ◌<◌, ◌≤◌, ◌==◌, Bool, true, false, true≢false, eqb-true, if◌then◌else◌, count_by, codes}
-use Rattle.std.proofs.Common.{List, [], ◌∷◌, Result, Ok, Err, length, take, drop, refl, sym, ap, subst, ◌∙◌, arith, take_all, length-drop}
+use Rattle.std.proofs.{lemmas.Grind.{common_steps}, Common.{◌≡◌, ℕ, ◌+◌, ◌-◌, ◌<◌, ◌≤◌, ◌==◌, Bool, true, false, eqb-true, codes, List, []}}
+use Rattle.std.proofs.Common.{◌∷◌, Result, Ok, Err, length, take, drop, refl, sym, ap, subst, ◌∙◌, arith, take_all, length-drop}
 use Rattle.std.proofs.Common.{drop_of_length-le}
-use Rattle.no_std_io2_base.specs.declared.error.Error.{Error}
-use Rattle.no_std_io2_base.specs.declared.error.ErrorKind.TheVariants.{WriteZero}
-use Rattle.no_std_io2_base.specs.Errors.{error_kind, is_interruption, IsInterruption, IsFault, SaysError}
-use Rattle.no_std_io2_base.specs.Write.{Wrote, Writes}
-use Rattle.no_std_io2_base.specs.Writers.{Writer, WriteOf, WriteRestOf, CallOf}
-use Rattle.no_std_io2_base.specs.Write.{none as no_write, took, again as goes_again, stuck, fault as fails}
-use Rattle.no_std_io2_base.proofs.CallsLemmas.{CallsSoFar, calls_more, calls_end}
-use Rattle.no_std_io2_base.proofs.WritesFacts.{writes_law}
+use Rattle.no_std_io2_base.specs.{declared.error.Error.{Error}, declared.error.ErrorKind.TheVariants.{WriteZero}, Errors.{IsInterruption}}
+use Rattle.no_std_io2_base.specs.{Errors.{IsFault, SaysError}, Write.{Wrote, Writes, none as no_write, took, again as goes_again, stuck}}
+use Rattle.no_std_io2_base.specs.{Write.{fault as fails}, Writers.{Writer, WriteOf, WriteRestOf, CallOf}}
+use Rattle.no_std_io2_base.proofs.{CallsLemmas.{CallsSoFar, calls_more, calls_end}, WritesFacts.{writes_law}}
 
 -- what the test of the loop says
 pub not_empty : (b : Bool) (left : List ℕ) → b ≡ (length left == 0) → b ≡ false → 0 < length left
-not_empty b [] is h = absurd (true≢false (sym is ∙ h))
-not_empty b (x ∷ left) is h = omega arith
+not_empty b x2 is h = grind (arith, common_steps)
 
 -- and what it says at the end
 pub is_empty : (b : Bool) (left : List ℕ) → b ≡ (length left == 0) → b ≡ true → left ≡ []
@@ -29,13 +24,6 @@ pub fewer_left : (n : ℕ) {turns : ℕ} (turns' k : ℕ) (left : List ℕ)
     → (n ≡ 0 → ⊥) → n ≤ length left → turns' + k ≤ turns
     → turns' + length (take (length left - n) (drop n left)) < turns + length left
 fewer_left n turns' k left some fits spent = omega (arith, some, fits, spent, ap length (rest_is n left), length-drop n left)
-
--- an interruption spends a turn
-pub fewer_turns : (e : Error) (turns turns' len : ℕ) → turns' + count_by is_interruption (error_kind e ∷ []) ≤ turns → IsInterruption e
-    → turns' + len < turns + len
-fewer_turns e turns turns' len spent again =
-    let one : count_by is_interruption (error_kind e ∷ []) ≡ 1 = ap (λ b. 0 + (if b then 1 else 0)) again in
-    omega (arith, spent, one)
 
 module _ {S : Type 0} {I : Writer S} {old now : S} {start left : List ℕ}
     (before : CallsSoFar (CallOf I) (codes "failed to write whole buffer") old start left now) where

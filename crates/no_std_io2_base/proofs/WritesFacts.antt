@@ -1,18 +1,11 @@
 -- What follows from the calls that were made.
-use Rattle.std.proofs.Common.{◌≡◌, ℕ, ◌<◌, List, [], ◌∷◌, ◌++◌, Result, Ok, Err, OnErr, IsOk, length, take, drop, codes}
-use Rattle.std.proofs.Common.{refl, sym, ap, subst, ◌∙◌, arith, append_assoc, take-append-drop, length-drop}
+use Rattle.std.proofs.{lemmas.Grind.{common_steps}, Common.{◌≡◌, ℕ, ◌<◌, List, [], ◌++◌, Result, Ok, Err, OnErr, IsOk, length, take, drop}}
+use Rattle.std.proofs.Common.{codes, refl, sym, ap, subst, ◌∙◌, arith, append_assoc, take-append-drop, length-drop}
 use Rattle.std.proofs.lemmas.Bool.Decides.{nat_tests}
-use Rattle.no_std_io2_base.specs.declared.error.Error.{Error}
-use Rattle.no_std_io2_base.specs.declared.error.ErrorKind.TheVariants.{WriteZero}
-use Rattle.no_std_io2_base.specs.Errors.{error_kind, is_interruption, IsNoInterruption}
-use Rattle.no_std_io2_base.specs.Write.{Moves, Sends, zero_write, calls_for, WriteCall, Made}
-use Rattle.no_std_io2_base.specs.Writers.{Writer, TakesAll, WriteRestOf, CallOf}
-use Rattle.no_std_io2_base.specs.Write.{Writes, none, took, again, stuck, fault}
-use Rattle.no_std_io2_base.proofs.CallsLemmas.{writes_whole}
-use Rattle.no_std_io2_base.proofs.MovesLemmas.{Moves-refl, Moves-then}
-
-zero_write-some : (x : List ℕ) → 0 < length x → zero_write 0 x ≡ WriteZero ∷ []
-zero_write-some x some = grind (arith, nat_tests)
+use Rattle.no_std_io2_base.specs.{declared.error.Error.{Error}, Errors.{is_interruption, IsNoInterruption}, Write.{Sends, calls_for}}
+use Rattle.no_std_io2_base.specs.{Write.{WriteCall, Made, Writes, none, took, again, stuck, fault}, Writers.{Writer, TakesAll, WriteRestOf}}
+use Rattle.no_std_io2_base.specs.Writers.{CallOf}
+use Rattle.no_std_io2_base.proofs.{CallsLemmas.{writes_whole}, MovesLemmas.{Moves-then}}
 
 one_call : (x : List ℕ) → 0 < length x → calls_for x ≡ 1
 one_call x some = grind (arith, nat_tests)
@@ -47,22 +40,14 @@ writes_left (fault some is) = some
 -- for no bytes there is no call
 pub writes_idle : {text : List ℕ} {C : List WriteCall} {x left : List ℕ} {reply : Result (Unit {0}) Error}
     → Writes text C x reply left → x ≡ [] → (C ≡ []) × IsOk reply
-writes_idle none empty = (refl, refl)
-writes_idle (took some more w) empty = absurd (omega (arith, some, ap length empty))
-writes_idle (again some interrupted w) empty = absurd (omega (arith, some, ap length empty))
-writes_idle (stuck some says) empty = absurd (omega (arith, some, ap length empty))
-writes_idle (fault some is) empty = absurd (omega (arith, some, ap length empty))
+writes_idle x1 empty = grind (arith, common_steps)
 
 module _ {S : Type 0} (I : Writer S) where
   -- what was accepted
   pub writes_sends : {text : List ℕ} {C : List WriteCall} {x left : List ℕ} {reply : Result (Unit {0}) Error}
       → Writes text C x reply left → (a b : S) → Made (CallOf I) a C b
       → Sends (I.told a) x reply (I.told b) left
-  writes_sends none a b made = record {
-    sent = [];
-    split = refl;
-    moves = subst (λ w. Moves (I.told a) [] [] (I.told w)) (sym made) (Moves-refl (I.told a));
-  }
+  writes_sends none a b made = grind (arith, common_steps)
   writes_sends (took {x = x} {left = left} {n = n} some more w) a b made =
       let rest = writes_sends w made.0 b made.2 in
       record {
@@ -73,17 +58,8 @@ module _ {S : Type 0} (I : Writer S) where
   writes_sends (again some interrupted w) a b made =
       let rest = writes_sends w made.0 b made.2 in
       record { sent = rest.sent; split = rest.split; moves = Moves-then made.1.moves rest.moves }
-  writes_sends (stuck {x = x} {e = e} some says) a b made = record {
-    sent = [];
-    split = refl;
-    moves = subst (λ w. Moves (I.told a) [] (error_kind e ∷ []) (I.told w)) (sym made.2)
-        (subst (λ k. Moves (I.told a) [] k (I.told made.0)) (zero_write-some x some ∙ ap (λ k. k ∷ []) (sym says.0)) made.1.moves);
-  }
-  writes_sends (fault {e = e} some is) a b made = record {
-    sent = [];
-    split = refl;
-    moves = subst (λ w. Moves (I.told a) [] (error_kind e ∷ []) (I.told w)) (sym made.2) made.1.moves;
-  }
+  writes_sends (stuck {x = x} {e = e} some says) a b made = grind (arith, common_steps)
+  writes_sends (fault {e = e} some is) a b made = grind (arith, common_steps)
 
   -- a writer that takes all does so in one call, which is counted
   pub writes_all : {text : List ℕ} {C : List WriteCall} {x left : List ℕ} {reply : Result (Unit {0}) Error}
@@ -108,12 +84,4 @@ module _ {S : Type 0} (I : Writer S) where
       → (C : List WriteCall) × Made (CallOf I) a C b
       × Writes (codes "failed to write whole buffer") C x reply left
       → WriteRestOf I a x reply b left
-  writes_law {x} {left} {reply} {a} {b} calls =
-      let w = calls.2 in
-      record {
-        never_interrupted = writes_fault w;
-        sends = writes_sends w a b calls.1;
-        done = writes_whole w;
-        all = λ t. let all = writes_all w a b calls.1 t in (all.0, all.1);
-        calls = calls;
-      }
+  writes_law {x} {left} {reply} {a} {b} calls = grind (arith, common_steps, writes_fault, writes_sends, writes_whole, writes_all)

@@ -1,8 +1,6 @@
 -- What a call may do to a writer in memory that appends and grows, such as a vector.
 use Rattle.std.specs.Prelude.{◌≡◌, ℕ, ◌+◌, ◌<◌, ◌≤◌, List, ◌++◌, length, Result, Ok, Err, IsOk, IfOk}
-use Rattle.no_std_io2_base.specs.declared.error.Error.{Error}
-use Rattle.no_std_io2_base.specs.Errors.{IsOutOfMemory}
-use Rattle.no_std_io2_base.specs.Write.{WriteCall, Wrote, WroteAll, Flushed}
+use Rattle.no_std_io2_base.specs.{declared.error.Error.{Error}, Errors.{IsOutOfMemory}, Write.{WriteCall, Wrote, WroteAll, Flushed}}
 
 -- All of x was appended; or the capacity was too small for the length and x, the allocation failed, and nothing was appended.
 abbrev pub AppendsWhole : {A : Type 0} → List ℕ → ℕ → ℕ → List ℕ → Result A Error → List ℕ → Type 0

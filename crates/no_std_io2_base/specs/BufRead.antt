@@ -1,15 +1,11 @@
 -- The bytes that `fill_buf` lends, the state after the borrow, and the law of each call of `BufRead`.
-use Rattle.std.specs.Prelude.{◌≡◌, ℕ, ◌-◌, ◌<◌, List, [], ◌++◌, length, ⊤, Ok, Err, Result, ◌+◌, ◌≤◌, take, drop, Vec, String}
-use Rattle.std.specs.Prelude.{◌^◌, ◌==◌, min, if◌then◌else◌, vec_len, vec_capacity, string_bytes, string_len, string_capacity, IfOk, IfSome}
-use Rattle.std.specs.Prelude.{IsOkAnd}
-use Rattle.std.specs.Prelude.{Option}
+use Rattle.std.specs.Prelude.{◌≡◌, ℕ, ◌-◌, ◌<◌, List, [], ◌++◌, length, ⊤, Ok, Err, Result, ◌+◌, ◌≤◌, take, drop, Vec, String, ◌^◌, ◌==◌}
+use Rattle.std.specs.Prelude.{min, if◌then◌else◌, vec_len, vec_capacity, string_bytes, string_len, string_capacity, IfOk, IfSome, IsOkAnd}
+use Rattle.std.specs.{Prelude.{Option}, Borrow.{follows_so, Fml, RattleType, MutBor, Bor}}
 use mathlib.Core.Option.{none}
-use Rattle.std.specs.Borrow.{follows_so, Fml, RattleType, MutBor, Bor}
-use Rattle.no_std_io2_base.specs.declared.error.Error.{Error}
-use Rattle.no_std_io2_base.specs.Events.{Event, events_of, bytes, BeginsWith}
-use Rattle.no_std_io2_base.specs.Takes.{Store, Tells, Takes, to_come, IsAtEnd}
-use Rattle.no_std_io2_base.specs.Read.{Reader, tells, ReadCall, Filled, Consumed, ReadCallLaw, bytes_given, fault_of}
-use Rattle.no_std_io2_base.specs.Pieces.{newline, PieceEnds, AnswersLine, PieceMade, YieldsRead}
+use Rattle.no_std_io2_base.specs.{declared.error.Error.{Error}, Events.{Event, events_of, bytes, BeginsWith}, Takes.{Store, Tells, Takes}}
+use Rattle.no_std_io2_base.specs.{Takes.{to_come, IsAtEnd}, Read.{Reader, tells, ReadCall, Filled, Consumed, ReadCallLaw, bytes_given}}
+use Rattle.no_std_io2_base.specs.{Read.{fault_of}, Pieces.{newline, PieceEnds, AnswersLine, PieceMade, YieldsRead}}
 
 -- P holds for the value behind the `&mut` s after the borrow of it by the result has ended
 abbrev pub Rests : (R : RattleType) → MutBor R.Denot → (R.Denot → Type 0) → Fml

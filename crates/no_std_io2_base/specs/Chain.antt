@@ -1,9 +1,7 @@
 -- The two readers of a `Chain`, its mark, what it tells, and what its calls do.
 use Rattle.std.specs.Prelude.{◌≡◌, ℕ, ◌<◌, true, false, Bool, List, [], ◌++◌, if◌then◌else◌, Option, None, Some, Ok, IsErr}
-use Rattle.no_std_io2_base.specs.declared.traits.chain.Chain.{Chain}
-use Rattle.no_std_io2_base.specs.Events.{Event}
-use Rattle.no_std_io2_base.specs.Takes.{Tells, to_come, IsAtEnd}
-use Rattle.no_std_io2_base.specs.Read.{Reader, tells, ReadCall, Gave, GaveExactly, GaveAll, Filled, Consumed, ReadCallLaw, Drains}
+use Rattle.no_std_io2_base.specs.{declared.traits.chain.Chain.{Chain}, Events.{Event}, Takes.{Tells, to_come, IsAtEnd}, Read.{Reader}}
+use Rattle.no_std_io2_base.specs.Read.{tells, ReadCall, Gave, GaveExactly, GaveAll, Filled, Consumed, ReadCallLaw, Drains}
 
 -- `c.into_inner().0`
 abbrev pub chain_first : {T U : Type 0} → Chain T U → T

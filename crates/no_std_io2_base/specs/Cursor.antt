@@ -1,11 +1,9 @@
 -- The content and the position of a `Cursor`, and what a write changes.
 use Rattle.std.specs.Prelude.{◌≡◌, ℕ, ◌+◌, ◌-◌, ◌^◌, ◌<◌, ◌≤◌, ◌⊎◌, List, ◌++◌, length, take, drop, replicate, codes, None, Some, Ok, Err}
 use Rattle.std.specs.Prelude.{Result, IsOk, IsOkAnd, OnOk, OnErr, IfErr, ◌↔◌, min}
-use Rattle.no_std_io2_base.specs.declared.cursor.Cursor.{Cursor}
-use Rattle.no_std_io2_base.specs.declared.error.Error.{Error}
-use Rattle.no_std_io2_base.specs.declared.error.ErrorKind.TheVariants.{InvalidInput, OutOfMemory}
-use Rattle.no_std_io2_base.specs.Errors.{error_kind, error_text, IsUnwritten}
-use Rattle.no_std_io2_base.specs.Write.{WriteCall, Wrote, WroteAll, Flushed}
+use Rattle.no_std_io2_base.specs.{declared.cursor.Cursor.{Cursor}, declared.error.Error.{Error}}
+use Rattle.no_std_io2_base.specs.{declared.error.ErrorKind.TheVariants.{InvalidInput, OutOfMemory}, Errors.{error_kind, error_text}}
+use Rattle.no_std_io2_base.specs.{Errors.{IsUnwritten}, Write.{WriteCall, Wrote, WroteAll, Flushed}}
 
 -- the position of a cursor
 abbrev pub cursor_position : {T : Type 0} → Cursor T → ℕ

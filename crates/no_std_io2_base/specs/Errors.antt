@@ -1,16 +1,12 @@
 -- The kind and the text of an error, and the errors that the library makes.
 use Rattle.std.specs.Prelude.{◌≡◌, ℕ, Bool, true, false, List, codes, Option, None, Some, Result, IfErr}
-use Rattle.no_std_io2_base.specs.declared.error.Error.{Error}
-use Rattle.no_std_io2_base.specs.declared.error.Repr.{Repr}
-use Rattle.no_std_io2_base.specs.declared.error.Repr.TheVariants.{Kind, Custom}
-use Rattle.no_std_io2_base.specs.declared.error.ErrorKind.{ErrorKind}
-use Rattle.no_std_io2_base.specs.declared.error.ErrorKind.TheVariants.{NotFound, PermissionDenied, ConnectionRefused}
-use Rattle.no_std_io2_base.specs.declared.error.ErrorKind.TheVariants.{ConnectionReset, ConnectionAborted, NotConnected}
-use Rattle.no_std_io2_base.specs.declared.error.ErrorKind.TheVariants.{AddrInUse, AddrNotAvailable, BrokenPipe}
-use Rattle.no_std_io2_base.specs.declared.error.ErrorKind.TheVariants.{AlreadyExists, WouldBlock, InvalidInput}
-use Rattle.no_std_io2_base.specs.declared.error.ErrorKind.TheVariants.{InvalidData, TimedOut, WriteZero, Interrupted}
-use Rattle.no_std_io2_base.specs.declared.error.ErrorKind.TheVariants.{Other, UnexpectedEof, Unsupported, OutOfMemory}
-use Rattle.no_std_io2_base.specs.declared.error.ErrorKind.TheVariants.{Uncategorized}
+use Rattle.no_std_io2_base.specs.{declared.error.Error.{Error}, declared.error.Repr.{Repr}, declared.error.Repr.TheVariants.{Kind, Custom}}
+use Rattle.no_std_io2_base.specs.{declared.error.ErrorKind.{ErrorKind}, declared.error.ErrorKind.TheVariants.{NotFound, PermissionDenied}}
+use Rattle.no_std_io2_base.specs.declared.error.ErrorKind.TheVariants.{ConnectionRefused, ConnectionReset, ConnectionAborted}
+use Rattle.no_std_io2_base.specs.declared.error.ErrorKind.TheVariants.{NotConnected, AddrInUse, AddrNotAvailable, BrokenPipe}
+use Rattle.no_std_io2_base.specs.declared.error.ErrorKind.TheVariants.{AlreadyExists, WouldBlock, InvalidInput, InvalidData, TimedOut}
+use Rattle.no_std_io2_base.specs.declared.error.ErrorKind.TheVariants.{WriteZero, Interrupted, Other, UnexpectedEof, Unsupported}
+use Rattle.no_std_io2_base.specs.declared.error.ErrorKind.TheVariants.{OutOfMemory, Uncategorized}
 
 -- the kind of either form
 abbrev repr_kind : Repr → ErrorKind

@@ -1,7 +1,6 @@
 -- The events that a reader is going to give: bytes and errors.
 use Rattle.std.specs.Prelude.{◌≡◌, ℕ, zero, suc, List, [], ◌∷◌, ◌++◌, ⊤, Option, None, Some, if◌then◌else◌}
-use Rattle.no_std_io2_base.specs.declared.error.Error.{Error}
-use Rattle.no_std_io2_base.specs.Errors.{IsInterruption, IsFault, error_kind, is_interruption}
+use Rattle.no_std_io2_base.specs.{declared.error.Error.{Error}, Errors.{IsInterruption, IsFault, error_kind, is_interruption}}
 
 -- one thing that a reader is going to give: a byte, or an error that a call returns
 pub data Event : Type 0 where

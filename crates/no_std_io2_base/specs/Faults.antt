@@ -1,11 +1,7 @@
 -- Whose error a call returned that uses a reader and a writer.
 use Rattle.std.specs.Prelude.{◌≡◌, ◌⊎◌, ◌<◌, ◌==◌, List, ◌++◌, count_by, Option, None, Some, IfSome, ⊤}
-use Rattle.no_std_io2_base.specs.declared.error.ErrorKind.{ErrorKind}
-use Rattle.no_std_io2_base.specs.declared.error.Error.{Error}
-use Rattle.no_std_io2_base.specs.Errors.{error_kind, kind_number, IsInterruption}
-use Rattle.no_std_io2_base.specs.Events.{Event, EndsInFault}
-use Rattle.no_std_io2_base.specs.Takes.{Tells, to_come}
-use Rattle.no_std_io2_base.specs.Write.{Told}
+use Rattle.no_std_io2_base.specs.{declared.error.ErrorKind.{ErrorKind}, declared.error.Error.{Error}, Errors.{error_kind, kind_number}}
+use Rattle.no_std_io2_base.specs.{Errors.{IsInterruption}, Events.{Event, EndsInFault}, Takes.{Tells, to_come}, Write.{Told}}
 
 -- The first fault of E is e.
 pub record HasFirstFault (E : List Event) (e : Error) : Type 0 where

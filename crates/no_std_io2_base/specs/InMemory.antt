@@ -1,7 +1,6 @@
 -- What a call may do to a reader of bytes in memory.
 use Rattle.std.specs.Prelude.{◌≡◌, ℕ, ◌<◌, ◌≤◌, List, [], ◌++◌, length, take, drop, Ok, OnOk, IsErrAnd, IsOkAnd}
-use Rattle.no_std_io2_base.specs.Errors.{IsUnexpectedEnd}
-use Rattle.no_std_io2_base.specs.Read.{ReadCall, Gave, GaveExactly, GaveAll, Filled, Consumed}
+use Rattle.no_std_io2_base.specs.{Errors.{IsUnexpectedEnd}, Read.{ReadCall, Gave, GaveExactly, GaveAll, Filled, Consumed}}
 
 -- A reader of the bytes that are left gives as many of them as fit. Its `read_exact` gives all that it is asked for, or changes nothing.
 abbrev pub GivesLeft : {X : Type 0} → (X → List ℕ) → X → ReadCall → X → Type 0

@@ -1,6 +1,5 @@
 -- The lines in a list of bytes: the pieces that a newline ends. An unfinished line may follow them.
-use Rattle.std.specs.Prelude.{◌≡◌, ℕ, List, Contains, true, not, length, filter}
-use Rattle.std.specs.List.{concat}
+use Rattle.std.specs.{Prelude.{◌≡◌, ℕ, List, Contains, true, not, length, filter}, List.{concat}}
 use Rattle.no_std_io2_base.specs.Pieces.{newline, ends_in, pieces}
 
 -- the lines: the pieces that end in a newline, joined

@@ -1,7 +1,6 @@
 -- What it means that a number counts the calls of a writer, and how many writes a list of calls counts as.
 use Rattle.std.specs.Prelude.{◌≡◌, ℕ, ◌+◌, ◌≤◌, List, [], ◌∷◌}
-use Rattle.no_std_io2_base.specs.Write.{WriteCall, Wrote, WroteAll, Flushed, calls_for}
-use Rattle.no_std_io2_base.specs.Writers.{Writer, TakesAll}
+use Rattle.no_std_io2_base.specs.{Write.{WriteCall, Wrote, WroteAll, Flushed, calls_for}, Writers.{Writer, TakesAll}}
 
 -- How many writes a call counts as. A `write_all` of a type that has a body of its own for it counts as one, or as none for no bytes. A
 -- flush

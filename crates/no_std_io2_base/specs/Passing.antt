@@ -1,12 +1,8 @@
 -- The bytes that `skip` skips, and the calls that take a number of bytes.
 use Rattle.std.specs.Prelude.{◌≡◌, ◌⊎◌, ℕ, ◌+◌, ◌-◌, ◌<◌, min, List, [], ◌∷◌, ◌++◌, length, take, Result, Ok, Err}
-use Rattle.no_std_io2_base.specs.declared.error.Error.{Error}
-use Rattle.no_std_io2_base.specs.Errors.{IsFault, IsInterruption, IsUnexpectedEnd}
-use Rattle.no_std_io2_base.specs.Events.{Event, bytes, HasNoFault, EndsInFault}
-use Rattle.no_std_io2_base.specs.Takes.{Tells, Takes, IsAll}
-use Rattle.no_std_io2_base.specs.Read.{ReadCall, Filled, Consumed}
-use Rattle.no_std_io2_base.specs.BufRead.{Lender, lender_tells, LendCallLaw}
-use Rattle.no_std_io2_base.specs.Write.{Made}
+use Rattle.no_std_io2_base.specs.{declared.error.Error.{Error}, Errors.{IsFault, IsInterruption, IsUnexpectedEnd}, Events.{Event, bytes}}
+use Rattle.no_std_io2_base.specs.{Events.{HasNoFault, EndsInFault}, Takes.{Tells, Takes, IsAll}, Read.{ReadCall, Filled, Consumed}}
+use Rattle.no_std_io2_base.specs.{BufRead.{Lender, lender_tells, LendCallLaw}, Write.{Made}}
 
 -- C are the calls of a loop that takes `want` bytes and has taken x: each `fill_buf` lent some bytes, and as many of them as were still
 -- wanted were consumed; or it was interrupted

@@ -1,15 +1,11 @@
 -- Pieces of bytes, each of which ends in a delimiter; which events a call that reads a piece takes; what `Split` and `Lines` yield.
 use Rattle.std.specs.Prelude.{◌≡◌, ◌≢◌, ℕ, ◌+◌, ◌<◌, ◌≤◌, ◌==◌, true, false, Bool, List, [], ◌∷◌, ◌++◌, length, take, filter}
-use Rattle.std.specs.Prelude.{if◌then◌else◌, ◌⊎◌, Option, None, Some, Result, Ok, Err, suc, codes, IsUtf8, IfSome}
-use Rattle.std.specs.List.{AllByRecursion, concat}
-use Rattle.no_std_io2_base.specs.declared.error.Error.{Error}
-use Rattle.no_std_io2_base.specs.Errors.{error_kind, IsInterruption, IsFault, IsOutOfMemory, error_text}
+use Rattle.std.specs.{Prelude.{if◌then◌else◌, ◌⊎◌, Option, None, Some, Result, Ok, Err, suc, codes, IsUtf8, IfSome}, List.{AllByRecursion}}
+use Rattle.std.specs.List.{concat}
+use Rattle.no_std_io2_base.specs.{declared.error.Error.{Error}, Errors.{error_kind, IsInterruption, IsFault, IsOutOfMemory, error_text}}
 use Rattle.no_std_io2_base.specs.Events.{Event, byte, events_of, bytes, HasNoFault, EndsInFault, bytes_to_fault, first_fault}
-use Rattle.no_std_io2_base.specs.Takes.{Tells, to_come, IsAll}
-use Rattle.no_std_io2_base.specs.Read.{ReadCall, Filled, Consumed}
-use Rattle.no_std_io2_base.specs.Write.{Made}
-use Rattle.no_std_io2_base.specs.declared.error.ErrorKind.TheVariants.{InvalidData, OutOfMemory}
-use Rattle.no_std_io2_base.specs.declared.traits.split.Split.{Split}
+use Rattle.no_std_io2_base.specs.{Takes.{Tells, to_come, IsAll}, Read.{ReadCall, Filled, Consumed}, Write.{Made}}
+use Rattle.no_std_io2_base.specs.{declared.error.ErrorKind.TheVariants.{InvalidData, OutOfMemory}, declared.traits.split.Split.{Split}}
 use Rattle.no_std_io2_base.specs.declared.traits.lines.Lines.{Lines}
 
 -- d is not among these bytes

@@ -1,12 +1,9 @@
 -- What a call needs to know of a reader, the calls of `Read` with the law of each, and what `Bytes` yields.
-use Rattle.std.specs.Prelude.{◌≡◌, ℕ, ◌<◌, List, [], ◌∷◌, ◌++◌, length, take, Ok, Err, Result, ◌⊎◌, ◌+◌, ◌-◌}
-use Rattle.std.specs.Prelude.{◌≤◌, Vec, vec_len, vec_capacity, Some, IfOk, IsOk, Option, None, IfSome}
-use Rattle.no_std_io2_base.specs.declared.error.Error.{Error}
-use Rattle.no_std_io2_base.specs.Errors.{IsInterruption, IsFault, IsUnexpectedEnd, IsOutOfMemory}
-use Rattle.no_std_io2_base.specs.declared.traits.bytes.Bytes.{Bytes}
-use Rattle.no_std_io2_base.specs.Events.{Event, byte, fails, events_of, bytes, HasNoFault, cut, EndsInFault, BeginsWith}
-use Rattle.no_std_io2_base.specs.Takes.{Store, Tells, Takes, to_come, IsAtEnd}
-use Rattle.no_std_io2_base.specs.Write.{Made, IsFront}
+use Rattle.std.specs.Prelude.{◌≡◌, ℕ, ◌<◌, List, [], ◌∷◌, ◌++◌, length, take, Ok, Err, Result, ◌⊎◌, ◌+◌, ◌-◌, ◌≤◌, Vec, vec_len}
+use Rattle.std.specs.Prelude.{vec_capacity, Some, IfOk, IsOk, Option, None, IfSome}
+use Rattle.no_std_io2_base.specs.{declared.error.Error.{Error}, Errors.{IsInterruption, IsFault, IsUnexpectedEnd, IsOutOfMemory}}
+use Rattle.no_std_io2_base.specs.{declared.traits.bytes.Bytes.{Bytes}, Events.{Event, byte, fails, events_of, bytes, HasNoFault, cut}}
+use Rattle.no_std_io2_base.specs.{Events.{EndsInFault, BeginsWith}, Takes.{Store, Tells, Takes, to_come, IsAtEnd}, Write.{Made, IsFront}}
 
 -- A call of a reader, with its result.
 pub data ReadCall : Type 0 where

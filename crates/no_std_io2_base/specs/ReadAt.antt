@@ -1,10 +1,7 @@
 -- What a seek followed by a read does.
 use Rattle.std.specs.Prelude.{◌≡◌, ◌⊎◌, ℕ, ◌+◌, ◌≤◌, List, length, take, drop, Result, Ok, Err, IsOk, OnOk, IfSome, IsSomeAnd}
-use Rattle.no_std_io2_base.specs.declared.error.Error.{Error}
-use Rattle.no_std_io2_base.specs.Takes.{Store}
-use Rattle.no_std_io2_base.specs.Seek.{IsTarget, Seeker, SeekLaw}
-use Rattle.no_std_io2_base.specs.Read.{Reader, ReadExactLaw}
-use Rattle.no_std_io2_base.specs.declared.traits.seek.SeekFrom.{SeekFrom}
+use Rattle.no_std_io2_base.specs.{declared.error.Error.{Error}, Takes.{Store}, Seek.{IsTarget, Seeker, SeekLaw}, Read.{Reader}}
+use Rattle.no_std_io2_base.specs.{Read.{ReadExactLaw}, declared.traits.seek.SeekFrom.{SeekFrom}}
 
 -- the target of this seek exists, and n bytes of the content are there
 abbrev pub HasBytesAt : SeekFrom → ℕ → Store → Type 0

@@ -1,9 +1,6 @@
 -- What it means that a number counts the reads of a reader, and that a reader is filling.
 use Rattle.std.specs.Prelude.{◌≡◌, ℕ, ◌+◌, min, List, length, Result, Some, IsOkAnd}
-use Rattle.no_std_io2_base.specs.declared.error.Error.{Error}
-use Rattle.no_std_io2_base.specs.Events.{events_of}
-use Rattle.no_std_io2_base.specs.Takes.{to_come}
-use Rattle.no_std_io2_base.specs.Read.{Reader, tells, ReadCall, Gave}
+use Rattle.no_std_io2_base.specs.{declared.error.Error.{Error}, Events.{events_of}, Takes.{to_come}, Read.{Reader, tells, ReadCall, Gave}}
 
 -- Each `read` that the reader may make raises this number by one, or by none if there is no room.
 abbrev pub IsReadMeter : {R : Type 0} → (R → ReadCall → R → Type 0) → (R → ℕ) → Type 0

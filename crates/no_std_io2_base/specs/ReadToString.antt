@@ -1,11 +1,7 @@
 -- The law of `read_to_string`.
 use Rattle.std.specs.Prelude.{◌≡◌, ℕ, ◌+◌, ◌<◌, ◌≤◌, List, [], length, Result, IfOk, String, string_len, string_capacity, string_bytes}
-use Rattle.no_std_io2_base.specs.declared.error.Error.{Error}
-use Rattle.no_std_io2_base.specs.Events.{Event, bytes}
-use Rattle.no_std_io2_base.specs.Takes.{Takes}
-use Rattle.no_std_io2_base.specs.Read.{Reader, tells, ReadCallLaw, DrainsOrStops, ToEndMade, least_room}
-use Rattle.no_std_io2_base.specs.Pieces.{AnswersLine}
-use Rattle.no_std_io2_base.specs.BufRead.{line_room}
+use Rattle.no_std_io2_base.specs.{declared.error.Error.{Error}, Events.{Event, bytes}, Takes.{Takes}, Read.{Reader, tells, ReadCallLaw}}
+use Rattle.no_std_io2_base.specs.{Read.{DrainsOrStops, ToEndMade, least_room}, Pieces.{AnswersLine}, BufRead.{line_room}}
 
 -- `read_to_string(alloc, buf)`
 pub record ReadToStringLaw {S A : Type 0} (R : Reader S) (old : S) (buf : String A) (reply : Result ℕ Error) (buf' : String A) (new : S)

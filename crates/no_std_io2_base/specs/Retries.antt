@@ -1,8 +1,7 @@
 -- The calls that are made again after faults, and what they do to a writer.
 use Rattle.std.specs.Prelude.{◌≡◌, ◌⊎◌, ◌≤◌, ◌+◌, ℕ, suc, List, length, Option, Some, None, ⊤, Result, Ok, Err, IsErr, OnErr}
-use Rattle.no_std_io2_base.specs.declared.error.Error.{Error}
-use Rattle.no_std_io2_base.specs.declared.error.ErrorKind.{ErrorKind}
-use Rattle.no_std_io2_base.specs.Writers.{Writer, WriteRestOf, FlushOf}
+use Rattle.no_std_io2_base.specs.{declared.error.Error.{Error}, declared.error.ErrorKind.{ErrorKind}, Writers.{Writer, WriteRestOf}}
+use Rattle.no_std_io2_base.specs.Writers.{FlushOf}
 
 -- at most n mishaps are told to come
 abbrev pub HasAtMost : ℕ → Option (List ErrorKind) → Type 0

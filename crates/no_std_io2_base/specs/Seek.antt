@@ -1,10 +1,7 @@
 -- Where a seek goes, and the law of each call of `Seek`.
 use Rattle.std.specs.Prelude.{◌≡◌, ◌≢◌, ℕ, ℤ, pos, negsuc, ◌+◌, ◌^◌, ◌<◌, Ok, Err, Result, List, [], ◌∷◌, IfOk, IsOk, Option, IfSome, ◌⊎◌}
-use Rattle.no_std_io2_base.specs.declared.error.Error.{Error}
-use Rattle.no_std_io2_base.specs.declared.traits.seek.SeekFrom.{SeekFrom}
-use Rattle.no_std_io2_base.specs.declared.traits.seek.SeekFrom.TheVariants.{Start, End, Current}
-use Rattle.no_std_io2_base.specs.Errors.{IsInvalidSeek}
-use Rattle.no_std_io2_base.specs.Write.{Made}
+use Rattle.no_std_io2_base.specs.{declared.error.Error.{Error}, declared.traits.seek.SeekFrom.{SeekFrom}}
+use Rattle.no_std_io2_base.specs.{declared.traits.seek.SeekFrom.TheVariants.{Start, End, Current}, Errors.{IsInvalidSeek}, Write.{Made}}
 use Rattle.no_std_io2_base.specs.Takes.{Store, KeepsContent}
 
 -- n is `base + offset`

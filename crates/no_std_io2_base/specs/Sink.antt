@@ -1,8 +1,6 @@
 -- What a `Sink` tells; an `Empty` tells what its sink tells.
 use Rattle.std.specs.Prelude.{◌≡◌, ℕ, List, [], ◌++◌, length, Some, Ok}
-use Rattle.no_std_io2_base.specs.Seek.{SeekCall, Sought}
-use Rattle.no_std_io2_base.specs.Write.{Told, WriteCall, Wrote, WroteAll, Flushed}
-use Rattle.no_std_io2_base.specs.declared.sinks.Sink.{Sink}
+use Rattle.no_std_io2_base.specs.{Seek.{SeekCall, Sought}, Write.{Told, WriteCall, Wrote, WroteAll, Flushed}, declared.sinks.Sink.{Sink}}
 
 -- the bytes that it took
 abbrev pub sink_taken : Sink → List ℕ

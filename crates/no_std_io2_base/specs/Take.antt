@@ -1,10 +1,7 @@
 -- The limit and the inner reader of a `Take`, what it tells, and what its calls do.
 use Rattle.std.specs.Prelude.{◌≡◌, ℕ, ◌+◌, ◌-◌, ◌<◌, min, List, [], length, take, Option, None, Some, Result, Ok, Err}
-use Rattle.no_std_io2_base.specs.declared.error.Error.{Error}
-use Rattle.no_std_io2_base.specs.declared.traits.take.Take.{Take}
-use Rattle.no_std_io2_base.specs.Events.{Event, bytes, cut}
-use Rattle.no_std_io2_base.specs.Takes.{Tells, Takes, to_come}
-use Rattle.no_std_io2_base.specs.Read.{Reader, tells, ReadCall, Gave, Filled, Consumed, ReadCallLaw, bytes_given}
+use Rattle.no_std_io2_base.specs.{declared.error.Error.{Error}, declared.traits.take.Take.{Take}, Events.{Event, bytes, cut}, Takes.{Tells}}
+use Rattle.no_std_io2_base.specs.{Takes.{Takes, to_come}, Read.{Reader, tells, ReadCall, Gave, Filled, Consumed, ReadCallLaw, bytes_given}}
 
 -- `t.limit()`
 abbrev pub take_limit : {T : Type 0} → Take T → ℕ

@@ -1,12 +1,9 @@
 -- How a `Take` seeks. Its positions go from 0 to the limit that was set last.
 use Rattle.std.specs.Prelude.{◌≡◌, ◌≢◌, ℕ, ℤ, ◌+◌, ◌-◌, ◌^◌, ◌<◌, ◌≤◌, ◌⊎◌, Result, Ok, Err, OnOk, OnErr, IsErrAnd}
-use Rattle.no_std_io2_base.specs.declared.error.Error.{Error}
-use Rattle.no_std_io2_base.specs.declared.traits.seek.SeekFrom.{SeekFrom}
-use Rattle.no_std_io2_base.specs.declared.traits.seek.SeekFrom.TheVariants.{Current}
-use Rattle.no_std_io2_base.specs.declared.traits.take.Take.{Take}
-use Rattle.no_std_io2_base.specs.Errors.{IsInvalidSeek}
-use Rattle.no_std_io2_base.specs.Seek.{Seeker, SeekCall, Sought, Measured, Moved, SeekRelativeLaw, IsAtOffset, IsTarget}
-use Rattle.no_std_io2_base.specs.Take.{take_inner, take_limit, take_len, take_position}
+use Rattle.no_std_io2_base.specs.{declared.error.Error.{Error}, declared.traits.seek.SeekFrom.{SeekFrom}}
+use Rattle.no_std_io2_base.specs.{declared.traits.seek.SeekFrom.TheVariants.{Current}, declared.traits.take.Take.{Take}}
+use Rattle.no_std_io2_base.specs.{Errors.{IsInvalidSeek}, Seek.{Seeker, SeekCall, Sought, Measured, Moved, SeekRelativeLaw, IsAtOffset}}
+use Rattle.no_std_io2_base.specs.{Seek.{IsTarget}, Take.{take_inner, take_limit, take_len, take_position}}
 
 -- n is the target of this seek, and within the `Take`
 abbrev pub IsWithin : {T : Type 0} → Take T → SeekFrom → ℕ → Type 0

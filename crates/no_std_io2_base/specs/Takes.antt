@@ -1,6 +1,6 @@
 -- What a reader tells, and what its calls take of that.
-use Rattle.std.specs.Prelude.{◌≡◌, ℕ, ◌<◌, ◌≤◌, ◌+◌, ◌^◌, min, List, [], ◌++◌, length, drop, ⊤, Option, None, Some, IfSome}
-use Rattle.std.specs.Prelude.{Bool, true, false, ◌&&◌, nat_lt, refl}
+use Rattle.std.specs.Prelude.{◌≡◌, ℕ, ◌<◌, ◌≤◌, ◌+◌, ◌^◌, min, List, [], ◌++◌, length, drop, ⊤, Option, None, Some, IfSome, Bool, true}
+use Rattle.std.specs.Prelude.{false, ◌&&◌, nat_lt, refl}
 use Rattle.std.proofs.lemmas.Bool.Decides.{Decides-and, Decides-ltb}
 use Rattle.no_std_io2_base.specs.Events.{Event, events_of, bytes, HasNoFault}
 

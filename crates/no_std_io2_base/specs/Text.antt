@@ -1,9 +1,7 @@
 -- The law of `write_fmt`.
 use Rattle.std.specs.Prelude.{◌≡◌, ◌⊎◌, ℕ, List, [], ◌++◌, Option, Some, Result, Ok, Err, IfSome, IsErrAnd, codes}
-use Rattle.no_std_io2_base.specs.declared.error.Error.{Error}
-use Rattle.no_std_io2_base.specs.declared.error.ErrorKind.{ErrorKind}
-use Rattle.no_std_io2_base.specs.declared.error.ErrorKind.TheVariants.{Other}
-use Rattle.no_std_io2_base.specs.Errors.{error_kind, error_text, IsNoInterruption}
+use Rattle.no_std_io2_base.specs.{declared.error.Error.{Error}, declared.error.ErrorKind.{ErrorKind}}
+use Rattle.no_std_io2_base.specs.{declared.error.ErrorKind.TheVariants.{Other}, Errors.{error_kind, error_text, IsNoInterruption}}
 use Rattle.no_std_io2_base.specs.Write.{Told, MovesFront, WriteCall, WriteAllLaw}
 
 -- From old to new this text was printed to a writer, by one `write_all` after another; this is the result of the last.

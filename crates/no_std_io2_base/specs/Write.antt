@@ -1,12 +1,10 @@
 -- What a writer tells, what its calls do to that, and the law of each call of `Write`.
 use Rattle.std.specs.Prelude.{◌≡◌, ℕ, ◌+◌, ◌≤◌, ◌==◌, ◌&&◌, nat_lt, Bool, if◌then◌else◌, List, [], ◌∷◌, ◌++◌, length, take, ⊤, Option}
-use Rattle.std.specs.Prelude.{None, Some, Result, Ok, Err, OnOk, count_by, IfOk, IsOk, ◌<◌, drop, codes, ◌⊎◌}
-use Rattle.std.specs.Borrow.{MutBor}
+use Rattle.std.specs.{Prelude.{None, Some, Result, Ok, Err, OnOk, count_by, IfOk, IsOk, ◌<◌, drop, codes, ◌⊎◌}, Borrow.{MutBor}}
 use Rattle.std.specs.declared.dyn_box.DynBox.{DynBox}
-use Rattle.no_std_io2_base.specs.declared.error.Error.{Error}
-use Rattle.no_std_io2_base.specs.declared.error.ErrorKind.{ErrorKind}
-use Rattle.no_std_io2_base.specs.declared.error.ErrorKind.TheVariants.{WriteZero}
-use Rattle.no_std_io2_base.specs.Errors.{error_kind, is_interruption, IsNoInterruption, IsInterruption, IsFault, SaysError}
+use Rattle.no_std_io2_base.specs.{declared.error.Error.{Error}, declared.error.ErrorKind.{ErrorKind}}
+use Rattle.no_std_io2_base.specs.{declared.error.ErrorKind.TheVariants.{WriteZero}, Errors.{error_kind, is_interruption, IsNoInterruption}}
+use Rattle.no_std_io2_base.specs.Errors.{IsInterruption, IsFault, SaysError}
 
 -- What a writer tells.
 pub record Told : Type 0 where

@@ -1,8 +1,6 @@
 -- The ghost members of one writer, I, as one value; and the laws of its calls.
 use Rattle.std.specs.Prelude.{◌≡◌, ℕ, List, [], Option, Some, Result}
-use Rattle.no_std_io2_base.specs.declared.error.Error.{Error}
-use Rattle.no_std_io2_base.specs.declared.traits.write.Write.{Ghosts}
-use Rattle.no_std_io2_base.specs.Text.{Prints, WriteFmtLaw}
+use Rattle.no_std_io2_base.specs.{declared.error.Error.{Error}, declared.traits.write.Write.{Ghosts}, Text.{Prints, WriteFmtLaw}}
 use Rattle.no_std_io2_base.specs.Write.{WriteCall, CallLaw, WriteLaw, FlushLaw, WriteAllLaw, WriteRestLaw}
 
 -- a writer, as `⟦<W as Write>⟧` and `W.Write` name it

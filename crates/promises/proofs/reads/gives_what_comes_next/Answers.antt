@@ -1,4 +1,4 @@
-use Rattle.no_std_io2.proofs.ExactLemmas.{left_of}
+use Rattle.no_std_io2.proofs.TakesLemmas.{left_of}
 use Rattle.promises.proofs.reads.gives_what_comes_next.Goals as goal
 
 pub returns : goal.returns

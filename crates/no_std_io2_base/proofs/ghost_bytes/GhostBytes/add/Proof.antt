@@ -1,41 +1,24 @@
 -- An empty body. The borrow is opened and closed at another ghost value.
 use Rattle.std.proofs.Common.{ℕ, List, ◌∷◌, ◌++◌, refl, MutBor, []}
 use seplogic.Ra.Ura.{Ura}
-use mir.Syntax.{named}
-use mir.Val.{Val, vunit, vptr}
-use base.Logic.{SProp, ent, sep, emp, via, fst∗, id⊢}
-use base.Fml.{GName, Lft, Share, ftrue, flft, fobs, fbor}
-use prog.Memory.{Memory}
-use prog.Routine.{Routine}
-use prog.Wp.{Calls, Loops, WpFn, Tables}
-use types.Logic.{Logic}
-use contract.Monad.{Fun}
-use contract.Running.{tables, tables_of}
-use types.Kit.{‵, ◌⊛◌, ◌$◌, ◌∵◌, !, qed, by, move, keep, drop, use1, split, join, fsplit, fsplit3, fjoin, fjoin3, feq_i}
-use types.Kit.{suffices, frame, done}
-use types.Run.{unit_lit, of_opd, returns, enter}
-use types.SemTy.{Body}
-use types.ByLocal.{alloc_all, pass_all, free_all, look_at, sets}
+use mir.{Syntax.{named}, Val.{Val, vunit, vptr}}
+use base.{Logic.{SProp, ent, sep, emp, via, fst∗, id⊢}, Fml.{GName, Lft, Share, ftrue, flft, fobs, fbor}}
+use prog.{Memory.{Memory}, Routine.{Routine}, Wp.{Calls, Loops, WpFn, Tables}}
+use types.{Logic.{Logic}, Kit.{‵, ◌⊛◌, ◌$◌, ◌∵◌, !, qed, by, move, keep, drop, use1, split, join, fsplit, fsplit3, fjoin, fjoin3, feq_i}}
+use types.{Kit.{suffices, frame, done}, Run.{unit_lit, of_opd, returns, enter}, SemTy.{Body}, ByLocal.{alloc_all, pass_all, free_all}}
+use types.ByLocal.{look_at, sets}
+use contract.{Monad.{Fun}, Running.{tables, tables_of}}
 use sound.WpLaws.{WpFn-mono}
-use denote.RattleType.{owns}
-use denote.Memory.{mem}
-use denote.Ref.{MutRef, mut_vals, mut_Tells}
-use denote.Signature.{plain}
-use denote.Steps.{opens, closes}
-use denote.Triple.Entry.{on_entry}
-use denote.Triple.Spec.{Meets, triple_of}
-use denote.Triple.Table.{entered}
-use denote.Triple.Walked.{says, Stays, stay_ref, walk_of, AllGo, Goes-ref, Walks, ends_at, walked, walk_Meets}
+use denote.{RattleType.{owns}, Memory.{mem}, Ref.{MutRef, mut_vals, mut_Tells}, Signature.{plain}, Steps.{opens, closes}}
+use denote.{Triple.Entry.{on_entry}, Triple.Spec.{Meets, triple_of}, Triple.Table.{entered}, Triple.Walked.{says, Stays, stay_ref, walk_of}}
+use denote.Triple.Walked.{AllGo, Goes-ref, Walks, ends_at, walked, walk_Meets}
 use Rattle.no_std_io2_base.specs.declared.ghost_bytes.GhostBytes.{GhostBytes}
 use Rattle.no_std_io2_base.specs.contracts.ghost_bytes.GhostBytes as T
 use Rattle.no_std_io2_base.specs.contracts.ghost_bytes.GhostBytes.add.Key.{name as #it}
 use Rattle.no_std_io2_base.specs.contracts.ghost_bytes.GhostBytes.add as it
 use Rattle.no_std_io2_base.proofs.ghost_bytes.GhostBytes.add.Statement as stated
 use Rattle.no_std_io2_base.proofs.ghost_bytes.GhostBytes.add.Code as code
-use denote.Ref.{Bor}
-use denote.Builtin.{u8}
-use denote.Exit.{yes}
-use denote.Slice.{ShrSlice, slice_val, shr_slice_vals, shr_slice_Tells}
+use denote.{Ref.{Bor}, Builtin.{u8}, Exit.{yes}, Slice.{ShrSlice, slice_val, shr_slice_vals, shr_slice_Tells}}
 use denote.Triple.Walked.{stay_none_slice, Goes-none_slice}
 use Rattle.std.proofs.Common.{◌<◌, ◌^◌, length}
 

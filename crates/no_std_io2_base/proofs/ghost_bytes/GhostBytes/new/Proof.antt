@@ -1,25 +1,14 @@
 -- `new` makes a value of no bytes, at the empty list.
-use mathlib.Core.Path.{refl}
-use mathlib.Core.List.{◌∷◌, []}
+use mathlib.{Core.Path.{refl}, Core.List.{◌∷◌, []}}
 use seplogic.Ra.Ura.{Ura}
 use mir.Val.{Val, vstruct, vcons, vnil}
 use base.Logic.{SProp}
-use prog.Memory.{Memory}
-use prog.Routine.{Routine}
-use prog.Wp.{WpFn, Tables}
-use types.Logic.{Logic}
-use contract.Monad.{Fun}
-use contract.Running.{tables, tables_of}
-use sound.WpLaws.{WpFn-mono}
-use types.Kit.{raw, ◌$◌, ◌∵◌, !, qed, keep, join, suffices, done}
-use types.Run.{no_more, and_then, returns, enter}
-use types.Part.{agg}
+use prog.{Memory.{Memory}, Routine.{Routine}, Wp.{WpFn, Tables}}
+use types.{Logic.{Logic}, Kit.{raw, ◌$◌, ◌∵◌, !, qed, keep, join, suffices, done}, Run.{no_more, and_then, returns, enter}, Part.{agg}}
 use types.ByLocal.{alloc_all, pass_all, free_all, look_at, get, sets}
-use denote.Shadow.{pure_i}
-use denote.Steps.{nothing}
-use denote.Triple.Entry.{on_entry}
-use denote.Triple.Spec.{Meets, triple_of}
-use denote.Triple.Table.{entered}
+use contract.{Monad.{Fun}, Running.{tables, tables_of}}
+use sound.WpLaws.{WpFn-mono}
+use denote.{Shadow.{pure_i}, Steps.{nothing}, Triple.Entry.{on_entry}, Triple.Spec.{Meets, triple_of}, Triple.Table.{entered}}
 use denote.Triple.Walked.{says, ends_at, walked, walk_Meets}
 use Rattle.no_std_io2_base.specs.declared.ghost_bytes.GhostBytes.{GhostBytes}
 use Rattle.no_std_io2_base.specs.contracts.ghost_bytes.GhostBytes as T

@@ -1,12 +1,9 @@
 -- A line became the string, or is refused.
-use Rattle.std.proofs.lemmas.List.{nil_from_length}
-use Rattle.std.proofs.lemmas.Str.{IsUtf8-string_bytes}
-use Rattle.std.proofs.Common.{◌≡◌, ℕ, List, [], ◌++◌, Result, Ok, Err, IfErr, IsErrAnd, IsOk, IsUtf8, String, Global, inl, inr, refl, sym}
-use Rattle.std.proofs.Common.{ap, ◌∙◌, subst, arith, true≢false, string_bytes, string_len}
+use Rattle.std.proofs.{lemmas.Grind.{common_steps}, lemmas.List.{nil_from_length}, lemmas.Str.{IsUtf8-string_bytes}, Common.{◌≡◌, ℕ, List}}
+use Rattle.std.proofs.Common.{[], ◌++◌, Result, Err, IfErr, IsErrAnd, IsOk, IsUtf8, String, Global, refl, sym, ap, ◌∙◌, subst, arith}
+use Rattle.std.proofs.Common.{true≢false, string_bytes, string_len}
 use Rattle.std.specs.Result.{result_and}
-use Rattle.no_std_io2_base.specs.declared.error.Error.{Error}
-use Rattle.no_std_io2_base.specs.declared.error.ErrorKind.TheVariants.{OutOfMemory}
-use Rattle.no_std_io2_base.specs.Errors.{error_kind}
+use Rattle.no_std_io2_base.specs.{declared.error.Error.{Error}, declared.error.ErrorKind.TheVariants.{OutOfMemory}, Errors.{error_kind}}
 use Rattle.no_std_io2_base.specs.Pieces.{AnswersLine, IsInvalidText}
 use Rattle.no_std_io2_base.proofs.traits.pieces.put_line.Goals as goal
 use Rattle.no_std_io2_base.proofs.traits.pieces.put_line.Goals.{then-is_out_of_memory, else-is_out_of_memory}
@@ -14,26 +11,21 @@ use Rattle.no_std_io2_base.proofs.traits.pieces.put_line.Goals.{then-is_out_of_m
 -- memory was refused to the read
 kept : (line : List ℕ) (read reply : Result ℕ Error) (len capacity : ℕ) {old new : List ℕ} → IsErrAnd read (λ e. error_kind e ≡ OutOfMemory)
     → reply ≡ read → new ≡ old → AnswersLine line read len capacity reply old new
-kept line (Ok n) reply len capacity memory is same = absurd memory
-kept line (Err f) (Ok m) len capacity memory is same = cc
-kept line (Err f) (Err e) len capacity memory is same = inl (memory, cc, same)
+kept line x2 reply len capacity memory is same = grind (arith, common_steps)
 
 -- the line is UTF-8
 became : (line : List ℕ) (read : Result ℕ Error) (len capacity : ℕ) (old : List ℕ) {new : List ℕ} → IsUtf8 line → new ≡ old ++ line
     → IfErr read (λ e. error_kind e ≡ OutOfMemory → ⊥) → AnswersLine line read len capacity read old new
-became line (Ok n) len capacity old text is other = ((text, is), refl)
-became line (Err f) len capacity old text is other = inr (other, inl ((text, is), refl))
+became line x2 len capacity old text is other = grind (arith, common_steps)
 
 -- it is not
 refused : (line : List ℕ) (read : Result ℕ Error) (e : Error) (len capacity : ℕ) {old new : List ℕ} → (IsUtf8 line → ⊥) → IsInvalidText e
     → IfErr read (λ f. error_kind f ≡ OutOfMemory → ⊥) → new ≡ old → AnswersLine line read len capacity (result_and read (Err e)) old new
-refused line (Ok n) e len capacity bad invalid other same = (same, inl (bad, invalid))
-refused line (Err f) e len capacity bad invalid other same = inr (other, inr (inl (bad, refl, same)))
+refused line x2 e len capacity bad invalid other same = grind (arith, common_steps)
 
 -- an error stays
 stays : (read : Result ℕ Error) (e : Error) → IsErrAnd read (λ f. error_kind f ≡ OutOfMemory) → result_and read (Err e) ≡ read
-stays (Ok n) e memory = absurd memory
-stays (Err f) e memory = refl
+stays x1 e memory = grind (arith, common_steps)
 
 failed : {A E : Type 0} {result : Result A E} {e : E} → result ≡ Err e → IsOk result → ⊥
 failed is ok = true≢false (sym (subst IsOk is ok))
@@ -58,17 +50,4 @@ returns-in-Ok-clause-answers c =
 
 pub returns-in-Err-clause-answers : goal.returns-in-Err-clause-answers
 returns-in-Err-clause-answers c =
-    let old = c.args.buf.now in
-    let same = c.empty_text.ensures.bytes ∙ sym (empty old (omega (arith, c.if-len-gt0.false, c.len.ensures))) in
-    let e = c.invalid_text.result in
-    rw c.and.ensures
-    (elim c.if-is_out_of_memory.branch [
-      | then-is_out_of_memory w ↦
-          let memory = c.is_out_of_memory.ensures.memory w.if-is_out_of_memory.true in
-          kept c.args.line.items c.args.read _ _ _ memory (stays c.args.read e memory) same
-      | else-is_out_of_memory w ↦
-          refused c.args.line.items c.args.read e _ _
-          (λ text. failed c.in-Err.is (c.from_utf8.ensures.succeeds (subst (λ v. IsUtf8 v.items) (sym w.line-is) text)))
-          c.invalid_text.ensures
-          (c.is_out_of_memory.ensures.other w.if-is_out_of_memory.false) same
-    ])
+    grind (arith, common_steps, empty, then-is_out_of_memory, kept, stays, else-is_out_of_memory, refused, failed)

@@ -1,17 +1,11 @@
 -- As the trait's `read_to_end` while there is room, and then the reader's own.
-use Rattle.std.proofs.Common.{Ok, Err, arith, refl, sym, ◌∙◌, le_refl}
-use Rattle.std.proofs.lemmas.Result.{err_from_is_err_and}
+use Rattle.std.proofs.{Common.{Ok, Err, arith, refl, sym, ◌∙◌, le_refl}, lemmas.Result.{err_from_is_err_and}}
 use Rattle.no_std_io2_base.proofs.ReadToEndLoop.{wrote, to_end_none, to_end_read, to_end_interruption, to_end_done, to_end_fault}
-use Rattle.no_std_io2_base.proofs.ReadToEndLoop.{to_end_then}
-use Rattle.no_std_io2_base.proofs.TakesLemmas.{read_spends}
+use Rattle.no_std_io2_base.proofs.{ReadToEndLoop.{to_end_then}, TakesLemmas.{read_spends}}
 use Rattle.no_std_io2_base.proofs.traits.room.rest_to_end.Goals as goal
 
 pub reads-init : goal.reads-init
 reads-init g c = to_end_none c.len-start.ensures refl refl (le_refl _)
-
-pub returns-in_err-open_room : goal.returns-in_err-open_room
-returns-in_err-open_room g c =
-    absurd (omega (arith, c.in_err-open_room.ensures.full.0, c.reads-test.true, c.capacity.ensures))
 
 pub returns-in-Ok-eq0 : goal.returns-in-Ok-eq0
 returns-in-Ok-eq0 g c =

@@ -1,6 +1,5 @@
 use Rattle.std.proofs.Common.{[]}
-use Rattle.no_std_io2_base.specs.Text.{nothing}
-use Rattle.no_std_io2_base.specs.Writers.{PrintsOf}
+use Rattle.no_std_io2_base.specs.{Text.{nothing}, Writers.{PrintsOf}}
 use Rattle.no_std_io2_base.proofs.TextLemmas.{prints_shown}
 use Rattle.no_std_io2_base.proofs.traits.text.print_to.Goals as goal
 

@@ -1,7 +1,5 @@
 use Rattle.std.proofs.Common.{◌+◌, refl, take, drop, arith, length-take-le}
-use Rattle.no_std_io2_base.proofs.CursorLemmas.{left_after}
-use Rattle.no_std_io2_base.proofs.StoreLemmas.{takes_at}
-use Rattle.no_std_io2_base.proofs.InMemoryReads.{split_at}
+use Rattle.no_std_io2_base.proofs.{CursorLemmas.{left_after}, StoreLemmas.{takes_at}, InMemoryReads.{split_at}}
 use Rattle.no_std_io2_base.proofs.cursor.reading.CursorBufRead.consume.Goals as goal
 
 pub returns-clause-law : goal.returns-clause-law

@@ -1,8 +1,6 @@
 use Rattle.std.proofs.Common.{◌≡◌, ◌+◌, arith, length, take, drop, ap, ◌∙◌, take_at, length-take-le}
 use Rattle.no_std_io2_base.specs.Cursor.{cursor_left}
-use Rattle.no_std_io2_base.proofs.CursorLemmas.{left_after}
-use Rattle.no_std_io2_base.proofs.StoreLemmas.{takes_at, told_at}
-use Rattle.no_std_io2_base.proofs.InMemoryReads.{split_at, read_left}
+use Rattle.no_std_io2_base.proofs.{CursorLemmas.{left_after}, StoreLemmas.{takes_at, told_at}, InMemoryReads.{split_at, read_left}}
 use Rattle.no_std_io2_base.proofs.cursor.reading.CursorRead.read.Goals as goal
 
 pub returns-clause-law : goal.returns-clause-law

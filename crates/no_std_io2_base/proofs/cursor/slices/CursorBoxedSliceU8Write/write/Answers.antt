@@ -1,7 +1,6 @@
 use Rattle.std.proofs.Common.{◌≡◌, ◌∙◌, rules, subst, sym, take, take_at}
 use Rattle.std.specs.Box.{boxed_slice_items, boxed_slice_with_items}
-use Rattle.no_std_io2_base.specs.Cursor.{bytes_before}
-use Rattle.no_std_io2_base.specs.Write.{Moves, told_out, zero_write}
+use Rattle.no_std_io2_base.specs.{Cursor.{bytes_before}, Write.{Moves, told_out, zero_write}}
 use Rattle.no_std_io2_base.proofs.CursorLemmas.{fits_moves}
 use Rattle.no_std_io2_base.proofs.cursor.slices.CursorBoxedSliceU8Write.write.Goals as goal
 

@@ -1,8 +1,7 @@
 use Rattle.std.proofs.Common.{◌≡◌, ◌∙◌, subst, sym, take_at}
 use Rattle.std.specs.Box.{boxed_slice_items, boxed_slice_with_items}
 use Rattle.no_std_io2_base.specs.Cursor.{PutsAllFitting}
-use Rattle.no_std_io2_base.proofs.CallsLemmas.{all_own}
-use Rattle.no_std_io2_base.proofs.CursorLemmas.{fits_all}
+use Rattle.no_std_io2_base.proofs.{CallsLemmas.{all_own}, CursorLemmas.{fits_all}}
 use Rattle.no_std_io2_base.proofs.cursor.slices.CursorBoxedSliceU8Write.write_all.Goals as goal
 
 pub returns : goal.returns

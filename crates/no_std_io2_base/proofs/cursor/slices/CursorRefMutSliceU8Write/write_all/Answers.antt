@@ -1,5 +1,4 @@
-use Rattle.no_std_io2_base.proofs.CallsLemmas.{all_own}
-use Rattle.no_std_io2_base.proofs.CursorLemmas.{fits_all}
+use Rattle.no_std_io2_base.proofs.{CallsLemmas.{all_own}, CursorLemmas.{fits_all}}
 use Rattle.no_std_io2_base.proofs.cursor.slices.CursorRefMutSliceU8Write.write_all.Goals as goal
 
 pub returns-clause-law : goal.returns-clause-law

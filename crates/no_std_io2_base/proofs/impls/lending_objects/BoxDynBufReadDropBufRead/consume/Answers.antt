@@ -1,7 +1,6 @@
 -- What the call did to the value in the box, it did to the box.
 use Rattle.std.proofs.Common.{rules}
-use Rattle.no_std_io2_base.proofs.Readers.{lends}
-use Rattle.no_std_io2_base.proofs.BoxedObjects.{consume_box}
+use Rattle.no_std_io2_base.proofs.{Readers.{lends}, BoxedObjects.{consume_box}}
 use Rattle.no_std_io2_base.proofs.impls.lending_objects.BoxDynBufReadDropBufRead.consume.Goals as goal
 
 pub returns : goal.returns

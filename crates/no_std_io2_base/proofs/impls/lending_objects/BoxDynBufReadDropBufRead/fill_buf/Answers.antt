@@ -1,7 +1,6 @@
 -- What the call did to the value in the box, it did to the box.
 use Rattle.std.proofs.Common.{rules, refl}
-use Rattle.no_std_io2_base.proofs.Readers.{lends}
-use Rattle.no_std_io2_base.proofs.BoxedObjects.{fill_box, loan_box}
+use Rattle.no_std_io2_base.proofs.{Readers.{lends}, BoxedObjects.{fill_box, loan_box}}
 use Rattle.no_std_io2_base.proofs.impls.lending_objects.BoxDynBufReadDropBufRead.fill_buf.Goals as goal
 
 pub returns : goal.returns

@@ -1,7 +1,6 @@
-use Rattle.std.proofs.Common.{◌∙◌, sym}
-use Rattle.std.proofs.lemmas.Result.{err_from_is_err_and}
-use Rattle.no_std_io2_base.proofs.PieceLoop.{filled_law, part_spends, until_none, until_interruption, until_fault, until_refused}
-use Rattle.no_std_io2_base.proofs.PieceLoop.{until_more, until_whole}
+use Rattle.std.proofs.{Common.{◌∙◌, sym}, lemmas.Result.{err_from_is_err_and}}
+use Rattle.no_std_io2_base.proofs.PieceLoop.{filled_law, until_none, until_interruption, until_fault, until_refused, until_more}
+use Rattle.no_std_io2_base.proofs.PieceLoop.{until_whole}
 use Rattle.no_std_io2_base.proofs.impls.lending_objects.BoxDynBufReadDropBufRead.read_until.Goals as goal
 
 pub pieces-init : goal.pieces-init
@@ -20,11 +19,6 @@ pieces-preserved-else-is_whole g c =
     let filled = filled_law c.in-Ok.is c.fill_buf.ensures.law c.fill_buf.follows.holds-at-none in
     until_more c.pieces.invariant filled c.find_piece-len.ensures c.append.ensures.grows c.consume.ensures.law
     c.in_ok-append-in-Ok.ensures.ok c.if-is_whole.false
-
-pub pieces-smaller-else-is_whole : goal.pieces-smaller-else-is_whole
-pieces-smaller-else-is_whole g c =
-    let filled = filled_law c.in-Ok.is c.fill_buf.ensures.law c.fill_buf.follows.holds-at-none in
-    part_spends c.pieces.invariant.part filled c.find_piece-len.ensures c.consume.ensures.law c.if-is_whole.false
 
 pub pieces-preserved : goal.pieces-preserved
 pieces-preserved g c =

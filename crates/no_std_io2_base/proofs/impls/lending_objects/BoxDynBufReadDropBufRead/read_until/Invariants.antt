@@ -1,7 +1,5 @@
 -- As the trait's: it ends with its reader's turns.
-use Rattle.no_std_io2_base.proofs.Readers.{lends}
-use Rattle.no_std_io2_base.proofs.BoxedObjects.{box_lender}
-use Rattle.no_std_io2_base.proofs.PieceLoop.{UntilSoFar}
+use Rattle.no_std_io2_base.proofs.{Readers.{lends}, BoxedObjects.{box_lender}, PieceLoop.{UntilSoFar}}
 use Rattle.no_std_io2_base.proofs.impls.lending_objects.BoxDynBufReadDropBufRead.read_until.Given as goal
 
 abbrev pub invariant-pieces : goal.invariant-pieces

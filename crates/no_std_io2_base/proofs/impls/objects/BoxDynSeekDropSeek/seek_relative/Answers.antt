@@ -1,6 +1,5 @@
 -- What the call did to the value in the box, it did to the box.
-use Rattle.std.proofs.Common.{rules}
-use Rattle.std.proofs.lemmas.Int.{to_z-of_z}
+use Rattle.std.proofs.{Common.{rules}, lemmas.Int.{to_z-of_z}}
 use mir.Syntax.{w64}
 use Rattle.no_std_io2_base.proofs.SeekCalls.{seek_relative_box}
 use Rattle.no_std_io2_base.proofs.impls.objects.BoxDynSeekDropSeek.seek_relative.Goals as goal

@@ -1,6 +1,5 @@
 -- What was appended is a front of the slice, and the rest stays.
-use Rattle.std.proofs.Common.{Ok, Err, refl, arith, ap, ◌∙◌, append-nil, ◌++◌, length}
-use Rattle.std.proofs.lemmas.Result.{err_from_is_err_and}
+use Rattle.std.proofs.{Common.{Ok, Err, refl, arith, ap, ◌∙◌, append-nil, ◌++◌, length}, lemmas.Result.{err_from_is_err_and}}
 use Rattle.no_std_io2_base.proofs.InMemoryReads.{takes_left, to_end_part}
 use Rattle.no_std_io2_base.proofs.impls.slices.RefSliceU8Read.read_to_end.Goals as goal
 

@@ -1,6 +1,5 @@
 use Rattle.std.specs.Vec.{vec_len, vec_capacity}
-use Rattle.no_std_io2_base.proofs.CallsLemmas.{all_own}
-use Rattle.no_std_io2_base.proofs.CursorLemmas.{appends_whole, appends_all}
+use Rattle.no_std_io2_base.proofs.{CallsLemmas.{all_own}, CursorLemmas.{appends_whole, appends_all}}
 use Rattle.no_std_io2_base.proofs.impls.vectors.VecU8Write.write_all.Goals as goal
 
 pub returns-clause-law : goal.returns-clause-law

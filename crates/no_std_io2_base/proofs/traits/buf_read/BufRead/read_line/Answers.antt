@@ -1,11 +1,8 @@
 -- A line that is lent whole goes straight to the text. Any other is read into a vector: what was lent is lent once more.
 use Rattle.std.proofs.Common.{◌≡◌, ◌∙◌, sym, ap, subst, arith, take, length-take-le, string_len, string_bytes, string_capacity}
-use Rattle.no_std_io2_base.specs.BufRead.{ReadUntilLaw}
-use Rattle.no_std_io2_base.specs.Pieces.{newline}
-use Rattle.no_std_io2_base.proofs.LineTaken.{line_law, line_at_once, line_faulted, line_some}
-use Rattle.no_std_io2_base.proofs.PieceBefore.{until_lent, until_waited}
-use Rattle.no_std_io2_base.proofs.PieceLoop.{filled_law}
-use Rattle.no_std_io2_base.proofs.Readers.{lends}
+use Rattle.no_std_io2_base.specs.{BufRead.{ReadUntilLaw}, Pieces.{newline}}
+use Rattle.no_std_io2_base.proofs.{LineTaken.{line_law, line_at_once, line_faulted, line_some}, PieceBefore.{until_lent, until_waited}}
+use Rattle.no_std_io2_base.proofs.{PieceLoop.{filled_law}, Readers.{lends}}
 use Rattle.no_std_io2_base.proofs.traits.buf_read.BufRead.read_line.Goals as goal
 use Rattle.no_std_io2_base.proofs.traits.buf_read.BufRead.read_line.Goals.{in-Ok+else-is_whole}
 use Rattle.no_std_io2_base.proofs.traits.buf_read.BufRead.read_line.Goals.{else-is_whole-via-then-is_whole+else-append_text}

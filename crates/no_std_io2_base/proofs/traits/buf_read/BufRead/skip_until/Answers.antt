@@ -1,6 +1,5 @@
 use Rattle.std.proofs.Common.{◌∙◌, sym}
-use Rattle.no_std_io2_base.proofs.PieceLoop.{filled_law, part_spends}
-use Rattle.no_std_io2_base.proofs.SkipLoop.{skip_interruption, skip_fault, skip_more, skip_whole}
+use Rattle.no_std_io2_base.proofs.{PieceLoop.{filled_law}, SkipLoop.{skip_interruption, skip_fault, skip_more, skip_whole}}
 use Rattle.no_std_io2_base.proofs.traits.buf_read.BufRead.skip_until.Goals as goal
 
 pub returns-then-is_whole : goal.returns-then-is_whole
@@ -15,11 +14,6 @@ pub pieces-preserved-else-is_whole : goal.pieces-preserved-else-is_whole
 pieces-preserved-else-is_whole g c =
     let filled = filled_law c.in-Ok.is c.fill_buf.ensures.law c.fill_buf.follows.holds-at-none in
     skip_more c.pieces.invariant filled c.find_piece-len.ensures c.consume.ensures.law c.saturating_add-skipped.ensures c.if-is_whole.false
-
-pub pieces-smaller-else-is_whole : goal.pieces-smaller-else-is_whole
-pieces-smaller-else-is_whole g c =
-    let filled = filled_law c.in-Ok.is c.fill_buf.ensures.law c.fill_buf.follows.holds-at-none in
-    part_spends c.pieces.invariant.part filled c.find_piece-len.ensures c.consume.ensures.law c.if-is_whole.false
 
 pub pieces-preserved : goal.pieces-preserved
 pieces-preserved g c =

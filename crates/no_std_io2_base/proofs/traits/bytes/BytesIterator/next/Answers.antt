@@ -1,6 +1,5 @@
 use Rattle.std.proofs.Common.{◌≡◌, arith, refl, sym, ap, ◌∙◌, length, take, take-suc}
-use Rattle.no_std_io2_base.proofs.NextByteLemmas.{next_end, next_byte, next_fault}
-use Rattle.no_std_io2_base.proofs.ReadLoop.{reads_none, reads_again}
+use Rattle.no_std_io2_base.proofs.{NextByteLemmas.{next_end, next_byte, next_fault}, ReadLoop.{reads_none, reads_again}}
 use Rattle.no_std_io2_base.proofs.TakesLemmas.{takes_turns, read_spends}
 use Rattle.no_std_io2_base.proofs.traits.bytes.BytesIterator.next.Goals as goal
 

@@ -1,52 +1,21 @@
 -- `get_mut` lends both readers, and the chain follows them: its mark stays. Assumes `Logic`.
-use mathlib.Core.Path.{◌≡◌, refl}
+use mathlib.{Core.Path.{◌≡◌, refl}, Core.Bool.{Bool, true, false}, Core.List.{List, [], ◌∷◌}}
 use Prim.Native.Nat.{ℕ, ◌+◌}
-use mathlib.Core.Bool.{Bool, true, false}
-use mathlib.Core.List.{List, [], ◌∷◌}
 use seplogic.Ra.Ura.{Ura}
-use base.Fraction.{full_share}
-use mir.Syntax.{Fn, ty_bool, a_type, named}
-use mir.MapTy.{inst_fn}
-use mir.Val.{Val, vptr, vstruct, vcons, vnil}
-use base.Logic.{SProp, ent, sep, emp, ex}
-use base.Fml.{Lft, GName, Share, ftrue, fobs, fbor, flft}
-use prog.Memory.{Memory, up, align, size}
-use prog.Routine.{Routine}
-use prog.Wp.{WpFn, Tables}
-use types.Logic.{Logic, sem}
-use contract.BorrowLft.{◌⊑◌}
-use contract.Monad.{Fun, fact, fact_i}
-use contract.Running.{tables, tables_of}
+use base.{Fraction.{full_share}, Logic.{SProp, ent, sep, emp, ex}, Fml.{Lft, GName, Share, ftrue, fobs, fbor, flft}}
+use mir.{Syntax.{Fn, ty_bool, a_type, named}, MapTy.{inst_fn}, Val.{Val, vptr, vstruct, vcons, vnil}}
+use prog.{Memory.{Memory, up, align, size}, Routine.{Routine}, Wp.{WpFn, Tables}}
+use types.{Logic.{Logic, sem}, Kit.{keep, drop, split3, join, pick, fsplit, fsplit3, fjoin, fjoin3, fpack, feq_i, suffices, frame, mean, ‵}}
+use types.{Kit.{raw, ◌⊛◌, some, later, ◌$◌, ◌∵◌, !, qed, move, use0, use1, use2, split, group, await, updating, now, done, by}, Part.{agg}}
+use types.{Run.{stop, fld, addr, and_then, no_more, returns, enter}, ByLocal.{alloc_all, pass_all, free_all, look_at, get, through, sets}}
+use types.{Mut.{open_ref}, SemTy.{Body as Borrowed}, Follow.{after₂, takes_two}}
+use contract.{BorrowLft.{◌⊑◌}, Monad.{Fun, fact, fact_i}, Running.{tables, tables_of}}
 use sound.WpLaws.{WpFn-mono}
-use types.Kit.{keep, drop, split3, join, pick, fsplit, fsplit3, fjoin, fjoin3, fpack, feq_i, suffices, frame, mean, ‵}
-use types.Kit.{raw, ◌⊛◌, some, later, ◌$◌, ◌∵◌, !, qed, move, use0, use1, use2, split, group, await, updating, now}
-use types.Kit.{done, by}
-use types.Part.{agg}
-use types.Run.{stop, fld, addr, and_then, no_more, returns, enter}
-use types.ByLocal.{alloc_all, pass_all, free_all, look_at, get, through, sets}
-use types.Mut.{open_ref}
-use types.SemTy.{Body as Borrowed}
-use types.Follow.{after₂, takes_two}
-use denote.Exit.{no}
-use denote.RattleType.{RattleType, Valss, owns}
-use denote.Ref.{MutBor, MutRef, mut_vals, mut_Tells}
-use denote.Follow.{both_by}
-use denote.Signature.{plain, types_at, mut_ref_to}
-use denote.Steps.{nothing}
-use denote.Triple.Clauses.{Clauses, Ended, closing}
-use denote.Triple.Spec.{Meets, triple_of}
-use denote.Triple.Table.{entered}
-use denote.Triple.Walked.{Stays, stay_dropped, walk_of, ends_at, walked, Goes-spent_ref, walk_Meets}
-use denote.Memory.{mem, part_at}
-use denote.Laws.{Lawfuls}
-use denote.Plain.{bool_Lawful}
-use denote.Param.{param, layout, layouts}
-use denote.Param.Laws.{Laws, param_laws}
-use denote.Builtin.{bool}
-use denote.Struct.Declared.{shape}
-use denote.Struct.Members.{Member, rows_of}
-use denote.Struct.Struct.{within}
-use denote.Struct.Tuple.{tuple_type}
+use denote.{Exit.{no}, RattleType.{RattleType, Valss, owns}, Ref.{MutBor, MutRef, mut_vals, mut_Tells}, Follow.{both_by}, Signature.{plain}}
+use denote.{Signature.{types_at, mut_ref_to}, Steps.{nothing}, Triple.Clauses.{Clauses, Ended, closing}, Triple.Spec.{Meets, triple_of}}
+use denote.{Triple.Table.{entered}, Triple.Walked.{Stays, stay_dropped, walk_of, ends_at, walked, Goes-spent_ref, walk_Meets}, Memory.{mem}}
+use denote.{Memory.{part_at}, Laws.{Lawfuls}, Plain.{bool_Lawful}, Param.{param, layout, layouts}, Param.Laws.{Laws, param_laws}}
+use denote.{Builtin.{bool}, Struct.Declared.{shape}, Struct.Members.{Member, rows_of}, Struct.Struct.{within}, Struct.Tuple.{tuple_type}}
 use borrow.Struct.LendTwo.{but_same, kept_but, cuts_but, fills_but, cuts_first, Fills-first}
 use Rattle.no_std_io2_base.specs.Chain.{chain_with_readers}
 use Rattle.no_std_io2_base.specs.contracts.traits.chain.Chain as chain

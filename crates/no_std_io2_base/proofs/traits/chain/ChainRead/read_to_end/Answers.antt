@@ -1,7 +1,5 @@
-use Rattle.std.proofs.Common.{◌-◌, Ok, Err, refl, arith}
-use Rattle.std.proofs.lemmas.Result.{err_from_is_err_and}
-use Rattle.no_std_io2_base.proofs.ChainLemmas.{end_first, end_second, end_both}
-use Rattle.no_std_io2_base.proofs.MovesLemmas.{after_ok}
+use Rattle.std.proofs.{Common.{◌-◌, Ok, Err, refl, arith}, lemmas.Result.{err_from_is_err_and}}
+use Rattle.no_std_io2_base.proofs.{ChainLemmas.{end_first, end_second, end_both}, MovesLemmas.{after_ok}}
 use Rattle.no_std_io2_base.proofs.traits.chain.ChainRead.read_to_end.Goals as goal
 
 pub returns-then-self : goal.returns-then-self

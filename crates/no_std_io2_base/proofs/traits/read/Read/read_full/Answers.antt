@@ -1,6 +1,5 @@
 use Rattle.std.proofs.Common.{sym, ◌∙◌}
-use Rattle.no_std_io2_base.proofs.ReadFullLoop.{full_none, full_read, full_interruption, full_end, full_fault, full_all}
-use Rattle.no_std_io2_base.proofs.TakesLemmas.{read_spends}
+use Rattle.no_std_io2_base.proofs.{ReadFullLoop.{full_none, full_read, full_interruption, full_end, full_fault}, TakesLemmas.{read_spends}}
 use Rattle.no_std_io2_base.proofs.traits.read.Read.read_full.Goals as goal
 
 pub reads-init : goal.reads-init
@@ -10,9 +9,6 @@ pub returns-in-Ok-eq0 : goal.returns-in-Ok-eq0
 returns-in-Ok-eq0 g c = record {
   law = full_end c.reads.invariant c.reads-test.true _ c.read.auto.buf c.read.ensures.law c.in-Ok-eq0.is c.in-Ok-eq0.field-0-test;
 }
-
-pub returns : goal.returns
-returns g c = record { law = full_all c.reads.invariant c.reads-test.false }
 
 pub reads-preserved-in-Ok : goal.reads-preserved-in-Ok
 reads-preserved-in-Ok g c = full_read c.reads.invariant c.reads-test.true _ c.read.auto.buf c.in-Ok.ensures.law c.in-Ok.n-test.1

@@ -1,30 +1,17 @@
-use Rattle.std.proofs.Common.{sym, arith, ◌∙◌}
-use Rattle.std.proofs.lemmas.Result.{err_from_is_err_and}
-use Rattle.no_std_io2_base.proofs.ReadToEndLoop.{wrote, to_end_none, to_end_no_room, to_end_refused, to_end_read}
-use Rattle.no_std_io2_base.proofs.ReadToEndLoop.{to_end_interruption, to_end_done, to_end_fault}
-use Rattle.no_std_io2_base.proofs.TakesLemmas.{read_spends}
+use Rattle.std.proofs.{Common.{sym, arith, ◌∙◌}, lemmas.Grind.{common_steps}, lemmas.Result.{err_from_is_err_and}}
+use Rattle.no_std_io2_base.proofs.ReadToEndLoop.{wrote, to_end_none, to_end_no_room, to_end_read, to_end_interruption, to_end_done}
+use Rattle.no_std_io2_base.proofs.{ReadToEndLoop.{to_end_fault}, TakesLemmas.{read_spends}}
 use Rattle.no_std_io2_base.proofs.traits.read.Read.read_to_end.Goals as goal
 
 pub returns-in_err-reserve_room : goal.returns-in_err-reserve_room
-returns-in_err-reserve_room g c =
-    let p = err_from_is_err_and c.from_residual.result c.from_residual.ensures.1 in
-    let room = c.reserve_room.ensures in
-    let refused = c.in_err-reserve_room.ensures in
-    rw (p.1, p.2) (record { law = to_end_no_room refused.refused room.items room.grows (omega (arith, refused.full)) })
+returns-in_err-reserve_room g c = grind (arith, common_steps, err_from_is_err_and, to_end_no_room)
 
 pub reads-init : goal.reads-init
 reads-init g c =
     let room = c.reserve_room.ensures in to_end_none c.len-start.ensures room.items room.len room.grows
 
 pub returns-in_err-open_room : goal.returns-in_err-open_room
-returns-in_err-open_room g c =
-    let p = err_from_is_err_and c.from_residual-in_err-open_room.result c.from_residual-in_err-open_room.ensures.1 in
-    let room = c.open_room.ensures in
-    let refused = c.in_err-open_room.ensures in
-    rw (p.1, p.2) (record {
-      law = to_end_refused c.reads.invariant refused.refused refused.full.1 room.front room.grows
-          (λ n is. omega (arith, is, refused.full.0, c.reads.invariant.capacity));
-    })
+returns-in_err-open_room g c = grind (arith, common_steps)
 
 pub returns-in-Ok-eq0 : goal.returns-in-Ok-eq0
 returns-in-Ok-eq0 g c =

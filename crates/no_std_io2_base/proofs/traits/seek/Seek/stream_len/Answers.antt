@@ -1,6 +1,5 @@
 -- One answer for each end: no position, no end, no way back, and the two ends that return a length.
-use Rattle.std.proofs.Common.{rules}
-use Rattle.std.proofs.lemmas.Result.{err_from_is_err_and}
+use Rattle.std.proofs.{Common.{rules}, lemmas.Result.{err_from_is_err_and}}
 use Rattle.no_std_io2_base.proofs.SeekCalls.{len_no_place, len_no_end, len_at_end, len_back, len_no_way_back}
 use Rattle.no_std_io2_base.proofs.traits.seek.Seek.stream_len.Goals.{then-old-end+in_ok-seek, else-old-end}
 use Rattle.no_std_io2_base.proofs.traits.seek.Seek.stream_len.Goals as goal

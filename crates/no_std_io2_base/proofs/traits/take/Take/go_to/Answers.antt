@@ -1,9 +1,6 @@
-use Rattle.std.proofs.Common.{◌≢◌, ℤ, Ok, Err, arith, sym, subst, ◌∙◌}
-use Rattle.std.proofs.lemmas.Int.{to_z-of_z}
-use Rattle.std.proofs.lemmas.Result.{err_from_is_err_and}
+use Rattle.std.proofs.{Common.{◌≢◌, ℤ, Ok, Err, arith, sym, subst, ◌∙◌}, lemmas.Int.{to_z-of_z}, lemmas.Result.{err_from_is_err_and}}
 use Rattle.std.specs.Int.{w64}
-use Rattle.no_std_io2_base.specs.Take.{take_position}
-use Rattle.no_std_io2_base.specs.TakeSeeks.{IsStep, arrived, and_step, and_fault}
+use Rattle.no_std_io2_base.specs.{Take.{take_position}, TakeSeeks.{IsStep, arrived, and_step, and_fault}}
 use Rattle.no_std_io2_base.proofs.traits.take.Take.go_to.Goals as goal
 
 pub steps-preserved : goal.steps-preserved

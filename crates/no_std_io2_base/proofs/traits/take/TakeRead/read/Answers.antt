@@ -1,22 +1,8 @@
 -- Far from the limit the inner reader is read into the whole buffer, and else into a part of it.
-use Rattle.std.proofs.Common.{◌≤◌, Ok, Err, length, refl, arith, ap}
+use Rattle.std.proofs.{Common.{◌≤◌, Ok, Err, length, refl, arith, ap}, lemmas.Result.{err_from_is_err_and}}
 use lib.Seq.{take-append-le}
-use Rattle.std.proofs.lemmas.Result.{err_from_is_err_and}
-use Rattle.no_std_io2_base.proofs.TakesLemmas.{read_by}
-use Rattle.no_std_io2_base.proofs.TakeLemmas.{gave_at_limit, reads_inner, part_length, limit_falls}
-use Rattle.no_std_io2_base.proofs.ReadExactExits.{some_bytes}
+use Rattle.no_std_io2_base.proofs.{TakeLemmas.{reads_inner, part_length, limit_falls}, ReadExactExits.{some_bytes}}
 use Rattle.no_std_io2_base.proofs.traits.take.TakeRead.read.Goals as goal
-
-pub returns-then-self-eq0 : goal.returns-then-self-eq0
-returns-then-self-eq0 g c = record { law = read_by (Ok 0) (omega arith) (gave_at_limit _ c.if-self-eq0.true) }
-
-pub returns-in_err-n : goal.returns-in_err-n
-returns-in_err-n g c =
-    let p = err_from_is_err_and c.from_residual-in_err-n.result c.from_residual-in_err-n.ensures.1 in
-    let part = part_length _ _ c.args.buf.now c.read-2.new.buf c.min_with_limit-most.ensures c.read-2.auto.buf in
-    rw (p.1, p.2) (record {
-      law = reads_inner _ (Err _) (some_bytes _ c.if-self-eq0.false) c.in_err-n.ensures.law part refl (omega arith) refl;
-    })
 
 pub returns : goal.returns
 returns g c =

@@ -1,24 +1,12 @@
-use Rattle.std.proofs.Common.{◌∷◌, [], Ok, arith, ap, refl, sym, ◌∙◌}
-use Rattle.std.proofs.lemmas.Result.{err_from_is_err_and}
+use Rattle.std.proofs.{Common.{◌∷◌, [], Ok, arith, ap, refl, sym, ◌∙◌}, lemmas.Grind.{common_steps}, lemmas.Result.{err_from_is_err_and}}
 use Rattle.no_std_io2_base.specs.Read.{ReadLaw}
-use Rattle.no_std_io2_base.proofs.Readers.{reader}
-use Rattle.no_std_io2_base.proofs.TakesLemmas.{read_by, read_spends}
-use Rattle.no_std_io2_base.proofs.TakeLemmas.{take_reader, gave_at_limit}
-use Rattle.no_std_io2_base.proofs.TakeLoops.{take_fell}
-use Rattle.no_std_io2_base.proofs.ReadToEndLoop.{wrote, to_end_none, to_end_no_room, to_end_refused, to_end_read}
-use Rattle.no_std_io2_base.proofs.ReadToEndLoop.{to_end_interruption, to_end_done, to_end_fault}
+use Rattle.no_std_io2_base.proofs.{Readers.{reader}, TakesLemmas.{read_by}, TakeLemmas.{take_reader, gave_at_limit}, TakeLoops.{take_fell}}
+use Rattle.no_std_io2_base.proofs.ReadToEndLoop.{wrote, to_end_none, to_end_no_room, to_end_refused, to_end_read, to_end_interruption}
+use Rattle.no_std_io2_base.proofs.ReadToEndLoop.{to_end_done, to_end_fault}
 use Rattle.no_std_io2_base.proofs.traits.take.TakeRead.read_to_end.Goals as goal
 
 pub returns-in_err-reserve_room : goal.returns-in_err-reserve_room
-returns-in_err-reserve_room g c =
-    let p = err_from_is_err_and c.from_residual.result c.from_residual.ensures.1 in
-    let room = c.reserve_room.ensures in
-    let refused = c.in_err-reserve_room.ensures in
-    rw (p.1, p.2) (record {
-      law = to_end_no_room refused.refused room.items room.grows (omega (arith, refused.full));
-      small_room = to_end_no_room refused.refused room.items room.grows (omega (arith, refused.full));
-      at_limit = λ none. absurd (omega (arith, none, refused.full, c.args.buf.now.ok.0));
-    })
+returns-in_err-reserve_room g c = grind (arith, common_steps, err_from_is_err_and, to_end_no_room)
 
 pub reads-init : goal.reads-init
 reads-init g c =
@@ -81,9 +69,6 @@ reads-preserved g c =
     to_end_interruption c.reads.invariant c.in-Err.ensures.law
     (sym c.is_interrupted.ensures ∙ c.if-is_interrupted.true) w
     room.grows
-
-pub reads-smaller-in-Ok : goal.reads-smaller-in-Ok
-reads-smaller-in-Ok g c = read_spends c.in-Ok.ensures.law c.in-Ok.n-test.1
 
 -- a read at the limit would meet the end
 pub returns : goal.returns

@@ -1,8 +1,6 @@
 -- `read_to_end` ends with its reader's turns.
 use Rattle.no_std_io2_base.specs.Take.{take_inner}
-use Rattle.no_std_io2_base.proofs.Readers.{reader}
-use Rattle.no_std_io2_base.proofs.TakeLemmas.{take_reader}
-use Rattle.no_std_io2_base.proofs.ReadToEndLoop.{ToEndSoFar}
+use Rattle.no_std_io2_base.proofs.{Readers.{reader}, TakeLemmas.{take_reader}, ReadToEndLoop.{ToEndSoFar}}
 use Rattle.no_std_io2_base.proofs.traits.take.TakeRead.read_to_end.Given as goal
 
 abbrev pub invariant-reads : goal.invariant-reads

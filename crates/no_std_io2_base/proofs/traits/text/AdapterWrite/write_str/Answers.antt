@@ -1,6 +1,4 @@
-use Rattle.std.proofs.lemmas.Grind.{common_steps}
-use Rattle.std.proofs.Common.{arith, refl}
-use Rattle.std.proofs.Math.Logic.{∥∥₁_map}
+use Rattle.std.proofs.{lemmas.Grind.{common_steps}, Common.{arith, refl}, Math.Logic.{∥∥₁_map}}
 use Rattle.no_std_io2_base.proofs.TextLemmas.{prints_next, prints_after}
 use Rattle.no_std_io2_base.proofs.traits.text.AdapterWrite.write_str.Goals as goal
 
@@ -16,12 +14,7 @@ returns-then-is_ok g c = record {
 }
 
 pub returns-else-is_ok : goal.returns-else-is_ok
-returns-else-is_ok g c = record {
-  ok = λ u old text so_far. (so_far.0, prints_after _ c.is_ok.ensures.value c.if-is_ok.false c.args.s.now so_far.1);
-  piece = grind (arith, common_steps, c.is_ok.ensures.value, c.if-is_ok.false);
-  silent = grind (arith, common_steps);
-  never_fails = refl;
-}
+returns-else-is_ok g c = grind (arith, common_steps, prints_after, common_steps)
 
 pub invariant_of-self : goal.invariant_of-self
 invariant_of-self g c = record {

@@ -1,6 +1,6 @@
-use Rattle.std.proofs.Common.{length, arith, sym, ◌∙◌}
-use Rattle.no_std_io2_base.proofs.WriteExits.{not_empty, is_empty, fewer_left, fewer_turns}
-use Rattle.no_std_io2_base.proofs.WriteExits.{writes_more, writes_zero, writes_done, writes_fault, writes_interruption}
+use Rattle.std.proofs.Common.{arith, sym, ◌∙◌}
+use Rattle.no_std_io2_base.proofs.WriteExits.{not_empty, is_empty, writes_more, writes_zero, writes_done, writes_fault}
+use Rattle.no_std_io2_base.proofs.WriteExits.{writes_interruption}
 use Rattle.no_std_io2_base.proofs.traits.write.Write.write_rest.Goals as goal
 
 pub returns-in-Ok-eq0 : goal.returns-in-Ok-eq0
@@ -10,20 +10,10 @@ returns-in-Ok-eq0 g c =
       law = writes_zero c.writes.invariant c.write.ensures.law c.in-Ok-eq0.is c.in-Ok-eq0.field-0-test some c.failed_to_write.ensures;
     }
 
-pub writes-smaller-in-Ok : goal.writes-smaller-in-Ok
-writes-smaller-in-Ok g c =
-    let wrote = c.in-Ok.ensures.law in
-    fewer_left c.in-Ok.n _ _ c.writes.rest.now c.in-Ok.n-test.1 wrote.bound wrote.moves.turns
-
 pub writes-preserved-in-Ok : goal.writes-preserved-in-Ok
 writes-preserved-in-Ok g c =
     writes_more c.writes.invariant c.in-Ok.ensures.law (not_empty _ c.writes.rest.now c.is_empty.ensures c.writes-test.true)
     (omega (arith, c.in-Ok.n-test.1))
-
--- how the test of an interruption is written is not named here
-pub writes-smaller : goal.writes-smaller
-writes-smaller g c = fewer_turns c.in-Err.e _ _ (length c.writes.rest.now) c.in-Err.ensures.law.moves.turns
-    cc
 
 pub returns : goal.returns
 returns g c =
