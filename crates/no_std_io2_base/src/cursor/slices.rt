@@ -47,24 +47,12 @@ impl Write for Cursor<&mut [u8]> {
 
     fn write(&mut self, buf: &[u8]) -> Result<usize>
         ensures law { WriteOf ⟦<Self as Write>⟧ self.old buf.now result self.new }
-
-        // It writes as many bytes as fit, at the position.
-        ensures answer { IsOkAnd result (λ n. n
-            ≡ min (length buf.now) (length (cursor_inner self.old).now - cursor_position self.old)) }
-        ensures puts { PutsFitting (cursor_inner self.old).now (cursor_position self.old) buf.now
-            (cursor_inner self.new).now (cursor_position self.new) }
         ensures reference { (cursor_inner self.new).ghost_name ≡ (cursor_inner self.old).ghost_name }
     {
         Ok(write_fitting(self.inner, &mut self.pos, buf))
     }
 
-    fn flush(&mut self) -> Result<()>
-        ensures law { FlushOf ⟦<Self as Write>⟧ self.old result self.new }
-
-        // It changes nothing.
-        ensures ok { IsOk result }
-        ensures same { self.new ≡ self.old }
-    {
+    fn flush(&mut self) -> Result<()> {
         Ok(())
     }
 
@@ -90,24 +78,11 @@ impl<const N: usize> Write for Cursor<[u8; N]> {
 
     ghost may = { FitsMay (λ a. a) };
 
-    fn write(&mut self, buf: &[u8]) -> Result<usize>
-        ensures law { WriteOf ⟦<Self as Write>⟧ self.old buf.now result self.new }
-
-        // It writes as many bytes as fit, at the position.
-        ensures answer { IsOkAnd result (λ n. n ≡ min (length buf.now) (length (cursor_inner self.old) - cursor_position self.old)) }
-        ensures puts { PutsFitting (cursor_inner self.old) (cursor_position self.old) buf.now
-            (cursor_inner self.new) (cursor_position self.new) }
-    {
+    fn write(&mut self, buf: &[u8]) -> Result<usize> {
         Ok(write_fitting(&mut self.inner, &mut self.pos, buf))
     }
 
-    fn flush(&mut self) -> Result<()>
-        ensures law { FlushOf ⟦<Self as Write>⟧ self.old result self.new }
-
-        // It changes nothing.
-        ensures ok { IsOk result }
-        ensures same { self.new ≡ self.old }
-    {
+    fn flush(&mut self) -> Result<()> {
         Ok(())
     }
 
@@ -132,25 +107,11 @@ impl<A: Allocator> Write for Cursor<BoxedSlice<u8, A>> {
 
     ghost may = { FitsMay boxed_slice_items };
 
-    fn write(&mut self, buf: &[u8]) -> Result<usize>
-        ensures law { WriteOf ⟦<Self as Write>⟧ self.old buf.now result self.new }
-
-        // It writes as many bytes as fit, at the position.
-        ensures answer { IsOkAnd result (λ n. n
-            ≡ min (length buf.now) (length (boxed_slice_items (cursor_inner self.old)) - cursor_position self.old)) }
-        ensures puts { PutsFitting (boxed_slice_items (cursor_inner self.old)) (cursor_position self.old) buf.now
-            (boxed_slice_items (cursor_inner self.new)) (cursor_position self.new) }
-    {
+    fn write(&mut self, buf: &[u8]) -> Result<usize> {
         Ok(write_fitting(self.inner.as_mut_slice(), &mut self.pos, buf))
     }
 
-    fn flush(&mut self) -> Result<()>
-        ensures law { FlushOf ⟦<Self as Write>⟧ self.old result self.new }
-
-        // It changes nothing.
-        ensures ok { IsOk result }
-        ensures same { self.new ≡ self.old }
-    {
+    fn flush(&mut self) -> Result<()> {
         Ok(())
     }
 

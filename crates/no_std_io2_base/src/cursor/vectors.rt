@@ -89,27 +89,11 @@ impl<A: Allocator> Write for Cursor<Vec<u8, A>> {
 
     #[inline(always)]
     #[tactic(auto, using(crate::proofs::CursorLemmas::puts_moves))]
-    fn write(&mut self, buf: &[u8]) -> Result<usize>
-        ensures law { WriteOf ⟦<Self as Write>⟧ self.old buf.now result self.new }
-
-        // It writes the whole buffer at the position, or nothing. It writes nothing only if the
-        // capacity is too small.
-        ensures puts { PutsWhole (cursor_inner self.old).items (cursor_position self.old) buf.now result
-            (cursor_inner self.new).items (cursor_position self.new) }
-        ensures full { OnErr result (vec_capacity (cursor_inner self.old)
-            < cursor_position self.old + length buf.now) }
-        ensures grows { vec_capacity (cursor_inner self.old) ≤ vec_capacity (cursor_inner self.new) }
-    {
+    fn write(&mut self, buf: &[u8]) -> Result<usize> {
         write_at(&mut self.inner, &mut self.pos, buf)
     }
 
-    fn flush(&mut self) -> Result<()>
-        ensures law { FlushOf ⟦<Self as Write>⟧ self.old result self.new }
-
-        // It changes nothing.
-        ensures ok { IsOk result }
-        ensures same { self.new ≡ self.old }
-    {
+    fn flush(&mut self) -> Result<()> {
         Ok(())
     }
 
@@ -145,26 +129,12 @@ impl<A: Allocator> Write for Cursor<&mut Vec<u8, A>> {
     #[tactic(auto, using(crate::proofs::CursorLemmas::puts_moves))]
     fn write(&mut self, buf: &[u8]) -> Result<usize>
         ensures law { WriteOf ⟦<Self as Write>⟧ self.old buf.now result self.new }
-
-        // It writes the whole buffer at the position, or nothing. It writes nothing only if the
-        // capacity is too small.
-        ensures puts { PutsWhole (cursor_inner self.old).now.items (cursor_position self.old) buf.now result
-            (cursor_inner self.new).now.items (cursor_position self.new) }
-        ensures full { OnErr result (vec_capacity (cursor_inner self.old).now
-            < cursor_position self.old + length buf.now) }
-        ensures grows { vec_capacity (cursor_inner self.old).now ≤ vec_capacity (cursor_inner self.new).now }
         ensures reference { (cursor_inner self.new).ghost_name ≡ (cursor_inner self.old).ghost_name }
     {
         write_at(self.inner, &mut self.pos, buf)
     }
 
-    fn flush(&mut self) -> Result<()>
-        ensures law { FlushOf ⟦<Self as Write>⟧ self.old result self.new }
-
-        // It changes nothing.
-        ensures ok { IsOk result }
-        ensures same { self.new ≡ self.old }
-    {
+    fn flush(&mut self) -> Result<()> {
         Ok(())
     }
 

@@ -62,18 +62,7 @@ impl<A: Allocator> Write for Vec<u8, A> {
     ghost may = { AppendsMay (λ v. v.items) vec_len vec_capacity };
 
     #[inline(always)]
-    fn write(&mut self, buf: &[u8]) -> Result<usize>
-        ensures law { WriteOf ⟦<Self as Write>⟧ self.old buf.now result self.new }
-
-        // It appends the whole buffer or nothing. It fails only if the capacity was too small and
-        // the allocation failed.
-        ensures whole { IfOk result (λ n. n ≡ length buf.now) }
-        ensures err { IfErr result IsOutOfMemory }
-        ensures same { OnErr result (self.new.items ≡ self.old.items) }
-        ensures empty { length buf.now ≡ 0 → IsOk result }
-        ensures full { OnErr result (vec_capacity self.old < vec_len self.old + length buf.now) }
-        ensures grows { vec_capacity self.old ≤ vec_capacity self.new }
-    {
+    fn write(&mut self, buf: &[u8]) -> Result<usize> {
         append(self, buf)?;
         Ok(buf.len())
     }
@@ -93,13 +82,7 @@ impl<A: Allocator> Write for Vec<u8, A> {
         append(self, buf)
     }
 
-    fn flush(&mut self) -> Result<()>
-        ensures law { FlushOf ⟦<Self as Write>⟧ self.old result self.new }
-
-        // It changes nothing.
-        ensures ok { IsOk result }
-        ensures same { self.new ≡ self.old }
-    {
+    fn flush(&mut self) -> Result<()> {
         Ok(())
     }
 }

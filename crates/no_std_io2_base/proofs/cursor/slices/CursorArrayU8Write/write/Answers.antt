@@ -2,10 +2,10 @@ use Rattle.std.proofs.Common.{rules}
 use Rattle.no_std_io2_base.proofs.CursorLemmas.{fits_moves}
 use Rattle.no_std_io2_base.proofs.cursor.slices.CursorArrayU8Write.write.Goals as goal
 
-pub returns-clause-law : goal.returns-clause-law
-returns-clause-law g c = record {
+pub returns : goal.returns
+returns g c = record { law = record {
   bound = search rules;
   moves = fits_moves _ _ _ c.write_fitting.ensures.count c.write_fitting.ensures.puts;
   all = λ h. absurd h.0;
   call = search rules;
-}
+} }

@@ -4,8 +4,8 @@ use Rattle.no_std_io2_base.specs.{Cursor.{bytes_before}, Write.{Moves, told_out,
 use Rattle.no_std_io2_base.proofs.CursorLemmas.{fits_moves}
 use Rattle.no_std_io2_base.proofs.cursor.slices.CursorBoxedSliceU8Write.write.Goals as goal
 
-pub returns-clause-law : goal.returns-clause-law
-returns-clause-law g c =
+pub returns : goal.returns
+returns g c = record { law =
     let n = c.write_fitting.result in
     let put = c.write_fitting.new in
     let all = c.args.self.now.inner in
@@ -23,4 +23,4 @@ returns-clause-law g c =
           (fits_moves _ _ _ c.write_fitting.ensures.count c.write_fitting.ensures.puts));
       all = λ h. absurd h.0;
       call = search rules;
-    }
+    } }
