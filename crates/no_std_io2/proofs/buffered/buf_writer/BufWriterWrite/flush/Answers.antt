@@ -1,5 +1,5 @@
-use Rattle.no_std_io2.specs.BufWriter.{sender_inner, writer_inner, writer_buffer}
-use Rattle.no_std_io2.proofs.BufWriterCalls.{flush_empty, flush_tells, flush_counts, flushes_of}
+use Rattle.no_std_io2.specs.BufWriter.{sender_inner, writer_inner}
+use Rattle.no_std_io2.proofs.BufWriterCalls.{flush_empty, flush_tells, flush_counts}
 use Rattle.no_std_io2.proofs.buffered.buf_writer.BufWriterWrite.flush.Goals as goal
 
 pub returns : goal.returns
@@ -15,5 +15,4 @@ returns g c =
         all = λ t. (flush_counts I _ _ _ _ calls.2 a b calls.1 t).0;
         call = calls;
       };
-      buffer = flushes_of I writer_inner writer_buffer g.row.S calls;
     }

@@ -1,23 +1,20 @@
 use Rattle.no_std_io2.specs.BufWriter.{sender_inner}
-use Rattle.no_std_io2.specs.LineWriter.{line_inner, line_buffer}
-use Rattle.no_std_io2.proofs.BufWriterCalls.{flush_empty, flush_tells, flushes_of}
+use Rattle.no_std_io2.specs.LineWriter.{line_inner}
+use Rattle.no_std_io2.proofs.BufWriterCalls.{flush_empty, flush_tells}
 use Rattle.no_std_io2.proofs.LineWriterStates.{flush_state}
 use Rattle.no_std_io2.proofs.buffered.line_writer.LineWriterWrite.flush.Goals as goal
 
 pub invariant_of-self : goal.invariant_of-self
 invariant_of-self g c = record { line = flush_state c.flush.ensures.2 c.args.self.now.core.line }
 
-pub returns-clause-law : goal.returns-clause-law
-returns-clause-law g c =
+pub returns : goal.returns
+returns g c =
     let a = line_inner c.args.self.now in
     let b = sender_inner c.flush.new.self in
     let calls = c.flush.ensures in
-    record {
+    record { law = record {
       empty = flush_empty g.W.Write calls.2 a b calls.1;
       moves = flush_tells g.W.Write _ _ _ _ calls.2 a b calls.1;
       all = λ no. absurd no.0;
       call = calls;
-    }
-
-pub returns-clause-buffer : goal.returns-clause-buffer
-returns-clause-buffer g c = flushes_of g.W.Write line_inner line_buffer g.row.S c.flush.ensures
+    } }

@@ -24,7 +24,6 @@ returns g c =
         all = λ no. absurd no.0;
         call = calls;
       };
-      calls = calls;
       short = line_write_short S calls.2;
       fits = λ short plain room.
           let fits = line_write_fits S calls.2 short plain room in
