@@ -11,6 +11,7 @@ ghost use Rattle.no_std_io2_base.specs.Appends.{AppendsMay, AppendsWhole};
 use super::copying::copy_prefix;
 use crate::error::Result;
 use crate::traits::{Read, Stored, Write};
+use core::mem::replace_with;
 use std::alloc::Allocator;
 use std::collections::VecDeque;
 
@@ -31,8 +32,26 @@ fn append_back<A: Allocator>(queue: &mut VecDeque<u8, A>, bytes: &[u8]) -> Resul
     ensures grows { deque_capacity queue.old ≤ deque_capacity queue.new }
 {
     queue.reserve(bytes.len())?;
-    push_all(queue, bytes);
+    if bytes.len() >= FEW && queue.len() <= bytes.len() {
+        replace_with(queue, bytes, appended);
+    } else {
+        push_all(queue, bytes);
+    }
     Ok(())
+}
+
+// From so many bytes on, they are appended in one move.
+const FEW: usize = 8;
+
+// Moves the content to the front of the block, and appends bytes for which there is room.
+fn appended<A: Allocator>(queue: VecDeque<u8, A>, bytes: &[u8]) -> (VecDeque<u8, A>, ())
+    requires { deque_len queue + length bytes.now ≤ deque_capacity queue }
+    ensures items { result.0.items ≡ queue.items ++ bytes.now }
+    ensures grows { deque_capacity queue ≤ deque_capacity result.0 }
+{
+    let mut content = queue.into_vec();
+    let _ = content.extend_from_slice(bytes);
+    (VecDeque::from_vec(content), ())
 }
 
 // Appends bytes to a queue that has room for them.
