@@ -1,5 +1,5 @@
 //! [`copy_sided`], a copy whose error says which side failed.
-ghost use Rattle.std.specs.Prelude.{◌≡◌, ◌<◌, ◌^◌, Some};
+ghost use Rattle.std.specs.Prelude.{◌≡◌, ◌<◌, ◌^◌, Some, length};
 ghost use Rattle.no_std_io2_base.specs.Errors.{error_display};
 ghost use Rattle.no_std_io2.specs.Copy.{side_error, SidesCopied};
 
@@ -63,9 +63,20 @@ pub fn copy_sided<R: Read, W: Write, const S: usize>(
     ensures { SidesCopied R.Read W.Write S reader.old writer.old result reader.new writer.new }
 {
     let mut buf = [0u8; S];
+    copy_with(reader, writer, &mut buf[..])
+}
+
+/// Copies like [`copy_sided`], through a buffer of the caller's.
+pub fn copy_with<R: Read, W: Write>(
+    reader: &mut R,
+    writer: &mut W,
+    buf: &mut [u8],
+) -> std::result::Result<u64, CopyError>
+    ensures { SidesCopied R.Read W.Write (length buf.old) reader.old writer.old result reader.new writer.new }
+{
     let mut copied = 0u64;
     'reads: loop {
-        match reader.read(&mut buf[..]) {
+        match reader.read(buf) {
             Ok(0) => return Ok(copied),
             Ok(n) => match writer.write_all(&buf[..n]) {
                 Ok(()) => copied = copied.saturating_add(n as u64),

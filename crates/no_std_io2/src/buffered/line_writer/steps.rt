@@ -1,5 +1,6 @@
 // The steps of the calls of a `LineWriter`.
-ghost use Rattle.std.specs.Prelude.{◌≡◌, ◌+◌, ◌<◌, ◌≤◌, length, slice_range};
+ghost use Rattle.std.specs.Prelude.{◌≡◌, ◌≢◌, ◌+◌, ◌<◌, ◌≤◌, true, false, length, slice_range};
+ghost use Rattle.std.specs.List.{AllWithin};
 ghost use Rattle.no_std_io2_base.specs.Lines.{IsLineState, lines_len};
 ghost use Rattle.no_std_io2_base.specs.Pieces.{ends_in, newline};
 ghost use Rattle.no_std_io2.specs.LineWriter.{held_tail, SendLineCalls, SendLinesCalls, LineWriteCalls, LineWriteAllCalls};
@@ -10,11 +11,45 @@ use memchr::memrchr;
 use no_std_io2_base::error::Result;
 use no_std_io2_base::traits::Write;
 
+// The number of bytes that are compared in one step.
+const STEP: usize = 16;
+
+// Returns whether the byte is among the next `STEP`. One vector instruction does it.
+#[inline(always)]
+fn stands_in_step(bytes: &[u8], at: usize, wanted: u8) -> bool
+    requires { at + 16 ≤ length bytes.now }
+    ensures { result ≡ false → AllWithin (λ b. b ≢ wanted) bytes.now at (at + 16) }
+{
+    let mut stands = false;
+    'bytes: for i in 0..STEP {
+        stands |= bytes[at + i] == wanted;
+    }
+    stands
+}
+
+// Returns whether none of these bytes, of which there are at least `STEP`, is this one.
+fn lacks_byte(bytes: &[u8], wanted: u8) -> bool
+    requires { 16 ≤ length bytes.now }
+    ensures { result ≡ true → AllWithin (λ b. b ≢ wanted) bytes.now 0 (length bytes.now) }
+{
+    let mut at = 0;
+    'steps: while bytes.len() - at >= STEP {
+        if stands_in_step(bytes, at, wanted) {
+            return false;
+        }
+        at += STEP;
+    }
+    !stands_in_step(bytes, bytes.len() - STEP, wanted)
+}
+
 // Returns the length of the lines of x: everything up to and including its last newline.
 fn lines_len(x: &[u8]) -> usize
     ensures lines { result ≡ lines_len x.now }
     ensures within { result ≤ length x.now }
 {
+    if STEP <= x.len() && x.len() < 64 && lacks_byte(x, b'\n') {
+        return 0;
+    }
     match memrchr(b'\n', x) {
         Some(at) => at + 1,
         None => 0,

@@ -1,10 +1,9 @@
-use Rattle.std.proofs.Common.{◌∙◌, sym}
-use Rattle.std.proofs.lemmas.List.{length-replicate}
+use Rattle.std.proofs.Common.{◌∙◌, refl, sym}
 use Rattle.no_std_io2.proofs.CopyLoop.{copy_none, copy_again, copy_more, copy_ended, copy_faulted, copy_refused}
-use Rattle.no_std_io2.proofs.util.sides.copy_sided.Goals as goal
+use Rattle.no_std_io2.proofs.util.sides.copy_with.Goals as goal
 
 pub reads-init : goal.reads-init
-reads-init g c = copy_none (length-replicate g.row.S 0)
+reads-init g c = copy_none refl
 
 pub reads-preserved : goal.reads-preserved
 reads-preserved g c =
