@@ -147,9 +147,10 @@ impl<W: Write + Drop, const S: usize> BufWriter<W, S> {
 
 /// Tries once to send the held bytes, ignores a fault, and does not flush the inner writer.
 impl<W: Write + Drop, const S: usize> Drop for BufWriter<W, S> {
-    fn drop(mut self) {
-        let _ = self.core.send();
-        let BufWriter { core: _core } = self;
+    #[inline(never)]
+    fn drop(self) {
+        let BufWriter { core } = self;
+        core.send_last();
     }
 }
 

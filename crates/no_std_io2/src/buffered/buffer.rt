@@ -260,6 +260,10 @@ impl<const S: usize> Buffer<S> {
             × (buffer_held self.new ≡ buffer_held self.old ++ more.now)) }
         ensures same { OnFalse result (self.new ≡ self.old) }
     {
+        // Of a short buffer it follows anyway. It tells LLVM that no long copy is made.
+        if S <= 32 && more.len() >= S {
+            return false;
+        }
         if self.end + more.len() >= S {
             return false;
         }

@@ -114,9 +114,10 @@ impl<W: Write + Drop, const S: usize> LineWriter<W, S> {
 
 /// Tries once to send the held bytes, ignores a fault, and does not flush the inner writer.
 impl<W: Write + Drop, const S: usize> Drop for LineWriter<W, S> {
-    fn drop(mut self) {
-        let _ = self.core.buffered.send();
-        let LineWriter { core: _core } = self;
+    #[inline(never)]
+    fn drop(self) {
+        let LineWriter { core } = self;
+        core.buffered.send_last();
     }
 }
 

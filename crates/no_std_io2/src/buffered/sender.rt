@@ -69,14 +69,36 @@ impl<W: Write + Drop, const S: usize> Sender<W, S> {
     ///
     /// # Errors
     /// Returns `WriteZero` if an inner write takes no byte, and the inner writer's fault if one fails.
+    #[inline(always)]
     pub(crate) fn send(&mut self) -> Result<()>
+        ensures calls { TakesStep W.Write sender_inner sender_buffer SendCalls self.old result self.new }
+        ensures unmoved { self.new.buffer.bytes ≡ self.old.buffer.bytes }
+    {
+        if self.buffer.len() == 0 {
+            return Ok(());
+        }
+        self.send_apart()
+    }
+
+    // The whole of `send`. It is not inlined, since its loop is long and has many callers.
+    #[inline(never)]
+    fn send_apart(&mut self) -> Result<()>
         ensures calls { TakesStep W.Write sender_inner sender_buffer SendCalls self.old result self.new }
         ensures unmoved { self.new.buffer.bytes ≡ self.old.buffer.bytes }
     {
         self.send_held()
     }
 
-    // The body of `send`. The cold functions inline it.
+    /// Tries once to send the held bytes, ignores a fault, and drops the inner writer. The buffer is moved only if bytes are held.
+    #[inline(always)]
+    pub(crate) fn send_last(self) {
+        if self.buffer.len() > 0 {
+            let mut held = self;
+            let _ = held.send_apart();
+        }
+    }
+
+    // The body of `send_apart`. The cold functions inline it.
     #[inline(always)]
     fn send_held(&mut self) -> Result<()>
         ensures calls { TakesStep W.Write sender_inner sender_buffer SendCalls self.old result self.new }
