@@ -61,6 +61,16 @@ impl Write for Queue {
     }
 }
 
+// Copies bytes over as many others. It is not inlined: LLVM does not know that the slices cannot overlap, and compiles a copy to a
+// test, a call and loops.
+#[inline(never)]
+fn copy_over(from: &[u8], to: &mut [u8])
+    requires { length from.now ≡ length to.old }
+    ensures { to.new ≡ from.now }
+{
+    to.copy_from_slice(from);
+}
+
 /// Puts the first of these bytes behind those that wait, as many as fit, and returns how many they are.
 #[inline(never)]
 #[unsafe(no_mangle)]
@@ -70,7 +80,7 @@ pub extern "C" fn bare_put(queue: &mut Queue, bytes: &[u8]) -> usize
 {
     let start = queue.len.min(CAPACITY);
     let n = bytes.len().min(CAPACITY - start);
-    queue.bytes[start..start + n].copy_from_slice(&bytes[..n]);
+    copy_over(&bytes[..n], &mut queue.bytes[start..start + n]);
     queue.len = start + n;
     n
 }
@@ -83,7 +93,7 @@ pub extern "C" fn bare_take(queue: &mut Queue, room: &mut [u8]) -> usize
     ensures takes { waiting queue.new ≡ drop result (waiting queue.old) }
 {
     let n = queue.waiting().len().min(room.len());
-    room[..n].copy_from_slice(&queue.waiting()[..n]);
+    copy_over(&queue.waiting()[..n], &mut room[..n]);
     queue.advance(n);
     n
 }
