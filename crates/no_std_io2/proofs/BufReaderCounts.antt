@@ -1,24 +1,19 @@
 -- How many inner reads a `BufReader` makes, and how much it holds then.
 use Rattle.std.proofs.lemmas.Bool.Decides.{nat_tests}
 use Rattle.std.proofs.lemmas.Bool.{cases_lt}
-use Rattle.std.proofs.Common.{◌≡◌, ℕ, ◌+◌, ◌-◌, ◌<◌, ◌≤◌, ◌⊎◌, min, max, if◌then◌else◌, List, [], ◌∷◌, ◌++◌, Result, Ok, Err, length}
-use Rattle.std.proofs.Common.{take}
-use Rattle.std.proofs.Common.{refl, sym, ap, subst, ◌∙◌, arith, inl, inr, ⊎_elim, Some, length-append, length-take, length-take-le}
-use Rattle.std.proofs.Common.{length-drop, IsOkAnd, IfOk}
-use Rattle.std.proofs.Math.Nat.{le-max_left, le-max_right, max-eq_left, max-eq_right}
+use Rattle.std.proofs.Common.{◌≡◌, ℕ, ◌+◌, ◌-◌, ◌<◌, ◌≤◌, min, if◌then◌else◌, List, [], Result, Ok, Err, length}
+use Rattle.std.proofs.Common.{refl, sym, ap, subst, ◌∙◌, arith, ⊎_elim, Some, length-append, length-take, length-take-le}
+use Rattle.std.proofs.Common.{IsOkAnd, IfOk}
 use Rattle.std.specs.Prelude.{nat_lt}
 use Rattle.no_std_io2_base.specs.declared.error.Error.{Error}
 use Rattle.no_std_io2_base.specs.Events.{events_of}
 use Rattle.no_std_io2_base.specs.Takes.{AreTaken, to_come}
-use Rattle.no_std_io2_base.specs.Write.{Made}
-use Rattle.no_std_io2_base.specs.Read.{Reader, tells, ReadCall, ReadCallLaw, GaveLaw, Gave, Gathers, no_read, and_gave, and_again}
+use Rattle.no_std_io2_base.specs.Read.{Reader, tells, GaveLaw}
 use Rattle.no_std_io2_base.specs.Read.{bytes_given, gave}
 use Rattle.no_std_io2_base.specs.ReadMeter.{IsReadMeter, FillsRoom}
-use Rattle.no_std_io2_base.proofs.CallsLemmas.{made_split}
 use Rattle.no_std_io2_base.proofs.EventLemmas.{length-events_of}
 use Rattle.no_std_io2.specs.declared.buffered.buf_reader.BufReader.{BufReader}
-use Rattle.no_std_io2.specs.BufReader.{reader_held, reader_inner, PassesOn, ReadsBelow, FillsBelow, AsksExact, ExactReads, ExactBelow}
-use Rattle.no_std_io2.specs.BufReader.{LeavesExact}
+use Rattle.no_std_io2.specs.BufReader.{reader_held, reader_inner, PassesOn, ReadsBelow, FillsBelow}
 use Rattle.no_std_io2.proofs.BufReaderRoom.{some_room}
 
 -- a read of a reader that fills its room

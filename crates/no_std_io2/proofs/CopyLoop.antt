@@ -6,8 +6,7 @@ use Rattle.std.proofs.lemmas.List.Folds.{concat-append}
 use Rattle.no_std_io2_base.specs.declared.error.Error.{Error}
 use Rattle.no_std_io2_base.specs.Errors.{IsInterruption, IsFault}
 use Rattle.no_std_io2_base.specs.Events.{fails, events_of, bytes}
-use Rattle.no_std_io2_base.specs.Takes.{Takes}
-use Rattle.no_std_io2_base.specs.Read.{Reader, tells, ReadCall, Gave, ReadLaw, GaveLaw, ReadCallLaw}
+use Rattle.no_std_io2_base.specs.Read.{Reader, Gave, ReadLaw, GaveLaw, ReadCallLaw}
 use Rattle.no_std_io2_base.specs.Write.{WriteCall, Made, AllCalls, Moves}
 use Rattle.no_std_io2_base.specs.Writers.{Writer, WriteAllOf, CallOf, TakesAll}
 use Rattle.no_std_io2_base.proofs.CallsLemmas.{made_more, made_then}

@@ -31,20 +31,20 @@ returns-in-Err-2 g c =
     let fills = fills_fault c.reads.invariant (omega arith) c.requires read.read
     (sym c.is_interrupted.ensures ∙ c.if-is_interrupted.false) in
     let behind = none_behind (reader_behind c.args.self.now) read.behind in
-    record { fills = fills; store = fills_store fills _ behind; turns = fills_turns fills }
+    record { fills = fills; store = fills_store c.requires fills _ behind; turns = fills_turns c.requires fills }
 
 pub returns-in-Ok-eq0 : goal.returns-in-Ok-eq0
 returns-in-Ok-eq0 g c =
     let read = c.read_on.ensures in
     let fills = fills_end c.reads.invariant (omega arith) c.requires read.read c.in-Ok-eq0.is (omega arith) in
     let behind = none_behind (reader_behind c.args.self.now) read.behind in
-    record { fills = fills; store = fills_store fills _ behind; turns = fills_turns fills }
+    record { fills = fills; store = fills_store c.requires fills _ behind; turns = fills_turns c.requires fills }
 
 pub returns : goal.returns
 returns g c =
     let fills = fills_enough c.reads.invariant (omega (arith, c.reads-test.false)) in
     record {
       fills = fills;
-      store = fills_store fills c.reads.invariant.front c.reads.invariant.behind;
-      turns = fills_turns fills;
+      store = fills_store c.requires fills c.reads.invariant.front c.reads.invariant.behind;
+      turns = fills_turns c.requires fills;
     }
