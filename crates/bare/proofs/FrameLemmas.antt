@@ -1,5 +1,5 @@
 -- What a reader of frames takes of bytes, and what a writer of frames puts into a queue.
-use Rattle.std.proofs.Common.{◌≡◌, ◌⊎◌, ℕ, ◌+◌, ◌<◌, ◌≤◌, List, [], ◌∷◌, ◌++◌, length, take, Option, None, Some, IfSome, Result, Ok, Err}
+use Rattle.std.proofs.Common.{◌≡◌, ◌⊎◌, ℕ, ◌+◌, ◌<◌, ◌≤◌, List, [], ◌∷◌, ◌++◌, length, take, Option, None, Some, IfSome, Result, Ok, Err, Bool, false}
 use Rattle.std.proofs.Common.{refl, sym, ap, subst, ◌∙◌, inl, inr, true≢false, drop, arith, append_assoc, append-nil, length-append}
 use Rattle.std.proofs.lemmas.Grind.{common_steps}
 use Rattle.std.specs.Int.{w32, from_le_bytes, to_le_bytes}
@@ -7,12 +7,14 @@ use Rattle.std.proofs.Math.Seq.{drop-append_seam}
 use Rattle.std.proofs.lemmas.List.{take-append-le, length-take-le}
 use Rattle.no_std_io2.specs.declared.io.Error.{Error}
 use Rattle.no_std_io2.specs.Events.{Event, fails, events_of, bytes, HasNoFault, EndsInFault}
-use Rattle.no_std_io2.specs.Takes.{AreTaken, to_come, IsAtEnd}
+use Rattle.no_std_io2.specs.Takes.{Takes, AreTaken, to_come, IsAtEnd}
 use Rattle.no_std_io2.specs.Read.{Reader, tells}
 use Rattle.no_std_io2.specs.BufReader.{behind_held}
 use Rattle.no_std_io2.proofs.EventLemmas.{bytes-append, bytes-events_of, HasNoFault-events_of, HasNoFault-front, HasNoFault-behind}
 use Rattle.framing.specs.Frames.{frame, told_length, IsPart}
 use Rattle.framing.specs.Taking.{seen_bytes, reads_from, frame_to_come, given_frame, TakesFrame}
+use Rattle.framing.proofs.BackLemmas.{frame_takes}
+use Rattle.no_std_io2.specs.FillTo.{GathersTo}
 use Rattle.framing.specs.Sending.{frame_writer, PutsFrame, SendsFrame}
 use Rattle.framing.specs.declared.writer.FrameWriter.{FrameWriter}
 use Rattle.bare.specs.declared.queue.Queue.{Queue}
@@ -35,21 +37,24 @@ below seen E none is = grind (arith, common_steps)
 
 frame_left : {R : Type 0} {S : ℕ} {I : Reader R} {old new : FrameReader R S} {room room' : List ℕ} (bs : List ℕ)
     (reply : Result (Option ℕ) Error) → frame_to_come I old room ≡ Some (events_of bs) → seen_bytes old room ≡ []
-    → (law : TakesFrame I old room reply new room') → Left I bs law.taken reply new room'
+    → (law : TakesFrame I old room reply new room') → Left I bs (frame_takes law).0 reply new room'
 frame_left {I = I} {old} {new} {room} {room'} bs reply is none law =
     by (to_come (tells I (reads_from new))) refl
-    (subst (λ o. AreTaken o law.taken (to_come (tells I (reads_from new))))
-    (below (seen_bytes old room) (to_come (tells I (reads_from old))) none is) law.takes.events)
+    (rw (below (seen_bytes old room) (to_come (tells I (reads_from old))) none is) at taken.1.events)
   where
-    by : (E : Option (List Event)) → to_come (tells I (reads_from new)) ≡ E → AreTaken (Some (events_of bs)) law.taken E
-        → Left I bs law.taken reply new room'
-    by None told taken = absurd taken
-    by (Some E) told taken = record {
+    taken : (P : List Event) × Takes (tells I (reads_from old)) P (tells I (reads_from new)) × (bytes P ≡ law.sees.given)
+        × GathersTo P law.how (tells I (reads_from new))
+    taken = frame_takes law
+
+    by : (E : Option (List Event)) → to_come (tells I (reads_from new)) ≡ E → AreTaken (Some (events_of bs)) taken.0 E
+        → Left I bs taken.0 reply new room'
+    by None told are = absurd are
+    by (Some E) told are = record {
       left = E;
       told = told;
-      events = taken;
-      order = simp (bytes-append, bytes-events_of) at (ap bytes taken)
-          ∙ ap (λ l. l ++ bytes E) (ap (λ l. l ++ bytes law.taken) (sym none) ∙ law.order)
+      events = are;
+      order = simp (bytes-append, bytes-events_of) at (ap bytes are)
+          ∙ ap (λ l. l ++ bytes E) (taken.2 ∙ sym (rw none at law.sees.are) ∙ law.order)
           ∙ append_assoc (given_frame reply room') (seen_bytes new room') (bytes E);
     }
 
@@ -68,23 +73,32 @@ module _ {R : Type 0} {S : ℕ} {I : Reader R} {old new : FrameReader R S} {room
       → (rest : List ℕ) × (bs ≡ frame (take n room') ++ rest) × (n ≤ length room)
   frame_taken n law = (_, (frame_left bs (Ok (Some n)) is none law).order, law.ends.1)
 
+  -- how the reads below ended
+  ended : {reply : Result (Option ℕ) Error} (law : TakesFrame I old room reply new room') {how : Result Bool Error} → law.how ≡ how
+      → GathersTo (frame_takes law).0 how (tells I (reads_from new))
+  ended law is = subst (λ h. GathersTo (frame_takes law).0 h (tells I (reads_from new))) is (frame_takes law).3
+
+  -- no frame is left only where there are no bytes
+  pub frame_none : TakesFrame I old room (Ok None) new room' → bs ≡ []
+  frame_none law = at_end (Ok None) new room' (frame_left bs (Ok None) is none law) (ended law law.ends.0).1 ∙ law.ends.1
+
   -- why none was taken
   pub frame_kept : (e : Error) → TakesFrame I old room (Err e) new room' → IsPart bs ⊎ (length room < told_length bs)
   frame_kept e law = elim law.ends [
-    | inl fault ↦ absurd (no_fault fault.0)
+    | inl fault ↦ absurd (no_fault (ended law fault.0))
     | inr clean ↦
-        elim clean.1 [
-          | inl ends ↦ inl (subst IsPart (sym (at_end (Err e) new room' left ends.1)) ends.0.1)
-          | inr long ↦ inr (omega (arith, long.1, front long.0))
+        elim clean [
+          | inl ends ↦ inl (subst IsPart (sym (at_end (Err e) new room' left (ended law ends.0).1)) ends.1.1)
+          | inr long ↦ inr (omega (arith, long.1.1, front long.1.0))
         ]
   ]
     where
-      left : Left I bs law.taken (Err e) new room'
+      left : Left I bs (frame_takes law).0 (Err e) new room'
       left = frame_left bs (Err e) is none law
 
-      no_fault : EndsInFault law.taken e → ⊥
+      no_fault : EndsInFault (frame_takes law).0 e → ⊥
       no_fault (Q, split, clean, fault) =
-          let all = HasNoFault-front law.taken left.left (subst HasNoFault left.events (HasNoFault-events_of bs)) in
+          let all = HasNoFault-front (frame_takes law).0 left.left (subst HasNoFault left.events (HasNoFault-events_of bs)) in
           let last = HasNoFault-behind Q (fails e ∷ []) (subst HasNoFault split all) in
           true≢false (sym last.0 ∙ fault)
 

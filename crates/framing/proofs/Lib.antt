@@ -1,4 +1,5 @@
 pub mod SendingLemmas
+pub mod ReadsLemmas
 pub mod BelowLemmas
 pub mod SeenLemmas
 pub mod TakingLemmas

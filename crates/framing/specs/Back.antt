@@ -1,11 +1,7 @@
 -- What a reader of frames gives back of the frames that a writer sent.
 use Rattle.std.specs.Prelude.{◌≡◌, ◌⊎◌, ℕ, ◌<◌, List, [], ◌∷◌, ◌++◌, length, take, Option, Some, None, Result, Ok, Err, IfSome, IsSomeAnd}
-use Rattle.no_std_io2.specs.Events.{Event, bytes, first_fault}
-use Rattle.no_std_io2.specs.Write.{Told, Moves}
-use Rattle.no_std_io2.specs.declared.io.Error.{Error}
-use Rattle.no_std_io2.specs.declared.io.ErrorKind.{ErrorKind}
-use Rattle.framing.specs.Frames.{frames}
-use Rattle.framing.specs.Taking.{SaysNoRoom}
+use Rattle.no_std_io2.specs.{Events.{Event, bytes, first_fault}, Write.{Told, Moves}, declared.io.{Error.{Error}, ErrorKind.{ErrorKind}}}
+use Rattle.framing.specs.{Frames.{frames}, Taking.{SaysNoRoom}}
 
 -- events are told, and their bytes are the frames of these payloads
 abbrev pub AreToCome : List (List ℕ) → Option (List Event) → Type 0

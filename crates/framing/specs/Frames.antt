@@ -1,10 +1,7 @@
 -- What a frame is.
-use Rattle.std.specs.Prelude.{◌≡◌, ◌⊎◌, ℕ, ◌+◌, ◌<◌, ◌≤◌, List, ◌++◌, length, take, map, codes}
-use Rattle.std.specs.List.{concat}
-use Rattle.std.specs.Int.{w32, to_le_bytes, from_le_bytes}
-use Rattle.no_std_io2.specs.Errors.{SaysError}
-use Rattle.no_std_io2.specs.declared.io.Error.{Error}
-use Rattle.no_std_io2.specs.declared.io.ErrorKind.TheVariants.{UnexpectedEof}
+use Rattle.std.specs.{Prelude.{◌≡◌, ◌⊎◌, ℕ, ◌+◌, ◌<◌, ◌≤◌, List, ◌++◌, length, take, map, codes}, List.{concat}, Int.{w32, to_le_bytes}}
+use Rattle.std.specs.Int.{from_le_bytes}
+use Rattle.no_std_io2.specs.{Errors.{SaysError}, declared.io.{Error.{Error}, ErrorKind.TheVariants.{UnexpectedEof}}}
 
 -- a frame: the length of its payload, as a little-endian number of four bytes, and then the payload
 abbrev pub frame : List ℕ → List ℕ

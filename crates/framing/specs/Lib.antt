@@ -1,4 +1,5 @@
 pub mod Frames
 pub mod Sending
+pub mod Reading
 pub mod Taking
 pub mod Back

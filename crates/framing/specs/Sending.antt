@@ -1,14 +1,8 @@
 -- What a writer of frames holds and tells, and what its calls do. I are the ghost members of the writer below.
 use Rattle.std.specs.Prelude.{◌≡◌, ◌⊎◌, ℕ, ◌+◌, ◌<◌, ◌≤◌, ◌^◌, List, ◌++◌, length, codes, [], ◌∷◌, Result, Ok, Err, IsErrAnd}
-use Rattle.no_std_io2.specs.Errors.{SaysError}
-use Rattle.no_std_io2.specs.Write.{Told, Moves}
-use Rattle.no_std_io2.specs.BufWriter.{writer_inner, writer_buffer, writer_told, Puts}
-use Rattle.no_std_io2.specs.Writers.{Writer}
-use Rattle.no_std_io2.specs.declared.io.BufWriter.{BufWriter}
-use Rattle.no_std_io2.specs.declared.io.Error.{Error}
-use Rattle.no_std_io2.specs.declared.io.ErrorKind.TheVariants.{InvalidInput}
-use Rattle.framing.specs.Frames.{frame, frames}
-use Rattle.framing.specs.declared.writer.FrameWriter.{FrameWriter}
+use Rattle.no_std_io2.specs.{Errors.{SaysError}, Write.{Told, Moves}, BufWriter.{writer_inner, writer_buffer, writer_told, Puts}}
+use Rattle.no_std_io2.specs.{Writers.{Writer}, declared.io.{BufWriter.{BufWriter}, Error.{Error}, ErrorKind.TheVariants.{InvalidInput}}}
+use Rattle.framing.specs.{Frames.{frame, frames}, declared.writer.FrameWriter.{FrameWriter}}
 
 -- the buffered writer, which has the writer below in it
 abbrev pub frame_writer : {W : Type 0} {S : ℕ} → FrameWriter W S → BufWriter W S

@@ -169,7 +169,8 @@ impl<R: Read, const S: usize> FrameReader<R, S> {
 
     // Reads until the header of the next frame is seen. `false` means that the end came first.
     fn see_header(&mut self) -> Result<bool>
-        ensures sees { (room : List ℕ) → SeesTo R.Read 4 self.old room result self.new room }
+        ensures sees { (room : List ℕ) → SeesTo R.Read S 4 (reads_from self.old) (seen_bytes self.old room) result (reads_from self.new)
+            (seen_bytes self.new room) }
         ensures turns_never_rise { frame_turns R.turns self.new ≤ frame_turns R.turns self.old }
     {
         if self.len > 0 {
@@ -195,7 +196,8 @@ impl<R: Read, const S: usize> FrameReader<R, S> {
         requires header { (room : List ℕ) → HasHeader len (seen_bytes self.old room) }
         requires small { len < 2 ^ 32 }
         requires fits { len ≤ length room.old }
-        ensures sees { SeesTo R.Read (4 + len) self.old room.old result self.new room.new }
+        ensures sees { SeesTo R.Read S (4 + len) (reads_from self.old) (seen_bytes self.old room.old) result (reads_from self.new)
+            (seen_bytes self.new room.new) }
         ensures room { KeepsBehind S len room.old room.new }
         ensures full { IfOk result (λ seen. seen ≡ true → self.new.given ≡ self.new.len) }
         ensures turns_never_rise { frame_turns R.turns self.new ≤ frame_turns R.turns self.old }

@@ -10,7 +10,7 @@ ghost use Rattle.std.specs.Process.{exit_status};
 ghost use Rattle.std.specs.Vec.Iter.{into_iter_items};
 ghost use Rattle.tar_list.specs.Words.{Asks};
 ghost use Rattle.tar_reader.specs.Archives.{archive_inner, gathered, left_of_member};
-ghost use Rattle.tar_reader.specs.Asking.{Fetches};
+ghost use Rattle.tar_reader.specs.Asking.{Fetched};
 ghost use Rattle.tar_reader.specs.Members.{IsArchiveEnd};
 
 use no_std_io2::io::{BufRead, BufReader, BufWriter, Error, ErrorKind, Result, Write, copy};
@@ -62,8 +62,8 @@ fn parse_words<R: Env + Alloc<A = Global>>(rt: &R) -> Result<Option<Command>> {
 // Prints a line for each member: its size and its name.
 fn list<R: BufRead, W: Write>(archive: &mut Archive<R>, out: &mut W) -> Result<()>
     // After `Ok`, the archive is at its end, and the writer has sent all that it holds.
-    ensures ended { Fetches R.BufRead (archive_inner archive.old) (λ t P. OnOk result (IsArchiveEnd (gathered archive.new) t P))
-        ⊥ (archive_inner archive.new) }
+    ensures ended { Fetched R.BufRead (archive_inner archive.old) (λ x how. OnOk result (IsArchiveEnd (gathered archive.new) how))
+        (archive_inner archive.new) }
     ensures flushed { OnOk result ((W.told out.new).held ≡ []) }
 {
     'members: while let Some(header) = archive.next()? {

@@ -1,14 +1,14 @@
 -- Each member spends turns of the input, which met neither its end nor a fault.
-use Rattle.std.proofs.Common.{List, ℕ}
+use Rattle.std.proofs.Common.{List, ℕ, true, Ok}
 use Rattle.no_std_io2.proofs.Readers.{lends}
 use Rattle.tar_reader.specs.Archives.{archive_inner, archive_turns}
-use Rattle.tar_reader.proofs.AskingLemmas.{FetchesOn}
+use Rattle.tar_reader.specs.Asking.{Fetches}
 use Rattle.tar_list.proofs.list.Given as goal
 
 abbrev pub invariant-members : goal.invariant-members
 invariant-members g l = record {
   given : List ℕ;
-  fetches : FetchesOn (lends g.R.Stored g.R.Read g.R.BufRead) (archive_inner l.initial.archive) given (archive_inner l.archive);
+  fetches : Fetches (lends g.R.Stored g.R.Read g.R.BufRead) (archive_inner l.initial.archive) given (Ok true) (archive_inner l.archive);
 }
 
 abbrev pub decreases-members : goal.decreases-members

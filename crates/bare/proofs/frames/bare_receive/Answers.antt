@@ -2,7 +2,7 @@ use Rattle.std.proofs.Common.{◌≡◌, ◌+◌, ◌≤◌, ◌++◌, length, t
 use Rattle.no_std_io2.specs.Events.{events_of}
 use Rattle.framing.specs.Frames.{frame, told_length}
 use Rattle.bare.specs.Queue.{waiting}
-use Rattle.bare.proofs.FrameLemmas.{frame_taken, frame_kept, behind_frame}
+use Rattle.bare.proofs.FrameLemmas.{frame_taken, frame_none, frame_kept, behind_frame}
 use Rattle.bare.proofs.frames.bare_receive.Goals as goal
 
 pub returns-in-Ok-Some : goal.returns-in-Ok-Some
@@ -19,6 +19,13 @@ returns-in-Ok-Some c =
       taken.1 ∙ ap (λ l. frame (take n room) ++ l) (sym (c.advance.ensures ∙ behind_frame bs room _ n fits taken.1)),
       fits,
     )
+
+pub returns-in-Ok-None : goal.returns-in-Ok-None
+returns-in-Ok-None c =
+    let is = c.new-r.ensures.events c.args.room.now ∙ ap (λ l. Some (events_of l)) c.waiting-2.ensures in
+    let law = rw (c.in-Ok-None.is, c.in-Ok-None.field-0-is) at c.next.ensures.takes in
+    let none = frame_none (waiting c.args.port.now) is (c.new-r.ensures.empty c.args.room.now) law in
+    absurd (omega (arith, ap length none, ap length c.waiting.ensures, c.in-Some.ensures.some.0))
 
 pub returns-in-Err : goal.returns-in-Err
 returns-in-Err c =

@@ -1,15 +1,12 @@
-use Rattle.std.proofs.Common.{◌<◌, [], ◌∙◌, sym, subst, arith, take, length-take, rules}
+use Rattle.std.proofs.Common.{◌<◌, [], ◌∙◌, sym, subst, arith, length-take}
 use Rattle.no_std_io2.specs.BufReader.{reader_held}
 use Rattle.no_std_io2.proofs.EventLemmas.{length-events_of}
-use Rattle.framing.specs.Frames.{HasHeader}
-use Rattle.framing.specs.Taking.{seen_bytes}
+use Rattle.framing.specs.{Frames.{HasHeader}, Taking.{seen_bytes}}
 use Rattle.framing.proofs.SeenLemmas.{seen_between, seen_header, one_length, begins_long}
 use Rattle.framing.proofs.reader.FrameReader.begin_long.Goals as goal
 
 pub consume-requires : goal.consume-requires
-consume-requires g c =
-    let r = c.args.self.now in
-    (search rules, (subst (HasHeader c.args.len) (seen_between r [] c.if-self-eq0.true) (c.requires.header [])).0)
+consume-requires g c = grind (arith, seen_between)
 
 pub returns-then-self-eq0-clause-seen : goal.returns-then-self-eq0-clause-seen
 returns-then-self-eq0-clause-seen g c = λ room.
@@ -20,11 +17,7 @@ returns-then-self-eq0-clause-seen g c = λ room.
     ∙ sym (seen_between r room c.if-self-eq0.true)
 
 pub returns-then-self-eq0-clause-turns_never_rise : goal.returns-then-self-eq0-clause-turns_never_rise
-returns-then-self-eq0-clause-turns_never_rise g c =
-    let r = c.args.self.now in
-    let held = reader_held r.inner in
-    let header = subst (HasHeader c.args.len) (seen_between r [] c.if-self-eq0.true) (c.requires.header []) in
-    omega (arith, c.consume.ensures.law.takes.turns, length-events_of (take 4 held), length-take 4 held, header.0)
+returns-then-self-eq0-clause-turns_never_rise g c = grind (arith, length-events_of, length-take, seen_between)
 
 pub returns-else-self-eq0-clause-len : goal.returns-else-self-eq0-clause-len
 returns-else-self-eq0-clause-len g c =

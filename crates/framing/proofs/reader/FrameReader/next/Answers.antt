@@ -1,11 +1,11 @@
-use Rattle.std.proofs.Common.{Some, Ok}
-use Rattle.framing.proofs.TakingLemmas.{takes_held}
-use Rattle.framing.proofs.BackLemmas.{gives_back, round}
+use Rattle.std.proofs.Common.{Some, Ok, refl}
+use Rattle.framing.proofs.{TakingLemmas.{sees_none, takes}, BackLemmas.{gives_back, round}}
 use Rattle.framing.proofs.reader.FrameReader.next.Goals as goal
 
 pub returns-in-Some-clause-takes : goal.returns-in-Some-clause-takes
 returns-in-Some-clause-takes g c =
-    let gave = c.in-Some.ensures in takes_held c.in-Some.len gave.inner gave.gives.0 gave.gives.1 gave.gives.2 gave.behind
+    let gave = c.in-Some.ensures in
+    takes _ _ _ _ (Ok (Some c.in-Some.len)) _ (sees_none _ _ gave.inner) gave.gives.0 gave.behind (refl, gave.gives.1, gave.gives.2)
 
 pub returns-in-Some-clause-back : goal.returns-in-Some-clause-back
 returns-in-Some-clause-back g c = gives_back (Ok (Some c.in-Some.len)) (returns-in-Some-clause-takes g c)

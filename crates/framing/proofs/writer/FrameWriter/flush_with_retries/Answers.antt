@@ -1,5 +1,4 @@
-use Rattle.std.proofs.Common.{◌≡◌, [], length, ap, arith, length-append}
-use Rattle.std.proofs.lemmas.List.{nil_from_length}
+use Rattle.std.proofs.{Common.{◌≡◌, [], length, ap, arith, length-append}, lemmas.List.{nil_from_length}}
 use Rattle.framing.proofs.writer.FrameWriter.flush_with_retries.Goals as goal
 
 pub returns-clause-calls : goal.returns-clause-calls

@@ -1,5 +1,4 @@
-use Rattle.std.proofs.Common.{map, ap, refl}
-use Rattle.std.proofs.lemmas.Result.{err_from_is_err_and}
+use Rattle.std.proofs.{Common.{map, ap, refl}, lemmas.Result.{err_from_is_err_and}}
 use Rattle.framing.proofs.SendingLemmas.{sent_none, sent_more, some_there, none_there, first_there}
 use Rattle.framing.proofs.writer.FrameWriter.send_all.Goals as goal
 
