@@ -1,5 +1,5 @@
 -- Which inner reads an exact read of a `BufReader` makes, and what is in the buffer then.
-use Rattle.std.proofs.Common.{◌≡◌, ℕ, ◌+◌, ◌-◌, ◌<◌, ◌≤◌, ◌⊎◌, max, List, [], ◌∷◌, ◌++◌, Result, Ok, Err, length, take}
+use Rattle.std.proofs.Common.{◌≡◌, ℕ, ◌+◌, ◌-◌, ◌<◌, ◌≤◌, ◌⊎◌, max, min, List, [], ◌∷◌, ◌++◌, Result, Ok, Err, length, take}
 use Rattle.std.proofs.Common.{drop}
 use Rattle.std.proofs.Common.{refl, sym, ap, subst, ◌∙◌, arith, append_assoc, append-nil, length-append, take-append-drop, length-take}
 use Rattle.std.proofs.Common.{length-take-le, length-drop, inl, inr, ⊎_elim, take_all, le_refl}
@@ -16,14 +16,15 @@ use Rattle.no_std_io2_base.specs.Read.{ExactCalls, tells, FillsOrEnds}
 use Rattle.no_std_io2_base.specs.Read.{ReadCallLaw, GaveLaw, ReadExactLaw, bytes_given}
 use Rattle.no_std_io2_base.proofs.CallsLemmas.{made_more, made_split}
 use Rattle.no_std_io2_base.proofs.ReadCalls.{exact_own}
-use Rattle.no_std_io2_base.proofs.ReadLoop.{ReadsSoFar, reads_none, reads_until}
-use Rattle.no_std_io2_base.proofs.TakesLemmas.{gives_whole, bytes_more, bytes_still}
+use Rattle.no_std_io2_base.proofs.ReadLoop.{ReadsSoFar, reads_none, reads_more, reads_until}
+use Rattle.no_std_io2_base.proofs.ReadFullLoop.{FullSoFar}
+use Rattle.no_std_io2_base.proofs.TakesLemmas.{gives_none, gives_bytes, gives_whole, bytes_more, bytes_still}
 use Rattle.no_std_io2.specs.declared.buffered.buf_reader.BufReader.{BufReader}
 use Rattle.no_std_io2.specs.Buffer.{IsSuffix}
 use Rattle.no_std_io2.specs.BufReader.{reader_held, reader_behind, reader_inner, HasNoBuffer, PassesOn, AsksExact, ExactBelow}
 use Rattle.no_std_io2.specs.BufReader.{LeavesExact, GivesHeld}
 use Rattle.no_std_io2.proofs.BufferedReads.{takes_held}
-use Rattle.no_std_io2.proofs.BufReaderCalls.{buf_reader}
+use Rattle.no_std_io2.proofs.BufReaderCalls.{buf_reader, by_held}
 use Rattle.no_std_io2.proofs.BufReaderRoom.{held-le}
 
 module _ {R : Type 0} {S : ℕ} (inner : Reader R) (old : BufReader R S) (room : ℕ) where
@@ -333,3 +334,43 @@ exact_held {S = S} {inner} {old} {new} {buf} {buf'} fits same gave left front no
       },
       (λ _. gives, λ past. absurd (omega (arith, past, fits))),
     )
+
+-- what was held was given first, and more is asked for
+pub exact_first : {R : Type 0} {S : ℕ} {inner : Reader R} {old new : BufReader R S} (n : ℕ) (buf shown : List ℕ)
+    → length shown ≡ length buf → length (reader_held old) < length buf → reader_inner new ≡ reader_inner old
+    → n ≡ min (length (reader_held old)) (length buf) → take n shown ≡ take n (reader_held old)
+    → reader_behind new ≡ reader_behind old ++ take n shown → reader_held new ≡ drop n (reader_held old)
+    → (reader_held old ≡ [] → new ≡ old) → FullSoFar (buf_reader inner) old buf 0 n shown new
+unfolding reads_none reads_more bytes_more
+exact_first {inner = inner} {old} {new} n buf shown long past same is gave front left none =
+    ⊎_elim some unheld (cases_lt 0 (length (reader_held old)))
+  where
+    some : 0 < length (reader_held old) → FullSoFar (buf_reader inner) old buf 0 n shown new
+    some held =
+        let law = by_held {inner = inner} n buf shown long held same is gave front left in
+        let given = length-take-le n shown law.bound in
+        record {
+          long = long;
+          untouched = λ full. absurd (omega (arith, full, past));
+          given = take n shown;
+          filled = refl;
+          counts = omega (arith, given);
+          within = omega (arith, given, is, long);
+          reads = reads_more (reads_none old) law (λ zero. omega (arith, zero, is, held, past))
+              (omega (arith, long), omega (arith, long, past));
+          gives = gives_bytes (take n shown) (gives_none _) (omega (arith, given, is)) (omega (arith, given, is, held, past));
+        }
+
+    unheld : length (reader_held old) ≤ 0 → FullSoFar (buf_reader inner) old buf 0 n shown new
+    unheld empty =
+        let zero : n ≡ 0 = omega (arith, is, empty) in
+        rw (zero, none (nil_from_length (reader_held old) (omega (arith, empty)))) (record {
+          long = long;
+          untouched = λ full. refl;
+          given = [];
+          filled = refl;
+          counts = omega arith;
+          within = omega arith;
+          reads = reads_none old;
+          gives = gives_none _;
+        })

@@ -39,7 +39,7 @@ full_none {buf = buf} {start} = record {
 module _ {S : Type 0} {R : Reader S} {old now : S} {buf xs : List ℕ} {start at : ℕ} (before : FullSoFar R old buf start at xs now)
     (below : at < length xs) (ys : List ℕ) (room : length ys ≡ length (take (length xs - at) (drop at xs))) where
   -- the length of the buffer stays, and a read into all that is left of it is the next one
-  stays : length (put_mid at (length xs - at) xs ys) ≡ length buf
+  pub stays : length (put_mid at (length xs - at) xs ys) ≡ length buf
   stays = length_stays at xs ys room ∙ before.long
 
   size : length ys ≡ length xs - at

@@ -68,10 +68,14 @@ pub trait Read: Stored {
     fn read_exact(&mut self, buf: &mut [u8]) -> Result<()>
         ensures law { ReadExactLaw ⟦<Self as Read>⟧ self.old buf.old result buf.new self.new }
     {
-        let mut filled = 0;
-        self.read_full(buf, &mut filled)?;
-        if filled < buf.len() {
-            return Err(failed_to_fill());
+        let mut at = 0;
+        'reads: while at < buf.len() {
+            match self.read(&mut buf[at..]) {
+                Ok(0) => return Err(failed_to_fill()),
+                Ok(n) => at += n,
+                Err(e) if e.is_interrupted() => {}
+                Err(e) => return Err(e),
+            }
         }
         Ok(())
     }

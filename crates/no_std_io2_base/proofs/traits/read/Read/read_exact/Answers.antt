@@ -1,13 +1,38 @@
-use Rattle.std.proofs.lemmas.Result.{err_from_is_err_and}
-use Rattle.no_std_io2_base.proofs.ReadExactLoop.{exact_end, exact_fault}
+use Rattle.std.proofs.Common.{sym, ◌∙◌, arith}
+use Rattle.no_std_io2_base.proofs.ReadExactLoop.{exact_end, exact_fault, exact_all}
+use Rattle.no_std_io2_base.proofs.ReadFullLoop.{full_none, full_read, full_interruption, full_end, full_fault, full_all, stays}
+use Rattle.no_std_io2_base.proofs.TakesLemmas.{read_spends}
 use Rattle.no_std_io2_base.proofs.traits.read.Read.read_exact.Goals as goal
 
-pub returns-in_err-read_full : goal.returns-in_err-read_full
-returns-in_err-read_full g c =
-    let p = err_from_is_err_and c.from_residual.result c.from_residual.ensures.1 in
-    rw (p.1, p.2) (record { law = exact_fault c.read_full.auto.buf c.in_err-read_full.ensures.law })
+pub reads-init : goal.reads-init
+reads-init g c = full_none
 
-pub returns-then-filled-buf : goal.returns-then-filled-buf
-returns-then-filled-buf g c = record {
-  law = exact_end c.read_full.auto.buf c.in_ok-read_full.ensures.law c.if-filled-buf.true c.failed_to_fill.ensures;
-}
+pub returns-in-Ok-eq0 : goal.returns-in-Ok-eq0
+returns-in-Ok-eq0 g c =
+    let so_far = c.reads.invariant in
+    let long = stays so_far c.reads-test.true _ c.read.auto.buf in
+    let full = full_end so_far c.reads-test.true _ c.read.auto.buf c.read.ensures.law c.in-Ok-eq0.is c.in-Ok-eq0.field-0-test in
+    record { law = exact_end long full (omega (arith, c.reads-test.true, long, so_far.long)) c.failed_to_fill.ensures }
+
+pub returns : goal.returns
+returns g c =
+    let so_far = c.reads.invariant in
+    record { law = exact_all so_far.long (full_all so_far c.reads-test.false) c.reads-test.false }
+
+pub reads-preserved-in-Ok : goal.reads-preserved-in-Ok
+reads-preserved-in-Ok g c = full_read c.reads.invariant c.reads-test.true _ c.read.auto.buf c.in-Ok.ensures.law c.in-Ok.n-test.1
+
+pub returns-in-Err-2 : goal.returns-in-Err-2
+returns-in-Err-2 g c =
+    let so_far = c.reads.invariant in
+    let full = full_fault so_far c.reads-test.true _ c.read.auto.buf c.in-Err.ensures.law
+    (sym c.is_interrupted.ensures ∙ c.if-is_interrupted.false) in
+    record { law = exact_fault (stays so_far c.reads-test.true _ c.read.auto.buf) full }
+
+pub reads-preserved : goal.reads-preserved
+reads-preserved g c =
+    full_interruption c.reads.invariant c.reads-test.true _ c.read.auto.buf c.in-Err.ensures.law
+    (sym c.is_interrupted.ensures ∙ c.if-is_interrupted.true)
+
+pub reads-smaller-in-Ok : goal.reads-smaller-in-Ok
+reads-smaller-in-Ok g c = read_spends c.in-Ok.ensures.law c.in-Ok.n-test.1

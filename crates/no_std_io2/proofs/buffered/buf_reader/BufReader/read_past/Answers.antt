@@ -1,0 +1,86 @@
+-- A read when nothing is held, by its ends: past the buffer, a fill that failed, and out of the filled buffer.
+use Rattle.std.proofs.Common.{◌≡◌, [], Ok, ◌++◌, length, take, drop, arith, refl, ap, ◌∙◌, length-drop, length-take-le}
+use Rattle.std.proofs.Math.Seq.{drop-nil}
+use Rattle.std.proofs.lemmas.List.{nil_from_length}
+use Rattle.std.proofs.lemmas.Result.{err_from_is_err_and}
+use Rattle.no_std_io2_base.specs.Read.{tells}
+use Rattle.no_std_io2_base.proofs.Readers.{reader}
+use Rattle.no_std_io2_base.proofs.TakesLemmas.{read_law, takes_then}
+use Rattle.no_std_io2.specs.Buffer.{buffer_held, buffer_behind}
+use Rattle.no_std_io2.specs.BufReader.{reader_held, reader_behind}
+use Rattle.no_std_io2.proofs.BufferedReads.{takes_held, takes_direct, takes_fill, ends_behind, end_read}
+use Rattle.no_std_io2.proofs.BufReaderCalls.{split_held, by_direct, by_filled, by_fault}
+use Rattle.no_std_io2.proofs.buffered.buf_reader.BufReader.read_past.Goals as goal
+
+-- past the buffer
+pub returns-then-buf : goal.returns-then-buf
+returns-then-buf g c =
+    let r = c.args.self.now in
+    let held = reader_held r in
+    let none : held ≡ [] = c.requires in
+    let read = c.read.ensures.law in
+    let clear = c.clear.ensures in
+    record {
+      law = record {
+        bound = read.bound;
+        takes = takes_direct g.row.S (reader_behind r) held read.takes none clear.behind clear.held;
+        end = end_read (tells (reader g.R.Stored g.R.Read) c.read.new.self) g.row.S (buffer_behind c.clear.new.self)
+            (buffer_held c.clear.new.self) c.read.new.buf c.read.result clear.held read.end;
+        call = by_direct (ap length none) (omega (arith, c.read.auto.buf)) (read_law c.read.result read) (clear.behind, clear.held);
+      };
+      short = λ _. clear.held;
+    }
+
+-- the fill failed
+pub returns-in_err-fill : goal.returns-in_err-fill
+returns-in_err-fill g c =
+    let p = err_from_is_err_and c.from_residual.result c.from_residual.ensures.1 in
+    let r = c.args.self.now in
+    let held = reader_held r in
+    let none : held ≡ [] = c.requires in
+    let fill = c.in_err-fill.ensures in
+    rw (p.1, p.2) (record {
+      law = record {
+        bound = tt;
+        takes = takes_direct g.row.S (reader_behind r) held fill.read.takes none fill.behind fill.err;
+        end = tt;
+        call = by_fault (ap length none) (omega (arith, c.if-buf.false)) fill.read (fill.behind, fill.err);
+      };
+      short = λ _. fill.err;
+    })
+
+-- out of the filled buffer
+pub returns : goal.returns
+returns g c =
+    let r = c.args.self.now in
+    let held = reader_held r in
+    let none : held ≡ [] = c.requires in
+    let mid = buffer_held c.fill.new.self in
+    let fill = c.in_ok-fill.ensures in
+    let is = c.give.ensures in
+    let n = c.give.result in
+    let shown = c.give.new.buf in
+    record {
+      law = record {
+        bound = omega (arith, is.count, c.give.auto.buf);
+        takes = takes_then
+            (takes_fill g.row.S (reader_behind r) held (Ok mid) fill.read.takes none fill.behind refl fill.read.bound)
+            (takes_held g.row.S (buffer_behind c.fill.new.self) mid _ (take n shown) _
+            (split_held n mid shown is.gave is.held) is.behind fill.read.bound);
+        end = λ zero room.
+            let empty : mid ≡ [] = nil_from_length mid (omega (arith, zero, room, is.count, c.give.auto.buf)) in
+            ends_behind g.row.S _ _ (tells (reader g.R.Stored g.R.Read) c.fill.new.from) (is.held ∙ ap (drop n) empty ∙ drop-nil n)
+            (fill.read.end (ap Ok empty) (omega (arith, c.if-buf.false)));
+        call = by_filled n (length shown) mid shown (ap length none) (omega (arith, c.if-buf.false, c.give.auto.buf)) fill.read
+            (omega (arith, is.count, c.give.auto.buf)) is.gave (is.behind ∙ ap (λ l. l ++ take n shown) fill.behind) is.held;
+      };
+      short = λ less. nil_from_length _ (omega (
+        arith,
+        less,
+        ap length is.held,
+        length-drop n mid,
+        is.count,
+        c.give.auto.buf,
+        length-take-le n shown (omega (arith, is.count, c.give.auto.buf)),
+      ));
+    }

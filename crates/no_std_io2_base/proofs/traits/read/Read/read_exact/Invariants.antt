@@ -1,0 +1,10 @@
+-- `read_exact` ends with its reader's turns.
+use Rattle.no_std_io2_base.proofs.ReadFullLoop.{FullSoFar}
+use Rattle.no_std_io2_base.proofs.Readers.{reader}
+use Rattle.no_std_io2_base.proofs.traits.read.Read.read_exact.Given as goal
+
+abbrev pub invariant-reads : goal.invariant-reads
+invariant-reads g l = FullSoFar (reader g.Self.Stored g.Self.Read) l.initial.self l.initial.buf 0 l.at l.buf l.self
+
+abbrev pub decreases-reads : goal.decreases-reads
+decreases-reads g l = g.Self.Read.turns l.self
