@@ -17,7 +17,8 @@ use Rattle.no_std_io2.specs.ReadMeter.{FillsRoom, IsReadMeter}
 use Rattle.no_std_io2.specs.Write.{Made}
 use Rattle.no_std_io2.specs.BufRead.{Lender, as_reader, lender_tells, LendCallLaw, FilledLaw, ConsumeLaw}
 use Rattle.no_std_io2.specs.declared.buffered.buf_reader.BufReader.{BufReader}
-use Rattle.no_std_io2.specs.BufReader.{reader_held, reader_behind, reader_inner, behind_held, PassesOn, ReadsBelow, FillsBelow}
+use Rattle.no_std_io2.specs.BufReader.{reader_held, reader_behind, reader_inner, behind_held, PassesOn, ReadsBelow, of_held, went_past}
+use Rattle.no_std_io2.specs.BufReader.{was_filled, FillsBelow, lent_held, lent_read}
 use Rattle.no_std_io2.proofs.EventLemmas.{bytes-append, bytes-events_of, events_of-append}
 use Rattle.no_std_io2.proofs.CallsLemmas.{made_split}
 use Rattle.no_std_io2.proofs.BufReaderRoom.{some_room, held-le}
@@ -101,25 +102,19 @@ module _ {R : Type 0} {S : ℕ} (I : Reader R) (fills : FillsRoom I) where
       )
 
   once_read : (a b : BufReader R S) (room : ℕ) (answer : Result (List ℕ) Error) → ReadsBelow I a room answer b → Once a b
-  once_read a b room answer read = ⊎_elim
-      (λ none. ⊎_elim
-      (λ few. let one = read.filled (omega arith) few in
-      once_reads a b S one.0 (omega arith) (le_refl S) one.1 (λ x is. passes_fits [] one.0 room answer b x one.2 is))
-      (λ many. let one = read.direct (omega arith) many in
-      once_reads a b room answer (omega arith) many one.0 (λ x is. omega (arith, ap length one.1.1)))
-      (cases_lt room S))
-      (λ some. let held = read.held some in
-      once_none a b some (passes_fits (reader_behind a) (Ok (reader_held a)) room answer b (reader_held a) held.1 refl) held.0)
-      (cases_lt (length (reader_held a)) 1)
+  once_read a b room answer (of_held some held) =
+      once_none a b some (passes_fits (reader_behind a) (Ok (reader_held a)) room answer b (reader_held a) held.1 refl) held.0
+  once_read a b room answer (went_past none many law empty) =
+      once_reads a b room answer (ap length none) many law (λ x is. omega (arith, ap length empty.1))
+  once_read a b room answer (was_filled none few read law passes) =
+      once_reads a b S read (ap length none) (le_refl S) law (λ x is. passes_fits [] read room answer b x passes is)
 
   once_fill : (a b : BufReader R S) (answer : Result (List ℕ) Error) → FillsBelow I a answer b → Once a b
-  once_fill a b answer fill = ⊎_elim
-      (λ none. let one = fill.filled (omega arith) in
-      once_reads a b S answer (omega arith) (le_refl S) one.0
-      (λ x is. omega (arith, ap length one.1.1, ap (λ r. length (bytes_given r)) is)))
-      (λ some. let same = (fill.held some).1 in
-      once_none a b some (omega (arith, ap (λ r. length (reader_held r)) same)) (ap reader_inner same))
-      (cases_lt (length (reader_held a)) 1)
+  once_fill a b answer (lent_held some is same) =
+      once_none a b some (omega (arith, ap (λ r. length (reader_held r)) same)) (ap reader_inner same)
+  once_fill a b answer (lent_read none law buffer) =
+      once_reads a b S answer (ap length none) (le_refl S) law
+      (λ x is. omega (arith, ap length buffer.1, ap (λ r. length (bytes_given r)) is))
 
 module _ {R : Type 0} {S : ℕ} (I : Reader R) (fills : FillsRoom I) (start : BufReader R S) where
   abbrev L : Lender (BufReader R S)

@@ -13,7 +13,7 @@ use Rattle.no_std_io2_base.specs.Read.{bytes_given, gave}
 use Rattle.no_std_io2_base.specs.ReadMeter.{IsReadMeter, FillsRoom}
 use Rattle.no_std_io2_base.proofs.EventLemmas.{length-events_of}
 use Rattle.no_std_io2.specs.declared.buffered.buf_reader.BufReader.{BufReader}
-use Rattle.no_std_io2.specs.BufReader.{reader_held, reader_inner, PassesOn, ReadsBelow, FillsBelow}
+use Rattle.no_std_io2.specs.BufReader.{reader_held, reader_inner, PassesOn, ReadsBelow, of_held, went_past, was_filled, FillsBelow, lent_held, lent_read}
 use Rattle.no_std_io2.proofs.BufReaderRoom.{some_room}
 
 -- a read of a reader that fills its room
@@ -68,62 +68,52 @@ module _ {R : Type 0} {S : ℕ} {K : Reader R} (old new : BufReader R S) where
   read_cost cost meter room answer read =
       let some = some_room old in
       let is = if_none-is (length (reader_held old)) in
-      ⊎_elim
-      (λ held. let same = ap cost (read.held held).0 in omega (arith, held, same, is))
-      (λ none.
-      ⊎_elim
-      (λ small. let call = read.filled (omega (arith, none)) small in omega (arith, none, some, is, meter _ _ _ _ call.1.call))
-      (λ large. let call = read.direct (omega (arith, none)) large in omega (arith, none, some, large, is, meter _ _ _ _ call.0.call))
-      (cases_lt room S))
-      (cases_lt 0 (length (reader_held old)))
+      elim read [
+        | of_held h call ↦ let same = ap cost call.0 in omega (arith, h, same, is)
+        | went_past none large law empty ↦ omega (arith, ap length none, some, large, is, meter _ _ _ _ law.call)
+        | was_filled none small r law passes ↦ omega (arith, ap length none, some, is, meter _ _ _ _ law.call)
+      ]
 
   -- and so does a `fill_buf`
   pub fill_cost : (cost : R → ℕ) → IsReadMeter K.may cost → (answer : Result (List ℕ) Error) → FillsBelow K old answer new
       → cost (reader_inner new) ≡ cost (reader_inner old) + if_none (length (reader_held old))
   fill_cost cost meter answer fill =
       let is = if_none-is (length (reader_held old)) in
-      ⊎_elim
-      (λ held. let same = ap (λ r. cost (reader_inner r)) (fill.held held).1 in omega (arith, held, same, is))
-      (λ none. let call = fill.filled (omega (arith, none)) in omega (arith, none, some_room old, is, meter _ _ _ _ call.0.call))
-      (cases_lt 0 (length (reader_held old)))
+      elim fill [
+        | lent_held h call same ↦ let kept = ap (λ r. cost (reader_inner r)) same in omega (arith, h, kept, is)
+        | lent_read none law buffer ↦ omega (arith, ap length none, some_room old, is, meter _ _ _ _ law.call)
+      ]
 
   module _ (fills : FillsRoom K) where
     -- how many bytes a read gives
     pub read_gives : (room : ℕ) (answer : Result (List ℕ) Error) → ReadsBelow K old room answer new
         → IsOkAnd answer (λ x. length x ≡ min room (held_or (length (reader_held old)) (length (fills.left (reader_inner old)))))
     read_gives room answer read =
-        ⊎_elim
-        (λ held.
-        let call = read.held held in
-        is_ok _ call.1.0 (length-take room (reader_held old) ∙ ap (min room) (sym (as_held _ _ held))))
-        (λ none.
-        ⊎_elim
-        (λ small.
-        let call = read.filled (omega (arith, none)) small in
-        let one = drawn fills call.0 call.1 in
-        let passes = subst (λ r. PassesOn [] r room answer new) one.is call.2 in
-        let all = as_left (length (reader_held old)) (length (fills.left (reader_inner old))) none in
-        is_ok _ passes.0 (omega (arith, length-take room one.gave, one.count, small, all)))
-        (λ large.
-        let call = read.direct (omega (arith, none)) large in
-        let one = drawn fills answer call.0 in
-        is_ok _ one.is (one.count ∙ ap (min room) (sym (as_left _ _ none))))
-        (cases_lt room S))
-        (cases_lt 0 (length (reader_held old)))
+        let all = as_left (length (reader_held old)) (length (fills.left (reader_inner old))) in
+        elim read [
+          | of_held h call ↦ is_ok _ call.1.0 (length-take room (reader_held old) ∙ ap (min room) (sym (as_held _ _ h)))
+          | went_past none large law empty ↦
+              let one = drawn fills answer law in
+              is_ok _ one.is (one.count ∙ ap (min room) (sym (all (omega (arith, ap length none)))))
+          | was_filled none small r law passes ↦
+              let one = drawn fills r law in
+              let gave = subst (λ r. PassesOn [] r room answer new) one.is passes in
+              is_ok _ gave.0 (omega (arith, length-take room one.gave, one.count, small, all (omega (arith, ap length none))))
+        ]
 
     -- and how many a `fill_buf` lends, all that are held then
     pub fill_gives : (answer : Result (List ℕ) Error) → FillsBelow K old answer new
         → IsOkAnd answer (λ x. (x ≡ reader_held new)
         × (length x ≡ held_or (length (reader_held old)) (min S (length (fills.left (reader_inner old))))))
-    fill_gives answer fill =
-        ⊎_elim
-        (λ held. let call = fill.held held in
-        is_ok _ call.0 (ap reader_held (sym call.1), sym (as_held _ _ held)))
-        (λ none.
-        let call = fill.filled (omega (arith, none)) in
-        let one = drawn fills answer call.0 in
-        is_ok _ one.is (sym (call.1.1 ∙ ap bytes_given one.is), one.count ∙ sym (as_left _ _ none)))
-        (cases_lt 0 (length (reader_held old)))
+    fill_gives answer fill = elim fill [
+      | lent_held h call same ↦ is_ok _ call (ap reader_held (sym same), sym (as_held _ _ h))
+      | lent_read none law buffer ↦
+          let one = drawn fills answer law in
+          is_ok _ one.is (
+            sym (buffer.1 ∙ ap bytes_given one.is),
+            one.count ∙ sym (as_left (length (reader_held old)) _ (omega (arith, ap length none))),
+          )
+    ]
 
 -- the number that a read returns is that of the bytes that it gave
 pub gave_count : {n m : ℕ} (reply : Result ℕ Error) (buf : List ℕ) → IfOk reply (λ k. k ≤ length buf) → n ≡ m

@@ -22,10 +22,15 @@ use Rattle.no_std_io2_base.proofs.TakesLemmas.{gives_none, gives_bytes, gives_wh
 use Rattle.no_std_io2.specs.declared.buffered.buf_reader.BufReader.{BufReader}
 use Rattle.no_std_io2.specs.Buffer.{IsSuffix}
 use Rattle.no_std_io2.specs.BufReader.{reader_held, reader_behind, reader_inner, HasNoBuffer, PassesOn, AsksExact, ExactBelow}
-use Rattle.no_std_io2.specs.BufReader.{LeavesExact, GivesHeld}
+use Rattle.no_std_io2.specs.BufReader.{LeavesExact, GivesHeld, of_held, went_past, was_filled}
 use Rattle.no_std_io2.proofs.BufferedReads.{takes_held}
 use Rattle.no_std_io2.proofs.BufReaderCalls.{buf_reader, by_held}
 use Rattle.no_std_io2.proofs.BufReaderRoom.{held-le}
+
+-- r was read behind bytes of which none were held: y of it is given, and the others are held
+split_more : (held given x y new : List ℕ) {now r : List ℕ} → held ++ given ≡ x ++ now → now ≡ [] → r ≡ y ++ new
+    → held ++ (given ++ r) ≡ (x ++ y) ++ new
+split_more held given x y new split none whole = grind (arith, append_assoc, append-nil)
 
 module _ {R : Type 0} {S : ℕ} (inner : Reader R) (old : BufReader R S) (room : ℕ) where
   -- x was given so far: no call was made yet; or the held bytes were given; or a read was made
@@ -85,11 +90,16 @@ module _ {R : Type 0} {S : ℕ} (inner : Reader R) (old : BufReader R S) (room :
     -- a read gave some bytes more
     below_more : {new : BufReader R S} (y : List ℕ) → ReadCallLaw (buf_reader inner) now (Gave size (Ok y)) new → 0 < length y
         → Below (x ++ y) new
-    below_more {new} y law some = ⊎_elim held none (cases_lt 0 (length (reader_held now)))
+    below_more {new} y law some = elim law.call [
+      | of_held h call ↦ held h call
+      | went_past none large law empty ↦
+          put y size none (omega (arith, large)) law (sym (append-nil y) ∙ ap (λ l. y ++ l) (sym empty.1)) (inl empty.1)
+          (x ++ y, sym (append-nil (x ++ y)) ∙ ap (λ l. (x ++ y) ++ l) (sym empty.0)) (omega (arith, ap length empty.0, old.some_room))
+      | was_filled none small r law passes ↦ fill r none small law passes
+    ]
       where
-        held : 0 < length (reader_held now) → Below (x ++ y) new
-        held h =
-            let call = law.call.held h in
+        held : 0 < length (reader_held now) → GivesHeld now size (Ok y) new → Below (x ++ y) new
+        held h call =
             let is : y ≡ take size (reader_held now) = ap bytes_given call.1.0 in
             record {
               given = before.given;
@@ -108,30 +118,27 @@ module _ {R : Type 0} {S : ℕ} (inner : Reader R) (old : BufReader R S) (room :
             }
 
         -- an inner read that gave r
-        put : (r : List ℕ) (n : ℕ) → length (reader_held now) ≡ 0 → n ≡ max S size
+        put : (r : List ℕ) (n : ℕ) → reader_held now ≡ [] → n ≡ max S size
             → ReadCallLaw inner (reader_inner now) (Gave n (Ok r)) (reader_inner new) → r ≡ y ++ reader_held new
             → (reader_held new ≡ []) ⊎ (length (x ++ y) ≡ room) → IsSuffix (x ++ y) (reader_behind new) → length (reader_behind new) < S
             → Below (x ++ y) new
-        put r n unheld is inner_law whole state front short = record {
+        put r n none is inner_law whole state front short = record {
           given = before.given ++ r;
           reads = record {
             took = bytes_more r before.reads.took inner_law.takes;
             calls = before.reads.calls ++ Gave n (Ok r) ∷ [];
             made = made_more (ReadCallLaw inner) before.reads.calls (reader_inner old) before.reads.made inner_law;
-            gathers = and_gave before.reads.calls before.given r n before.reads.gathers (asks n unheld is)
+            gathers = and_gave before.reads.calls before.given r n before.reads.gathers (asks n (ap length none) is)
                 (omega (arith, some, ap length whole, length-append y (reader_held new)));
           };
-          split = sym (append_assoc (reader_held old) before.given r) ∙ ap (λ l. l ++ r) before.split
-              ∙ ap (λ l. (x ++ l) ++ r) (nil_from_length (reader_held now) unheld) ∙ ap (λ l. l ++ r) (append-nil x)
-              ∙ ap (λ l. x ++ l) whole
-              ∙ sym (append_assoc x y (reader_held new));
+          split = split_more (reader_held old) before.given x y (reader_held new) before.split none whole;
           stage = λ past. past_read state front short;
         }
 
-        filled : (answer : Result (List ℕ) Error) → length (reader_held now) ≡ 0 → size < S
+        fill : (answer : Result (List ℕ) Error) → reader_held now ≡ [] → size < S
             → ReadCallLaw inner (reader_inner now) (Gave S answer) (reader_inner new) → PassesOn [] answer size (Ok y) new
             → Below (x ++ y) new
-        filled (Ok r) none small inner_law passes =
+        fill (Ok r) none small inner_law passes =
             let is : y ≡ take size r = ap bytes_given passes.0 in
             let whole : r ≡ y ++ reader_held new =
             sym (take-append-drop size r) ∙ ap (λ l. l ++ drop size r) (sym is) ∙ ap (λ l. y ++ l) (sym passes.1.1) in
@@ -141,18 +148,7 @@ module _ {R : Type 0} {S : ℕ} (inner : Reader R) (old : BufReader R S) (room :
             (λ all. inl (nil_from_length (reader_held new) (omega (arith, ap length passes.1.1, length-drop size r, all))))
             (cases_lt size (length r)))
             (x, ap (λ l. x ++ l) (is ∙ sym passes.1.0)) (omega (arith, ap length passes.1.0, length-take size r, small))
-        filled (Err e) none small inner_law passes = absurd (let no : ⊥ = cc in no)
-
-        none : length (reader_held now) ≤ 0 → Below (x ++ y) new
-        none h =
-            let empty : length (reader_held now) ≡ 0 = omega (arith, h) in
-            ⊎_elim
-            (λ small. let call = law.call.filled empty small in filled call.0 empty small call.1 call.2)
-            (λ large.
-            let call = law.call.direct empty large in
-            put y size empty (omega (arith, large)) call.0 (sym (append-nil y) ∙ ap (λ l. y ++ l) (sym call.1.1)) (inl call.1.1)
-            (x ++ y, sym (append-nil (x ++ y)) ∙ ap (λ l. (x ++ y) ++ l) (sym call.1.0)) (omega (arith, ap length call.1.0, old.some_room)))
-            (cases_lt size S)
+        fill (Err e) none small inner_law passes = absurd (let no : ⊥ = cc in no)
 
     -- a read gave nothing: the inner read that it made had the same result, and the buffer is empty
     record Stopped (answer : Result (List ℕ) Error) (new : BufReader R S) : Type 0 where
@@ -164,38 +160,26 @@ module _ {R : Type 0} {S : ℕ} (inner : Reader R) (old : BufReader R S) (room :
 
     stops : {new : BufReader R S} (answer : Result (List ℕ) Error) → ReadCallLaw (buf_reader inner) now (Gave size answer) new
         → bytes_given answer ≡ [] → Stopped answer new
-    stops {new} answer law nothing = ⊎_elim
-        (λ some.
-        let call = law.call.held some in
-        absurd (omega (arith, some, into.1, ap length (sym nothing ∙ ap bytes_given call.1.0), length-take size (reader_held now))))
-        (λ h.
-        let empty : length (reader_held now) ≡ 0 = omega (arith, h) in
-        ⊎_elim (λ small. let call = law.call.filled empty small in filled call.0 empty small call.1 call.2)
-        (λ large. let call = law.call.direct empty large in end size empty (omega (arith, large)) call.0 call.1)
-        (cases_lt size S))
-        (cases_lt 0 (length (reader_held now)))
+    stops {new} answer law nothing = elim law.call [
+      | of_held h call ↦
+          absurd (omega (arith, h, into.1, ap length (sym nothing ∙ ap bytes_given call.1.0), length-take size (reader_held now)))
+      | went_past none large law empty ↦ end size none (omega (arith, large)) law empty
+      | was_filled none small r law passes ↦ fill r none small law passes
+    ]
       where
-        end : (n : ℕ) → length (reader_held now) ≡ 0 → n ≡ max S size
-            → ReadCallLaw inner (reader_inner now) (Gave n answer) (reader_inner new)
+        end : (n : ℕ) → reader_held now ≡ [] → n ≡ max S size → ReadCallLaw inner (reader_inner now) (Gave n answer) (reader_inner new)
             → HasNoBuffer new → Stopped answer new
-        end n unheld is inner_law empty =
-            record { part = n; asked = asks n unheld is; law = inner_law; none = nil_from_length (reader_held now) unheld; empty = empty }
+        end n none is inner_law empty =
+            record { part = n; asked = asks n (ap length none) is; law = inner_law; none = none; empty = empty }
 
-        filled : (read : Result (List ℕ) Error) → length (reader_held now) ≡ 0 → size < S
+        fill : (read : Result (List ℕ) Error) → reader_held now ≡ [] → size < S
             → ReadCallLaw inner (reader_inner now) (Gave S read) (reader_inner new) → PassesOn [] read size answer new → Stopped answer new
-        filled (Ok r) none small inner_law passes =
+        fill (Ok r) none small inner_law passes =
             let gone : take size r ≡ [] = sym (ap bytes_given passes.0) ∙ nothing in
             let unread : r ≡ [] = nil_from_length r (omega (arith, ap length gone, length-take size r, into.1)) in
-            end S none (omega (arith, small))
-            (subst (λ a. ReadCallLaw inner (reader_inner now) (Gave S a) (reader_inner new)) (sym (passes.0 ∙ ap Ok (gone ∙ sym unread)))
-            inner_law) (
-              passes.1.0 ∙ gone,
-              nil_from_length (reader_held new)
-                  (omega (arith, ap length passes.1.1, length-drop size r, ap length unread)),
-            )
-        filled (Err e) none small inner_law passes =
-            end S none (omega (arith, small))
-            (subst (λ a. ReadCallLaw inner (reader_inner now) (Gave S a) (reader_inner new)) (sym passes.0) inner_law) passes.1
+            end S none (omega (arith, small)) (rw (passes.0, gone, ← unread) inner_law)
+            (passes.1.0 ∙ gone, nil_from_length (reader_held new) (omega (arith, ap length passes.1.1, length-drop size r, ap length unread)))
+        fill (Err e) none small inner_law passes = end S none (omega (arith, small)) (rw passes.0 inner_law) passes.1
 
     -- a read was interrupted
     below_again : {new : BufReader R S} (e : Error) → ReadCallLaw (buf_reader inner) now (Gave size (Err e)) new → IsInterruption e

@@ -1,4 +1,5 @@
 -- A read to the end of a `BufReader`: the held bytes are appended, and then those that the inner reader's `read_to_end` appends.
+use Rattle.std.proofs.lemmas.Grind.{common_steps}
 use Rattle.std.proofs.Common.{◌≡◌, ℕ, ◌+◌, ◌-◌, ◌<◌, ◌≤◌, List, [], ◌++◌, Result, Ok, Err, length, refl, sym, ap, ◌∙◌, arith, inl}
 use Rattle.std.proofs.Common.{inr}
 use Rattle.std.proofs.Common.{append_assoc, length-append, le_trans, le_refl, Vec, vec_len, vec_capacity, OnOk, IfOk, append-nil}
@@ -26,8 +27,7 @@ ToEndOwn K old buf reply buf' new = ReadToEndLaw (buf_reader K) old buf reply bu
 
 -- all that was held was appended
 pub moved_all : (held rest old : List ℕ) {mid : List ℕ} → HasMoved held rest old mid → rest ≡ [] → mid ≡ old ++ held
-moved_all held rest old (part, split, shown) none =
-    shown ∙ ap (λ l. old ++ l) (sym (split ∙ ap (λ l. part ++ l) none ∙ append-nil part))
+moved_all held rest old (part, split, shown) none = grind (arith, common_steps, append-nil)
 
 module _ {R A : Type 0} {S : ℕ} {K : Reader R} {old new : BufReader R S} {buf buf' : Vec ℕ A} where
   -- the inner reader appended the rest

@@ -170,12 +170,7 @@ module _ {W : Type 0} (I : Writer W) where
         then_tells I (WayCalls S (length x)) (PutCalls S x v past) R fail join (way_tells S (length x)) put_tells write
       where
         put_tells : Tells I (PutCalls S x v past) R
-        put_tells = λ held C reply left put a b made. elim put [
-          | inl kept ↦
-              subst (λ r. R (with_buffer (I.told a) held) r (with_buffer (I.told b) left)) (sym kept.2)
-              (hold _ _ (idle_tells held left x a b kept.1 kept.3 made))
-          | inr gone ↦ pass held C reply left gone.1 a b made
-        ]
+        put_tells = grind (arith, common_steps, idle_tells)
 
     -- and counts what way takes, and what goes past
     pub buffered_counts : (n : ℕ) → Counts I (PastEmpty past) (λ _. n)
@@ -262,9 +257,7 @@ module _ {W : Type 0} (I : Writer W) where
       (all.0, all.1, omega (arith, all.2))
     where
       past_counts : Counts I (PastEmpty (Only Flushed)) (λ _. 0)
-      past_counts = λ held C reply left gone a b made takes.
-          let law = one_call I a b gone.2 made in
-          (law.all takes, call_steady reply takes.1 law.moves, ap charges gone.2 ∙ omega arith)
+      past_counts = grind (arith, common_steps, call_steady, one_call)
 
   module _ {B : Type 0} (inner : B → W) (buffer : B → List ℕ) (S : ℕ) {old new : B} where
     -- what follows for `write` and `write_all`

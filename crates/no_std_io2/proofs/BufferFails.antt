@@ -1,4 +1,5 @@
 -- Which errors a writer with a buffer returns, if each call of its inner writer fails with such errors only.
+use Rattle.std.proofs.lemmas.Grind.{common_steps}
 use Rattle.std.proofs.Common.{◌≡◌, ℕ, ◌<◌, List, ◌∷◌, [], Result, Ok, Err, IfErr, IfOk, length, arith, subst, sym, inl, inr}
 use Rattle.no_std_io2_base.specs.declared.error.Error.{Error}
 use Rattle.no_std_io2_base.specs.Write.{WriteCall, Wrote, WroteAll, Flushed, Made, AllCalls}
@@ -37,10 +38,7 @@ module _ {W : Type 0} (I : Writer W) (Q : Error → Type 0) (fails : FailsOnly Q
   send_fails = λ held C reply left writes a b made. writes_fail Q I.may fails writes a b made
 
   way_fails : (S n : ℕ) → Fails (WayCalls S n)
-  way_fails S n = λ held C reply left way a b made. elim way [
-    | inl kept ↦ subst (λ r. IfErr r Q) (sym kept.2) tt
-    | inr sent ↦ send_fails held C reply left sent.1 a b made
-  ]
+  way_fails S n = grind (arith, common_steps, send_fails)
 
   buffered_gives : {A : Type 0} (P : Result A Error → Type 0) (S : ℕ) (x : List ℕ) (v : A) (past : List WriteCall → Result A Error → Type 0)
       → ((e : Error) → Q e → P (Err e)) → P (Ok v)
@@ -84,10 +82,7 @@ module _ {W : Type 0} (I : Writer W) (Q : Error → Type 0) (fails : FailsOnly Q
 
   -- and so does a line writer
   send_line_fails : Fails SendLineCalls
-  send_line_fails = λ held C reply left sends a b made. elim sends [
-    | inl kept ↦ subst (λ r. IfErr r Q) (sym kept.2) tt
-    | inr sent ↦ send_fails held C reply left sent.1 a b made
-  ]
+  send_line_fails = grind (arith, common_steps, send_fails)
 
   tail_some : (S : ℕ) (x lines : List ℕ) (answer reply : Result ℕ Error) (left : List ℕ) → 0 < length lines
       → HoldsTail S x answer reply left

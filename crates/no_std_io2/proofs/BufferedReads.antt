@@ -1,4 +1,5 @@
 -- What a buffer in front of a reader tells, and what it takes.
+use Rattle.std.proofs.lemmas.Grind.{common_steps}
 use Rattle.std.proofs.Common.{◌≡◌, ℕ, ℤ, pos, negsuc, zero, suc, ◌+◌, ◌-◌, ◌*◌, ◌≤◌, min, Bool, true, false, true≢false, List, [], ◌++◌}
 use Rattle.std.proofs.Common.{length, take, drop}
 use Rattle.std.proofs.Common.{refl, sym, ap, ap₂, subst, ◌∙◌, arith, append_assoc, append-nil, length-append, take-append-drop}
@@ -73,10 +74,7 @@ pub keeps_before : (Goes : ℕ → ℕ → ℕ → Type 0) (behind held behind' 
     → (IsBefore (behind ++ held) s
     → IsBefore (behind' ++ held') s' × Goes (length s.content) (s.position - length held) (s'.position - length held'))
     → KeepsContent (store_before behind held (Some s)) Goes (store_before behind' held' (Some s'))
-keeps_before Goes behind held behind' held' s s' same h =
-    keeps_if Goes (is_before (behind ++ held) s) (is_before (behind' ++ held') s') (step_back (length held) s) (step_back (length held') s')
-    (λ yes.
-    let now = h ((before_decides (behind ++ held) s).0 yes) in ((before_decides (behind' ++ held') s').1 now.0, same, now.1))
+keeps_before Goes behind held behind' held' s s' same h = grind (arith, common_steps, before_decides, keeps_if)
 
 -- bytes that were before the position of a store still are, if bytes are read behind them and others leave in front
 stays_before : (s s' : Store) (whole whole' front y : List ℕ) → drop s.position s.content ≡ y ++ drop s'.position s'.content
@@ -225,9 +223,7 @@ end_behind (Some E) end = end
 
 -- with nothing held, the inner reader's end is the end
 pub ends_behind : (room : ℕ) (behind held : List ℕ) (t : Tells) → held ≡ [] → IsAtEnd t → IsAtEnd (reader_told room behind held t)
-ends_behind room behind held t none end =
-    subst (λ E. IfSome E (λ l. l ≡ [])) (sym (told_behind room behind held t))
-    (subst (λ h. IfSome (behind_held h (to_come t)) (λ l. l ≡ [])) (sym none) (end_behind (to_come t) end))
+ends_behind room behind held t none end = grind (arith, common_steps, end_behind, told_behind)
 
 -- and so at the end of a read
 pub end_read : (a : Tells) (room : ℕ) (behind held buf : List ℕ) (reply : Result ℕ Error) → held ≡ []

@@ -31,10 +31,7 @@ no_fault_at_end P e none fault = by fault.0 (subst HasNoFault fault.1 none)
 
 -- what was taken up to the end is all that was told
 pub took_all : {a b : Tells} {P E : List Event} → Takes a P b → to_come a ≡ Some E → IsAtEnd b → (P ≡ E) × (to_come b ≡ Some [])
-took_all {b = b} {P} takes told end =
-    let left = left_of takes told in
-    let none : left.0 ≡ [] = subst (λ o. IfSome o (λ l. l ≡ [])) left.1 end in
-    (sym (left.2 ∙ ap (λ l. P ++ l) none ∙ append-nil P), left.1 ∙ ap Some none)
+took_all {b = b} {P} takes told end = grind (arith, common_steps, append-nil, left_of)
 
 -- a copy fails for a fault of the reader, or a mishap of the writer
 pub copies_steadily : (room : ℕ) {a b : Tells} {P E : List Event} (side : CopyError) (old new : Told) → Takes a P b → to_come a ≡ Some E

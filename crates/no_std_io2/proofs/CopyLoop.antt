@@ -1,4 +1,5 @@
 -- A loop that passes on what it reads, piece by piece, for any reader and any writer.
+use Rattle.std.proofs.lemmas.Grind.{common_steps}
 use Rattle.std.proofs.Common.{◌≡◌, ℕ, ◌+◌, ◌-◌, ◌^◌, ◌<◌, ◌≤◌, min, List, [], ◌∷◌, ◌++◌, Result, Ok, Err, length, take, refl, sym, ap}
 use Rattle.std.proofs.Common.{subst, ◌∙◌, arith, append_assoc, append-nil, length-append, length-take-le}
 use Rattle.std.specs.List.{concat}
@@ -153,8 +154,7 @@ module _ {R W : Type 0} {K : Reader R} {I : Writer W} {S : ℕ} {from : R} {old 
 
         module _ {new : W} {reply : Result (Unit {0}) Error} (wrote : WriteAllOf I now x reply new) where
           handed : Handed S (before.pieces ++ x ∷ []) (before.writes ++ wrote.calls.0) reply
-          handed = handed_more reply before.handed refl (omega (arith, size, some_bytes n some))
-              (omega (arith, size, read.bound, long)) wrote.calls.2
+          handed = grind (arith, common_steps, handed_more, long, size, some_bytes)
 
           made : Made (CallOf I) old (before.writes ++ wrote.calls.0) new
           made = made_then (CallOf I) before.writes old wrote.calls.0 now new before.made wrote.calls.1

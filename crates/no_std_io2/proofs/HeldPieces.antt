@@ -1,4 +1,5 @@
 -- A piece at the front of the held bytes, and what lies behind after a piece was taken.
+use Rattle.std.proofs.lemmas.Grind.{common_steps}
 use Rattle.std.proofs.Common.{◌≡◌, ℕ, ◌<◌, Bool, true, List, [], ◌∷◌, ◌++◌, length, take, drop, refl, sym, ap, ap₂, subst, ◌∙◌}
 use Rattle.std.proofs.Common.{arith}
 use Rattle.std.proofs.Common.{Result, Ok, Err, ⊎_elim, inl, inr, append_assoc, append-nil, length-append, length-take-le, take-append-drop}
@@ -17,7 +18,7 @@ use Rattle.no_std_io2_base.specs.Pieces.{PieceCalls}
 use Rattle.no_std_io2_base.proofs.CallsLemmas.{made_split}
 use Rattle.no_std_io2.specs.declared.buffered.buf_reader.BufReader.{BufReader}
 use Rattle.no_std_io2.specs.Buffer.{IsSuffix}
-use Rattle.no_std_io2.specs.BufReader.{reader_held, reader_behind, reader_inner, FillsBelow, HasBuffer, TakesHeld, TakesHeldLine}
+use Rattle.no_std_io2.specs.BufReader.{reader_held, reader_behind, reader_inner, FillsBelow, lent_held, lent_read, HasBuffer, TakesHeld, TakesHeldLine}
 use Rattle.no_std_io2.proofs.BufReaderCalls.{buf_lender}
 
 -- if d is among the bytes, they do not lack it
@@ -163,10 +164,8 @@ module _ {R : Type 0} {S : ℕ} (K : Reader R) (old : BufReader R S) (line rest 
 -- what is behind after a `fill_buf`
 filled_behind : {R : Type 0} {S : ℕ} {K : Reader R} {answer : Result (List ℕ) Error} (x : List ℕ) (old new : BufReader R S)
     → FillsBelow K old answer new → IsSuffix x (reader_behind old) → IsSuffix x (reader_behind new)
-filled_behind x old new fills front = ⊎_elim
-    (λ some. (front.0, front.1 ∙ ap (λ r. front.0 ++ reader_behind r) (sym (fills.held some).1)))
-    (λ none. (x, sym (append-nil x) ∙ ap (λ l. x ++ l) (sym (fills.filled (omega (arith, none))).1.0)))
-    (cases_lt 0 (length (reader_held old)))
+filled_behind x old new (lent_held h is same) front = (front.0, front.1 ∙ ap (λ r. front.0 ++ reader_behind r) (sym same))
+filled_behind x old new (lent_read none law buffer) front = (x, sym (append-nil x) ∙ ap (λ l. x ++ l) (sym buffer.0))
 
 -- and after a `consume`
 consumed_behind : (x part : List ℕ) {behind behind' : List ℕ} → IsSuffix x behind → behind' ≡ behind ++ part → IsSuffix (x ++ part) behind'
@@ -177,9 +176,7 @@ module _ {R : Type 0} {S : ℕ} (K : Reader R) (old : BufReader R S) (d : ℕ) w
   lent_behind : (x lent : List ℕ) (n : ℕ) (now mid new : BufReader R S) → IsSuffix x (reader_behind now)
       → LendCallLaw (buf_lender K) now (Filled (Ok lent)) mid → LendCallLaw (buf_lender K) mid (Consumed n) new
       → IsSuffix (x ++ take n lent) (reader_behind new)
-  lent_behind x lent n now mid new front filled dropped =
-      consumed_behind x (take n lent) (filled_behind x now mid filled.call front)
-      (dropped.1.call.1.0 ∙ ap (λ l. reader_behind mid ++ take n l) filled.lends)
+  lent_behind x lent n now mid new front filled dropped = grind (arith, common_steps, consumed_behind, filled_behind)
 
   parts_behind : {C : List ReadCall} {x : List ℕ} → PartCalls d C x → (now : BufReader R S) → Made (LendCallLaw (buf_lender K)) old C now
       → IsSuffix (reader_behind old ++ x) (reader_behind now)

@@ -249,10 +249,7 @@ module _ {W : Type 0} (I : Writer W) where
   pub line_write_all_tells : (S : ℕ) {x held left : List ℕ} {C : List WriteCall} {reply : Result (Unit {0}) Error}
       → LineWriteAllCalls S x held C reply left → (a b : W) → Made (CallOf I) a C b
       → MovesFront (with_buffer (I.told a) held) x reply (with_buffer (I.told b) left) × IsNoInterruption reply
-  line_write_all_tells S write a b made = elim write [
-    | inl plain ↦ plain_tells S plain.1 a b made
-    | inr lines ↦ lines_tells S lines.1 a b made
-  ]
+  line_write_all_tells S write a b made = grind (arith, lines_tells, plain_tells)
 
   lines_keep : (S : ℕ) (x : List ℕ) {held left : List ℕ} {C : List WriteCall} {reply : Result (Unit {0}) Error}
       → Then (SendLinesCalls S (lines_of x)) (WriteAllCalls S (unfinished_line x)) held C reply left → (a b : W) → Made (CallOf I) a C b

@@ -194,10 +194,7 @@ all_lines_state S x (goes_on {mid = mid} {reply = reply} p q) line some =
 
 pub line_write_all_state : (S : ℕ) {x held left : List ℕ} {C : List WriteCall} {reply : Result (Unit {0}) Error}
     → LineWriteAllCalls S x held C reply left → IsLineState held → IsLineState left × OnOk reply (Lacks newline left)
-line_write_all_state S {x} write line = elim write [
-  | inl plain ↦ text_state S x tt _ plain.1 line plain.0
-  | inr lines ↦ all_lines_state S x lines.1 line (lines_some x lines.0)
-]
+line_write_all_state S {x} write line = grind (arith, common_steps, all_lines_state, lines_some, text_state)
 
 pub line_write_all_fits : (S : ℕ) {x held left : List ℕ} {C : List WriteCall} {reply : Result (Unit {0}) Error}
     → LineWriteAllCalls S x held C reply left

@@ -107,21 +107,22 @@ GivesHeld old room answer new =
 
 -- The inner call of a `read` of a `BufReader`. If bytes are held, there is none. If none are held, it reads once: into the caller's room if
 -- that is as large as the buffer, and else into the buffer.
-pub record ReadsBelow {R : Type 0} {S : ℕ} (inner : Reader R) (old : BufReader R S) (room : ℕ) (answer : Result (List ℕ) Error)
+pub data ReadsBelow {R : Type 0} {S : ℕ} (inner : Reader R) (old : BufReader R S) (room : ℕ) (answer : Result (List ℕ) Error)
     (new : BufReader R S) : Type 0 where
-  pub held : 0 < length (reader_held old) → GivesHeld old room answer new
-  pub direct : length (reader_held old) ≡ 0 → S ≤ room
-      → ReadCallLaw inner (reader_inner old) (Gave room answer) (reader_inner new) × HasNoBuffer new
-  pub filled : length (reader_held old) ≡ 0 → room < S → (read : Result (List ℕ) Error)
-      × ReadCallLaw inner (reader_inner old) (Gave S read) (reader_inner new) × PassesOn [] read room answer new
+  of_held : 0 < length (reader_held old) → GivesHeld old room answer new → ReadsBelow inner old room answer new
+  went_past : reader_held old ≡ [] → S ≤ room → ReadCallLaw inner (reader_inner old) (Gave room answer) (reader_inner new) → HasNoBuffer new
+      → ReadsBelow inner old room answer new
+  was_filled : reader_held old ≡ [] → room < S → (read : Result (List ℕ) Error)
+      → ReadCallLaw inner (reader_inner old) (Gave S read) (reader_inner new) → PassesOn [] read room answer new
+      → ReadsBelow inner old room answer new
 
 -- A `fill_buf` of a `BufReader` changes nothing while bytes are held, and lends them. If none are, it makes one inner read into the buffer,
 -- and lends what it gave.
-pub record FillsBelow {R : Type 0} {S : ℕ} (inner : Reader R) (old : BufReader R S) (answer : Result (List ℕ) Error)
+pub data FillsBelow {R : Type 0} {S : ℕ} (inner : Reader R) (old : BufReader R S) (answer : Result (List ℕ) Error)
     (new : BufReader R S) : Type 0 where
-  pub held : 0 < length (reader_held old) → (answer ≡ Ok (reader_held old)) × (new ≡ old)
-  pub filled : length (reader_held old) ≡ 0
-      → ReadCallLaw inner (reader_inner old) (Gave S answer) (reader_inner new) × HasBuffer new [] (bytes_given answer)
+  lent_held : 0 < length (reader_held old) → answer ≡ Ok (reader_held old) → new ≡ old → FillsBelow inner old answer new
+  lent_read : reader_held old ≡ [] → ReadCallLaw inner (reader_inner old) (Gave S answer) (reader_inner new)
+      → HasBuffer new [] (bytes_given answer) → FillsBelow inner old answer new
 
 -- a `read_to_end` could not grow the vector for the held bytes: it appended x, the first of them, and no inner call was made
 abbrev RefusesAll : {R : Type 0} {S : ℕ} → BufReader R S → List ℕ → Result (Unit {0}) Error → BufReader R S → Type 0

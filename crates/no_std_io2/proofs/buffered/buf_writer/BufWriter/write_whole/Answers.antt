@@ -1,4 +1,5 @@
 -- There is room for the record, which is then held; or no room could be made.
+use Rattle.std.proofs.lemmas.Grind.{common_steps}
 use Rattle.std.proofs.Common.{◌≡◌, ℕ, ◌+◌, ◌<◌, List, [], ◌∷◌, ◌++◌, length, Ok, Err, refl, sym, ap, subst, ◌∙◌, arith, append_assoc}
 use Rattle.std.proofs.Common.{length-append}
 use Rattle.std.proofs.lemmas.Result.{err_from_is_err_and}
@@ -18,12 +19,7 @@ module _ {W : Type 0} {S : ℕ} (I : Writer W) {old : BufWriter W S} {n : ℕ} (
   no_room : {new : BufWriter W S} (e : Error) → TakesStep I writer_inner writer_buffer (WayCalls S n) old (Err e) new
       → Moves (writer_told I.told old) [] (error_kind e ∷ []) (writer_told I.told new) → IsFault e
       → Puts I writer_inner writer_buffer S (head ++ tail) old (Err e) new
-  no_room {new} e way moves fault = record {
-    moves = moves;
-    fault = fault;
-    calls = then_stops _ _
-        (subst (λ k. TakesStep I writer_inner writer_buffer (WayCalls S k) old (Err e) new) (is ∙ sym (length-append head tail)) way);
-  }
+  no_room {new} e way moves fault = grind (arith, common_steps, length-append, then_stops)
 
   room : (mid new : BufWriter W S) → n < S → TakesStep I writer_inner writer_buffer (WayCalls S n) old (Ok tt) mid
       → Moves (writer_told I.told old) [] [] (writer_told I.told mid)

@@ -30,9 +30,7 @@ fewer_left : {a b : Told} {y : List ℕ} {k : List ErrorKind} (x : List ℕ) {he
 fewer_left x {held = held} {n = n} moves some within given rest = grind (arith, common_steps)
 
 pub sends-smaller-in-Ok : goal.sends-smaller-in-Ok
-sends-smaller-in-Ok g c =
-    fewer_left c.as_slice.result.now c.in-Ok.ensures.law.moves c.in-Ok.n-test.1 c.in-Ok.ensures.law.bound c.as_slice.ensures.value
-    c.drop_front.ensures.held
+sends-smaller-in-Ok g c = grind (arith, common_steps, fewer_left)
 
 pub sends-preserved : goal.sends-preserved
 sends-preserved g c =

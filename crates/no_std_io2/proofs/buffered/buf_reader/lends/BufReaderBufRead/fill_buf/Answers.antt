@@ -6,9 +6,8 @@ use Rattle.no_std_io2_base.specs.Read.{tells}
 use Rattle.no_std_io2_base.proofs.Readers.{reader}
 use Rattle.no_std_io2_base.proofs.TakesLemmas.{takes_none, stays_at_end}
 use Rattle.no_std_io2.specs.Buffer.{buffer_held, buffer_behind}
-use Rattle.no_std_io2.specs.BufReader.{reader_held, reader_behind}
+use Rattle.no_std_io2.specs.BufReader.{reader_held, reader_behind, lent_held, lent_read}
 use Rattle.no_std_io2.proofs.BufferedReads.{takes_fill, begins_lent, begins_filled, ends_behind}
-use Rattle.no_std_io2.proofs.BufReaderCalls.{lends_held, lends_filled}
 use Rattle.no_std_io2.proofs.buffered.buf_reader.lends.BufReaderBufRead.fill_buf.Goals as goal
 
 pub returns-then-len-gt0 : goal.returns-then-len-gt0
@@ -16,7 +15,7 @@ returns-then-len-gt0 g c =
     let r = c.args.self.now in
     let is = c.as_slice.ensures.value in
     let some : 0 < length (reader_held r) = omega (arith, c.len.ensures.len, c.if-len-gt0.true) in (
-      (refl, λ _. tt, record { lends = sym is; takes = takes_none _; unchanged = λ _. refl; call = lends_held some (ap Ok is) refl }),
+      (refl, λ _. tt, record { lends = sym is; takes = takes_none _; unchanged = λ _. refl; call = lent_held some (ap Ok is) refl }),
       record {
         law = record {
           held = λ _. is;
@@ -43,7 +42,7 @@ returns-in_err-fill g c =
           takes = takes_fill g.row.S (reader_behind r) held (Err _) fill.read.takes none fill.behind fill.err
               (omega (arith, ap length fill.err));
           unchanged = λ some. absurd (omega (arith, some, ap length none));
-          call = lends_filled (ap length none) fill.read (fill.behind, fill.err);
+          call = lent_read none fill.read (fill.behind, fill.err);
         },
       ),
       record {
@@ -69,7 +68,7 @@ returns g c =
           lends = sym is;
           takes = takes;
           unchanged = λ some. absurd (omega (arith, some, ap length none));
-          call = rw is (lends_filled (ap length none) fill.read (fill.behind, refl));
+          call = rw is (lent_read none fill.read (fill.behind, refl));
         },
       ),
       record {
