@@ -1,7 +1,7 @@
 -- What a call gives if the bytes x are the next to come.
 use Rattle.no_std_io2_base.proofs.{TakesLemmas.{left_of}, EventLemmas.{events_of-append, bytes-events_of, bytes-behind, cut-bytes}}
 use Rattle.no_std_io2_base.proofs.EventLemmas.{cut-append, HasNoFault-front, HasNoFault-behind, HasNoFault-events_of}
-use Rattle.no_std_io2_base.proofs.TakeLemmas.{cut-within}
+use Rattle.no_std_io2_base.proofs.LimitLemmas.{cut-within}
 use Rattle.std.proofs.Common.{◌≤◌, take, drop, take-append-drop, length-take-le, append_assoc, ◌≡◌, ◌+◌, ◌-◌, ◌<◌, ℕ, List, ◌∷◌, ◌++◌, []}
 use Rattle.std.proofs.Common.{length, Result, Ok, Err, IfSome, IsOk, Some, inl, inr, ap, sym, ◌∙◌, subst, arith, append-nil}
 use Rattle.std.proofs.{Common.{length-append}, lemmas.Grind.{common_steps}, lemmas.List.{append_cancel_left}}

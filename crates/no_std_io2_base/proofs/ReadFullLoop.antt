@@ -1,6 +1,6 @@
 -- What a loop that fills a buffer by reads has done so far, and what it has done at each of its ends.
 use Rattle.std.proofs.Common.{◌≡◌, ℕ, ◌+◌, ◌-◌, ◌<◌, ◌≤◌, List, [], ◌∷◌, ◌++◌, Result, Ok, Err, length, take, drop, refl, sym, ap, subst}
-use Rattle.std.proofs.Common.{◌∙◌, arith, le_refl, inr, length-take-le, length-take, length-drop, append_assoc, append-nil, length-append}
+use Rattle.std.proofs.Common.{◌∙◌, arith, le_refl, inl, inr, length-take-le, length-take, length-drop, append_assoc, append-nil, length-append}
 use Rattle.std.proofs.lemmas.Slice.{take-put_mid_below}
 use borrow.Rule.Slice.PartMut.{put_mid}
 use Rattle.no_std_io2_base.specs.{declared.error.Error.{Error}, Errors.{IsInterruption, IsFault}, Events.{fails, bytes}, Read.{Reader}}
@@ -123,3 +123,19 @@ module _ {S : Type 0} {R : Reader S} {old now : S} {buf xs : List ℕ} {start at
         calls = subst (λ x. (C : List ReadCall) × Made (ReadCallLaw R) old C new × FullCalls C (length buf - start) x (Err e))
             (sym (same ∙ before.are)) (calls.0, calls.1, (fault, calls.2));
       }
+
+-- all of it is filled
+pub full_all : {S : Type 0} {R : Reader S} {old now : S} {buf xs : List ℕ} {start at : ℕ} → FullSoFar R old buf start at xs now
+    → length xs ≤ at → ReadFullLaw R old buf start (Ok tt) xs at now
+full_all {R = R} {old} {now} {buf} {xs} {start} {at} before past =
+    let whole : length before.given ≡ length buf - start = omega (arith, before.counts, before.long, past, before.within) in
+    record {
+      taken = before.taken;
+      takes = before.takes;
+      fills = before.filled ∙ ap (λ l. take start buf ++ l) (sym before.are);
+      counts = omega (arith, before.counts, ap length before.are);
+      ends = (before.no_fault, before.gives.within, λ less. absurd (omega (arith, less, ap length before.are, whole)));
+      full = λ none. (refl, before.untouched none);
+      calls = subst (λ x. (C : List ReadCall) × Made (ReadCallLaw R) old C now × FullCalls C (length buf - start) x (Ok tt))
+          (sym before.are) (before.calls, before.made, inl (before.gathers, whole));
+    }

@@ -15,7 +15,7 @@ use Rattle.no_std_io2.specs.declared.io.Cursor.{Cursor}
 use Rattle.no_std_io2.specs.Cursor.{cursor_inner, cursor_left, cursor_position}
 use Rattle.no_std_io2.specs.Events.{events_of}
 use Rattle.no_std_io2.specs.Takes.{Tells, store_at}
-use Rattle.no_std_io2.specs.Take.{take_inner, take_events}
+use Rattle.no_std_io2.specs.Take.{limit_inner, limit_events}
 use Rattle.no_std_io2.specs.Chain.{chain_first, chain_second, chain_events}
 use Rattle.no_std_io2.specs.LineWriter.{line_inner, line_buffer}
 
@@ -29,7 +29,7 @@ in_tower told w = with_buffer (with_buffer (told (writer_inner (line_inner w))) 
 
 -- what a `Take` of a reader that tells this tells: the events up to and including the byte at the limit
 abbrev pub in_take : {R : Type 0} → (R → Tells) → Take R → Tells
-in_take told t = record { events = take_events told t; store = None; turns = (told (take_inner t)).turns }
+in_take told t = record { events = limit_events told t; store = None; turns = (told (limit_inner t)).turns }
 
 -- what a `Chain` of readers that tell this tells: the events of the first, and then those of the second
 abbrev pub in_chain : {R U : Type 0} → (R → Tells) → (U → Tells) → Chain R U → Tells

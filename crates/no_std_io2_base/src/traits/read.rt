@@ -4,7 +4,7 @@ ghost use Rattle.no_std_io2_base.specs.Events.{Event};
 ghost use Rattle.no_std_io2_base.specs.Takes.{to_come};
 ghost use Rattle.no_std_io2_base.specs.Read.{tells, ReadLaw, ReadExactLaw, ReadFullLaw, ReadToEndLaw, ReadCall, bytes_reader};
 ghost use Rattle.no_std_io2_base.specs.ReadToString.{ReadToStringLaw};
-ghost use Rattle.no_std_io2_base.specs.Take.{take_inner, take_limit, take_len, take_events, cut_to_come};
+ghost use Rattle.no_std_io2_base.specs.Take.{limit_inner, limit_left, limit_set, limit_events, cut_to_come};
 
 use super::bytes::Bytes;
 use super::chain::Chain;
@@ -232,10 +232,10 @@ pub trait Read: Stored {
     final fn take(self, limit: u64) -> Take<Self>
     where
         Self: Sized,
-        ensures inner { take_inner result ≡ self }
-        ensures limit { take_limit result ≡ limit }
-        ensures len { take_len result ≡ limit }
-        ensures events { take_events (tells ⟦<Self as Read>⟧) result ≡ cut_to_come limit (to_come (tells ⟦<Self as Read>⟧ self)) }
+        ensures inner { limit_inner result ≡ self }
+        ensures limit { limit_left result ≡ limit }
+        ensures len { limit_set result ≡ limit }
+        ensures events { limit_events (tells ⟦<Self as Read>⟧) result ≡ cut_to_come limit (to_come (tells ⟦<Self as Read>⟧ self)) }
     {
         Take::new(self, limit)
     }

@@ -3,7 +3,7 @@ ghost use types.Logic.{sem};
 ghost use Rattle.std.specs.Borrow.{Lends};
 ghost use Rattle.no_std_io2_base.specs.contracts.traits.take.Take.{the_row as take-row};
 ghost use Rattle.no_std_io2_base.specs.BufRead.{FillBufLaw, AfterLoan, ConsumeLaw, Rests};
-ghost use Rattle.no_std_io2_base.specs.Take.{take_with_inner, take_limit, take_len, take_inner, take_events, take_held, TakeMay};
+ghost use Rattle.no_std_io2_base.specs.Take.{limit_with_inner, limit_left, limit_set, limit_inner, limit_events, limit_held, LimitMay};
 ghost use Rattle.no_std_io2_base.specs.Read.{tells, least_room, ToEndLaw, ReadToEndLaw};
 
 mod seeking;
@@ -30,9 +30,9 @@ pub struct Take<T> {
 
 impl<T> Take<T> {
     pub(crate) fn new(inner: T, limit: u64) -> Take<T>
-        ensures inner { take_inner result ≡ inner }
-        ensures limit { take_limit result ≡ limit }
-        ensures len { take_len result ≡ limit }
+        ensures inner { limit_inner result ≡ inner }
+        ensures limit { limit_left result ≡ limit }
+        ensures len { limit_set result ≡ limit }
     {
         Take {
             inner,
@@ -51,7 +51,7 @@ impl<T> Take<T> {
     /// assert!(rt; r.limit() == 0); // the end
     /// ```
     pub fn limit(&self) -> u64
-        ensures { result ≡ take_limit self.now }
+        ensures { result ≡ limit_left self.now }
     {
         self.limit
     }
@@ -59,9 +59,9 @@ impl<T> Take<T> {
     /// Sets how many more bytes this reader may give from now on, whatever it gave before. Its
     /// positions are counted from here. Follows `std::io::Take::set_limit`.
     pub fn set_limit(&mut self, limit: u64)
-        ensures limit { take_limit self.new ≡ limit }
-        ensures len { take_len self.new ≡ limit }
-        ensures inner { take_inner self.new ≡ take_inner self.old }
+        ensures limit { limit_left self.new ≡ limit }
+        ensures len { limit_set self.new ≡ limit }
+        ensures inner { limit_inner self.new ≡ limit_inner self.old }
     {
         self.limit = limit;
         self.len = limit;
@@ -76,7 +76,7 @@ impl<T> Take<T> {
     /// assert!(rt; r.get_ref().position() == 2);
     /// ```
     pub fn get_ref(&self) -> &T
-        ensures { result.now ≡ take_inner self.now }
+        ensures { result.now ≡ limit_inner self.now }
     {
         &self.inner
     }
@@ -84,15 +84,15 @@ impl<T> Take<T> {
     /// Gets a mutable reference to the inner reader. The limit stays. Follows
     /// `std::io::Take::get_mut`.
     pub fn get_mut(&mut self) -> &mut T
-        ensures value { result.now ≡ take_inner self.old }
-        ensures* writes_back { sem 𝓛 (Lends (take-row T.row) T.row self.entry result (take_with_inner self.old)) }
+        ensures value { result.now ≡ limit_inner self.old }
+        ensures* writes_back { sem 𝓛 (Lends (take-row T.row) T.row self.entry result (limit_with_inner self.old)) }
     {
         &mut self.inner
     }
 
     /// Returns the inner reader, at its position. Follows `std::io::Take::into_inner`.
     pub fn into_inner(self) -> T
-        ensures { result ≡ take_inner self }
+        ensures { result ≡ limit_inner self }
     {
         self.inner
     }
@@ -112,11 +112,11 @@ fn min_with_limit(n: usize, limit: u64) -> usize
 impl<T> Stored for Take<T> {}
 
 impl<T: Read> Read for Take<T> {
-    ghost turns = { λ t. T.turns (take_inner t) };
+    ghost turns = { λ t. T.turns (limit_inner t) };
 
-    ghost events = { take_events (tells T.Read) };
+    ghost events = { limit_events (tells T.Read) };
 
-    ghost may = { TakeMay T.Read };
+    ghost may = { LimitMay T.Read };
 
     #[inline(always)]
     fn read(&mut self, buf: &mut [u8]) -> Result<usize> {
@@ -140,11 +140,11 @@ impl<T: Read> Read for Take<T> {
         ensures law { ReadToEndLaw ⟦<Self as Read>⟧ self.old buf.old result buf.new self.new }
 
         // It needs no more room than for the bytes up to the limit.
-        ensures small_room { ToEndLaw (λ n. vec_capacity buf.old < vec_len buf.old + min (take_limit self.old) (n + least_room))
+        ensures small_room { ToEndLaw (λ n. vec_capacity buf.old < vec_len buf.old + min (limit_left self.old) (n + least_room))
             ⟦<Self as Read>⟧ self.old buf.old result buf.new self.new }
 
         // At limit 0 it returns `Ok(0)`, over every reader.
-        ensures at_limit { take_limit self.old ≡ 0 → result ≡ Ok 0 }
+        ensures at_limit { limit_left self.old ≡ 0 → result ≡ Ok 0 }
     {
         let start = buf.len();
         let mut filled = start;
@@ -171,12 +171,12 @@ impl<T: Read> Read for Take<T> {
 }
 
 impl<T: BufRead> BufRead for Take<T> {
-    ghost held = { take_held T.held };
+    ghost held = { limit_held T.held };
 
     fn fill_buf(&mut self) -> Result<&[u8]>
         ensures law { FillBufLaw ⟦<Self as BufRead>⟧ self.old result }
         // At limit 0 it lends nothing.
-        ensures at_limit { take_limit self.old ≡ 0 → IsOkAnd result (λ s. s.now ≡ []) }
+        ensures at_limit { limit_left self.old ≡ 0 → IsOkAnd result (λ s. s.now ≡ []) }
         ensures* after_borrow { sem 𝓛 (Rests (take-row T.row) self.entry (λ new. AfterLoan ⟦<Self as BufRead>⟧ self.old result new)) }
     {
         if self.limit == 0 {
@@ -189,7 +189,7 @@ impl<T: BufRead> BufRead for Take<T> {
     }
 
     fn consume(&mut self, amount: usize)
-        requires { amount ≤ length (take_held T.held self.old) }
+        requires { amount ≤ length (limit_held T.held self.old) }
         ensures law { ConsumeLaw ⟦<Self as BufRead>⟧ self.old amount self.new }
     {
         if self.limit == 0 {

@@ -3,8 +3,8 @@ ghost use Rattle.std.specs.Int.{w64};
 ghost use Rattle.std.specs.Prelude.{FitsSigned, ◌≡◌, ◌≢◌, ◌<◌, ◌≤◌, ◌^◌, ℕ, Ok, IfSome, IfNone};
 ghost use Rattle.no_std_io2_base.specs.Seek.{IsAtOffset, SeekLaw, StreamLenLaw, StreamPositionLaw, SeekRelativeLaw, Sought, Measured};
 ghost use Rattle.no_std_io2_base.specs.Seek.{Moved};
-ghost use Rattle.no_std_io2_base.specs.Take.{take_len, take_position};
-ghost use Rattle.no_std_io2_base.specs.TakeSeeks.{IsWithin, IsStep, TakeSteps, TakeGoes, TakeMaySeek};
+ghost use Rattle.no_std_io2_base.specs.Take.{limit_set, limit_position};
+ghost use Rattle.no_std_io2_base.specs.LimitSeeks.{IsWithin, IsStep, LimitSteps, LimitGoes, LimitMaySeek};
 
 use super::Take;
 use crate::error::{Result, invalid_seek};
@@ -29,7 +29,7 @@ fn step_towards(to: u64, from: u64) -> (i64, u64)
 impl<T> Take<T> {
     // Returns how far the limit has fallen. Not public, as in Rust's stable std.
     fn position(&self) -> u64
-        ensures is { result ≡ take_position self.now }
+        ensures is { result ≡ limit_position self.now }
         ensures fits { result < 2 ^ 64 }
     {
         self.len.saturating_sub(self.limit)
@@ -50,9 +50,9 @@ impl<T> Take<T> {
 impl<T: Seek> Take<T> {
     // Makes one step of the inner stream, which leads to this position.
     fn step(&mut self, offset: i64, at: u64) -> Result<()>
-        requires leads { IsAtOffset (take_position self.old) offset at }
-        requires within { at ≤ take_len self.old }
-        ensures { TakeSteps T.Seek self.old offset result self.new }
+        requires leads { IsAtOffset (limit_position self.old) offset at }
+        requires within { at ≤ limit_set self.old }
+        ensures { LimitSteps T.Seek self.old offset result self.new }
     {
         self.inner.seek_relative(offset)?;
         self.limit = self.len - at;
@@ -61,8 +61,8 @@ impl<T: Seek> Take<T> {
 
     // Goes to this position. If it is too far for one step of the inner stream, it makes several.
     fn go_to(&mut self, at: u64) -> Result<u64>
-        requires { at ≤ take_len self.old }
-        ensures { TakeGoes T.Seek at self.old result self.new }
+        requires { at ≤ limit_set self.old }
+        ensures { LimitGoes T.Seek at self.old result self.new }
     {
         'steps: while self.position() != at {
             let (offset, next) = step_towards(at, self.position());
@@ -92,13 +92,13 @@ impl<T: Seek> Take<T> {
 /// assert!(rt; r.limit() == 4);
 /// ```
 impl<T: Seek> Seek for Take<T> {
-    ghost may = { TakeMaySeek T.Seek };
+    ghost may = { LimitMaySeek T.Seek };
 
     fn seek(&mut self, pos: SeekFrom) -> Result<u64>
         ensures law { SeekLaw ⟦<Self as Seek>⟧ self.old pos result self.new }
 
         // It goes to its target by steps of the inner stream, or is refused.
-        ensures own { TakeMaySeek T.Seek self.old (Sought pos result) self.new }
+        ensures own { LimitMaySeek T.Seek self.old (Sought pos result) self.new }
     {
         match self.target_within(pos) {
             Some(at) => self.go_to(at),
@@ -109,7 +109,7 @@ impl<T: Seek> Seek for Take<T> {
     fn stream_position(&mut self) -> Result<u64>
         ensures law { StreamPositionLaw ⟦<Self as Seek>⟧ self.old result self.new }
         ensures same { self.new ≡ self.old }
-        ensures position { result ≡ Ok (take_position self.old) }
+        ensures position { result ≡ Ok (limit_position self.old) }
     {
         Ok(self.position())
     }
@@ -119,7 +119,7 @@ impl<T: Seek> Seek for Take<T> {
         ensures law { StreamLenLaw ⟦<Self as Seek>⟧ self.old result self.new }
 
         // It is a call of its own.
-        ensures own { TakeMaySeek T.Seek self.old (Measured result) self.new }
+        ensures own { LimitMaySeek T.Seek self.old (Measured result) self.new }
     {
         Ok(self.len)
     }
@@ -128,7 +128,7 @@ impl<T: Seek> Seek for Take<T> {
         ensures law { SeekRelativeLaw ⟦<Self as Seek>⟧ self.old offset result self.new }
 
         // It is a call of its own.
-        ensures own { TakeMaySeek T.Seek self.old (Moved offset result) self.new }
+        ensures own { LimitMaySeek T.Seek self.old (Moved offset result) self.new }
     {
         match self.target_within(SeekFrom::Current(offset)) {
             Some(at) => self.step(offset, at),

@@ -1,7 +1,7 @@
-use Rattle.no_std_io2.proofs.TakeLoops.{take_line}
-use Rattle.no_std_io2.proofs.TakeAtLimit.{line_at_limit}
+use Rattle.no_std_io2.proofs.LimitLoops.{limit_line}
+use Rattle.no_std_io2.proofs.AtLimit.{line_at_limit}
 use Rattle.promises.proofs.adaptors.keeps_to_its_limit_in_a_line.Goals as goal
 
 pub returns : goal.returns
 returns g c =
-    record { takes = take_line _ c.read_line.ensures.law; at_limit = line_at_limit _ c.read_line.result c.read_line.ensures.law }
+    record { takes = limit_line _ c.read_line.ensures.law; at_limit = line_at_limit _ c.read_line.result c.read_line.ensures.law }

@@ -1,7 +1,7 @@
-use Rattle.no_std_io2.proofs.TakeLoops.{take_until}
-use Rattle.no_std_io2.proofs.TakeAtLimit.{until_at_limit}
+use Rattle.no_std_io2.proofs.LimitLoops.{limit_until}
+use Rattle.no_std_io2.proofs.AtLimit.{until_at_limit}
 use Rattle.promises.proofs.adaptors.keeps_to_its_limit_in_a_piece.Goals as goal
 
 pub returns : goal.returns
 returns g c =
-    record { takes = take_until _ c.read_until.ensures.law; at_limit = until_at_limit _ c.read_until.result c.read_until.ensures.law }
+    record { takes = limit_until _ c.read_until.ensures.law; at_limit = until_at_limit _ c.read_until.result c.read_until.ensures.law }

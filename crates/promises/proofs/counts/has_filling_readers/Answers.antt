@@ -3,7 +3,7 @@ use Rattle.no_std_io2.specs.Cursor.{cursor_left}
 use Rattle.no_std_io2.specs.ReadMeter.{FillsRoom}
 use Rattle.no_std_io2.proofs.InMemoryReads.{fills_left}
 use Rattle.no_std_io2.proofs.StoreLemmas.{told_at}
-use Rattle.no_std_io2.proofs.TakeLemmas.{take_fills}
+use Rattle.no_std_io2.proofs.LimitLemmas.{limit_fills}
 use Rattle.promises.proofs.Levels.{fills_behind, cursor_reader}
 use Rattle.promises.proofs.counts.has_filling_readers.Goals as goal
 
@@ -12,7 +12,7 @@ returns-clause-cursor g c =
     let slice = g.T.AsSlice.slice in
     let cursor : FillsRoom (cursor_reader slice) = fills_left (cursor_left slice) (λ x. told_at (slice x.inner) x.pos)
     (λ old new call given. given) in
-    take_fills (fills_behind (λ b. b.value) {I = cursor_reader slice} cursor)
+    limit_fills (fills_behind (λ b. b.value) {I = cursor_reader slice} cursor)
 
 pub returns-clause-slice : goal.returns-clause-slice
 returns-clause-slice g c = fills_left (λ s. s.now) (λ s. refl) (λ old new call given. given)

@@ -1,5 +1,5 @@
 use Rattle.std.proofs.Common.{◌≤◌, arith, refl, length-take}
-use Rattle.no_std_io2_base.proofs.{ReadExactExits.{some_bytes}, TakeLemmas.{consumed_inner}}
+use Rattle.no_std_io2_base.proofs.{ReadExactExits.{some_bytes}, LimitLemmas.{consumed_inner}}
 use Rattle.no_std_io2_base.proofs.traits.take.TakeBufRead.consume.Goals as goal
 
 pub returns : goal.returns

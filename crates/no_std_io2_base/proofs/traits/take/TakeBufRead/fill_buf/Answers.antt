@@ -1,8 +1,8 @@
 use Rattle.std.proofs.{Common.{Err, arith, refl, sym, ap, ◌∙◌}, lemmas.Grind.{common_steps}, lemmas.Result.{err_from_is_err_and}}
 use Rattle.no_std_io2_base.specs.{BufRead.{lent_bytes}, Take.{lent_within}, Read.{Filled}}
 use Rattle.no_std_io2_base.proofs.{FillBufHeld.{begins_nothing}, ReadExactExits.{some_bytes}, TakesLemmas.{takes_none, lend_law}}
-use Rattle.no_std_io2_base.proofs.{PieceLoop.{filled_law}, TakeLemmas.{take_takes, filled_inner, filled_took, take_most, front_cut}}
-use Rattle.no_std_io2_base.proofs.TakeLemmas.{some_within, none_within, cut_end, cut_zero, none_at_limit, none_lent, filled_at_limit}
+use Rattle.no_std_io2_base.proofs.{PieceLoop.{filled_law}, LimitLemmas.{limit_takes, filled_inner, filled_took, take_most, front_cut}}
+use Rattle.no_std_io2_base.proofs.LimitLemmas.{some_within, none_within, cut_end, cut_zero, none_at_limit, none_lent, filled_at_limit}
 use Rattle.no_std_io2_base.proofs.traits.take.TakeBufRead.fill_buf.Goals as goal
 
 pub returns-then-self-eq0 : goal.returns-then-self-eq0
@@ -22,7 +22,7 @@ returns-in_err-available g c =
         λ _. tt,
         record {
           lends = rw (p.1) (none_lent limit (rw c.in_err-available.was at after.lends));
-          takes = take_takes _ (filled_took _ call);
+          takes = limit_takes _ (filled_took _ call);
           unchanged = λ some. ap (λ x. record c.args.self.now { inner = x }) (after.unchanged (some_within limit _ some));
           call = call;
         },
@@ -40,4 +40,4 @@ returns-in_err-available g c =
 
 pub returns : goal.returns
 returns g c =
-    grind (arith, common_steps, some_bytes, take_most, filled_inner, lend_law, filled_law, take_takes, filled_took, some_within, front_cut, cut_end, none_within)
+    grind (arith, common_steps, some_bytes, take_most, filled_inner, lend_law, filled_law, limit_takes, filled_took, some_within, front_cut, cut_end, none_within)

@@ -1,6 +1,6 @@
 use Rattle.std.proofs.{Common.{◌∷◌, [], Ok, arith, ap, refl, sym, ◌∙◌}, lemmas.Grind.{common_steps}, lemmas.Result.{err_from_is_err_and}}
 use Rattle.no_std_io2_base.specs.Read.{ReadLaw}
-use Rattle.no_std_io2_base.proofs.{Readers.{reader}, TakesLemmas.{read_by}, TakeLemmas.{take_reader, gave_at_limit}, TakeLoops.{take_fell}}
+use Rattle.no_std_io2_base.proofs.{Readers.{reader}, TakesLemmas.{read_by}, LimitLemmas.{limit_reader, gave_at_limit}, LimitLoops.{limit_fell}}
 use Rattle.no_std_io2_base.proofs.ReadToEndLoop.{wrote, to_end_none, to_end_no_room, to_end_refused, to_end_read, to_end_interruption}
 use Rattle.no_std_io2_base.proofs.ReadToEndLoop.{to_end_done, to_end_fault}
 use Rattle.no_std_io2_base.proofs.traits.take.TakeRead.read_to_end.Goals as goal
@@ -18,7 +18,7 @@ returns-in_err-open_room g c =
     let before = c.reads.invariant in
     let room = c.open_room.ensures in
     let refused = c.in_err-open_room.ensures in
-    let fell = take_fell before.reads in
+    let fell = limit_fell before.reads in
     rw (p.1, p.2) (record {
       law = to_end_refused before refused.refused refused.full.1 room.front room.grows
           (λ n is. omega (arith, is, refused.full.0, before.capacity));
@@ -37,7 +37,7 @@ returns-in-Ok-eq0 g c =
           (c.truncate.ensures.items ∙ w.kept) (omega (arith, room.grows, c.truncate.ensures.capacity)) c.len-start.ensures;
       small_room = to_end_done c.reads.invariant c.read.ensures.law c.in-Ok-eq0.is c.in-Ok-eq0.field-0-test w.some
           (c.truncate.ensures.items ∙ w.kept) (omega (arith, room.grows, c.truncate.ensures.capacity)) c.len-start.ensures;
-      at_limit = λ none. absurd (omega (arith, none, take_fell c.reads.invariant.reads, c.reads-test.true));
+      at_limit = λ none. absurd (omega (arith, none, limit_fell c.reads.invariant.reads, c.reads-test.true));
     }
 
 pub returns-in-Err-2 : goal.returns-in-Err-2
@@ -51,7 +51,7 @@ returns-in-Err-2 g c =
           (omega (arith, room.grows, c.truncate-in-Err-2.ensures.capacity));
       small_room = to_end_fault c.reads.invariant c.in-Err.ensures.law fault w.some (c.truncate-in-Err-2.ensures.items ∙ w.kept)
           (omega (arith, room.grows, c.truncate-in-Err-2.ensures.capacity));
-      at_limit = λ none. absurd (omega (arith, none, take_fell c.reads.invariant.reads, c.reads-test.true));
+      at_limit = λ none. absurd (omega (arith, none, limit_fell c.reads.invariant.reads, c.reads-test.true));
     }
 
 pub reads-preserved-in-Ok : goal.reads-preserved-in-Ok
@@ -73,9 +73,9 @@ reads-preserved g c =
 -- a read at the limit would meet the end
 pub returns : goal.returns
 returns g c =
-    let end : ReadLaw (take_reader (reader g.T.Stored g.T.Read)) c.reads.self (0 ∷ []) (Ok 0) (0 ∷ []) c.reads.self =
+    let end : ReadLaw (limit_reader (reader g.T.Stored g.T.Read)) c.reads.self (0 ∷ []) (Ok 0) (0 ∷ []) c.reads.self =
     read_by (Ok 0) (omega arith) (gave_at_limit 1 (omega (arith, c.reads-test.false))) in
-    let fell = take_fell c.reads.invariant.reads in
+    let fell = limit_fell c.reads.invariant.reads in
     record {
       law = to_end_done c.reads.invariant end refl refl (omega arith) c.truncate-2.ensures.items
           (omega (arith, c.truncate-2.ensures.capacity)) c.len-start.ensures;

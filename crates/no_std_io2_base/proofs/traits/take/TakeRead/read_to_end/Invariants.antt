@@ -1,10 +1,10 @@
 -- `read_to_end` ends with its reader's turns.
-use Rattle.no_std_io2_base.specs.Take.{take_inner}
-use Rattle.no_std_io2_base.proofs.{Readers.{reader}, TakeLemmas.{take_reader}, ReadToEndLoop.{ToEndSoFar}}
+use Rattle.no_std_io2_base.specs.Take.{limit_inner}
+use Rattle.no_std_io2_base.proofs.{Readers.{reader}, LimitLemmas.{limit_reader}, ReadToEndLoop.{ToEndSoFar}}
 use Rattle.no_std_io2_base.proofs.traits.take.TakeRead.read_to_end.Given as goal
 
 abbrev pub invariant-reads : goal.invariant-reads
-invariant-reads g l = ToEndSoFar (take_reader (reader g.T.Stored g.T.Read)) l.initial.self l.fn.buf l.filled l.buf l.self
+invariant-reads g l = ToEndSoFar (limit_reader (reader g.T.Stored g.T.Read)) l.initial.self l.fn.buf l.filled l.buf l.self
 
 abbrev pub decreases-reads : goal.decreases-reads
-decreases-reads g l = g.T.Read.turns (take_inner l.self)
+decreases-reads g l = g.T.Read.turns (limit_inner l.self)

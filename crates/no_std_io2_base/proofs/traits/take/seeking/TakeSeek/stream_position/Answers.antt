@@ -1,5 +1,5 @@
 use Rattle.std.proofs.Common.{◌<◌, ◌^◌, subst}
-use Rattle.no_std_io2_base.proofs.TakeSeekLemmas.{stays_here}
+use Rattle.no_std_io2_base.proofs.LimitSeekLemmas.{stays_here}
 use Rattle.no_std_io2_base.proofs.traits.take.seeking.TakeSeek.stream_position.Goals as goal
 
 pub returns-clause-law : goal.returns-clause-law

@@ -6,71 +6,71 @@ use Rattle.no_std_io2_base.specs.{declared.error.Error.{Error}, declared.traits.
 use Rattle.no_std_io2_base.specs.{Events.{bytes, cut}, Read.{Reader, ReadCall, Gave, GaveExactly, GaveAll, Filled, Consumed, ReadCallLaw}}
 use Rattle.no_std_io2_base.specs.{Read.{ReadExactLaw, FillCalls, gave_whole}, BufRead.{Lender, as_reader, lender_tells, LendCallLaw}}
 use Rattle.no_std_io2_base.specs.{BufRead.{ReadUntilLaw, ReadLineLaw, line_room}, Pieces.{newline, PieceMade, PieceEnds, AnswersLine}}
-use Rattle.no_std_io2_base.specs.{Take.{take_limit, TakeTakes}, Write.{Made}}
+use Rattle.no_std_io2_base.specs.{Take.{limit_left, LimitTakes}, Write.{Made}}
 use Rattle.no_std_io2_base.proofs.{CallsLemmas.{made_split}, ReadsAdd.{each_of, piece_adds}, TakesLemmas.{lend_law, made_lend}}
-use Rattle.no_std_io2_base.proofs.{TakeLemmas.{take_reader, take_lender}, TakeLoops.{take_each, take_exact}}
+use Rattle.no_std_io2_base.proofs.{LimitLemmas.{limit_reader, limit_lender}, LimitLoops.{limit_each, limit_exact}}
 
 -- nothing is taken
-pub took_nothing : {T : Type 0} {inner : Reader T} {old new : Take T} {P : List Event} → TakeTakes inner old P new → take_limit old ≡ 0
+pub took_nothing : {T : Type 0} {inner : Reader T} {old new : Take T} {P : List Event} → LimitTakes inner old P new → limit_left old ≡ 0
     → P ≡ []
 took_nothing {P = P} took low = sym took.within ∙ ap (λ k. cut k P) low
 
 module _ {T : Type 0} (inner : Reader T) where
   -- a call changes nothing
-  still : (a b : Take T) (call : ReadCall) → ReadCallLaw (take_reader inner) a call b → take_limit a ≡ 0 → b ≡ a
+  still : (a b : Take T) (call : ReadCall) → ReadCallLaw (limit_reader inner) a call b → limit_left a ≡ 0 → b ≡ a
   still a b (Gave room answer) law low = law.call.1.at_limit low
   still a b (GaveExactly room answer) law low = absurd law.0
   still a b (GaveAll x answer) law low = absurd law.0
   still a b (Filled answer) law low = law.0.3.at_limit low
   still a b (Consumed n) law low = law.0.at_limit low
 
-  stands : (C : List ReadCall) (a b : Take T) → Made (ReadCallLaw (take_reader inner)) a C b → take_limit a ≡ 0 → b ≡ a
+  stands : (C : List ReadCall) (a b : Take T) → Made (ReadCallLaw (limit_reader inner)) a C b → limit_left a ≡ 0 → b ≡ a
   stands [] a b made low = made
   stands (call ∷ C) a b made low =
-      let first = still a made.0 call made.1 low in stands C made.0 b made.2 (ap take_limit first ∙ low) ∙ first
+      let first = still a made.0 call made.1 low in stands C made.0 b made.2 (ap limit_left first ∙ low) ∙ first
 
   -- so each call is made at limit 0
-  last_call : (C : List ReadCall) (call : ReadCall) (a b : Take T) → Made (ReadCallLaw (take_reader inner)) a (C ++ call ∷ []) b
-      → take_limit a ≡ 0 → (c : Take T) × (d : Take T) × (take_limit c ≡ 0) × ReadCallLaw (take_reader inner) c call d
+  last_call : (C : List ReadCall) (call : ReadCall) (a b : Take T) → Made (ReadCallLaw (limit_reader inner)) a (C ++ call ∷ []) b
+      → limit_left a ≡ 0 → (c : Take T) × (d : Take T) × (limit_left c ≡ 0) × ReadCallLaw (limit_reader inner) c call d
   last_call C call a b made low =
-      let parts = made_split (ReadCallLaw (take_reader inner)) C a (call ∷ []) b made in
-      (parts.0, parts.2.0, ap take_limit (stands C a parts.0 parts.1 low) ∙ low, parts.2.1)
+      let parts = made_split (ReadCallLaw (limit_reader inner)) C a (call ∷ []) b made in
+      (parts.0, parts.2.0, ap limit_left (stands C a parts.0 parts.1 low) ∙ low, parts.2.1)
 
   -- the reads of a `read_exact` meet the end
-  fill_at_limit : (C : List ReadCall) (buf : List ℕ) (old new : Take T) (e : Error) → Made (ReadCallLaw (take_reader inner)) old C new
-      → FillCalls C (Err e) buf → take_limit old ≡ 0 → IsUnexpectedEnd e
+  fill_at_limit : (C : List ReadCall) (buf : List ℕ) (old new : Take T) (e : Error) → Made (ReadCallLaw (limit_reader inner)) old C new
+      → FillCalls C (Err e) buf → limit_left old ≡ 0 → IsUnexpectedEnd e
   fill_at_limit C buf old new e made (x, front, inl end) low = end.0
   fill_at_limit C buf old new e made (x, front, inr fault) low =
       let until = fault.1 in
       let last = last_call until.0 (Gave until.1 (Err e)) old new
-      (subst (λ K. Made (ReadCallLaw (take_reader inner)) old K new) until.4 made) low in
+      (subst (λ K. Made (ReadCallLaw (limit_reader inner)) old K new) until.4 made) low in
       absurd (let is = last.3.call.0 last.2 in let no : ⊥ = cc in no)
 
   pub exact_at_limit : {old new : Take T} {buf buf' : List ℕ} (reply : Result (Unit {0}) Error)
-      → ReadExactLaw (take_reader inner) old buf reply buf' new → take_limit old ≡ 0 → OnOk reply (buf' ≡ []) × IfErr reply IsUnexpectedEnd
+      → ReadExactLaw (limit_reader inner) old buf reply buf' new → limit_left old ≡ 0 → OnOk reply (buf' ≡ []) × IfErr reply IsUnexpectedEnd
   exact_at_limit (Ok u) law low =
-      let took = take_exact (Ok u) law in (sym took.1 ∙ ap bytes (took_nothing took.2 low), tt)
+      let took = limit_exact (Ok u) law in (sym took.1 ∙ ap bytes (took_nothing took.2 low), tt)
   exact_at_limit {old} {new} {buf' = buf'} (Err e) law low = (tt, by law.calls.calls law.calls.made law.calls.are)
     where
-      by : (C : List ReadCall) → Made (ReadCallLaw (take_reader inner)) old C new
+      by : (C : List ReadCall) → Made (ReadCallLaw (limit_reader inner)) old C new
           → (C ≡ GaveExactly (length buf') (gave_whole (Err e) buf') ∷ []) ⊎ FillCalls C (Err e) buf' → IsUnexpectedEnd e
-      by C made (inl is) = absurd (subst (λ K. Made (ReadCallLaw (take_reader inner)) old K new) is made).1.0
+      by C made (inl is) = absurd (subst (λ K. Made (ReadCallLaw (limit_reader inner)) old K new) is made).1.0
       by C made (inr calls) = fill_at_limit C buf' old new e made calls low
 
 module _ {T : Type 0} (inner : Lender T) where
   -- a `fill_buf` at limit 0 lends nothing
   lends_nothing : (C : List ReadCall) (old new : Take T) (answer : Result (List ℕ) Error)
-      → Made (LendCallLaw (take_lender inner)) old (C ++ Filled answer ∷ []) new → take_limit old ≡ 0 → answer ≡ Ok []
+      → Made (LendCallLaw (limit_lender inner)) old (C ++ Filled answer ∷ []) new → limit_left old ≡ 0 → answer ≡ Ok []
   lends_nothing C old new answer made low =
       let last = last_call (as_reader inner) C (Filled answer) old new
-      (made_lend (take_lender inner) (C ++ Filled answer ∷ []) old new made) low in
+      (made_lend (limit_lender inner) (C ++ Filled answer ∷ []) old new made) low in
       last.3.0.1 last.2
 
   -- so no piece is taken
   pub piece_at_limit : {old new : Take T} {d : ℕ} {x : List ℕ} (read : Result ℕ Error)
-      → PieceMade (Unit {0}) (LendCallLaw (take_lender inner)) old d read x new → take_limit old ≡ 0 → IfErr read (λ _. ⊥) × (x ≡ [])
+      → PieceMade (Unit {0}) (LendCallLaw (limit_lender inner)) old d read x new → limit_left old ≡ 0 → IfErr read (λ _. ⊥) × (x ≡ [])
   piece_at_limit {old} {new} {x = x} (Ok n) m low =
-      let took = piece_adds (each_of (lend_law (take_lender inner)) (take_each {inner = as_reader inner})) (Ok n) old new m in
+      let took = piece_adds (each_of (lend_law (limit_lender inner)) (limit_each {inner = as_reader inner})) (Ok n) old new m in
       (tt, nothing x (sym took.1 ∙ ap (λ P. length (bytes P)) (took_nothing took.2 low)))
     where
       nothing : (x : List ℕ) → length x ≡ 0 → x ≡ []
@@ -78,30 +78,30 @@ module _ {T : Type 0} (inner : Lender T) where
       nothing (b ∷ x) none = absurd (omega (arith, none))
   piece_at_limit {old} {new} (Err e) m low = absurd (elim m.are.2 [
     | inl fault ↦
-        let is = lends_nothing m.are.0 old new (Err e) (subst (λ K. Made (LendCallLaw (take_lender inner)) old K new) fault.1 m.made) low in
+        let is = lends_nothing m.are.0 old new (Err e) (subst (λ K. Made (LendCallLaw (limit_lender inner)) old K new) fault.1 m.made) low in
         let no : ⊥ = cc in no
     | inr refused ↦
         let lent = refused.2 in
         let is = lends_nothing m.are.0 old new (Ok lent)
-        (subst (λ K. Made (LendCallLaw (take_lender inner)) old K new) refused.4 m.made) low in
+        (subst (λ K. Made (LendCallLaw (limit_lender inner)) old K new) refused.4 m.made) low in
         let none : lent ≡ [] = cc in
         let no : ⊥ = omega (arith, refused.3, ap length none) in no
   ])
 
   pub until_at_limit : {A : Type 0} {old new : Take T} {d : ℕ} {buf buf' : Vec ℕ A} (reply : Result ℕ Error)
-      → ReadUntilLaw (take_lender inner) old d buf reply buf' new → take_limit old ≡ 0 → reply ≡ Ok 0
+      → ReadUntilLaw (limit_lender inner) old d buf reply buf' new → limit_left old ≡ 0 → reply ≡ Ok 0
   until_at_limit (Ok n) law low = ap Ok (law.ends.1 ∙ ap length (piece_at_limit (Ok n) law.calls low).1)
   until_at_limit (Err e) law low = absurd (piece_at_limit (Err e) law.calls low).0
 
   -- an empty line is appended, which needs no room
   pub line_at_limit : {A : Type 0} {old new : Take T} {buf buf' : String A} (reply : Result ℕ Error)
-      → ReadLineLaw (take_lender inner) old buf reply buf' new → take_limit old ≡ 0 → (reply ≡ Ok 0)
+      → ReadLineLaw (limit_lender inner) old buf reply buf' new → limit_left old ≡ 0 → (reply ≡ Ok 0)
       × (string_bytes buf' ≡ string_bytes buf)
   line_at_limit {old = old} {buf = buf} {buf'} reply law low =
       let (ok, none) = piece_at_limit law.read law.calls low in
       by reply law.read (bytes law.taken) none ok (counts law.read law.ends) law.answers
     where
-      counts : (read : Result ℕ Error) → PieceEnds (λ n. line_room buf < n) newline (lender_tells (take_lender inner) old) law.taken read
+      counts : (read : Result ℕ Error) → PieceEnds (λ n. line_room buf < n) newline (lender_tells (limit_lender inner) old) law.taken read
           → IfOk read (λ n. n ≡ length (bytes law.taken))
       counts (Ok n) ends = ends.1
       counts (Err e) ends = tt

@@ -5,20 +5,20 @@ use Rattle.std.proofs.{Common.{length-append, length-take, length-take-le, lengt
 use Rattle.no_std_io2_base.specs.{declared.error.Error.{Error}, declared.traits.take.Take.{Take}, Events.{Event, byte, fails, events_of}}
 use Rattle.no_std_io2_base.specs.{Events.{bytes, cut, BeginsWith}, Takes.{Takes, AreTaken}, Read.{Reader, tells, ReadCall, Gave, Filled}}
 use Rattle.no_std_io2_base.specs.Read.{Consumed, ReadCallLaw, GaveLaw, ReadLaw, gave, bytes_given, answered, fault_of}
-use Rattle.no_std_io2_base.specs.{ReadMeter.{FillsRoom}, BufRead.{Lender, as_reader, lender_tells, ConsumeLaw}, Take.{take_held}}
-use Rattle.no_std_io2_base.specs.Take.{take_inner, take_limit, take_len, take_events, cut_to_come, lent_within, TakeTakes, TakeAsks}
-use Rattle.no_std_io2_base.specs.Take.{TakeMay}
+use Rattle.no_std_io2_base.specs.{ReadMeter.{FillsRoom}, BufRead.{Lender, as_reader, lender_tells, ConsumeLaw}, Take.{limit_held}}
+use Rattle.no_std_io2_base.specs.Take.{limit_inner, limit_left, limit_set, limit_events, cut_to_come, lent_within, LimitTakes, LimitAsks}
+use Rattle.no_std_io2_base.specs.Take.{LimitMay}
 use Rattle.no_std_io2_base.proofs.{EventLemmas.{bytes-append, bytes-events_of}, FillBufHeld.{begins_cut}, TakesLemmas.{takes_then}}
 use Rattle.no_std_io2_base.proofs.TakesLemmas.{cut-none, cut-fitting, cut-error, read_law, read_by, lend_law}
 use lib.Seq.{take-take}
 
 -- a `Take`, as the laws of its calls see it
-abbrev pub take_reader : {T : Type 0} → Reader T → Reader (Take T)
-take_reader inner = record {
+abbrev pub limit_reader : {T : Type 0} → Reader T → Reader (Take T)
+limit_reader inner = record {
   store = λ t. None;
-  turns = λ t. inner.turns (take_inner t);
-  events = take_events (tells inner);
-  may = TakeMay inner;
+  turns = λ t. inner.turns (limit_inner t);
+  events = limit_events (tells inner);
+  may = LimitMay inner;
 }
 
 -- events within a limit are the first of those that are cut there
@@ -74,63 +74,63 @@ gave_most room limit left some x5 is gave = grind (arith, common_steps)
 
 module _ {T : Type 0} {inner : Reader T} where
   -- what the inner reader took, the `Take` took
-  pub take_takes : {old new : Take T} (P : List Event) → TakeTakes inner old P new
-      → Takes (tells (take_reader inner) old) P (tells (take_reader inner) new)
-  take_takes {old} {new} P took = grind (arith, common_steps, cut_taken)
+  pub limit_takes : {old new : Take T} (P : List Event) → LimitTakes inner old P new
+      → Takes (tells (limit_reader inner) old) P (tells (limit_reader inner) new)
+  limit_takes {old} {new} P took = grind (arith, common_steps, cut_taken)
 
   -- nothing
-  pub take_none : (t : Take T) → TakeTakes inner t [] t
-  take_none t = grind (arith, common_steps)
+  pub limit_none : (t : Take T) → LimitTakes inner t [] t
+  limit_none t = grind (arith, common_steps)
 
   -- some events and then others
-  pub take_then : {a b c : Take T} {P Q : List Event} → TakeTakes inner a P b → TakeTakes inner b Q c → TakeTakes inner a (P ++ Q) c
-  take_then {P = P} {Q} first next = grind (arith, common_steps, takes_then, cut-within, bytes-append, length-append)
+  pub limit_then : {a b c : Take T} {P Q : List Event} → LimitTakes inner a P b → LimitTakes inner b Q c → LimitTakes inner a (P ++ Q) c
+  limit_then {P = P} {Q} first next = grind (arith, common_steps, takes_then, cut-within, bytes-append, length-append)
 
   -- a call took what its inner call took
-  asked : {old new : Take T} {call : ReadCall} {n : ℕ} (P : List Event) → TakeAsks inner old call n new → (take_limit old ≡ 0 → P ≡ [])
-      → (0 < take_limit old → Takes (tells inner (take_inner old)) P (tells inner (take_inner new)) × (cut (take_limit old) P ≡ P)
-      × (length (bytes P) ≡ n)) → TakeTakes inner old P new
+  asked : {old new : Take T} {call : ReadCall} {n : ℕ} (P : List Event) → LimitAsks inner old call n new → (limit_left old ≡ 0 → P ≡ [])
+      → (0 < limit_left old → Takes (tells inner (limit_inner old)) P (tells inner (limit_inner new)) × (cut (limit_left old) P ≡ P)
+      × (length (bytes P) ≡ n)) → LimitTakes inner old P new
   asked {old} {new} P asks none took = grind (arith, common_steps)
 
-  pub gave_took : {old new : Take T} (room : ℕ) (answer : Result (List ℕ) Error) → TakeMay inner old (Gave room answer) new
-      → TakeTakes inner old (answered answer) new
+  pub gave_took : {old new : Take T} (room : ℕ) (answer : Result (List ℕ) Error) → LimitMay inner old (Gave room answer) new
+      → LimitTakes inner old (answered answer) new
   gave_took {old} room answer (at_limit, asks) = grind (arith, common_steps, asked, answered_within, bytes-answered)
 
-  pub filled_took : {old new : Take T} (answer : Result (List ℕ) Error) → TakeMay inner old (Filled answer) new
-      → TakeTakes inner old (fault_of answer) new
+  pub filled_took : {old new : Take T} (answer : Result (List ℕ) Error) → LimitMay inner old (Filled answer) new
+      → LimitTakes inner old (fault_of answer) new
   filled_took {old} {new} answer (lent, at_limit, above, asks) = grind (arith, common_steps, asked, fault_within, fault-within, fault-bytes)
 
-  pub consumed_took : {old new : Take T} {n : ℕ} → TakeMay inner old (Consumed n) new
-      → (P : List Event) × (length (bytes P) ≡ n) × TakeTakes inner old P new
-  consumed_took {old} {new} {n} asks = grind (arith, common_steps, cases_lt, bytes-events_of, cut-fitting, take_none)
+  pub consumed_took : {old new : Take T} {n : ℕ} → LimitMay inner old (Consumed n) new
+      → (P : List Event) × (length (bytes P) ≡ n) × LimitTakes inner old P new
+  consumed_took {old} {new} {n} asks = grind (arith, common_steps, cases_lt, bytes-events_of, cut-fitting, limit_none)
 
   -- at limit 0 a `read` gives nothing
-  pub gave_at_limit : {t : Take T} (room : ℕ) → take_limit t ≡ 0 → GaveLaw (take_reader inner) t room (Ok []) t
+  pub gave_at_limit : {t : Take T} (room : ℕ) → limit_left t ≡ 0 → GaveLaw (limit_reader inner) t room (Ok []) t
   gave_at_limit {t} room low = grind (arith, common_steps)
 
   -- above 0 it is one inner read into as much of the room as the limit allows
-  pub gave_inner : {old new : Take T} (room : ℕ) (answer : Result (List ℕ) Error) → 0 < take_limit old
-      → GaveLaw inner (take_inner old) (min room (take_limit old)) answer (take_inner new)
-      → take_limit new + length (bytes_given answer) ≡ take_limit old → take_len new ≡ take_len old
-      → GaveLaw (take_reader inner) old room answer new
-  gave_inner {old} {new} room answer some law falls same = grind (arith, common_steps, take_takes, gave_took, cut_end)
+  pub gave_inner : {old new : Take T} (room : ℕ) (answer : Result (List ℕ) Error) → 0 < limit_left old
+      → GaveLaw inner (limit_inner old) (min room (limit_left old)) answer (limit_inner new)
+      → limit_left new + length (bytes_given answer) ≡ limit_left old → limit_set new ≡ limit_set old
+      → GaveLaw (limit_reader inner) old room answer new
+  gave_inner {old} {new} room answer some law falls same = grind (arith, common_steps, limit_takes, gave_took, cut_end)
 
   -- so it is, if the inner reader read into a part of the buffer
-  pub reads_inner : {old new : Take T} {before into part : List ℕ} (whole : List ℕ) (reply : Result ℕ Error) → 0 < take_limit old
-      → ReadLaw inner (take_inner old) into reply part (take_inner new) → length part ≡ min (length whole) (take_limit old)
-      → gave reply whole ≡ gave reply part → take_limit new + length (bytes_given (gave reply part)) ≡ take_limit old
-      → take_len new ≡ take_len old → ReadLaw (take_reader inner) old before reply whole new
+  pub reads_inner : {old new : Take T} {before into part : List ℕ} (whole : List ℕ) (reply : Result ℕ Error) → 0 < limit_left old
+      → ReadLaw inner (limit_inner old) into reply part (limit_inner new) → length part ≡ min (length whole) (limit_left old)
+      → gave reply whole ≡ gave reply part → limit_left new + length (bytes_given (gave reply part)) ≡ limit_left old
+      → limit_set new ≡ limit_set old → ReadLaw (limit_reader inner) old before reply whole new
   reads_inner {old} {new} {into = into} {part} whole reply some read room same falls stays =
       grind (arith, common_steps, read_by, gave_inner, read_law)
 
   -- above 0 a `fill_buf` is one inner `fill_buf`, of whose bytes a part is lent
-  pub filled_inner : {old new : Take T} (lent : Result (List ℕ) Error) {answer : Result (List ℕ) Error} → 0 < take_limit old
-      → take_limit new ≡ take_limit old → take_len new ≡ take_len old → answer ≡ lent_within (take_limit old) lent
-      → ReadCallLaw inner (take_inner old) (Filled lent) (take_inner new) → TakeMay inner old (Filled answer) new
+  pub filled_inner : {old new : Take T} (lent : Result (List ℕ) Error) {answer : Result (List ℕ) Error} → 0 < limit_left old
+      → limit_left new ≡ limit_left old → limit_set new ≡ limit_set old → answer ≡ lent_within (limit_left old) lent
+      → ReadCallLaw inner (limit_inner old) (Filled lent) (limit_inner new) → LimitMay inner old (Filled answer) new
   filled_inner lent some same len is law = grind (arith, common_steps)
 
   -- at limit 0 it lends nothing
-  pub filled_at_limit : (t : Take T) → take_limit t ≡ 0 → TakeMay inner t (Filled (Ok [])) t
+  pub filled_at_limit : (t : Take T) → limit_left t ≡ 0 → LimitMay inner t (Filled (Ok [])) t
   filled_at_limit t low = (
     Ok [],
     λ _. refl,
@@ -139,63 +139,63 @@ module _ {T : Type 0} {inner : Reader T} where
   )
 
   -- it is filling if its inner reader is
-  pub take_fills : FillsRoom inner → FillsRoom (take_reader inner)
-  take_fills fills = record {
-    left = λ t. take (take_limit t) (fills.left (take_inner t));
-    told = λ t. ap (cut_to_come (take_limit t)) (fills.told (take_inner t))
-        ∙ ap Some (cut-events_of (take_limit t) (fills.left (take_inner t)));
-    gives = λ old new room answer call. elim (cases_lt 0 (take_limit old)) [
+  pub limit_fills : FillsRoom inner → FillsRoom (limit_reader inner)
+  limit_fills fills = record {
+    left = λ t. take (limit_left t) (fills.left (limit_inner t));
+    told = λ t. ap (cut_to_come (limit_left t)) (fills.told (limit_inner t))
+        ∙ ap Some (cut-events_of (limit_left t) (fills.left (limit_inner t)));
+    gives = λ old new room answer call. elim (cases_lt 0 (limit_left old)) [
       | inl some ↦
-          gave_most room (take_limit old) _ _ answer (length-take (take_limit old) (fills.left (take_inner old)))
-          (fills.gives (take_inner old) (take_inner new) (min room (take_limit old)) answer (call.1.asks some).call)
+          gave_most room (limit_left old) _ _ answer (length-take (limit_left old) (fills.left (limit_inner old)))
+          (fills.gives (limit_inner old) (limit_inner new) (min room (limit_left old)) answer (call.1.asks some).call)
       | inr low ↦
-          let none : take_limit old ≡ 0 = omega (arith, low) in
-          subst (λ a. IsOkAnd a (λ x. length x ≡ min room (length (take (take_limit old) (fills.left (take_inner old))))))
-          (sym (call.0 none)) (omega (arith, none, length-take (take_limit old) (fills.left (take_inner old))))
+          let none : limit_left old ≡ 0 = omega (arith, low) in
+          subst (λ a. IsOkAnd a (λ x. length x ≡ min room (length (take (limit_left old) (fills.left (limit_inner old))))))
+          (sym (call.0 none)) (omega (arith, none, length-take (limit_left old) (fills.left (limit_inner old))))
     ];
   }
 
 -- a `Take` that lends
-abbrev pub take_lender : {T : Type 0} → Lender T → Lender (Take T)
-take_lender inner = record {
+abbrev pub limit_lender : {T : Type 0} → Lender T → Lender (Take T)
+limit_lender inner = record {
   store = λ t. None;
-  turns = λ t. inner.turns (take_inner t);
-  events = take_events (lender_tells inner);
-  may = TakeMay (as_reader inner);
-  held = take_held inner.held;
+  turns = λ t. inner.turns (limit_inner t);
+  events = limit_events (lender_tells inner);
+  may = LimitMay (as_reader inner);
+  held = limit_held inner.held;
 }
 
 module _ {T : Type 0} (inner : Lender T) where
   -- above 0 the inner reader's first bytes are consumed
-  pub consumed_inner : {old new : Take T} {n : ℕ} → 0 < take_limit old → n ≤ length (take_held inner.held old)
-      → ConsumeLaw inner (take_inner old) n (take_inner new) → take_limit new + n ≡ take_limit old → take_len new ≡ take_len old
-      → ConsumeLaw (take_lender inner) old n new
+  pub consumed_inner : {old new : Take T} {n : ℕ} → 0 < limit_left old → n ≤ length (limit_held inner.held old)
+      → ConsumeLaw inner (limit_inner old) n (limit_inner new) → limit_left new + n ≡ limit_left old → limit_set new ≡ limit_set old
+      → ConsumeLaw (limit_lender inner) old n new
   consumed_inner {old} {new} {n} some fits law falls same =
-      let held = inner.held (take_inner old) in
-      let within : (n ≤ length held) × (n ≤ take_limit old) = omega (arith, fits, length-take (take_limit old) held) in
-      let part : take n (take (take_limit old) held) ≡ take n held = take-take n (take_limit old) held within.1 in
-      let call : TakeMay (as_reader inner) old (Consumed n) new = record {
+      let held = inner.held (limit_inner old) in
+      let within : (n ≤ length held) × (n ≤ limit_left old) = omega (arith, fits, length-take (limit_left old) held) in
+      let part : take n (take (limit_left old) held) ≡ take n held = take-take n (limit_left old) held within.1 in
+      let call : LimitMay (as_reader inner) old (Consumed n) new = record {
         limit = falls;
         len = same;
         at_limit = λ low. absurd (omega (arith, some, low));
-        asks = λ _. lend_law inner (take_inner old) (take_inner new) (Consumed n) (within.0, law);
+        asks = λ _. lend_law inner (limit_inner old) (limit_inner new) (Consumed n) (within.0, law);
       } in
-      let took : TakeTakes (as_reader inner) old (events_of (take n held)) new = record {
+      let took : LimitTakes (as_reader inner) old (events_of (take n held)) new = record {
         takes = law.takes;
-        within = cut-fitting (take_limit old) (take n held) (omega (arith, within.1, length-take-le n held within.0));
+        within = cut-fitting (limit_left old) (take n held) (omega (arith, within.1, length-take-le n held within.0));
         limit = omega (arith, falls, ap length (bytes-events_of (take n held)), length-take-le n held within.0);
         len = same;
         at_limit = λ low. absurd (omega (arith, some, low));
       } in
       record {
-        held = ap (take (take_limit new)) law.held ∙ sym (subst (λ k. drop n (take k held) ≡ take (take_limit new) (drop n held)) falls'
-            (drop-take n (take_limit new) held));
-        takes = subst (λ l. Takes (lender_tells (take_lender inner) old) (events_of l) (lender_tells (take_lender inner) new)) (sym part)
-            (take_takes (events_of (take n held)) took);
+        held = ap (take (limit_left new)) law.held ∙ sym (subst (λ k. drop n (take k held) ≡ take (limit_left new) (drop n held)) falls'
+            (drop-take n (limit_left new) held));
+        takes = subst (λ l. Takes (lender_tells (limit_lender inner) old) (events_of l) (lender_tells (limit_lender inner) new)) (sym part)
+            (limit_takes (events_of (take n held)) took);
         call = call;
       }
     where
-      falls' : n + take_limit new ≡ take_limit old
+      falls' : n + limit_left new ≡ limit_left old
       falls' = omega (arith, falls)
 
 -- what comes next under the limit begins with a part of what comes next
