@@ -1,5 +1,5 @@
 -- A read when nothing is held, by its ends: past the buffer, a fill that failed, and out of the filled buffer.
-use Rattle.std.proofs.Common.{◌≡◌, [], Ok, ◌++◌, length, take, drop, arith, refl, ap, ◌∙◌, length-drop, length-take-le}
+use Rattle.std.proofs.Common.{◌≡◌, [], Ok, Err, ◌++◌, length, take, drop, arith, refl, ap, ◌∙◌, length-drop, length-take-le}
 use Rattle.std.proofs.Math.Seq.{drop-nil}
 use Rattle.std.proofs.lemmas.List.{nil_from_length}
 use Rattle.std.proofs.lemmas.Result.{err_from_is_err_and}
@@ -7,9 +7,9 @@ use Rattle.no_std_io2_base.specs.Read.{tells}
 use Rattle.no_std_io2_base.proofs.Readers.{reader}
 use Rattle.no_std_io2_base.proofs.TakesLemmas.{read_law, takes_then}
 use Rattle.no_std_io2.specs.Buffer.{buffer_held, buffer_behind}
-use Rattle.no_std_io2.specs.BufReader.{reader_held, reader_behind}
+use Rattle.no_std_io2.specs.BufReader.{reader_held, reader_behind, went_past, was_filled}
 use Rattle.no_std_io2.proofs.BufferedReads.{takes_held, takes_direct, takes_fill, ends_behind, end_read}
-use Rattle.no_std_io2.proofs.BufReaderCalls.{split_held, by_direct, by_filled, by_fault}
+use Rattle.no_std_io2.proofs.BufReaderCalls.{split_held, by_filled}
 use Rattle.no_std_io2.proofs.buffered.buf_reader.BufReader.read_past.Goals as goal
 
 -- past the buffer
@@ -26,7 +26,7 @@ returns-then-buf g c =
         takes = takes_direct g.row.S (reader_behind r) held read.takes none clear.behind clear.held;
         end = end_read (tells (reader g.R.Stored g.R.Read) c.read.new.self) g.row.S (buffer_behind c.clear.new.self)
             (buffer_held c.clear.new.self) c.read.new.buf c.read.result clear.held read.end;
-        call = by_direct (ap length none) (omega (arith, c.read.auto.buf)) (read_law c.read.result read) (clear.behind, clear.held);
+        call = went_past none (omega (arith, c.read.auto.buf)) (read_law c.read.result read) (clear.behind, clear.held);
       };
       short = λ _. clear.held;
     }
@@ -44,7 +44,7 @@ returns-in_err-fill g c =
         bound = tt;
         takes = takes_direct g.row.S (reader_behind r) held fill.read.takes none fill.behind fill.err;
         end = tt;
-        call = by_fault (ap length none) (omega (arith, c.if-buf.false)) fill.read (fill.behind, fill.err);
+        call = was_filled none (omega (arith, c.if-buf.false)) (Err _) fill.read (refl, (fill.behind, fill.err));
       };
       short = λ _. fill.err;
     })
@@ -71,7 +71,7 @@ returns g c =
             let empty : mid ≡ [] = nil_from_length mid (omega (arith, zero, room, is.count, c.give.auto.buf)) in
             ends_behind g.row.S _ _ (tells (reader g.R.Stored g.R.Read) c.fill.new.from) (is.held ∙ ap (drop n) empty ∙ drop-nil n)
             (fill.read.end (ap Ok empty) (omega (arith, c.if-buf.false)));
-        call = by_filled n (length shown) mid shown (ap length none) (omega (arith, c.if-buf.false, c.give.auto.buf)) fill.read
+        call = by_filled n (length shown) mid shown none (omega (arith, c.if-buf.false, c.give.auto.buf)) fill.read
             (omega (arith, is.count, c.give.auto.buf)) is.gave (is.behind ∙ ap (λ l. l ++ take n shown) fill.behind) is.held;
       };
       short = λ less. nil_from_length _ (omega (
