@@ -7,4 +7,4 @@ use Rattle.promises.proofs.counts.counts_a_flush.Goals as goal
 pub returns : goal.returns
 returns g c = λ cost meter takes.
     (step_cost g.W.Write cost meter (writer_inner {S = g.row.S}) writer_buffer FlushCalls calls_for (flush_counts g.W.Write)
-    c.args.w.now c.flush.new.self c.flush.ensures.buffer.calls takes).2
+    c.args.w.now c.flush.new.self c.flush.ensures.law.call takes).2
