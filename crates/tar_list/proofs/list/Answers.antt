@@ -44,4 +44,4 @@ members-preserved g c =
 pub returns-clause-ended : goal.returns-clause-ended
 returns-clause-ended g c =
     let next = (rw c.in_default.is at c.in_ok-header.ensures.law).fetches in
-    (_, next.1, fetches_then c.members.invariant.fetches next.2, always c.flush.result next.3.2.1)
+    (_, next.1, fetches_then c.members.invariant.fetches next.2, always c.flush.result next.3.2.2)
