@@ -89,8 +89,9 @@ impl<R: Seek, const S: usize> Seek for BufReader<R, S> {
     /// # Errors
     /// Returns `InvalidInput`, with the inner reader's text, if the target is below 0 or above
     /// `u64::MAX`, and else the errors of `seek`. Returns none if the target is in the buffer. After
-    /// an error the position is as it was, and so is the buffer, unless the offset is too far back
-    /// for one seek of the inner reader; then the buffer is dropped.
+    /// an error the position is as it was, and so is the buffer, with one exception: an offset that
+    /// is too far back for one seek of the inner reader needs two, and if the first of them succeeds
+    /// and the second fails, the buffer is dropped.
     fn seek_relative(&mut self, offset: i64) -> Result<()>
         ensures law { SeekRelativeLaw ⟦<Self as Seek>⟧ self.old offset result self.new }
 
