@@ -28,6 +28,12 @@ fn ratio(values: &[Option<f64>; SIDES]) -> Option<f64> {
     Some(values[0]? / better)
 }
 
+// Over how many cases the toolchain's side has a value, and the mean of the ratios to it. README has these numbers.
+fn beside_kit(values: &Measured) -> (usize, f64) {
+    let ratios: Vec<f64> = values.iter().filter_map(|it| Some((it[0]? / it[3]?).ln())).collect();
+    (ratios.len(), (ratios.iter().sum::<f64>() / ratios.len() as f64).exp())
+}
+
 /// Prints a line for each class, and then one for each case, with a `*` if it is above its class's limit, or for these alone. A case's
 /// line has nanoseconds and instructions a call on each side, and of both the ratio.
 pub fn print(cases: &[Case], times: &Measured, counts: &Measured, above_alone: bool) {
@@ -50,6 +56,8 @@ pub fn print(cases: &[Case], times: &Measured, counts: &Measured, above_alone: b
             mean(&nanoseconds),
         );
     }
+    let ((cases_of_kit, fewer), (_, faster)) = (beside_kit(counts), beside_kit(times));
+    println!("\nBeside the toolchain's `std::io`: {cases_of_kit} cases, {fewer:.2} of its instructions, {faster:.2} of its time.");
     println!("\n| a call | class | ns ours | std | original | kit | ratio | instr. ours | std | original | kit | ratio | |");
     println!("|---|---|---:|---:|---:|---:|---:|---:|---:|---:|---:|---:|---|");
     for ((case, times), counts) in cases.iter().zip(times).zip(counts) {
