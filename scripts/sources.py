@@ -1,0 +1,165 @@
+"""The sources of the crates, as check_pages looks at them: files, contracts, clauses, words and lines."""
+import glob
+import re
+import textwrap
+
+LIBRARIES = ("no_std_io2_base", "no_std_io2")
+
+
+def read(path):
+    """The text of a file."""
+    with open(path) as file:
+        return file.read()
+
+
+def texts(ending):
+    """The files of crates/ with this ending, by their paths."""
+    paths = sorted(glob.glob(f"crates/*/*/**/*{ending}", recursive=True))
+    return {path: read(path) for path in paths if "/out/" not in path}
+
+
+def flat(text):
+    """A text without the indentation of its lines."""
+    return "\n" + "\n".join(line.strip() for line in text.strip("\n").split("\n")) + "\n"
+
+
+# ---- contracts
+
+HEAD_ENDS = r"(?:pub |final |fn |\))"
+
+
+def ends_head(line, head, indent):
+    """Whether this line is the last one of a function's head and clauses."""
+    if line.endswith(";"):
+        whole = "".join([*head, line])
+        return whole.count("{") == whole.count("}")
+    return line.endswith(" {") and re.match(indent + HEAD_ENDS, line) is not None
+
+
+def contract(text, name):
+    """The head of a function with its clauses. `Type::call` is the first such call after that name's impl or trait."""
+    owner, _, call = name.rpartition("::")
+    if owner:
+        text = text[re.search(rf"^(?:pub )?(?:trait|impl)\b.*\b{owner}\b", text, re.M).start():]
+    lines = text[re.search(rf"^ *(?:pub |final )*fn {call}\b", text, re.M).start():].split("\n")
+    indent = re.match(" *", lines[0])[0]
+    head = []
+    for line in lines:
+        if line == indent + "{":
+            break
+        is_last = ends_head(line, head, indent)
+        is_comment = "//" in line[:len(indent) + 6]
+        if line and not is_comment:
+            head.append(re.sub(r"( \{|;)$", "", line) if is_last else line)
+        if is_last:
+            break
+    return textwrap.dedent("\n".join(head)) + "\n"
+
+
+def law_fields(logic):
+    """The fields of each record, also under the names of the words that are one."""
+    fields = {}
+    for text in logic.values():
+        for law, body in re.findall(r"^pub record (\w+)(.*?)(?=^\S|\Z)", text, re.M | re.S):
+            fields[law] = set(re.findall(r"^  pub (\w+) :", body, re.M))
+    for text in logic.values():
+        for word, law in re.findall(r"^(\w+) \w+ = (\w+)", text, re.M):
+            if law in fields:
+                fields.setdefault(word, fields[law])
+    return fields
+
+
+def calls_with_lines(text):
+    """Each line of a source, with the line after it and the names of the call that it belongs to."""
+    owners, names = [], []
+    lines = [*text.split("\n"), ""]
+    for line, after in zip(lines, lines[1:]):
+        if re.match(r"(pub )?(impl|trait)\b", line) or line.startswith("}"):
+            owners = re.findall(r"\b[A-Z]\w+\b", line)
+        call = re.match(r"\s*(?:pub(?:\(\w+\))? |final )*fn (\w+)", line)
+        if call:
+            names = [f"{owner}::{call[1]}" for owner in owners] if line.startswith(" ") else [call[1]]
+        yield line, after, names
+
+
+def clauses(code, logic):
+    """The clauses of each call, as `Type::call` or `function`, and `clause.field` if a clause is a law."""
+    fields, known = law_fields(logic), {}
+    for text in code.values():
+        for line, after, names in calls_with_lines(text):
+            for clause, rest in re.findall(r"(?:ensures|requires)\*? (\w+) \{(.*)", line):
+                if rest.count("{") >= rest.count("}"):
+                    rest += after
+                parts = [f"{clause}.{field}" for law in re.findall(r"\w+", rest) for field in fields.get(law, ())]
+                for name in names:
+                    known.setdefault(name, set()).update([clause, *parts])
+    return known
+
+
+# ---- words, lemmas and imports
+
+def words(logic):
+    """Each public word that specs/ defines, with its module and the words above it."""
+    pattern = r"((?:^-- .*\n)*)^(?:abbrev |unfoldable |opaque )*pub (?:record |data )?(?!mod\b|use\b)(\S+)"
+    for path, text in logic.items():
+        if "/specs/" in path:
+            for above, word in re.findall(pattern, text, re.M):
+                yield word, path, " ".join(above.replace("-- ", "").split())
+
+
+def defined(text):
+    """The names that a module of specs/ or proofs/ defines at its top level."""
+    pattern = r"^(?:abbrev |unfoldable |opaque |pub )*(?:record |data |ruleset )?(?!mod\b|use\b|module\b|--)(\S+)(?=.* : | .*:$)"
+    return set(re.findall(pattern, text, re.M))
+
+
+def twice(pairs):
+    """The names that stand in two places, each with these; pairs are a name and a place."""
+    places = {}
+    for name, path in pairs:
+        places.setdefault(name, set()).add(path)
+    return {name: sorted(paths) for name, paths in sorted(places.items()) if len(paths) > 1}
+
+
+def defined_twice(logic):
+    """The names that two modules define: of all specs/, and of the specs/ and proofs/ of the libraries together."""
+    modules = re.compile(rf"crates/(?:{'|'.join(LIBRARIES)})/(?:specs|proofs)/\w+\.antt")
+    below = ((name, path) for path, text in logic.items() if modules.fullmatch(path) for name in defined(text))
+    return twice((word, path) for word, path, _ in words(logic)) | twice(below)
+
+
+def unused(text):
+    """The names that the `ghost use` lines of a source import and that nothing else in it has."""
+    pattern = re.compile(r"^ *ghost use ([^;]+);", re.M)
+    rest = pattern.sub("", text)
+    for path in pattern.findall(text):
+        names = path[path.index("{") + 1:-1].split(",") if "{" in path else [path.rsplit(".", 1)[-1]]
+        for name in filter(None, (name.split(" as ")[-1].strip() for name in names)):
+            parts = [part for part in name.split("◌") if part] if "◌" in name else []
+            is_used = all(part in rest for part in parts) if parts else \
+                re.search(rf"(?<!\w){re.escape(name)}(?!\w)", rest)
+            if not is_used:
+                yield name
+
+
+# ---- lines
+
+COMMENT = re.compile(r"^ *(//[/!]?|--)(?: |$)(.*)$")
+
+
+def orphans(text):
+    """The numbers of comment lines that are a single word, wrapped from the line above."""
+    before = None
+    for number, line in enumerate(text.split("\n"), 1):
+        comment = COMMENT.match(line)
+        if comment and before and before[0] == comment[1]:
+            said = comment[2].strip()
+            is_word = len(said.split()) == 1 and not said.startswith(("`", "#", "[", "|", "-"))
+            if is_word and len(before[1].split()) > 3 and not before[1].rstrip().endswith((".", ":", "```")):
+                yield number
+        before = (comment[1], comment[2]) if comment else None
+
+
+def too_long(text, most):
+    """The numbers of the lines that have more columns than this."""
+    return [number for number, line in enumerate(text.split("\n"), 1) if len(line) > most]
