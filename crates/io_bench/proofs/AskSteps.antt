@@ -24,7 +24,7 @@ use Rattle.no_std_io2.proofs.CallsLemmas.{made_split}
 use Rattle.no_std_io2.proofs.BufReaderRoom.{some_room, held-le}
 use Rattle.no_std_io2.proofs.BufferedReads.{told_behind}
 use Rattle.no_std_io2.proofs.BufReaderCalls.{buf_lender}
-use Rattle.no_std_io2.proofs.BufReaderCounts.{drawn}
+use Rattle.io_bench.proofs.BufReaderCounts.{drawn}
 use Rattle.io_bench.specs.declared.asks.Ask.{Ask}
 use Rattle.io_bench.specs.declared.asks.Ask.TheVariants.{Read, Exact, Fill}
 use Rattle.io_bench.specs.Asks.{read_answer, end_or_error, exact_answer, fill_answer, fill_calls, Answered, met_end, CameTo}

@@ -14,7 +14,7 @@ use Rattle.no_std_io2.proofs.CallsLemmas.{made_map, law_may}
 use Rattle.no_std_io2.proofs.BufWriterCalls.{buffered_leaves, writing_all_calls, write_takes, send_leaves}
 use Rattle.no_std_io2.proofs.BufWriterCalls.{send_counts, write_counts, write_all_counts, flush_counts}
 use Rattle.no_std_io2.proofs.StepLemmas.{then_leaves}
-use Rattle.no_std_io2.proofs.StepCosts.{step_cost, writing_all-is}
+use Rattle.io_bench.proofs.StepCosts.{step_cost, writing_all-is}
 use Rattle.no_std_io2.proofs.MeterLemmas.{meter_made}
 use Rattle.io_bench.specs.declared.runs.Op.{Op}
 use Rattle.io_bench.specs.declared.runs.Op.TheVariants.{Write, WriteAll, Flush}

@@ -1,7 +1,6 @@
 pub mod Appended
 pub mod Asks
 pub mod Closed
-pub mod Counts
 pub mod Faulty
 pub mod Feed
 pub mod Joined

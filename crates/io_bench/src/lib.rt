@@ -12,7 +12,6 @@
 
 mod accepted;
 mod asks;
-mod counts;
 mod faulty;
 mod feed;
 mod pieces;

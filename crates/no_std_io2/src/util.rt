@@ -12,7 +12,6 @@ use no_std_io2_base::traits::{BufRead, Read, Write};
 mod read_at;
 mod retries;
 mod sides;
-mod steady;
 
 pub use no_std_io2_base::empties::Empty;
 pub use no_std_io2_base::makers::{empty, repeat, sink};

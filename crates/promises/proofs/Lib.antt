@@ -4,3 +4,12 @@ mod ToldAfter
 mod Levels
 mod InMemory
 mod LoopCounts
+mod AtLimit
+mod ChainLends
+mod ChainTurns
+mod FailsLemmas
+mod BufferFails
+mod CopyReads
+mod HeldPieces
+mod Meters
+mod ExactCounts

@@ -1,2 +1,4 @@
 pub mod Promises
 pub mod Loops
+pub mod Fails
+pub mod Counts

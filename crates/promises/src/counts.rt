@@ -12,6 +12,7 @@ ghost use Rattle.no_std_io2.specs.Write.{calls_for};
 ghost use Rattle.no_std_io2.specs.Writers.{TakesAll};
 ghost use Rattle.io_bench.specs.Asks.{AllFit, left_behind};
 ghost use Rattle.io_bench.specs.Tally.{tally_inner, tally_reads, tally_writes};
+ghost use Rattle.promises.specs.Counts.{exact_left, exact_reads};
 ghost use Rattle.promises.specs.Loops.{CountsLoop, CountsToEnd};
 ghost use Rattle.promises.specs.Promises.{in_reader};
 
@@ -108,6 +109,20 @@ fn counts_a_fill<R: Read, const S: usize>(r: &mut BufReader<R, S>) -> Result<usi
 {
     let lent = r.fill_buf()?;
     Ok(lent.len())
+}
+
+// A `read_exact` of a `BufReader` makes at most two inner reads of a reader that fills its room.
+fn counts_an_exact_read<R: Read, const S: usize>(
+    r: &mut BufReader<R, S>,
+    buf: &mut [u8],
+) -> Result<()>
+    ensures reads { (cost : R → ℕ) → IsReadMeter R.may cost → (fills : FillsRoom R.Read)
+        → cost (reader_inner r.new) ≡ cost (reader_inner r.old) + exact_reads (length buf.old) (length (reader_held r.old))
+        (length (reader_held r.old) + length (fills.left (reader_inner r.old))) }
+    ensures left { (fills : FillsRoom R.Read) → length (reader_held r.new) ≡ exact_left S (length buf.old) (length (reader_held r.old))
+        (length (reader_held r.old) + length (fills.left (reader_inner r.old))) }
+{
+    r.read_exact(buf)
 }
 
 // A `read_exact` of a type without one of its own makes at most one read for each turn that is spent, and one that stops it.

@@ -15,6 +15,7 @@ mod memory;
 mod objects;
 mod reads;
 mod runs;
+mod steady;
 mod system;
 mod towers;
 mod values;

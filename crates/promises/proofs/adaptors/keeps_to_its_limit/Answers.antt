@@ -1,5 +1,5 @@
 use Rattle.no_std_io2.proofs.LimitLoops.{limit_exact}
-use Rattle.no_std_io2.proofs.AtLimit.{exact_at_limit}
+use Rattle.promises.proofs.AtLimit.{exact_at_limit}
 use Rattle.promises.proofs.adaptors.keeps_to_its_limit.Goals as goal
 
 pub returns : goal.returns

@@ -1,5 +1,5 @@
 use Rattle.no_std_io2.proofs.LimitLoops.{limit_until}
-use Rattle.no_std_io2.proofs.AtLimit.{until_at_limit}
+use Rattle.promises.proofs.AtLimit.{until_at_limit}
 use Rattle.promises.proofs.adaptors.keeps_to_its_limit_in_a_piece.Goals as goal
 
 pub returns : goal.returns

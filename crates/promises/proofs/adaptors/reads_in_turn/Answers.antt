@@ -1,5 +1,5 @@
 use Rattle.no_std_io2.proofs.ReadsAdd.{exact_adds}
-use Rattle.no_std_io2.proofs.ChainTurns.{chain_each}
+use Rattle.promises.proofs.ChainTurns.{chain_each}
 use Rattle.no_std_io2.proofs.Readers.{reader}
 use Rattle.promises.proofs.adaptors.reads_in_turn.Goals as goal
 

@@ -1,6 +1,6 @@
 use Rattle.no_std_io2.proofs.ReadsAdd.{each_of, piece_adds}
-use Rattle.no_std_io2.proofs.ChainTurns.{chain_each}
-use Rattle.no_std_io2.proofs.ChainLends.{chain_lender}
+use Rattle.promises.proofs.ChainTurns.{chain_each}
+use Rattle.promises.proofs.ChainLends.{chain_lender}
 use Rattle.no_std_io2.proofs.TakesLemmas.{lend_law}
 use Rattle.no_std_io2.proofs.Readers.{reader, lends}
 use Rattle.promises.proofs.adaptors.takes_a_piece_in_turn.Goals as goal

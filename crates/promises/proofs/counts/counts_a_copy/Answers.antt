@@ -1,4 +1,4 @@
-use Rattle.no_std_io2.proofs.CopyReads.{copy_cost}
+use Rattle.promises.proofs.CopyReads.{copy_cost}
 use Rattle.promises.proofs.counts.counts_a_copy.Goals as goal
 
 pub returns : goal.returns

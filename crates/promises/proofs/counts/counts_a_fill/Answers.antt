@@ -1,6 +1,6 @@
 use Rattle.std.proofs.Common.{ap, length}
 use Rattle.no_std_io2.proofs.PieceLoop.{filled_law}
-use Rattle.no_std_io2.proofs.BufReaderCounts.{fill_cost, fill_gives}
+use Rattle.io_bench.proofs.BufReaderCounts.{fill_cost, fill_gives}
 use Rattle.promises.proofs.counts.counts_a_fill.Goals as goal
 
 pub returns : goal.returns

@@ -1,9 +1,9 @@
 use Rattle.std.proofs.Common.{min, length, ap}
 use Rattle.no_std_io2.specs.BufReader.{reader_held, reader_inner}
-use Rattle.no_std_io2.proofs.BufReaderCounts.{held_or, read_cost, read_gives, gave_count}
+use Rattle.io_bench.proofs.BufReaderCounts.{held_or, read_cost, read_gives, gave_count}
 use Rattle.no_std_io2.proofs.Readers.{reader}
 use Rattle.io_bench.specs.Tally.{tally_reads}
-use Rattle.io_bench.proofs.Meters.{tally_fills, tally_meters_reads}
+use Rattle.promises.proofs.Meters.{tally_fills, tally_meters_reads}
 use Rattle.promises.proofs.counts.counts_a_read.Goals as goal
 
 pub returns : goal.returns

@@ -1,6 +1,6 @@
 use Rattle.no_std_io2.specs.BufWriter.{writer_inner, writer_buffer, writing_calls, WriteCalls}
 use Rattle.no_std_io2.proofs.BufWriterCalls.{write_counts}
-use Rattle.no_std_io2.proofs.StepCosts.{step_cost}
+use Rattle.io_bench.proofs.StepCosts.{step_cost}
 use Rattle.io_bench.specs.Tally.{tally_writes}
 use Rattle.promises.proofs.Levels.{tallied, tally_meters}
 use Rattle.promises.proofs.counts.counts_a_write.Goals as goal

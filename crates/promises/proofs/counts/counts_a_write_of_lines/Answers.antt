@@ -1,6 +1,6 @@
 use Rattle.no_std_io2.specs.LineWriter.{line_inner, line_buffer, LineWriteCalls}
 use Rattle.no_std_io2.proofs.LineWriterCalls.{line_write_keeps}
-use Rattle.no_std_io2.proofs.StepCosts.{few_cost}
+use Rattle.io_bench.proofs.StepCosts.{few_cost}
 use Rattle.promises.proofs.counts.counts_a_write_of_lines.Goals as goal
 
 pub returns : goal.returns

@@ -1,5 +1,5 @@
 use Rattle.no_std_io2.specs.BufWriter.{writer_inner, writer_buffer}
-use Rattle.no_std_io2.proofs.StepCosts.{unwrap_cost}
+use Rattle.io_bench.proofs.StepCosts.{unwrap_cost}
 use Rattle.promises.proofs.counts.counts_an_into_inner.Goals as goal
 
 pub returns : goal.returns

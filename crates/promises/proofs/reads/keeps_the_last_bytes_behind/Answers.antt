@@ -5,7 +5,7 @@ use Rattle.no_std_io2.specs.Events.{bytes}
 use Rattle.no_std_io2.proofs.Readers.{reader}
 use Rattle.no_std_io2.specs.Buffer.{IsSuffix}
 use Rattle.no_std_io2.specs.BufReader.{reader_behind}
-use Rattle.no_std_io2.proofs.HeldPieces.{piece_behind}
+use Rattle.promises.proofs.HeldPieces.{piece_behind}
 use Rattle.promises.proofs.reads.keeps_the_last_bytes_behind.Goals as goal
 
 pub returns : goal.returns

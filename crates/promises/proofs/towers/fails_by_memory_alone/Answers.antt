@@ -3,11 +3,11 @@ use Rattle.std.proofs.Common.{ℕ}
 use Rattle.std.specs.Vec.{vec_len, vec_capacity}
 use Rattle.std.proofs.lemmas.Result.{err_from_is_err_and}
 use Rattle.no_std_io2.specs.Errors.{IsOutOfMemory}
-use Rattle.no_std_io2.specs.Fails.{FailsOnly}
+use Rattle.promises.specs.Fails.{FailsOnly}
 use Rattle.no_std_io2.specs.BufWriter.{writer_inner, writer_buffer}
 use Rattle.no_std_io2.specs.LineWriter.{line_inner, line_buffer}
-use Rattle.no_std_io2.proofs.BufferFails.{buffer_fails, line_fails}
-use Rattle.no_std_io2.proofs.FailsLemmas.{appends_fails, write_all_fails, flush_fails}
+use Rattle.promises.proofs.BufferFails.{buffer_fails, line_fails}
+use Rattle.promises.proofs.FailsLemmas.{appends_fails, write_all_fails, flush_fails}
 use Rattle.promises.proofs.Levels.{vector, buffered, lines}
 use Rattle.promises.proofs.towers.fails_by_memory_alone.Goals as goal
 

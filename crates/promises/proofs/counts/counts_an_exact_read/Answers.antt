@@ -1,5 +1,5 @@
-use Rattle.io_bench.proofs.ExactCounts.{exact_counted}
-use Rattle.io_bench.proofs.counts.read_exact_counted.Goals as goal
+use Rattle.promises.proofs.ExactCounts.{exact_counted}
+use Rattle.promises.proofs.counts.counts_an_exact_read.Goals as goal
 
 pub returns-clause-reads : goal.returns-clause-reads
 returns-clause-reads g c = λ cost meter fills.

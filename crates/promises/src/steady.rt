@@ -1,14 +1,11 @@
-// What a caller of `copy` can prove if its writer has no mishap to come. Nothing calls this
-// function. It is here so that a weaker contract of `copy` would fail to prove it.
+// What a caller of `copy` can prove if its writer has no mishap to come.
 ghost use Rattle.std.specs.Prelude.{◌≡◌, ◌<◌, ◌^◌, ◌++◌, [], Some, IsOkAnd, List};
-ghost use Rattle.no_std_io2_base.specs.Events.{Event, bytes, HasNoFault};
-ghost use Rattle.no_std_io2_base.specs.Takes.{to_come};
-ghost use Rattle.no_std_io2_base.specs.Read.{tells};
+ghost use Rattle.no_std_io2.specs.Events.{Event, bytes, HasNoFault};
+ghost use Rattle.no_std_io2.specs.Takes.{to_come};
+ghost use Rattle.no_std_io2.specs.Read.{tells};
 ghost use Rattle.no_std_io2.specs.Copy.{counted};
 
-use super::copy;
-use no_std_io2_base::error::Result;
-use no_std_io2_base::traits::{Read, Write};
+use no_std_io2::io::{Read, Result, Write, copy};
 
 // If the reader has no fault, all its bytes are copied and sent, and the writer is still steady.
 fn copy_and_flush<R: Read, W: Write, const S: usize>(reader: &mut R, writer: &mut W) -> Result<u64>

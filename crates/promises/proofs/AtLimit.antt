@@ -2,13 +2,13 @@
 use Rattle.std.proofs.Common.{◌≡◌, ℕ, ◌<◌, ◌⊎◌, List, [], ◌∷◌, ◌++◌, Result, Ok, Err, OnOk, IfOk, IfErr, IsUtf8, length, refl, sym, ap}
 use Rattle.std.proofs.Common.{subst, ◌∙◌, arith, inl, inr, append-nil, Vec, String, string_bytes, string_len, string_capacity}
 use Rattle.std.proofs.lemmas.Str.{IsUtf8-nil}
-use Rattle.no_std_io2_base.specs.{declared.error.Error.{Error}, declared.traits.take.Take.{Take}, Errors.{IsUnexpectedEnd}, Events.{Event}}
-use Rattle.no_std_io2_base.specs.{Events.{bytes, cut}, Read.{Reader, ReadCall, Gave, GaveExactly, GaveAll, Filled, Consumed, ReadCallLaw}}
-use Rattle.no_std_io2_base.specs.{Read.{ReadExactLaw, FillCalls, gave_whole}, BufRead.{Lender, as_reader, lender_tells, LendCallLaw}}
-use Rattle.no_std_io2_base.specs.{BufRead.{ReadUntilLaw, ReadLineLaw, line_room}, Pieces.{newline, PieceMade, PieceEnds, AnswersLine}}
-use Rattle.no_std_io2_base.specs.{Take.{limit_left, LimitTakes}, Write.{Made}}
-use Rattle.no_std_io2_base.proofs.{CallsLemmas.{made_split}, ReadsAdd.{each_of, piece_adds}, TakesLemmas.{lend_law, made_lend}}
-use Rattle.no_std_io2_base.proofs.{LimitLemmas.{limit_reader, limit_lender}, LimitLoops.{limit_each, limit_exact}}
+use Rattle.no_std_io2.specs.{declared.io.Error.{Error}, declared.io.Take.{Take}, Errors.{IsUnexpectedEnd}, Events.{Event}}
+use Rattle.no_std_io2.specs.{Events.{bytes, cut}, Read.{Reader, ReadCall, Gave, GaveExactly, GaveAll, Filled, Consumed, ReadCallLaw}}
+use Rattle.no_std_io2.specs.{Read.{ReadExactLaw, FillCalls, gave_whole}, BufRead.{Lender, as_reader, lender_tells, LendCallLaw}}
+use Rattle.no_std_io2.specs.{BufRead.{ReadUntilLaw, ReadLineLaw, line_room}, Pieces.{newline, PieceMade, PieceEnds, AnswersLine}}
+use Rattle.no_std_io2.specs.{Take.{limit_left, LimitTakes}, Write.{Made}}
+use Rattle.no_std_io2.proofs.{CallsLemmas.{made_split}, ReadsAdd.{each_of, piece_adds}, TakesLemmas.{lend_law, made_lend}}
+use Rattle.no_std_io2.proofs.{LimitLemmas.{limit_reader, limit_lender}, LimitLoops.{limit_each, limit_exact}}
 
 -- nothing is taken
 pub took_nothing : {T : Type 0} {inner : Reader T} {old new : Take T} {P : List Event} → LimitTakes inner old P new → limit_left old ≡ 0

@@ -5,13 +5,13 @@ use Rattle.std.proofs.Common.{◌≡◌, ℕ, ◌+◌, ◌-◌, ◌<◌, ◌≤�
 use Rattle.std.proofs.Common.{refl, sym, ap, subst, ◌∙◌, arith, ⊎_elim, Some, length-append, length-take, length-take-le}
 use Rattle.std.proofs.Common.{IsOkAnd, IfOk}
 use Rattle.std.specs.Prelude.{nat_lt}
-use Rattle.no_std_io2_base.specs.declared.error.Error.{Error}
-use Rattle.no_std_io2_base.specs.Events.{events_of}
-use Rattle.no_std_io2_base.specs.Takes.{AreTaken, to_come}
-use Rattle.no_std_io2_base.specs.Read.{Reader, tells, GaveLaw}
-use Rattle.no_std_io2_base.specs.Read.{bytes_given, gave}
-use Rattle.no_std_io2_base.specs.ReadMeter.{IsReadMeter, FillsRoom}
-use Rattle.no_std_io2_base.proofs.EventLemmas.{length-events_of}
+use Rattle.no_std_io2.specs.declared.io.Error.{Error}
+use Rattle.no_std_io2.specs.Events.{events_of}
+use Rattle.no_std_io2.specs.Takes.{AreTaken, to_come}
+use Rattle.no_std_io2.specs.Read.{Reader, tells, GaveLaw}
+use Rattle.no_std_io2.specs.Read.{bytes_given, gave}
+use Rattle.no_std_io2.specs.ReadMeter.{IsReadMeter, FillsRoom}
+use Rattle.no_std_io2.proofs.EventLemmas.{length-events_of}
 use Rattle.no_std_io2.specs.declared.buffered.buf_reader.BufReader.{BufReader}
 use Rattle.no_std_io2.specs.BufReader.{reader_held, reader_inner, PassesOn, ReadsBelow, of_held, went_past, was_filled, FillsBelow, lent_held, lent_read}
 use Rattle.no_std_io2.proofs.BufReaderRoom.{some_room}

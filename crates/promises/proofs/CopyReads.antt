@@ -3,16 +3,16 @@ use Rattle.std.proofs.lemmas.Grind.{common_steps}
 use Rattle.std.proofs.Common.{◌≡◌, ℕ, ◌+◌, ◌<◌, min, List, [], ◌∷◌, length, Result, Ok, Err, Some, sym, ap, subst, ◌∙◌, arith}
 use Rattle.std.proofs.Common.{length-append, OnOk}
 use Rattle.std.specs.Int.{div_ceil}
-use Rattle.no_std_io2_base.specs.declared.error.Error.{Error}
-use Rattle.no_std_io2_base.specs.Events.{events_of}
-use Rattle.no_std_io2_base.specs.Read.{Reader, ReadCall, Gave, GaveLaw, ReadCallLaw, Gathers, no_read, and_gave, and_again}
-use Rattle.no_std_io2_base.specs.ReadMeter.{IsReadMeter, FillsRoom}
-use Rattle.no_std_io2_base.specs.Write.{Made}
-use Rattle.no_std_io2_base.specs.Writers.{Writer}
-use Rattle.no_std_io2_base.proofs.CallsLemmas.{made_split}
-use Rattle.no_std_io2_base.proofs.EventLemmas.{length-events_of}
+use Rattle.no_std_io2.specs.declared.io.Error.{Error}
+use Rattle.no_std_io2.specs.Events.{events_of}
+use Rattle.no_std_io2.specs.Read.{Reader, ReadCall, Gave, GaveLaw, ReadCallLaw, Gathers, no_read, and_gave, and_again}
+use Rattle.no_std_io2.specs.ReadMeter.{IsReadMeter, FillsRoom}
+use Rattle.no_std_io2.specs.Write.{Made}
+use Rattle.no_std_io2.specs.Writers.{Writer}
+use Rattle.no_std_io2.proofs.CallsLemmas.{made_split}
+use Rattle.no_std_io2.proofs.EventLemmas.{length-events_of}
 use Rattle.no_std_io2.specs.Copy.{Copied}
-use Rattle.no_std_io2_base.proofs.TakesLemmas.{left_of}
+use Rattle.no_std_io2.proofs.TakesLemmas.{left_of}
 use Rattle.no_std_io2.proofs.CopyLemmas.{copied_ok}
 
 -- a read into the whole room that gave bytes

@@ -6,16 +6,16 @@ use Rattle.std.proofs.Common.{Result, Ok, Err, ⊎_elim, inl, inr, append_assoc,
 use Rattle.std.proofs.Common.{take_all}
 use Rattle.std.proofs.Common.{Vec, String, string_bytes, IfOk}
 use Rattle.std.proofs.lemmas.Bool.{cases_lt}
-use Rattle.no_std_io2_base.specs.declared.error.Error.{Error}
-use Rattle.no_std_io2_base.specs.Errors.{IsOutOfMemory}
-use Rattle.no_std_io2_base.specs.Write.{Made}
-use Rattle.no_std_io2_base.specs.Events.{bytes}
-use Rattle.no_std_io2_base.specs.Read.{Reader, ReadCall, Filled, Consumed}
-use Rattle.no_std_io2_base.specs.BufRead.{LendCallLaw, ReadUntilLaw, ReadLineLaw, lender_tells, line_room}
-use Rattle.no_std_io2_base.specs.Pieces.{AnswersLine, Lacks, EndsPiece, FindsPiece, newline, PartCalls, no_part, and_part, and_waited}
-use Rattle.no_std_io2_base.specs.Pieces.{PieceMade, PieceEnds}
-use Rattle.no_std_io2_base.specs.Pieces.{PieceCalls}
-use Rattle.no_std_io2_base.proofs.CallsLemmas.{made_split}
+use Rattle.no_std_io2.specs.declared.io.Error.{Error}
+use Rattle.no_std_io2.specs.Errors.{IsOutOfMemory}
+use Rattle.no_std_io2.specs.Write.{Made}
+use Rattle.no_std_io2.specs.Events.{bytes}
+use Rattle.no_std_io2.specs.Read.{Reader, ReadCall, Filled, Consumed}
+use Rattle.no_std_io2.specs.BufRead.{LendCallLaw, ReadUntilLaw, ReadLineLaw, lender_tells, line_room}
+use Rattle.no_std_io2.specs.Pieces.{AnswersLine, Lacks, EndsPiece, FindsPiece, newline, PartCalls, no_part, and_part, and_waited}
+use Rattle.no_std_io2.specs.Pieces.{PieceMade, PieceEnds}
+use Rattle.no_std_io2.specs.Pieces.{PieceCalls}
+use Rattle.no_std_io2.proofs.CallsLemmas.{made_split}
 use Rattle.no_std_io2.specs.declared.buffered.buf_reader.BufReader.{BufReader}
 use Rattle.no_std_io2.specs.Buffer.{IsSuffix}
 use Rattle.no_std_io2.specs.BufReader.{reader_held, reader_behind, reader_inner, FillsBelow, lent_held, lent_read, HasBuffer, TakesHeld, TakesHeldLine}

@@ -1,9 +1,10 @@
 -- Which errors the loops of a writer return, if each of its calls fails with such errors only.
 use Rattle.std.proofs.{lemmas.Grind.{common_steps}, Common.{ℕ, List, Result, IfErr, arith}}
-use Rattle.no_std_io2_base.specs.{declared.error.Error.{Error}, Errors.{IsOutOfMemory}, Write.{WriteCall, Flushed, Made, AllCalls, Writes}}
-use Rattle.no_std_io2_base.specs.{Write.{none, took, again, stuck, fault}, Writers.{Writer, CallOf, WriteAllOf, FlushOf}}
-use Rattle.no_std_io2_base.specs.{Appends.{AppendsWhole, AppendsMay}, Fails.{FailsOnly}}
-use Rattle.no_std_io2_base.proofs.CallsLemmas.{made_map, law_may}
+use Rattle.no_std_io2.specs.{declared.io.Error.{Error}, Errors.{IsOutOfMemory}, Write.{WriteCall, Flushed, Made, AllCalls, Writes}}
+use Rattle.no_std_io2.specs.{Write.{none, took, again, stuck, fault}, Writers.{Writer, CallOf, WriteAllOf, FlushOf}}
+use Rattle.no_std_io2.specs.Appends.{AppendsWhole, AppendsMay}
+use Rattle.promises.specs.Fails.{FailsOnly}
+use Rattle.no_std_io2.proofs.CallsLemmas.{made_map, law_may}
 
 -- a vector fails by `OutOfMemory` only
 whole_fails : {A : Type 0} (old new x : List ℕ) (len capacity : ℕ) (reply : Result A Error) → AppendsWhole old len capacity x reply new

@@ -1,9 +1,9 @@
 use Rattle.std.proofs.Common.{◌++◌, ◌∙◌, ap}
-use Rattle.no_std_io2_base.specs.Events.{bytes}
-use Rattle.no_std_io2_base.proofs.MovesLemmas.{Moves-steady}
+use Rattle.no_std_io2.specs.Events.{bytes}
+use Rattle.no_std_io2.proofs.MovesLemmas.{Moves-steady}
 use Rattle.no_std_io2.specs.Copy.{counted}
 use Rattle.no_std_io2.proofs.CopyLemmas.{took_all, copied_ok, copied_err, copies_steadily, stays_steady, flushed}
-use Rattle.no_std_io2.proofs.util.steady.copy_and_flush.Goals as goal
+use Rattle.promises.proofs.steady.copy_and_flush.Goals as goal
 
 pub returns : goal.returns
 returns g c = λ some E told none steady.

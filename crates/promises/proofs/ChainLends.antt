@@ -1,8 +1,8 @@
 -- What the reader that a `Chain` is at lends, the chain lends.
 use Rattle.std.proofs.Common.{◌+◌, None}
-use Rattle.no_std_io2_base.specs.{declared.traits.chain.Chain.{Chain}, BufRead.{Lender, as_reader}, Chain.{chain_first, chain_second}}
-use Rattle.no_std_io2_base.specs.Chain.{chain_held, ChainMay}
-use Rattle.no_std_io2_base.proofs.ChainLemmas.{chain_reader}
+use Rattle.no_std_io2.specs.{declared.io.Chain.{Chain}, BufRead.{Lender, as_reader}, Chain.{chain_first, chain_second}}
+use Rattle.no_std_io2.specs.Chain.{chain_held, ChainMay}
+use Rattle.no_std_io2.proofs.ChainLemmas.{chain_reader}
 
 -- a chain that lends
 abbrev pub chain_lender : {T U : Type 0} → Lender T → Lender U → Lender (Chain T U)

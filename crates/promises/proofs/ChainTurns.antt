@@ -1,7 +1,7 @@
 -- The calls of a `Chain` use one reader after the other.
 use Rattle.std.proofs.{lemmas.Grind.{common_steps}, Common.{arith}}
-use Rattle.no_std_io2_base.specs.{Read.{Reader, ReadCallLaw}, Chain.{InTurn}}
-use Rattle.no_std_io2_base.proofs.{ReadsAdd.{EachAdds}, ChainLemmas.{chain_reader}}
+use Rattle.no_std_io2.specs.{Read.{Reader, ReadCallLaw}, Chain.{InTurn}}
+use Rattle.no_std_io2.proofs.{ReadsAdd.{EachAdds}, ChainLemmas.{chain_reader}}
 
 module _ {T U : Type 0} where
   -- Each call does. So `exact_adds (chain_each R S)` proves this for a `read_exact`, and the other calls are as for `limit_each`.

@@ -11,8 +11,8 @@ use Rattle.no_std_io2.specs.ReadMeter.{IsReadMeter, FillsRoom}
 use Rattle.no_std_io2.specs.declared.buffered.buf_reader.BufReader.{BufReader}
 use Rattle.no_std_io2.specs.BufReader.{reader_held, reader_inner, AsksExact, ExactReads, ExactBelow, LeavesExact}
 use Rattle.no_std_io2.proofs.CallsLemmas.{made_split}
-use Rattle.no_std_io2.proofs.BufReaderCounts.{drawn}
-use Rattle.io_bench.specs.Counts.{exact_reads, exact_left}
+use Rattle.io_bench.proofs.BufReaderCounts.{drawn}
+use Rattle.promises.specs.Counts.{exact_reads, exact_left}
 
 -- What the inner reads of an exact read drew, with h bytes held before: none, or all by one read.
 record DrawnOnce {R : Type 0} {K : Reader R} (fills : FillsRoom K) (size wanted h : ℕ) (a : R) (given : List ℕ) (b : R) : Type 0 where
