@@ -107,10 +107,22 @@ def words(logic):
                 yield word, path, " ".join(above.replace("-- ", "").split())
 
 
+def blocks(text):
+    """What the `module _ .. where` blocks of a module have."""
+    return [textwrap.dedent(block) for block in
+            re.findall(r"^module _ (?:.*\n +)*?.*where\n((?:  .*\n|\n)*)", text, re.M)]
+
+
 def defined(text):
-    """The names that a module of specs/ or proofs/ defines at its top level."""
-    pattern = r"^(?:abbrev |unfoldable |opaque |pub )*(?:record |data |ruleset )?(?!mod\b|use\b|module\b|--)(\S+)(?=.* : | .*:$)"
-    return set(re.findall(pattern, text, re.M))
+    """The names that a module of specs/ or proofs/ defines: all at its top level, and the public ones of its blocks."""
+    marks = r"^(?:abbrev |unfoldable |opaque )*"
+    typed = r"(?:record |data |ruleset )?(?!mod\b|use\b|module\b|--)([^\s=]+)(?=.* : |.*:$| =.*\)$)"
+    names = set(re.findall(rf"{marks}(?:pub )?{typed}", text, re.M))
+    inside = blocks(text)
+    while inside:
+        names.update(name for block in inside for name in re.findall(rf"{marks}pub {typed}", block, re.M))
+        inside = [inner for block in inside for inner in blocks(block)]
+    return names
 
 
 def twice(pairs):

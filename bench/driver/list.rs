@@ -62,7 +62,7 @@ macro_rules! listed {
             records_writer_64: bytes short "`BufWriter` 64, `write_all` of 1 to {} by turns" [32 100];
             records_writer_1024: bytes short "`BufWriter` 1024, `write_all` of 1 to {} by turns" [32 100];
             line_writer: lines short "`LineWriter` 1024, lines of {}" [8 40 80 900 10000];
-            lines_plain: lines short "`LineWriter` 1024, `write_all` of {} less one without a newline" [33 900 10000];
+            lines_plain: lines short "`LineWriter` 1024, `write_all` of {} - 1 without a newline" [33 900 10000];
             lines_apart: bytes short "`LineWriter` 1024, a text of {} and its newline apart" [8 40];
             writer_seek: bytes short "`BufWriter` 64 to a cursor, `write_all` of {} and `seek`" [1 16];
             two_writers: bytes short "`BufWriter` 64 over `BufWriter` 1024, `write_all` of {}" [1 7 16 100];

@@ -58,15 +58,15 @@ pub fn print(cases: &[Case], times: &Measured, counts: &Measured, above_alone: b
     }
     let ((cases_of_kit, fewer), (_, faster)) = (beside_kit(counts), beside_kit(times));
     println!("\nBeside the toolchain's `std::io`: {cases_of_kit} cases, {fewer:.2} of its instructions, {faster:.2} of its time.");
-    println!("\n| a call | class | ns ours | std | original | kit | ratio | instr. ours | std | original | kit | ratio | |");
-    println!("|---|---|---:|---:|---:|---:|---:|---:|---:|---:|---:|---:|---|");
+    println!("\n| a call | ns ours | std | original | kit | ratio | instr. ours | std | original | kit | ratio | |");
+    println!("|---|---:|---:|---:|---:|---:|---:|---:|---:|---:|---:|---|");
     for ((case, times), counts) in cases.iter().zip(times).zip(counts) {
         let is_above = ratio(counts).is_some_and(|it| it > most(case) + 0.005);
         if above_alone && !is_above {
             continue;
         }
         let mark = if is_above { "*" } else { "" };
-        println!("| {} | {} |{}{} {mark} |", case.name, case.class, cells(times), cells(counts));
+        println!("| {} |{}{} {mark} |", case.name, cells(times), cells(counts));
     }
 }
 
@@ -74,7 +74,7 @@ fn cells(values: &[Option<f64>; SIDES]) -> String {
     let mut cells = String::new();
     for value in values {
         cells += &match value {
-            Some(value) if *value < 1000.0 => format!(" {value:.1} |"),
+            Some(value) if *value < 100.0 => format!(" {value:.1} |"),
             Some(value) => format!(" {value:.0} |"),
             None => String::from(" - |"),
         };
