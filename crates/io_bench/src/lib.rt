@@ -4,7 +4,8 @@
 //! [`run_writes`] makes the calls of a list on any writer, and keeps each reply. Its contract says
 //! what this does to the writer, for every type of writer. [`Sink`], [`Faulty`] and [`Tally`] are
 //! writers to put below: one that takes all, one that fails as its acts say, and one that counts.
-//! [`joined`] returns the bytes that a run accepted, by its replies.
+//! [`joined`] returns the bytes that a run accepted, by its replies. [`run_closed`] makes a list of calls
+//! through one `BufWriter`, closes it, and bounds the inner writes.
 //!
 //! [`run_reads`] makes a list of reads through one `BufReader`, with a bound on the inner reads.
 //! [`Feed`] is a reader to put below, which gives the events of a list; `Tally` counts reads too.
@@ -12,6 +13,7 @@
 
 mod accepted;
 mod asks;
+mod closed;
 mod faulty;
 mod feed;
 mod pieces;
@@ -20,6 +22,7 @@ mod tally;
 
 pub use accepted::joined;
 pub use asks::{Ask, ReadTotals, run_reads};
+pub use closed::run_closed;
 pub use faulty::{Act, Faulty};
 pub use feed::{Event, Feed};
 pub use no_std_io2::ghost_bytes;

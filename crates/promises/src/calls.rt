@@ -1,7 +1,8 @@
 // Which calls the device gets.
-ghost use Rattle.std.specs.Prelude.{◌≡◌, ◌+◌, ◌*◌, ◌/◌, ◌<◌, ◌≤◌, List, IfErr, IfOk, IsOk, length};
+ghost use Rattle.std.specs.Prelude.{◌≡◌, ◌+◌, ◌*◌, ◌/◌, ◌<◌, ◌≤◌, [], List, IfErr, IfOk, IsOk, length, vec_capacity, vec_len};
 ghost use Rattle.no_std_io2.specs.BufWriter.{BufWriterFits, writer_inner, writer_buffer};
-ghost use Rattle.no_std_io2.specs.Write.{Made, WriteCall};
+ghost use Rattle.no_std_io2.specs.Errors.{IsOutOfMemory};
+ghost use Rattle.no_std_io2.specs.Write.{Made, Moves, WriteCall};
 ghost use Rattle.no_std_io2.specs.Writers.{CallOf, TakesAll};
 ghost use Rattle.no_std_io2.specs.Meter.{CostsAtMost};
 ghost use Rattle.io_bench.specs.Closed.{flushes, given_bytes};
@@ -43,8 +44,9 @@ pub fn makes_no_call_if_it_fits<W: Write + Drop, const S: usize>(
     w.write(x)
 }
 
-/// Over a device that takes every write whole, a run of N bytes and F flushes, closed by `into_inner`, makes at most
-/// `2 * (N / (S + 1)) + F + 1` writes, by each number that counts the writes of the device, such as that of a `Tally`.
+/// Over a device that takes every write whole, a run of N bytes and F flushes, closed by `into_inner`, gives the device all bytes, and
+/// makes at most `2 * (N / (S + 1)) + F + 1` writes, by each number that counts the writes of the device, such as that of a `Tally`. It
+/// fails only if there is no room for the replies.
 pub fn bounds_the_writes_of_a_run<W: Write + Drop, const S: usize>(
     device: W,
     ops: &[Op<'_>],
@@ -53,7 +55,10 @@ pub fn bounds_the_writes_of_a_run<W: Write + Drop, const S: usize>(
     requires some { 0 < S }
     requires all { TakesAll W.Write device }
     requires fits { BufWriterFits W.row S }
-    ensures { IfOk result (λ t. CostsAtMost W.Write device (2 * (length (given_bytes ops.now) / (S + 1)) + flushes ops.now + 1) t) }
+    ensures bytes { IfOk result (λ t. Moves (W.told device) (given_bytes ops.now) [] (W.told t)) }
+    ensures bound { IfOk result (λ t. CostsAtMost W.Write device
+        (2 * (length (given_bytes ops.now) / (S + 1)) + flushes ops.now + 1) t) }
+    ensures fails { IfErr result (λ e. IsOutOfMemory e × (vec_capacity replies.old < vec_len replies.old + length ops.now)) }
 {
     let mut buffered = BufWriter::<W, S>::new(device);
     run_writes(&mut buffered, ops, replies)?;

@@ -1,0 +1,71 @@
+-- A run through a new buffer that is then closed, over a writer that takes all.
+use Rattle.std.proofs.lemmas.Grind.{common_steps}
+use Rattle.std.proofs.Common.{◌≡◌, ◌+◌, ◌*◌, ◌/◌, ℕ, ◌<◌, ◌≤◌, List, [], ◌∷◌, ◌++◌, length, take, Ok, refl, sym, ap, subst, ◌∙◌, arith}
+use Rattle.std.proofs.Common.{append-nil, take_all}
+use Rattle.no_std_io2.specs.Write.{Told, Made, Moves, WriteCall, Wrote, WroteAll, Flushed}
+use Rattle.no_std_io2.specs.Writers.{Writer, TakesAll}
+use Rattle.no_std_io2.specs.Meter.{CostsAtMost, IsMeter}
+use Rattle.no_std_io2.specs.declared.buffered.buf_writer.BufWriter.{BufWriter}
+use Rattle.no_std_io2.specs.BufWriter.{BufferMay, InnerCalls, Unwraps, with_buffer, writer_buffer, writer_inner, writer_told}
+use Rattle.no_std_io2.proofs.MovesLemmas.{Moves-ends}
+use Rattle.no_std_io2.proofs.BufWriterLemmas.{Moves-device, buffer-le}
+use Rattle.io_bench.specs.declared.runs.Op.{Op}
+use Rattle.io_bench.specs.declared.runs.Op.TheVariants.{Write, WriteAll, Flush}
+use Rattle.io_bench.specs.declared.runs.Reply.{Reply}
+use Rattle.io_bench.specs.declared.runs.Reply.TheVariants.{Took, Done, Failed}
+use Rattle.io_bench.specs.Runs.{Accepts, AreWhole, IsWhole, Ran, Run, RunCalls}
+use Rattle.io_bench.specs.declared.tally.Tally.{Tally}
+use Rattle.io_bench.specs.Tally.{TallyMay, tally_inner, tally_writes}
+use Rattle.io_bench.specs.Closed.{flushes, given_bytes, op_bytes}
+use Rattle.io_bench.proofs.RunCharges.{closed_bound, run_made}
+
+-- a whole call accepted all its bytes
+whole_call : (op : Op) (reply : Reply) (x : List ℕ) → IsWhole op reply → Accepts op reply x → x ≡ op_bytes op
+whole_call (Write x) (Took n) y whole accepts = accepts.1 ∙ take_all n x.now (omega (arith, whole))
+whole_call (WriteAll x) Done y whole accepts = accepts
+whole_call Flush Done y whole accepts = accepts
+whole_call _ _ y whole accepts = grind (arith, whole)
+
+-- a run of whole calls accepted all bytes
+whole_run : (ops : List Op) (replies : List Reply) (x : List ℕ) → AreWhole ops replies → Run ops replies x → x ≡ given_bytes ops
+whole_run [] [] x whole run = run
+whole_run (op ∷ ops) (reply ∷ replies) x whole (first, rest, accepts, more, is) =
+    is ∙ ap (λ l. l ++ rest) (whole_call op reply first whole.0 accepts)
+    ∙ ap (λ l. op_bytes op ++ l) (whole_run ops replies rest whole.1 more)
+whole_run _ _ x whole run = grind (arith, whole)
+
+module _ {W : Type 0} (I : Writer W) {S : ℕ} (some : 0 < S) (w : W) (ops : List Op) (replies : List Reply) (t : W) where
+  -- what such a run did to the writer below
+  pub record Closes : Type 0 where
+    pub bytes : Moves (I.told w) (given_bytes ops) [] (I.told t)
+    pub bound : CostsAtMost I w (2 * (length (given_bytes ops) / (S + 1)) + flushes ops + 1) t
+
+  -- It did it, by the laws of `run_writes` and of `into_inner`.
+  pub closes : {J : Writer (BufWriter W S)} (start last : BufWriter W S) → writer_inner start ≡ w → writer_buffer start ≡ []
+      → TakesAll I w → Ran (writer_told I.told start) ops replies (writer_told I.told last) → AreWhole ops replies
+      → (run : RunCalls J start ops replies last) → Made (BufferMay I (InnerCalls S) writer_inner writer_buffer) start run.calls last
+      → Unwraps I writer_inner writer_buffer last (Ok t) → Closes
+  closes start last is empty all ran whole run made ends = record {
+    bytes =
+        Moves-device I.told start w is empty refl
+        (subst (λ l. Moves (writer_told I.told start) l [] (I.told t)) (whole_run ops replies ran.accepted whole ran.run)
+        (Moves-ends ran.moves ends.ok));
+    bound = λ cost meter takes.
+        let bound = closed_bound I cost meter S some writer_inner writer_buffer buffer-le start last t ops replies run.calls run.joined whole
+        made empty (subst (TakesAll I) (sym is) all) ends.calls in
+        omega (arith, bound, ap cost is);
+  }
+
+-- the exact count of a `Tally` counts its writes
+pub tally_meters : {T : Type 0} (I : Writer T) → IsMeter (TallyMay I) tally_writes
+tally_meters I old new (Wrote x reply) made = made.writes
+tally_meters I old new (WroteAll x reply) made = absurd made
+tally_meters I old new (Flushed reply) made = made.writes
+
+-- a `Tally` as a writer
+abbrev pub tallied_writer : {T : Type 0} → Writer T → Writer (Tally T)
+tallied_writer I = record {
+  told = λ t. I.told (tally_inner t);
+  takes_all = λ t. I.takes_all (tally_inner t);
+  may = TallyMay I;
+}

@@ -1,0 +1,58 @@
+// [`run_closed`], a list of calls through one `BufWriter` that is then closed.
+ghost use Rattle.std.specs.Prelude.{◌≡◌, ◌+◌, ◌*◌, ◌/◌, ◌<◌, ◌≤◌, [], ◌++◌, IfErr, IfOk, OnErr, OnOk, length, vec_capacity, vec_len};
+ghost use Rattle.no_std_io2.specs.BufWriter.{BufWriterFits};
+ghost use Rattle.no_std_io2.specs.Errors.{IsOutOfMemory};
+ghost use Rattle.no_std_io2.specs.Write.{Moves};
+ghost use Rattle.no_std_io2.specs.Writers.{TakesAll};
+ghost use Rattle.io_bench.specs.Appended.{appended};
+ghost use Rattle.io_bench.specs.Closed.{flushes, given_bytes};
+ghost use Rattle.io_bench.specs.Runs.{AreWhole};
+ghost use Rattle.io_bench.specs.Tally.{tally_inner, tally_writes};
+ghost use Rattle.io_bench.specs.contracts.tally.Tally.{the_row as tally-row};
+
+use crate::runs::{Op, Reply, run_writes};
+use crate::tally::Tally;
+use no_std_io2::io::{BufWriter, Error, Result, Write};
+use std::alloc::Allocator;
+
+/// Makes the calls of `ops`, in order, on a new `BufWriter` of `S` bytes over `w`, closes it by
+/// `into_inner`, and returns `w`. Appends one reply for each call. The inner writer of `w` takes all,
+/// and `S` is above 0.
+///
+/// Each call then succeeds and accepts all its bytes: each reply is `Took` of the whole length, or
+/// `Done`. The inner writer got the bytes of all calls, and still takes all. For N bytes and F flushes
+/// `w` counts at most `2 * (N / (S + 1)) + F + 1` writes more.
+///
+/// # Errors
+/// Returns `OutOfMemory` if there is no room for the replies. Then no call was made, the replies are
+/// as they were, and `w` is dropped.
+pub fn run_closed<W: Write + Drop, const S: usize>(
+    w: Tally<W>,
+    ops: &[Op<'_>],
+    replies: &mut Vec<Reply, impl Allocator>,
+) -> Result<Tally<W>>
+    requires some { 0 < S }
+    requires all { TakesAll W.Write (tally_inner w) }
+    // The `BufWriter` has to fit in memory.
+    requires fits { BufWriterFits (tally-row W.row) S }
+    ensures appends { OnOk result (replies.new.items
+        ≡ replies.old.items ++ appended replies.old.items replies.new.items) }
+    // There is one reply for each call, and each is whole.
+    ensures whole { OnOk result (AreWhole ops.now (appended replies.old.items replies.new.items)) }
+    // No byte is lost, and no mishap came.
+    ensures bytes { IfOk result (λ t. Moves (W.told (tally_inner w)) (given_bytes ops.now) [] (W.told (tally_inner t))) }
+    ensures all { IfOk result (λ t. TakesAll W.Write (tally_inner t)) }
+    ensures bound { IfOk result (λ t. tally_writes t
+        ≤ tally_writes w + (2 * (length (given_bytes ops.now) / (S + 1)) + flushes ops.now + 1)) }
+    ensures kind { IfErr result IsOutOfMemory }
+    // It does not fail if there is room for the replies.
+    ensures full { OnErr result (vec_capacity replies.old < vec_len replies.old + length ops.now) }
+    ensures err { OnErr result (replies.new.items ≡ replies.old.items) }
+{
+    let mut buffered = BufWriter::<Tally<W>, S>::new(w);
+    run_writes(&mut buffered, ops, replies)?;
+    match buffered.into_inner() {
+        Ok(tally) => Ok(tally),
+        Err(e) => Err(Error::from(e)),
+    }
+}
