@@ -14,7 +14,7 @@ use Rattle.no_std_io2.proofs.EventLemmas.{bytes-append, bytes-events_of, HasNoFa
 use Rattle.framing.specs.Frames.{frame, told_length, IsPart}
 use Rattle.framing.specs.Taking.{seen_bytes, reads_from, frame_to_come, given_frame, TakesFrame}
 use Rattle.framing.proofs.BackLemmas.{frame_takes}
-use Rattle.no_std_io2.specs.FillTo.{GathersTo}
+use Rattle.no_std_io2.specs.Reads.{GathersTo, Took}
 use Rattle.framing.specs.Sending.{frame_writer, PutsFrame, SendsFrame}
 use Rattle.framing.specs.declared.writer.FrameWriter.{FrameWriter}
 use Rattle.bare.specs.declared.queue.Queue.{Queue}
@@ -37,24 +37,23 @@ below seen E none is = grind (arith, common_steps)
 
 frame_left : {R : Type 0} {S : ℕ} {I : Reader R} {old new : FrameReader R S} {room room' : List ℕ} (bs : List ℕ)
     (reply : Result (Option ℕ) Error) → frame_to_come I old room ≡ Some (events_of bs) → seen_bytes old room ≡ []
-    → (law : TakesFrame I old room reply new room') → Left I bs (frame_takes law).0 reply new room'
+    → (law : TakesFrame I old room reply new room') → Left I bs (frame_takes law).taken reply new room'
 frame_left {I = I} {old} {new} {room} {room'} bs reply is none law =
     by (to_come (tells I (reads_from new))) refl
-    (rw (below (seen_bytes old room) (to_come (tells I (reads_from old))) none is) at taken.1.events)
+    (rw (below (seen_bytes old room) (to_come (tells I (reads_from old))) none is) at took.takes.events)
   where
-    taken : (P : List Event) × Takes (tells I (reads_from old)) P (tells I (reads_from new)) × (bytes P ≡ law.sees.given)
-        × GathersTo P law.how (tells I (reads_from new))
-    taken = frame_takes law
+    took : Took (tells I (reads_from old)) law.sees.given law.how (tells I (reads_from new))
+    took = frame_takes law
 
-    by : (E : Option (List Event)) → to_come (tells I (reads_from new)) ≡ E → AreTaken (Some (events_of bs)) taken.0 E
-        → Left I bs taken.0 reply new room'
+    by : (E : Option (List Event)) → to_come (tells I (reads_from new)) ≡ E → AreTaken (Some (events_of bs)) took.taken E
+        → Left I bs took.taken reply new room'
     by None told are = absurd are
     by (Some E) told are = record {
       left = E;
       told = told;
       events = are;
       order = simp (bytes-append, bytes-events_of) at (ap bytes are)
-          ∙ ap (λ l. l ++ bytes E) (taken.2 ∙ sym (rw none at law.sees.are) ∙ law.order)
+          ∙ ap (λ l. l ++ bytes E) (took.are ∙ sym (rw none at law.sees.are) ∙ law.order)
           ∙ append_assoc (given_frame reply room') (seen_bytes new room') (bytes E);
     }
 
@@ -75,8 +74,8 @@ module _ {R : Type 0} {S : ℕ} {I : Reader R} {old new : FrameReader R S} {room
 
   -- how the reads below ended
   ended : {reply : Result (Option ℕ) Error} (law : TakesFrame I old room reply new room') {how : Result Bool Error} → law.how ≡ how
-      → GathersTo (frame_takes law).0 how (tells I (reads_from new))
-  ended law is = subst (λ h. GathersTo (frame_takes law).0 h (tells I (reads_from new))) is (frame_takes law).3
+      → GathersTo (frame_takes law).taken how (tells I (reads_from new))
+  ended law is = subst (λ h. GathersTo (frame_takes law).taken h (tells I (reads_from new))) is (frame_takes law).ends
 
   -- no frame is left only where there are no bytes
   pub frame_none : TakesFrame I old room (Ok None) new room' → bs ≡ []
@@ -93,12 +92,12 @@ module _ {R : Type 0} {S : ℕ} {I : Reader R} {old new : FrameReader R S} {room
         ]
   ]
     where
-      left : Left I bs (frame_takes law).0 (Err e) new room'
+      left : Left I bs (frame_takes law).taken (Err e) new room'
       left = frame_left bs (Err e) is none law
 
-      no_fault : EndsInFault (frame_takes law).0 e → ⊥
+      no_fault : EndsInFault (frame_takes law).taken e → ⊥
       no_fault (Q, split, clean, fault) =
-          let all = HasNoFault-front (frame_takes law).0 left.left (subst HasNoFault left.events (HasNoFault-events_of bs)) in
+          let all = HasNoFault-front (frame_takes law).taken left.left (subst HasNoFault left.events (HasNoFault-events_of bs)) in
           let last = HasNoFault-behind Q (fails e ∷ []) (subst HasNoFault split all) in
           true≢false (sym last.0 ∙ fault)
 

@@ -9,7 +9,7 @@ use Rattle.no_std_io2.specs.BufRead.{Lender, lender_tells, FilledLaw, ConsumeLaw
 use Rattle.no_std_io2.specs.Passing.{Skipped}
 use Rattle.no_std_io2.proofs.EventLemmas.{bytes-append, HasNoFault-append}
 use Rattle.no_std_io2.proofs.TakesLemmas.{takes_none, takes_then, takes_still, takes_all, bytes_more, bytes_still, TakesBytes-then}
-use Rattle.no_std_io2.proofs.TakesLemmas.{IsAll-behind, EndsInFault-behind}
+use Rattle.no_std_io2.proofs.TakesLemmas.{IsAll-behind, EndsInFault-behind, stays_at_end}
 use Rattle.examples.specs.Lengths.{AreRecords, none, more, IsCutOff, SkipsRecords}
 
 -- whole records were skipped so far
@@ -45,7 +45,7 @@ module _ {X : Type 0} {R : Lender X} {old now after : X} (before : RecordsTaken 
     ends = (
       before.took.no_fault,
       subst AreRecords (sym before.took.are) before.records,
-      takes_all before.took.taken before.took.takes (filled.end refl),
+      takes_all before.took.taken before.took.takes (stays_at_end filled.takes (filled.end refl)),
     );
   }
 

@@ -5,14 +5,15 @@ use Rattle.std.proofs.{Common.{arith, append_assoc, append-nil, length-append, l
 use Rattle.std.proofs.lemmas.List.{take-append-le, Elements.{All-head}}
 use Rattle.std.specs.Int.{w32, to_le_bytes, from_le_bytes}
 use Rattle.no_std_io2.specs.{declared.io.Error.{Error}, Errors.{IsFault}, Events.{Event, fails, bytes, events_of, HasNoFault}}
-use Rattle.no_std_io2.specs.{Events.{first_fault}, FillTo.{GathersTo}, Takes.{Takes, AreTaken, to_come, IsAtEnd}, Read.{Reader, tells}}
+use Rattle.no_std_io2.specs.{Events.{first_fault}, Reads.{GathersTo, Took}, Takes.{Takes, AreTaken, to_come, IsAtEnd}, Read.{Reader, tells}}
 use Rattle.no_std_io2.specs.{Write.{Told}, BufReader.{behind_held}}
 use Rattle.no_std_io2.proofs.EventLemmas.{bytes-append, bytes-behind, HasNoFault-append, HasNoFault-events_of}
 use Rattle.no_std_io2.proofs.GivenPieces.{first_fault-append}
 use Rattle.framing.specs.{Frames.{frame, frames, told_length, IsPart}, Taking.{seen_bytes, reads_from, frame_to_come, given_frame}}
 use Rattle.framing.specs.{Taking.{EndsFrame, TakesFrame}, Back.{AreToCome, GivesBack, WentOut}}
 use Rattle.framing.specs.declared.reader.FrameReader.{FrameReader}
-use Rattle.framing.proofs.{ReadsLemmas.{Reads-takes}, SeenLemmas.{told_header, some_room}}
+use Rattle.no_std_io2.proofs.ReadsLemmas.{Reads-takes}
+use Rattle.framing.proofs.SeenLemmas.{told_header, some_room}
 
 -- the first bytes of a frame say the length of its payload
 told_frame : (p rest : List ℕ) → length p < 2 ^ 32 → told_length (frame p ++ rest) ≡ length p
@@ -85,9 +86,8 @@ first_frame (s ∷ ss) room n after small fits is =
 
 module _ {R : Type 0} {S : ℕ} {I : Reader R} {old new : FrameReader R S} {room room' : List ℕ} where
   -- what a call takes of the events of the reader below
-  pub frame_takes : {reply : Result (Option ℕ) Error} (law : TakesFrame I old room reply new room') → (P : List Event)
-      × Takes (tells I (reads_from old)) P (tells I (reads_from new)) × (bytes P ≡ law.sees.given)
-      × GathersTo P law.how (tells I (reads_from new))
+  pub frame_takes : {reply : Result (Option ℕ) Error} (law : TakesFrame I old room reply new room')
+      → Took (tells I (reads_from old)) law.sees.given law.how (tells I (reads_from new))
   frame_takes law = Reads-takes (λ at size asks. rw asks.1 (some_room S _ _ asks.0)) law.how law.sees.reads
 
   -- If the frames of `sent` are told to come, a call gives the first payload, and the others are still to come.
@@ -95,7 +95,7 @@ module _ {R : Type 0} {S : ℕ} {I : Reader R} {old new : FrameReader R S} {room
       → AreToCome sent (frame_to_come I old room) → All (λ p. length p < 2 ^ 32) sent
       → GivesBack (length room) sent (frame_to_come I old room) reply room' (frame_to_come I new room')
   gives_back reply law sent told small =
-      by (to_come (tells I (reads_from old))) (to_come (tells I (reads_from new))) refl taken.1.events told
+      by (to_come (tells I (reads_from old))) (to_come (tells I (reads_from new))) refl took.takes.events told
     where
       seen : List ℕ
       seen = seen_bytes old room
@@ -103,14 +103,13 @@ module _ {R : Type 0} {S : ℕ} {I : Reader R} {old new : FrameReader R S} {room
       seen' : List ℕ
       seen' = seen_bytes new room'
 
-      taken : (P : List Event) × Takes (tells I (reads_from old)) P (tells I (reads_from new)) × (bytes P ≡ law.sees.given)
-          × GathersTo P law.how (tells I (reads_from new))
-      taken = frame_takes law
+      took : Took (tells I (reads_from old)) law.sees.given law.how (tells I (reads_from new))
+      took = frame_takes law
 
-      ended : (how : Result Bool Error) → law.how ≡ how → GathersTo taken.0 how (tells I (reads_from new))
-      ended how is = subst (λ h. GathersTo taken.0 h (tells I (reads_from new))) is taken.3
+      ended : (how : Result Bool Error) → law.how ≡ how → GathersTo took.taken how (tells I (reads_from new))
+      ended how is = subst (λ h. GathersTo took.taken h (tells I (reads_from new))) is took.ends
 
-      by : (E E' : Option (List Event)) → to_come (tells I (reads_from new)) ≡ E' → AreTaken E taken.0 E'
+      by : (E E' : Option (List Event)) → to_come (tells I (reads_from new)) ≡ E' → AreTaken E took.taken E'
           → AreToCome sent (behind_held seen E) → GivesBack (length room) sent (behind_held seen E) reply room' (behind_held seen' E')
       by None E' is are told = absurd told
       by (Some E) None is are told = absurd are
@@ -118,7 +117,7 @@ module _ {R : Type 0} {S : ℕ} {I : Reader R} {old new : FrameReader R S} {room
         where
           -- all that was to come is the frame that was given, and then what is to come
           whole : frames sent ≡ given_frame reply room' ++ bytes (events_of seen' ++ E')
-          whole = grind (arith, append_assoc, bytes-append, bytes-behind, seen, seen', taken)
+          whole = grind (arith, append_assoc, bytes-append, bytes-behind, seen, seen', took)
 
           none_left : IsAtEnd (tells I (reads_from new)) → seen' ≡ bytes (events_of seen' ++ E')
           none_left end = rw (bytes-behind seen', (rw is at end)) (sym (append-nil seen'))

@@ -1,5 +1,4 @@
 pub mod SendingLemmas
-pub mod ReadsLemmas
 pub mod BelowLemmas
 pub mod SeenLemmas
 pub mod TakingLemmas

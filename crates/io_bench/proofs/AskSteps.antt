@@ -15,6 +15,7 @@ use Rattle.no_std_io2.specs.Read.{Reader, tells, ReadCall, bytes_given, GaveLaw,
 use Rattle.no_std_io2.specs.Read.{ExactCalls}
 use Rattle.no_std_io2.specs.ReadMeter.{FillsRoom, IsReadMeter}
 use Rattle.no_std_io2.specs.Write.{Made}
+use Rattle.no_std_io2.proofs.TakesLemmas.{stays_at_end}
 use Rattle.no_std_io2.specs.BufRead.{Lender, as_reader, lender_tells, LendCallLaw, FilledLaw, ConsumeLaw}
 use Rattle.no_std_io2.specs.declared.buffered.buf_reader.BufReader.{BufReader}
 use Rattle.no_std_io2.specs.BufReader.{reader_held, reader_behind, reader_inner, behind_held, PassesOn, ReadsBelow, of_held, went_past}
@@ -263,14 +264,14 @@ module _ {R : Type 0} {S : ℕ} (I : Reader R) (fills : FillsRoom I) (start : Bu
       still ∙ took mid b (take n (reader_held mid)) law.takes ∙ ap (λ l. take n l ++ all b) filled.lends in
       let long = ap length still ∙ length-append (reader_held mid) (fills.left (reader_inner mid)) in
       let met : nat_eq (length lent) 0 ≡ nat_lt (length (all a)) 1 = ⊎_elim
-      (λ few. let over = ended a (filled.end (ap Ok (nil_from_length lent (omega arith)))) in
+      (λ few. let over = ended a (stays_at_end filled.takes (filled.end (ap Ok (nil_from_length lent (omega arith))))) in
       grind (arith, nat_tests, ap length over))
       (λ some. grind (arith, nat_tests, long, ap length filled.lends))
       (cases_lt (length lent) 1) in
       let many = length-take-le n lent (omega arith) in (
         is ∙ ap Ok met,
         drops most (take n lent) (all a) (all b) gave (omega (arith, many)) (λ none some.
-            let over = ended a (filled.end (ap Ok (nil_from_length lent (omega (arith, many, ap length none))))) in
+            let over = ended a (stays_at_end filled.takes (filled.end (ap Ok (nil_from_length lent (omega (arith, many, ap length none)))))) in
             nil_from_length (all b) (omega (arith, ap length gave, length-append (take n lent) (all b), ap length over))),
         kept_paid _ mid b (omega (arith, ap length law.held, length-drop n (reader_held mid))) law.call.0
             (once_paid z _ a mid (omega arith) (λ none. grind (arith, nat_tests, none))

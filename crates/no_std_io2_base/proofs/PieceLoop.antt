@@ -11,7 +11,7 @@ use Rattle.no_std_io2_base.specs.{Pieces.{PartCalls, no_part, and_part, and_wait
 use Rattle.no_std_io2_base.proofs.{CallsLemmas.{made_more, made_then}, EventLemmas.{events_of-append, HasNoFault-append}}
 use Rattle.no_std_io2_base.proofs.{EventLemmas.{HasNoFault-events_of, length-events_of}, PieceLemmas.{bytes_more, bytes_still}}
 use Rattle.no_std_io2_base.proofs.{PieceLemmas.{Lacks-append, found_part, comes_behind}, TakesLemmas.{takes_none, takes_then, takes_still}}
-use Rattle.no_std_io2_base.proofs.TakesLemmas.{takes_turns, takes_all, spends}
+use Rattle.no_std_io2_base.proofs.TakesLemmas.{takes_turns, takes_all, spends, stays_at_end}
 
 -- a `fill_buf` and its loan are a call
 fill_law : {X : Type 0} {R : Lender X} {old new : X} (reply : Result (Bor (List ℕ)) Error) → FillBufLaw R old reply
@@ -155,7 +155,7 @@ module _ {X : Type 0} {R : Lender X} {d : ℕ} {old now after : X} {P : List Eve
       ended (inr none) =
           let zero : n ≡ 0 = omega (arith, found.within, ap length none) in
           let same : P ≡ P ++ events_of (take n lent) = sym (ap (λ k. P ++ events_of (take k lent)) zero ∙ append-nil P) in
-          let all = takes_all P before.takes (filled.end (ap Ok none)) in
+          let all = takes_all P before.takes (stays_at_end filled.takes (filled.end (ap Ok none))) in
           inr (subst (λ l. Lacks d (bytes l)) same before.lacks, subst (IsAll (lender_tells R old)) same all)
 
       -- then the loop ends

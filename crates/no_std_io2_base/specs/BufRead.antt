@@ -57,6 +57,8 @@ AfterLoan R old reply new = record {
   takes : Takes (lender_tells R old) (fault_of (lent_bytes reply)) (lender_tells R new);
   -- if bytes were held, nothing has changed
   unchanged : 0 < length (R.held old) → new ≡ old;
+  -- an empty slice is lent only at the end
+  end : lent_bytes reply ≡ Ok [] → IsAtEnd (lender_tells R new);
   -- it is one call
   call : R.may old (Filled (lent_bytes reply)) new;
 }
@@ -77,7 +79,7 @@ pub record FilledLaw {X : Type 0} (R : Lender X) (old : X) (answer : Result (Lis
   pub front : IfOk answer (λ x. IfSome (to_come (lender_tells R old)) (λ E. BeginsWith E x))
   pub lends : R.held new ≡ bytes_given answer
   -- none are lent only at the end
-  pub end : answer ≡ Ok [] → IsAtEnd (lender_tells R old)
+  pub end : answer ≡ Ok [] → IsAtEnd (lender_tells R new)
   -- nothing is taken, except the error that was returned
   pub takes : Takes (lender_tells R old) (fault_of answer) (lender_tells R new)
   -- it is one call

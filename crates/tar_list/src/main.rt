@@ -10,7 +10,7 @@ ghost use Rattle.std.specs.Process.{exit_status};
 ghost use Rattle.std.specs.Vec.Iter.{into_iter_items};
 ghost use Rattle.tar_list.specs.Words.{Asks};
 ghost use Rattle.tar_reader.specs.Archives.{archive_inner, gathered, left_of_member};
-ghost use Rattle.tar_reader.specs.Asking.{Fetched};
+ghost use Rattle.no_std_io2.specs.Reads.{Fetched};
 ghost use Rattle.tar_reader.specs.Members.{IsArchiveEnd};
 
 use no_std_io2::io::{BufRead, BufReader, BufWriter, Error, ErrorKind, Result, Write, copy};

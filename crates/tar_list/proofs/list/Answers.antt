@@ -1,7 +1,7 @@
 use Rattle.std.proofs.Common.{[], true, Ok, Err, Result, OnOk, refl}
 use Rattle.std.proofs.lemmas.Result.{err_from_is_err_and}
 use Rattle.no_std_io2.specs.declared.io.Error.{Error}
-use Rattle.tar_reader.proofs.AskingLemmas.{fetches_none, fetches_then}
+use Rattle.no_std_io2.proofs.FetchesLemmas.{fetches_none, fetches_then}
 use Rattle.tar_list.proofs.list.Goals as goal
 
 -- what holds whatever a call returned

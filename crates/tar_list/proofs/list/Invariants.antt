@@ -2,7 +2,7 @@
 use Rattle.std.proofs.Common.{List, ℕ, true, Ok}
 use Rattle.no_std_io2.proofs.Readers.{lends}
 use Rattle.tar_reader.specs.Archives.{archive_inner, archive_turns}
-use Rattle.tar_reader.specs.Asking.{Fetches}
+use Rattle.no_std_io2.specs.Reads.{Fetches}
 use Rattle.tar_list.proofs.list.Given as goal
 
 abbrev pub invariant-members : goal.invariant-members

@@ -12,6 +12,7 @@ returns g c =
           lends = after.lends;
           takes = search rules;
           unchanged = λ some. ap (λ v. record c.args.self.now { value = v }) (after.unchanged (search rules) ∙ c.as_mut.ensures.value);
+          end = search rules;
           call = search rules;
         },
       ),

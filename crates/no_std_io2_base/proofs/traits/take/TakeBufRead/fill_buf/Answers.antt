@@ -24,6 +24,7 @@ returns-in_err-available g c =
           lends = rw (p.1) (none_lent limit (rw c.in_err-available.was at after.lends));
           takes = limit_takes _ (filled_took _ call);
           unchanged = λ some. ap (λ x. record c.args.self.now { inner = x }) (after.unchanged (some_within limit _ some));
+          end = rw (p.1) (λ none. absurd (let no : ⊥ = cc in no));
           call = call;
         },
       ),

@@ -15,16 +15,29 @@ returns-then-len-gt0 g c =
     let r = c.args.self.now in
     let is = c.as_slice.ensures.value in
     let some : 0 < length (reader_held r) = omega (arith, c.len.ensures.len, c.if-len-gt0.true) in (
-      (refl, λ _. tt, record { lends = sym is; takes = takes_none _; unchanged = λ _. refl; call = lent_held some (ap Ok is) refl }),
+      (
+        refl,
+        λ _. tt,
+        record {
+          lends = sym is;
+          takes = takes_none _;
+          unchanged = λ _. refl;
+          end = λ none. absurd (not_empty (let empty : c.as_slice.result.now ≡ [] = cc in empty));
+          call = lent_held some (ap Ok is) refl;
+        },
+      ),
       record {
         law = record {
           held = λ _. is;
           front = begins_lent g.row.S (reader_behind r) (tells (reader g.R.Stored g.R.Read) r.inner) is;
-          end = λ none. absurd (omega (arith, ap length none, ap length is, some));
+          end = λ none. absurd (not_empty none);
         };
         after_borrow = tt;
       },
     )
+    where
+      not_empty : c.as_slice.result.now ≡ [] → ⊥
+      not_empty none = omega (arith, ap length none, ap length c.as_slice.ensures.value, c.len.ensures.len, c.if-len-gt0.true)
 
 pub returns-in_err-fill : goal.returns-in_err-fill
 returns-in_err-fill g c =
@@ -42,6 +55,7 @@ returns-in_err-fill g c =
           takes = takes_fill g.row.S (reader_behind r) held (Err _) fill.read.takes none fill.behind fill.err
               (omega (arith, ap length fill.err));
           unchanged = λ some. absurd (omega (arith, some, ap length none));
+          end = λ empty. absurd (let no : ⊥ = cc in no);
           call = lent_read none fill.read (fill.behind, fill.err);
         },
       ),
@@ -68,6 +82,10 @@ returns g c =
           lends = sym is;
           takes = takes;
           unchanged = λ some. absurd (omega (arith, some, ap length none));
+          end = λ empty.
+              let none : c.as_slice-2.result.now ≡ [] = cc in
+              let gone = sym is ∙ none in
+              ends_behind g.row.S (buffer_behind c.fill.new.self) mid inner gone (fill.read.end (ap Ok gone) r.some_room);
           call = rw is (lent_read none fill.read (fill.behind, refl));
         },
       ),
