@@ -1,5 +1,5 @@
 # From the loader's 32 bits to 64 bits, with the first GiB mapped as it is and the registers of SSE on, and then to `run`.
-        .section .multiboot, "a"
+        .section .start, "a"
         .long 0x1badb002, 0, -0x1badb002
         .bss
         .balign 4096
@@ -53,7 +53,3 @@ long:   mov $0, %ax
 gdt:    .quad 0, 0x00209a0000000000
 table:  .word 15
         .long gdt
-        .section .rodata
-        .globl script, script_end
-script: .incbin "script"
-script_end:

@@ -1,8 +1,9 @@
+/* A bare machine: START is where its memory begins, or where its loader puts a kernel. */
 ENTRY(_start)
 SECTIONS {
-    . = 1M;
-    .text : { KEEP(*(.multiboot)) *(.text*) *(.rodata*) }
+    . = START;
+    .text : { KEEP(*(.start)) *(.text*) *(.rodata*) }
     .data : { *(.data*) }
-    .bss : { *(.bss*) *(COMMON) }
+    .bss : { . = ALIGN(8); zeros = .; *(.bss*) *(COMMON) . = ALIGN(8); zeros_end = .; }
     /DISCARD/ : { *(.note*) *(.eh_frame*) *(.comment) }
 }

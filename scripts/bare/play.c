@@ -4,6 +4,7 @@
 
 static struct bare_queue kept, port, inbox;
 static uint8_t room[512], bytes[512];
+static size_t left;
 static const uint8_t *at, *end;
 
 static void put_char(uint8_t c)
@@ -70,7 +71,7 @@ static void report(void)
     size_t count = 0;
     while (at < end && *at == ' ')
         readings[count++] = number();
-    put_number(bare_report(readings, count, &port));
+    put_number(bare_report(&kept, &port, readings, count));
 }
 
 static void play_line(void)
@@ -111,7 +112,7 @@ static void play_line(void)
         break;
     case 'f':
         size = hex();
-        put_number(bare_send(bytes, size, &port));
+        put_number(bare_send(&kept, &port, bytes, size));
         break;
     case 'g':
         size = clear();
@@ -120,12 +121,16 @@ static void play_line(void)
         put_number(len);
         put_hex(room, status == BARE_DONE ? len : 0);
         break;
+    case 'k':
+        put_number(bare_skip(&inbox, &left));
+        put_number(left);
+        break;
     case 'e':
-        put_number(bare_event(number(), &port));
+        put_number(bare_event(&kept, &port, number()));
         break;
     case 'c':
         size = hex();
-        put_number(bare_copy(bytes, size, &port));
+        put_number(bare_copy(&kept, &port, bytes, size));
         break;
     }
     put_queue(&kept);

@@ -6,12 +6,12 @@ if (WebAssembly.Module.imports(module).length > 0) throw new Error('the module h
 const {exports} = await WebAssembly.instantiate(module, {});
 const memory = new DataView(exports.memory.buffer);
 const PLACE = BigInt(memory.byteLength - 4096);
-const [KEPT, PORT, INBOX, LEN, READINGS, BYTES, ROOM] = [0n, 72n, 144n, 216n, 224n, 512n, 1024n].map(it => PLACE + it);
+const [KEPT, PORT, INBOX, LEN, LEFT, READINGS, BYTES, ROOM] = [0n, 72n, 144n, 216n, 224n, 232n, 512n, 1024n].map(it => PLACE + it);
 if (exports.__heap_base && exports.__heap_base.value > PLACE) throw new Error('the module uses the end of its memory');
 
 const hex = (from, count) => Buffer.from(memory.buffer, Number(from), count).toString('hex') + ' ';
-const len = () => Number(memory.getBigUint64(Number(LEN), true)) + ' ';
-const queue = it => hex(it, Number(memory.getBigUint64(Number(it) + 64, true)));
+const number = place => Number(memory.getBigUint64(Number(place), true)) + ' ';
+const queue = it => hex(it, Number(number(it + 64n)));
 const set = (place, bytes) => new Uint8Array(memory.buffer).set(bytes, Number(place));
 
 // Puts the bytes of a word into memory; their number.
@@ -31,14 +31,13 @@ function clear(word) {
 // Prints the readings.
 function report(readings) {
     readings.forEach((reading, i) => memory.setUint32(Number(READINGS) + 4 * i, Number(reading), true));
-    return `${exports.bare_report(READINGS, BigInt(readings.length), PORT)} `;
+    return `${exports.bare_report(KEPT, PORT, READINGS, BigInt(readings.length))} `;
 }
 
 // Gives a frame; its payload is shown.
 function receive([size]) {
     const status = exports.bare_receive(INBOX, ROOM, clear(size), LEN);
-    const count = Number(memory.getBigUint64(Number(LEN), true));
-    return `${status} ${len()}${hex(ROOM, status === 0 ? count : 0)}`;
+    return `${status} ${number(LEN)}${hex(ROOM, status === 0 ? Number(number(LEN)) : 0)}`;
 }
 
 const calls = {
@@ -48,11 +47,12 @@ const calls = {
     t: ([size]) => `${exports.bare_take(PORT, ROOM, clear(size))} ${hex(ROOM, Number(size))}`,
     p: ([text]) => `${exports.bare_put(INBOX, BYTES, given(text))} `,
     d: ([size]) => `${exports.bare_take(INBOX, ROOM, clear(size))} `,
-    m: ([size]) => `${exports.bare_message(INBOX, ROOM, clear(size), LEN)} ${len()}${hex(ROOM, Number(size))}`,
-    f: ([text]) => `${exports.bare_send(BYTES, given(text), PORT)} `,
+    m: ([size]) => `${exports.bare_message(INBOX, ROOM, clear(size), LEN)} ${number(LEN)}${hex(ROOM, Number(size))}`,
+    f: ([text]) => `${exports.bare_send(KEPT, PORT, BYTES, given(text))} `,
     g: receive,
-    e: ([number]) => `${exports.bare_event(Number(number), PORT)} `,
-    c: ([text]) => `${exports.bare_copy(BYTES, given(text), PORT)} `,
+    k: () => `${exports.bare_skip(INBOX, LEFT)} ${number(LEFT)}`,
+    e: ([event]) => `${exports.bare_event(KEPT, PORT, Number(event))} `,
+    c: ([text]) => `${exports.bare_copy(KEPT, PORT, BYTES, given(text))} `,
 };
 
 let out = '';

@@ -1,6 +1,6 @@
 pub mod QueueLemmas
 pub mod FullLemmas
-pub mod LogLemmas
+pub mod KeptLemmas
 pub mod ReportLemmas
 pub mod CopyLemmas
 pub mod FrameLemmas

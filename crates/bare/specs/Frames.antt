@@ -1,5 +1,5 @@
 -- What is cut off received bytes, if they are frames, and the line of an event.
-use Rattle.std.specs.Prelude.{◌≡◌, ◌⊎◌, ℕ, ◌+◌, ◌<◌, ◌≤◌, List, ◌++◌, length, take, codes, decimal}
+use Rattle.std.specs.Prelude.{◌≡◌, ◌⊎◌, ℕ, ◌+◌, ◌-◌, ◌<◌, ◌≤◌, List, ◌++◌, length, take, drop, codes, decimal}
 use Rattle.framing.specs.Frames.{frame, told_length, IsPart}
 use Rattle.line_log.specs.Log.{line_of}
 use Rattle.bare.specs.Status.{done, full, partial, refused}
@@ -28,3 +28,14 @@ abbrev pub Unframes : List ℕ → ℕ → ℕ → List ℕ → List ℕ → ℕ
 Unframes bytes len status bytes' room' len' =
     ((status ≡ done) × (bytes ≡ frame (take len' room') ++ bytes') × (len' ≤ length room'))
     ⊎ (IsHeldBack bytes (length room') status × (bytes' ≡ bytes) × (len' ≡ len))
+
+-- How many bytes of a frame are to be dropped. If none was dropped yet, its length says it.
+abbrev pub IsToDrop : List ℕ → ℕ → ℕ → Type 0
+IsToDrop bytes left all = ((0 < left) × (all ≡ left)) ⊎ ((left ≡ 0) × (4 ≤ length bytes) × (all ≡ 4 + told_length bytes))
+
+-- What has come of a frame was dropped; or its length has not come, and nothing changed.
+abbrev pub Skips : List ℕ → ℕ → ℕ → List ℕ → ℕ → Type 0
+Skips bytes left status bytes' left' =
+    ((all : ℕ) × IsToDrop bytes left all × (bytes' ≡ drop all bytes) × (left' ≡ all - length bytes)
+        × (((status ≡ done) × (left' ≡ 0)) ⊎ ((status ≡ partial) × (0 < left'))))
+    ⊎ ((status ≡ partial) × (left ≡ 0) × (length bytes < 4) × (bytes' ≡ bytes) × (left' ≡ 0))

@@ -1,5 +1,6 @@
 pub mod Status
 pub mod Queue
+pub mod Kept
 pub mod Log
 pub mod Messages
 pub mod Report

@@ -1,9 +1,10 @@
--- What a log sends and keeps.
+-- What a log does.
 use Rattle.std.specs.Prelude.{◌≡◌, ◌⊎◌, ℕ, ◌+◌, ◌<◌, ◌≤◌, List, [], ◌∷◌, ◌++◌, length, Contains, Result, Ok, Err}
 use Rattle.no_std_io2.specs.Write.{IsFront}
 use Rattle.no_std_io2.specs.Pieces.{Lacks, newline}
 use Rattle.bare.specs.Status.{done, kept, full, refused}
 use Rattle.bare.specs.Queue.{capacity}
+use Rattle.bare.specs.Kept.{Resumes}
 
 -- the line of a text
 abbrev pub line : List ℕ → List ℕ
@@ -16,19 +17,6 @@ IsShortLine text = Lacks newline text × (length text < capacity)
 -- a text can't be a line
 abbrev pub IsNoLine : List ℕ → Type 0
 IsNoLine text = Contains text newline ⊎ (capacity ≤ length text)
-
--- The waiting bytes went to the port, in order: all of them, or as many as the port took until it was full. The others are kept.
-pub record Resumes (waiting port : List ℕ) (status : ℕ) (waiting' port' : List ℕ) : Type 0 where
-  -- what is in the port stays there
-  pub front : IsFront port port'
-  -- no byte is lost, repeated or moved
-  pub order : port' ++ waiting' ≡ port ++ waiting
-  pub ends : ((status ≡ done) × (waiting' ≡ [])) ⊎ ((status ≡ kept) × (0 < length waiting') × (length port' ≡ capacity))
-
--- the status of a sending
-abbrev pub resume_status : {E : Type 0} → Result (Unit {0}) E → ℕ
-resume_status (Ok u) = done
-resume_status (Err e) = kept
 
 -- A line was logged: it waits behind the kept bytes, and they are sent. Or it can't be a line, and nothing changed. Or it can, the port is
 -- full, it does not fit beside what is still kept, and only the kept bytes were sent.

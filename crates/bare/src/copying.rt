@@ -2,10 +2,11 @@
 ghost use Rattle.std.specs.Prelude.{◌≡◌, ◌+◌, ◌<◌, ◌++◌, length, OnOk, OnErr};
 ghost use Rattle.no_std_io2.specs.BufWriter.{writer_inner, writer_buffer};
 ghost use Rattle.bare.specs.Queue.{waiting, capacity};
-ghost use Rattle.bare.specs.Status.{Appends};
+ghost use Rattle.bare.specs.Kept.{Appends};
 
+use crate::REFUSED;
+use crate::kept::append;
 use crate::queue::Queue;
-use crate::{DONE, FULL};
 use no_std_io2::io::{BufReader, BufWriter, Result, Write, copy};
 
 // Copies a slice to a queue, and flushes the buffer in front of it.
@@ -20,18 +21,17 @@ fn copy_whole(from: &[u8], w: &mut BufWriter<Queue, 32>) -> Result<()>
     w.flush()
 }
 
-/// Copies these bytes behind those that wait for the port, in pieces.
+/// Copies these bytes behind those that wait for the port, in pieces. The kept bytes go first.
 ///
-/// Returns [`DONE`] if the port has all of them. Returns [`FULL`] if they do not fit behind the
-/// bytes that wait; nothing has changed then.
+/// Returns [`DONE`](crate::DONE) if the port has all of them. Returns [`FULL`](crate::FULL) if they do not fit; then only kept bytes were
+/// sent. Returns [`REFUSED`] if they are more than 64; then nothing has changed.
 #[unsafe(no_mangle)]
-pub extern "C" fn bare_copy(from: &[u8], port: &mut Queue) -> u32
-    ensures { Appends from.now (waiting port.old) result (waiting port.new) }
+pub extern "C" fn bare_copy(kept: &mut Queue, port: &mut Queue, from: &[u8]) -> u32
+    ensures { Appends from.now kept.old port.old result kept.new port.new }
 {
-    let mut w = BufWriter::<Queue, 32>::new(*port);
+    let mut w = BufWriter::<Queue, 32>::new(Queue::new());
     if copy_whole(from, &mut w).is_err() {
-        return FULL;
+        return REFUSED;
     }
-    *port = *w.get_ref();
-    DONE
+    append(w.get_ref(), kept, port)
 }

@@ -1,11 +1,12 @@
 //! Frames and printed lines, whole or not at all.
-ghost use Rattle.std.specs.Prelude.{◌≡◌, ◌+◌, ◌++◌, ◌<◌, ◌≤◌, length, OnOk, OnErr, IfNone, IfSome};
+ghost use Rattle.std.specs.Prelude.{◌≡◌, ◌+◌, ◌++◌, ◌<◌, ◌≤◌, ◌^◌, length, OnOk, OnErr, IfNone, IfSome};
 ghost use Rattle.framing.specs.Frames.{frame, told_length};
 ghost use Rattle.framing.specs.Sending.{writes_to, frames_held};
 ghost use Rattle.bare.specs.Queue.{waiting, capacity};
-ghost use Rattle.bare.specs.Status.{Appends, PrintsOrNot};
-ghost use Rattle.bare.specs.Frames.{Unframes, event_line};
+ghost use Rattle.bare.specs.Kept.{Appends, PrintsOrNot};
+ghost use Rattle.bare.specs.Frames.{Unframes, IsToDrop, Skips, event_line};
 
+use crate::kept::append;
 use crate::queue::{CAPACITY, Queue};
 use crate::{DONE, FULL, PARTIAL, REFUSED};
 use framing::{FrameReader, FrameWriter};
@@ -29,25 +30,25 @@ fn send_whole(w: &mut FrameWriter<Queue, ROOM>, payload: &[u8]) -> Result<()>
     w.flush()
 }
 
-/// Puts the frame of a payload behind the bytes that wait for the port: its length in four bytes, the lowest first, and its bytes.
+/// Puts the frame of a payload behind the bytes that wait for the port: its length in four bytes, the lowest first, and its bytes. The
+/// kept bytes go first.
 ///
-/// Returns [`DONE`] if the port has the whole frame. Returns [`FULL`] if it does not fit behind the
-/// bytes that wait; nothing has changed then.
+/// Returns [`DONE`] if the port has the whole frame. Returns [`FULL`] if it does not fit; then only kept bytes were sent. Returns
+/// [`REFUSED`] if the payload has more than 60 bytes; then nothing has changed.
 #[unsafe(no_mangle)]
-pub extern "C" fn bare_send(payload: &[u8], port: &mut Queue) -> u32
-    ensures { Appends (frame payload.now) (waiting port.old) result (waiting port.new) }
+pub extern "C" fn bare_send(kept: &mut Queue, port: &mut Queue, payload: &[u8]) -> u32
+    ensures { Appends (frame payload.now) kept.old port.old result kept.new port.new }
 {
-    let mut w = FrameWriter::<Queue, ROOM>::new(*port);
+    let mut w = FrameWriter::<Queue, ROOM>::new(Queue::new());
     if send_whole(&mut w, payload).is_err() {
-        return FULL;
+        return REFUSED;
     }
-    *port = *w.get_ref();
-    DONE
+    append(w.get_ref(), kept, port)
 }
 
 // Returns the length of the payload, as the first four bytes say, if they are there.
 fn told_len(bytes: &[u8]) -> Option<usize>
-    ensures some { IfSome result (λ n. (4 ≤ length bytes.now) × (n ≡ told_length bytes.now)) }
+    ensures some { IfSome result (λ n. (4 ≤ length bytes.now) × (n ≡ told_length bytes.now) × (n < 2 ^ 32)) }
     ensures none { IfNone result (length bytes.now < 4) }
 {
     if bytes.len() < HEADER {
@@ -88,19 +89,49 @@ pub extern "C" fn bare_receive(port: &mut Queue, room: &mut [u8], len: &mut usiz
     }
 }
 
-/// Puts the line `event 17` behind the bytes that wait for the port.
-///
-/// Returns [`DONE`] if the port has the whole line, and else [`FULL`]; nothing has changed then. That it fails only if the line does not
-/// fit is tested, and not promised.
-#[unsafe(no_mangle)]
-pub extern "C" fn bare_event(number: u32, port: &mut Queue) -> u32
-    ensures { PrintsOrNot (event_line number) (waiting port.old) result (waiting port.new) }
+// Returns how many bytes of a frame are to be dropped, if that is known.
+fn to_drop(bytes: &[u8], left: usize) -> Option<usize>
+    ensures some { IfSome result (λ all. IsToDrop bytes.now left all) }
+    ensures none { IfNone result ((left ≡ 0) × (length bytes.now < 4)) }
 {
-    let mut log = LineLog::<Queue, 64>::new(*port);
+    if left > 0 {
+        return Some(left);
+    }
+    match told_len(bytes) {
+        Some(told) => Some(HEADER + told),
+        None => None,
+    }
+}
+
+/// Drops what has come of the next frame, however long it is: the way on if [`bare_receive`] returned [`REFUSED`]. `left` is the number of
+/// its bytes that are still to be dropped, and 0 before the first call.
+///
+/// Returns [`DONE`] if the whole frame is gone; `left` is 0 then. Else returns [`PARTIAL`], and the next call goes on.
+#[unsafe(no_mangle)]
+pub extern "C" fn bare_skip(port: &mut Queue, left: &mut usize) -> u32
+    ensures { Skips (waiting port.old) left.old result (waiting port.new) left.new }
+{
+    let Some(all) = to_drop(port.waiting(), *left) else {
+        return PARTIAL;
+    };
+    let gone = port.waiting().len().min(all);
+    port.advance(gone);
+    *left = all - gone;
+    if gone < all { PARTIAL } else { DONE }
+}
+
+/// Puts the line `event 17` behind the bytes that wait for the port. The kept bytes go first.
+///
+/// Returns [`DONE`] if the port has the whole line. Returns [`FULL`] if it does not fit; then only kept bytes were sent. That it never
+/// returns [`REFUSED`] is tested, and not promised.
+#[unsafe(no_mangle)]
+pub extern "C" fn bare_event(kept: &mut Queue, port: &mut Queue, number: u32) -> u32
+    ensures { PrintsOrNot (event_line number) kept.old port.old result kept.new port.new }
+{
+    let mut log = LineLog::<Queue, 64>::new(Queue::new());
     let logged: Result<()> = log.log_text(format_args!("event {number}"));
     if logged.is_err() || log.is_behind() {
-        return FULL;
+        return REFUSED;
     }
-    *port = *log.get_ref();
-    DONE
+    append(log.get_ref(), kept, port)
 }

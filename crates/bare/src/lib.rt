@@ -6,6 +6,7 @@
 
 mod copying;
 mod frames;
+mod kept;
 mod log;
 mod messages;
 mod queue;

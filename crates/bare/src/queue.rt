@@ -1,5 +1,5 @@
 //! [`Queue`], bytes that C keeps between two calls.
-ghost use Rattle.std.specs.Prelude.{◌≡◌, ◌-◌, ◌++◌, length, min, take, drop};
+ghost use Rattle.std.specs.Prelude.{◌≡◌, [], ◌-◌, ◌++◌, length, min, take, drop};
 ghost use Rattle.no_std_io2.specs.Write.{told_out};
 ghost use Rattle.bare.specs.Queue.{waiting, capacity, QueueMay};
 
@@ -22,6 +22,13 @@ pub struct Queue {
 }
 
 impl Queue {
+    /// Returns a queue in which no byte waits.
+    pub(crate) fn new() -> Queue
+        ensures { waiting result ≡ [] }
+    {
+        Queue { bytes: [0; 64], len: 0 }
+    }
+
     /// Returns the bytes that wait.
     pub fn waiting(&self) -> &[u8]
         ensures { result.now ≡ waiting self.now }

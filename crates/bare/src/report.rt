@@ -1,12 +1,12 @@
 //! A report of readings, printed through a buffer.
 ghost use Rattle.std.specs.Prelude.{◌≡◌, [], OnOk};
 ghost use Rattle.no_std_io2.specs.Write.{Moves};
-ghost use Rattle.bare.specs.Queue.{waiting};
 ghost use Rattle.bare.specs.Report.{report};
-ghost use Rattle.bare.specs.Status.{PrintsOrNot};
+ghost use Rattle.bare.specs.Kept.{PrintsOrNot};
 
+use crate::REFUSED;
+use crate::kept::append;
 use crate::queue::Queue;
-use crate::{DONE, FULL};
 use no_std_io2::io::{LineWriter, Result, Write};
 
 // Prints a line for each reading.
@@ -21,18 +21,18 @@ fn print<W: Write>(w: &mut W, readings: &[u32]) -> Result<()>
     w.flush()
 }
 
-/// Puts a line for each reading, such as `sensor 0 = 17`, behind the bytes that wait for the port.
+/// Puts a line for each reading, such as `sensor 0 = 17`, behind the bytes that wait for the port. The kept bytes go first.
 ///
-/// Returns [`DONE`] if the port has all lines, and else [`FULL`]; nothing has changed then. That it fails only if they do not fit is
+/// Returns [`DONE`](crate::DONE) if the port has all lines. Returns [`FULL`](crate::FULL) if they do not fit; then only kept bytes were
+/// sent. Returns [`REFUSED`] if the lines have more than 64 bytes; then nothing has changed. That it returns `REFUSED` only then is
 /// tested, and not promised.
 #[unsafe(no_mangle)]
-pub extern "C" fn bare_report(readings: &[u32], port: &mut Queue) -> u32
-    ensures { PrintsOrNot (report readings.now) (waiting port.old) result (waiting port.new) }
+pub extern "C" fn bare_report(kept: &mut Queue, port: &mut Queue, readings: &[u32]) -> u32
+    ensures { PrintsOrNot (report readings.now) kept.old port.old result kept.new port.new }
 {
-    let mut w = LineWriter::<Queue, 32>::new(*port);
+    let mut w = LineWriter::<Queue, 32>::new(Queue::new());
     if print(&mut w, readings).is_err() {
-        return FULL;
+        return REFUSED;
     }
-    *port = *w.get_ref();
-    DONE
+    append(w.get_ref(), kept, port)
 }

@@ -3,8 +3,9 @@ use Rattle.std.proofs.Common.{◌≡◌, length, ◌++◌, ap, subst, inl, arith
 use Rattle.no_std_io2.specs.Pieces.{newline}
 use Rattle.no_std_io2.proofs.LineLemmas.{contains_lacks}
 use Rattle.bare.specs.Queue.{waiting}
-use Rattle.bare.specs.Log.{Resumes, line}
-use Rattle.bare.proofs.LogLemmas.{resumed_more, line_put}
+use Rattle.bare.specs.Kept.{Resumes}
+use Rattle.bare.specs.Log.{line}
+use Rattle.bare.proofs.KeptLemmas.{resumed_more, line_put}
 use Rattle.bare.proofs.log.bare_log.Goals as goal
 
 pub returns : goal.returns

@@ -10,7 +10,8 @@ use Rattle.no_std_io2.proofs.WritesFacts.{writes_left}
 use Rattle.bare.specs.declared.queue.Queue.{Queue}
 use Rattle.bare.specs.Queue.{waiting, capacity}
 use Rattle.bare.specs.Status.{done, kept}
-use Rattle.bare.specs.Log.{Resumes, resume_status, line}
+use Rattle.bare.specs.Kept.{Resumes, resume_status}
+use Rattle.bare.specs.Log.{line}
 use Rattle.bare.proofs.FullLemmas.{queue, blocked}
 
 -- the status says how it ended

@@ -2,8 +2,8 @@ use Rattle.std.proofs.Common.{◌-◌, length, drop, ap, subst, ◌∙◌}
 use Rattle.no_std_io2.specs.Writers.{WriteRestOf}
 use Rattle.bare.specs.Queue.{waiting}
 use Rattle.bare.proofs.FullLemmas.{queue}
-use Rattle.bare.proofs.LogLemmas.{resumed}
-use Rattle.bare.proofs.log.send.Goals as goal
+use Rattle.bare.proofs.KeptLemmas.{resumed}
+use Rattle.bare.proofs.kept.send.Goals as goal
 
 pub returns : goal.returns
 returns c =
