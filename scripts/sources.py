@@ -160,14 +160,15 @@ COMMENT = re.compile(r"^ *(//[/!]?|--)(?: |$)(.*)$")
 
 
 def orphans(text):
-    """The numbers of comment lines that are a single word, wrapped from the line above."""
-    before = None
+    """The numbers of comment lines that are a single word, wrapped from the line above. Examples are left out."""
+    before, is_example = None, False
     for number, line in enumerate(text.split("\n"), 1):
         comment = COMMENT.match(line)
-        if comment and before and before[0] == comment[1]:
-            said = comment[2].strip()
+        said = comment[2].strip() if comment else ""
+        is_example = comment is not None and is_example != said.startswith("```")
+        if comment and before and before[0] == comment[1] and not is_example:
             is_word = len(said.split()) == 1 and not said.startswith(("`", "#", "[", "|", "-"))
-            if is_word and len(before[1].split()) > 3 and not before[1].rstrip().endswith((".", ":", "```")):
+            if is_word and len(before[1].split()) > 3 and not before[1].rstrip().endswith((".", ":")):
                 yield number
         before = (comment[1], comment[2]) if comment else None
 
