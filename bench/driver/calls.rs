@@ -218,6 +218,22 @@ calls! {
         let sum = write_all_often(&mut w, &source[..room.len() - 1], calls);
         flushed(&mut w, sum).wrapping_add(w.get_ref().sum())
     }
+    line_chunks(source, room, calls) {
+        let size = room.len() - room.len() / 4;
+        let mut w = new_line_writer::<_, 512>(Counter::default());
+        let mut left = source;
+        for _ in 0..calls {
+            let (chunk, rest) = left.split_at(size.min(left.len()));
+            if w.write_all(chunk).is_err() {
+                return FAILED;
+            }
+            left = rest;
+        }
+        if w.flush().is_err() {
+            return FAILED;
+        }
+        w.get_ref().sum()
+    }
     lines_apart(source, room, calls) {
         let mut w = new_line_writer::<_, 1024>(Counter::default());
         for _ in 0..calls {
@@ -276,6 +292,18 @@ calls! {
         ends(|| Read::chain(first, second), calls)
     }
     take_to_end(source, room, calls) { ends(|| Read::take(source, room.len() as u64), calls) }
+    copy_to_vec(source, room, calls) {
+        let mut sum = 0u64;
+        for _ in 0..calls {
+            let mut content = Vec::new();
+            if copy::<_, _, 8192>(&mut &source[..room.len()], &mut content).is_err() {
+                return FAILED;
+            }
+            sum = sum.wrapping_add(sample(&content));
+        }
+        sum
+    }
+    copy_short(source, room, calls) { copy_often::<8192>(source, room.len(), calls) }
     copy_64(source, room, calls) { copy_often::<64>(source, room.len(), calls) }
     copy_8192(source, room, calls) { copy_often::<8192>(source, room.len(), calls) }
 }

@@ -63,6 +63,7 @@ macro_rules! listed {
             records_writer_1024: bytes short "`BufWriter` 1024, `write_all` of 1 to {} by turns" [32 100];
             line_writer: lines short "`LineWriter` 1024, lines of {}" [8 40 80 900 10000];
             lines_plain: lines short "`LineWriter` 1024, `write_all` of {} - 1 without a newline" [33 900 10000];
+            line_chunks: lines short "`LineWriter` 512, lines of {} by chunks of three quarters" [8 16 40 80 200];
             lines_apart: bytes short "`LineWriter` 1024, a text of {} and its newline apart" [8 40];
             writer_seek: bytes short "`BufWriter` 64 to a cursor, `write_all` of {} and `seek`" [1 16];
             two_writers: bytes short "`BufWriter` 64 over `BufWriter` 1024, `write_all` of {}" [1 7 16 100];
@@ -117,10 +118,13 @@ macro_rules! listed {
             values_writer: bytes whole "`BufWriter` 1024, `write!` of six values" [1];
             values_cursor: bytes whole "`Cursor<&mut [u8]>`, `write!` of six values" [1];
             queue_turns: bytes whole "a queue, `write_all` and `read_exact` of {} by turns" [16 100 1000] | original;
+            queue_held: bytes whole "a queue that holds 3000, `write_all` and `read_exact` of {} by turns" [7 64 1000] | original;
             queue_to_end: bytes whole "a queue, `write_all` of {} and `read_to_end`" [4000] | original;
             frame_send: bytes long "`FrameWriter` 8192, `send` of {}" [1 18 100 1000] | kit;
             frame_next: frames long "`FrameReader` 8192, `next` of {}" [1 18 100 1000] | kit;
             frame_past: frames whole "`FrameReader` 64, `next` of {}" [1000 100000] | kit;
+            copy_to_vec: bytes whole "a copy of a slice of {} into a new vector" [100 10000 65536] | kit;
+            copy_short: bytes whole "a copy of {}, through one buffer for all" [100 1000] | kit;
             copy_64: bytes whole "`copy` 64 of {}" [16777216] | std_kit;
             copy_8192: bytes whole "`copy` 8192 of {}" [16777216];
         }

@@ -104,6 +104,17 @@ calls! {
         }
         sum
     }
+    queue_held(source, room, calls) {
+        let mut queue: VecDeque<u8> = source[..3000].iter().copied().collect();
+        let mut sum = 0u64;
+        for _ in 0..calls {
+            if queue.write_all(&source[..room.len()]).is_err() || queue.read_exact(room).is_err() {
+                return FAILED;
+            }
+            sum = sum.wrapping_add(sample(room));
+        }
+        sum
+    }
     queue_to_end(source, room, calls) {
         let mut sum = 0u64;
         for _ in 0..calls {

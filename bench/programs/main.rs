@@ -1,6 +1,7 @@
-//! The same programs over Rust's `std::io`, with its usual buffers; and `list` and `extract`, which are `tar_list`'s two. With `at`
-//! behind the word its buffers have the size of ours where that is another.
+//! The same programs over Rust's `std::io`, with its usual buffers; `list` and `extract`, which are `tar_list`'s two; and `cat`. With
+//! `at` behind the word its buffers have the size of ours where that is another.
 use std::fmt::Write as _;
+use std::fs::File;
 use std::io::{self, BufRead, BufReader, BufWriter, Error, ErrorKind, Result, Write};
 
 const RECORDS: u64 = 1_000_000;
@@ -129,6 +130,14 @@ fn list(mut input: impl BufRead, mut output: impl Write, name: Option<&str>) -> 
     }
 }
 
+fn cat(names: &[String], mut output: impl Write) -> Result<u64> {
+    let mut sum = 0;
+    for name in names {
+        sum += io::copy(&mut File::open(name)?, &mut output)?;
+    }
+    output.flush().map(|()| sum)
+}
+
 fn main() -> Result<()> {
     let words: Vec<String> = std::env::args().collect();
     let word = words[1].as_str();
@@ -143,6 +152,7 @@ fn main() -> Result<()> {
         "frames_out" => frames_out(stdout())?,
         "log" => log(io::stdout().lock())?,
         "log_text" => log_text(io::stdout().lock())?,
+        "cat" => cat(&words[2..], io::stdout().lock())?,
         "list" => list(input, stdout(), None)?,
         "extract" => list(input, stdout(), words.get(2).map(String::as_str))?,
         _ => return Err(Error::new(ErrorKind::InvalidInput, "no such program")),
