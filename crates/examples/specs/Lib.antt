@@ -1,8 +1,10 @@
 pub mod Checksum
 pub mod Headers
 pub mod Hex
+pub mod Inbox
 pub mod Indexed
 pub mod Lengths
 pub mod Messages
 pub mod Readings
+pub mod Serial
 pub mod Summed

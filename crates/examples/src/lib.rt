@@ -20,6 +20,7 @@ mod readings;
 mod retries;
 mod serial;
 mod summed;
+mod uart;
 
 pub use broken::Broken;
 pub use checksum::checksum_of;
@@ -37,6 +38,7 @@ pub use readings::{send_reading, write_reading};
 pub use retries::save_with_retries;
 pub use serial::{Port, Serial};
 pub use summed::{Summed, flush_summed, write_summed};
+pub use uart::{Registers, Uart};
 
 pub mod records;
 

@@ -1,6 +1,8 @@
 //! [`send_with_one_retry`], a caller over any device.
 ghost use Rattle.std.specs.Prelude.{◌≡◌, [], OnOk};
+ghost use Rattle.no_std_io2.specs.Retries.{Tries};
 ghost use Rattle.no_std_io2.specs.Write.{Sends};
+ghost use Rattle.no_std_io2.specs.Writers.{WriteRestOf};
 
 use no_std_io2::io::{Result, Write};
 
@@ -8,6 +10,7 @@ use no_std_io2::io::{Result, Write};
 pub fn send_with_one_retry<W: Write>(device: &mut W, rest: &mut &[u8]) -> Result<()>
     ensures sends { Sends (W.told device.old) rest.old.now result (W.told device.new) rest.new.now }
     ensures done { OnOk result (rest.new.now ≡ []) }
+    ensures calls { Tries (WriteRestOf W.Write) 1 device.old rest.old.now result device.new rest.new.now }
 {
     if device.write_rest(rest).is_ok() {
         return Ok(());

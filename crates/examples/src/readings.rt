@@ -1,5 +1,5 @@
 //! [`write_reading`] and [`send_reading`], which print a reading of an instrument straight to a writer.
-ghost use Rattle.std.specs.Prelude.{◌⊎◌, IsErrAnd};
+ghost use Rattle.std.specs.Prelude.{◌≡◌, ◌⊎◌, [], IsErrAnd, OnOk};
 ghost use Rattle.no_std_io2.specs.Text.{IsTextError};
 ghost use Rattle.no_std_io2.specs.Write.{MovesFront};
 ghost use Rattle.examples.specs.Readings.{reading};
@@ -24,6 +24,7 @@ pub fn write_reading<W: Write>(w: &mut W, name: &str, value: u32) -> Result<()>
 /// was then accepted.
 pub fn send_reading<W: Write>(w: &mut W, name: &str, value: u32) -> Result<()>
     ensures line { MovesFront (W.told w.old) (reading name.now value) result (W.told w.new) ⊎ IsErrAnd result IsTextError }
+    ensures flushed { OnOk result ((W.told w.new).held ≡ []) }
 {
     write!(w, "{name}={value}\n")?;
     w.flush()

@@ -1,18 +1,23 @@
 //! [`save_with_retries`], which sends a text again after faults.
-ghost use Rattle.std.specs.Prelude.{◌≡◌, ◌++◌, IfOk};
+ghost use Rattle.std.specs.Prelude.{◌≡◌, [], IfOk, IsOk};
+ghost use Rattle.no_std_io2.specs.BufWriter.{BufWriterFits};
+ghost use Rattle.no_std_io2.specs.Retries.{HasAtMost};
+ghost use Rattle.no_std_io2.specs.Write.{Moves};
 
-use crate::narrow::Narrow;
-use no_std_io2::io::{BufWriter, Result, write_with_retries};
+use no_std_io2::io::{BufWriter, Result, Write, write_with_retries};
 
 /// Writes a text through a buffer, with up to `retries` more tries after faults, and returns the device with every byte
-/// out, once.
+/// out, once. If the device tells that at most `retries` mishaps are to come, the call succeeds.
 ///
 /// # Errors
-/// Returns the fault of the last try if that try fails too.
-pub fn save_with_retries(device: Narrow, text: &[u8], retries: u32) -> Result<Narrow>
-    ensures { IfOk result (λ d. d.taken.items ≡ device.taken.items ++ text.now) }
+/// Returns the fault of the last try if that try fails too. The device is then dropped.
+pub fn save_with_retries<W: Write + Drop>(device: W, text: &[u8], retries: u32) -> Result<W>
+    requires { BufWriterFits W.row 16 }
+    ensures saved { IfOk result (λ d. Moves (W.told device) text.now [] (W.told d)) }
+    ensures out { IfOk result (λ d. (W.told d).held ≡ []) }
+    ensures enough { HasAtMost retries (W.told device).mishaps → IsOk result }
 {
-    let mut w = BufWriter::<Narrow, 16>::new(device);
+    let mut w = BufWriter::<W, 16>::new(device);
     let mut rest = text;
     write_with_retries(&mut w, &mut rest, retries)?;
     match w.into_inner() {

@@ -18,6 +18,8 @@ mod devices;
 #[cfg(test)]
 mod kinds;
 #[cfg(test)]
+mod ports;
+#[cfg(test)]
 mod printing;
 #[cfg(test)]
 mod tables;

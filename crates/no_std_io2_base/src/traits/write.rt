@@ -107,6 +107,7 @@ pub trait Write {
     /// pub fn send_with_one_retry<W: Write>(device: &mut W, rest: &mut &[u8]) -> Result<()>
     ///     ensures sends { Sends (W.told device.old) rest.old.now result (W.told device.new) rest.new.now }
     ///     ensures done { OnOk result (rest.new.now ≡ []) }
+    ///     ensures calls { Tries (WriteRestOf W.Write) 1 device.old rest.old.now result device.new rest.new.now }
     /// {
     ///     if device.write_rest(rest).is_ok() {
     ///         return Ok(());

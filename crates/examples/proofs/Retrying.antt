@@ -1,0 +1,40 @@
+-- Writes that are made again after faults.
+use Rattle.std.proofs.Common.{◌≡◌, ℕ, List, [], ◌++◌, length, Result, Ok, Err, true, false, refl, ap, subst, ◌∙◌, arith, length-append}
+use Rattle.std.proofs.lemmas.List.{nil_from_length}
+use Rattle.std.proofs.lemmas.Grind.{common_steps}
+use Rattle.std.specs.Result.{is_ok}
+use Rattle.no_std_io2.specs.declared.io.Error.{Error}
+use Rattle.no_std_io2.specs.declared.buffered.buf_writer.BufWriter.{BufWriter}
+use Rattle.no_std_io2.specs.BufWriter.{with_buffer, writer_inner, writer_buffer, writer_told}
+use Rattle.no_std_io2.specs.Retries.{Tries, last, again}
+use Rattle.no_std_io2.specs.Write.{Told, Moves, Sends}
+use Rattle.no_std_io2.proofs.BufWriterLemmas.{MovesFront-device}
+use Rattle.no_std_io2.proofs.MovesLemmas.{MovesFront-sends}
+
+-- if a buffer in front of a writer holds nothing, neither does the writer
+pub both_empty : (a : Told) (buffer : List ℕ) → (with_buffer a buffer).held ≡ [] → (a.held ≡ []) × (buffer ≡ [])
+both_empty a buffer none =
+    let short = length-append a.held buffer in
+    (nil_from_length a.held (omega (arith, ap length none, short)), nil_from_length buffer (omega (arith, ap length none, short)))
+
+-- through a new buffer, which holds nothing afterwards, a text came to the device
+pub came_out : {W : Type 0} {S : ℕ} (told : W → Told) (device : W) (w v : BufWriter W S) (x left : List ℕ) → writer_inner w ≡ device
+    → writer_buffer w ≡ [] → Sends (writer_told told w) x (Ok tt) (writer_told told v) left → left ≡ [] → (writer_told told v).held ≡ []
+    → Moves (told device) x [] (told (writer_inner v))
+came_out told device w v x left inner none sends done flushed =
+    subst (λ d. Moves (told d) x [] (told (writer_inner v))) inner
+    (MovesFront-device told w v x (Ok tt) (MovesFront-sends x left sends done) none flushed)
+
+module _ {W : Type 0} {law : W → List ℕ → Result (Unit {0}) Error → W → List ℕ → Type 0} where
+  -- one try that succeeded
+  pub tried_once : {old new : W} {x left : List ℕ} (reply : Result (Unit {0}) Error) → is_ok reply ≡ true → law old x reply new left
+      → Tries law 1 old x (Ok tt) new left
+  tried_once (Ok u) was made = last made tt
+  tried_once (Err e) was made = cc
+
+  -- one that failed, and another one
+  pub tried_twice : {old new : W} {x left : List ℕ} (mid : W) (rest : List ℕ) (first reply : Result (Unit {0}) Error)
+      → is_ok first ≡ false → law old x first mid rest → law mid rest reply new left → Tries law 1 old x reply new left
+  tried_twice mid rest (Err e) (Ok u) was made next = again made (last next tt)
+  tried_twice mid rest (Err e) (Err f) was made next = again made (last next refl)
+  tried_twice mid rest (Ok u) reply was made next = cc
