@@ -1,9 +1,9 @@
 -- Which call of a buffer's inner writer is the last.
-use Rattle.std.proofs.Common.{ℕ, List, [], ◌∷◌, ◌++◌, Result, Ok, Err, IfOk, IfErr, length, refl, subst, sym, inl, inr}
+use Rattle.std.proofs.Common.{ℕ, List, [], ◌∷◌, ◌++◌, Result, Ok, Err, IfOk, IfErr, OnOk, length, refl, subst, sym, inl, inr}
 use Rattle.no_std_io2.specs.declared.io.Error.{Error}
-use Rattle.no_std_io2.specs.Write.{WriteCall, Wrote, WroteAll, Flushed, Writes, none, took, again, stuck, fault}
+use Rattle.no_std_io2.specs.Write.{WriteCall, Wrote, WroteAll, Flushed, AllCalls, Writes, none, took, again, stuck, fault}
 use Rattle.no_std_io2.specs.BufWriter.{stops, goes_on, WayCalls, FlushCalls, WriteCalls, PutCalls, Only}
-use Rattle.promises.specs.Promises.{HasNoFlush, FailedWith, EndsIn}
+use Rattle.promises.specs.Promises.{HasNoFlush, FailedWith, EndsIn, EndsFlushed}
 
 -- one more call before the others changes nothing, if there are others
 ends_before : (call : WriteCall) (C : List WriteCall) (e : Error) → EndsIn C e → EndsIn (call ∷ C) e
@@ -15,8 +15,19 @@ ends_last : (C : List WriteCall) (call : WriteCall) (e : Error) → FailedWith c
 ends_last [] call e failed = failed
 ends_last (first ∷ C) call e failed = ends_before first (C ++ call ∷ []) e (ends_last C call e failed)
 
+-- calls that end so end so behind others too
+pub ends_after : (C D : List WriteCall) (e : Error) → EndsIn D e → EndsIn (C ++ D) e
+ends_after [] D e ends = ends
+ends_after (first ∷ C) D e ends = ends_before first (C ++ D) e (ends_after C D e ends)
+
+-- the last call is that flush
+flushed_last : (C : List WriteCall) → EndsFlushed (C ++ Flushed (Ok tt) ∷ [])
+flushed_last [] = refl
+flushed_last (first ∷ []) = refl
+flushed_last (first ∷ next ∷ C) = flushed_last (next ∷ C)
+
 -- a loop of writes ends in its fault
-writes_end : {text : List ℕ} {C : List WriteCall} {x left : List ℕ} {reply : Result (Unit {0}) Error} → Writes text C x reply left
+pub writes_end : {text : List ℕ} {C : List WriteCall} {x left : List ℕ} {reply : Result (Unit {0}) Error} → Writes text C x reply left
     → IfErr reply (EndsIn C)
 writes_end none = tt
 writes_end {reply = Ok u} (took some more w) = tt
@@ -26,7 +37,13 @@ writes_end {reply = Err e} (again {C = C} {x = x} {e = f} some interrupted w) = 
 writes_end (stuck some says) = (refl, says.0)
 writes_end (fault some is) = refl
 
--- and has no flush
+-- and so does a `write_all`
+pub all_end : {C : List WriteCall} {x : List ℕ} {reply : Result (Unit {0}) Error} → AllCalls C x reply → IfErr reply (EndsIn C)
+all_end {x = x} {reply = Ok u} calls = tt
+all_end {x = x} {reply = Err e} (inl own) = subst (λ C. EndsIn C e) (sym own) refl
+all_end {x = x} {reply = Err e} (inr loop) = writes_end loop.1
+
+-- a loop has no flush
 writes_only : {text : List ℕ} {C : List WriteCall} {x left : List ℕ} {reply : Result (Unit {0}) Error} → Writes text C x reply left
     → HasNoFlush C
 writes_only none = tt
@@ -48,6 +65,13 @@ flush_ends (stops sent) = writes_end sent
 flush_ends {reply = Ok u} (goes_on sent next) = tt
 flush_ends {reply = Err e} (goes_on {C} sent next) =
     subst (λ D. EndsIn (C ++ D) e) (sym next.2) (ends_last C (Flushed (Err e)) e refl)
+
+-- one that succeeded ends in a flush
+pub flush_flushed : {held left : List ℕ} {C : List WriteCall} {reply : Result (Unit {0}) Error} → FlushCalls held C reply left
+    → OnOk reply (EndsFlushed C)
+flush_flushed (stops sent) = tt
+flush_flushed {reply = Ok u} (goes_on {C} sent next) = subst (λ D. EndsFlushed (C ++ D)) (sym next.2) (flushed_last C)
+flush_flushed {reply = Err e} (goes_on sent next) = tt
 
 -- the way for a write
 way_ends : (n : ℕ) {S : ℕ} {held left : List ℕ} {C : List WriteCall} {e : Error} → WayCalls S n held C (Err e) left → EndsIn C e
@@ -86,3 +110,13 @@ write_ends {reply = Err e} (goes_on {C} way put) = put_ends C put
 pub if_ok : {A E : Type 0} (reply : Result A E) {P Q : A → Type 0} → ((a : A) → P a → Q a) → IfOk reply P → IfOk reply Q
 if_ok (Ok a) f p = f a p
 if_ok (Err e) f p = tt
+
+-- behind other calls
+pub ends_after_both : (C D : List WriteCall) (reply : Result (Unit {0}) Error) → IfErr reply (EndsIn D) → IfErr reply (EndsIn (C ++ D))
+ends_after_both C D (Ok u) ends = tt
+ends_after_both C D (Err e) ends = ends_after C D e ends
+
+-- a flush behind other calls
+pub flushed_end : (C : List WriteCall) (reply : Result (Unit {0}) Error) → IfErr reply (EndsIn (C ++ Flushed reply ∷ []))
+flushed_end C (Ok u) = tt
+flushed_end C (Err e) = ends_last C (Flushed (Err e)) e refl

@@ -7,6 +7,11 @@ pub both : (xs ys : List ℕ) → xs ++ ys ≡ [] → (xs ≡ []) × (ys ≡ [])
 both [] ys h = (refl, h)
 both (x ∷ xs) ys h = absurd (cc)
 
+-- the second is
+pub second : (reply : Result (Unit {0}) Error) (xs ys : List ℕ) → OnOk reply (xs ++ ys ≡ []) → OnOk reply (ys ≡ [])
+second (Ok u) xs ys h = (both xs ys h).1
+second (Err e) xs ys h = tt
+
 -- so are three
 pub three : (reply : Result (Unit {0}) Error) (xs ys zs : List ℕ) → OnOk reply ((xs ++ ys) ++ zs ≡ [])
     → OnOk reply (xs ≡ []) × OnOk reply (ys ≡ []) × OnOk reply (zs ≡ [])

@@ -27,6 +27,10 @@ bytes_in t = t.out ++ t.held
 abbrev pub in_tower : {W : Type 0} {S T : ℕ} → (W → Told) → LineWriter (BufWriter W S) T → Told
 in_tower told w = with_buffer (with_buffer (told (writer_inner (line_inner w))) (writer_buffer (line_inner w))) (line_buffer w)
 
+-- what a `LineWriter` over a device tells: what its device tells, and as held also its buffer
+abbrev pub in_lines : {W : Type 0} {S : ℕ} → (W → Told) → LineWriter W S → Told
+in_lines told w = with_buffer (told (line_inner w)) (line_buffer w)
+
 -- what a `Take` of a reader that tells this tells: the events up to and including the byte at the limit
 abbrev pub in_take : {R : Type 0} → (R → Tells) → Take R → Tells
 in_take told t = record { events = limit_events told t; store = None; turns = (told (limit_inner t)).turns }
@@ -72,3 +76,9 @@ abbrev pub EndsIn : List WriteCall → Error → Type 0
 EndsIn [] e = ⊥
 EndsIn (call ∷ []) e = FailedWith call e
 EndsIn (call ∷ next ∷ C) e = EndsIn (next ∷ C) e
+
+-- the last of these calls is a flush that succeeded
+abbrev pub EndsFlushed : List WriteCall → Type 0
+EndsFlushed [] = ⊥
+EndsFlushed (call ∷ []) = call ≡ Flushed (Ok tt)
+EndsFlushed (call ∷ next ∷ C) = EndsFlushed (next ∷ C)

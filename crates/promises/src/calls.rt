@@ -1,45 +1,48 @@
 // Which calls the device gets.
-ghost use Rattle.std.specs.Prelude.{◌≡◌, ◌+◌, ◌*◌, ◌/◌, ◌<◌, ◌≤◌, [], List, IfErr, IfOk, IsOk, length, vec_capacity, vec_len};
-ghost use Rattle.no_std_io2.specs.BufWriter.{BufWriterFits, writer_inner, writer_buffer};
+ghost use Rattle.std.specs.Prelude.{◌≡◌, ◌+◌, ◌*◌, ◌/◌, ◌<◌, ◌≤◌, ◌++◌, [], List, IfErr, IfOk, Ok, OnOk, length, vec_capacity, vec_len};
+ghost use Rattle.no_std_io2.specs.BufWriter.{BufWriterFits, writer_buffer, writer_inner, writer_told};
 ghost use Rattle.no_std_io2.specs.Errors.{IsOutOfMemory};
-ghost use Rattle.no_std_io2.specs.Write.{Made, Moves, WriteCall};
+ghost use Rattle.no_std_io2.specs.Write.{Made, Moves, WriteCall, taken, write_mishap};
 ghost use Rattle.no_std_io2.specs.Writers.{CallOf, TakesAll};
 ghost use Rattle.no_std_io2.specs.Meter.{CostsAtMost};
 ghost use Rattle.io_bench.specs.Closed.{flushes, given_bytes};
-ghost use Rattle.promises.specs.Promises.{EndsIn, HasNoFlush};
+ghost use Rattle.promises.specs.Promises.{EndsFlushed, EndsIn, HasNoFlush};
 
 use io_bench::{Op, Reply, run_writes};
 use no_std_io2::io::{BufWriter, Error, Result, Write};
 
 /// A `write` passes on the error of the call of the device that failed, with its message, and that call is the last: the fault is not
-/// hidden, the call is not made again, and nothing is flushed.
+/// hidden, and nothing is flushed. The bytes that its result reports are in the device or the buffer.
 pub fn stops_at_a_fault_of_a_write<W: Write + Drop, const S: usize>(
     w: &mut BufWriter<W, S>,
     x: &[u8],
 ) -> Result<usize>
-    ensures { (C : List WriteCall) × Made (CallOf W.Write) (writer_inner w.old) C (writer_inner w.new)
+    ensures calls { (C : List WriteCall) × Made (CallOf W.Write) (writer_inner w.old) C (writer_inner w.new)
         × HasNoFlush C × IfErr result (EndsIn C) }
+    ensures moves { Moves (writer_told W.told w.old) (taken result x.now) (write_mishap result x.now) (writer_told W.told w.new) }
 {
     w.write(x)
 }
 
-/// So does a `flush`.
+/// So does a `flush`. If it returns `Ok`, its last call is a flush of the device that succeeded.
 pub fn stops_at_a_fault_of_a_flush<W: Write + Drop, const S: usize>(
     w: &mut BufWriter<W, S>,
 ) -> Result<()>
-    ensures { (C : List WriteCall) × Made (CallOf W.Write) (writer_inner w.old) C (writer_inner w.new)
-        × IfErr result (EndsIn C) }
+    ensures calls { (C : List WriteCall) × Made (CallOf W.Write) (writer_inner w.old) C (writer_inner w.new)
+        × IfErr result (EndsIn C) × OnOk result (EndsFlushed C) }
+    ensures empty { OnOk result (writer_buffer w.new ≡ []) }
 {
     w.flush()
 }
 
-/// A `write` that is shorter than the buffer and fits makes no call of the device, and so cannot fail.
+/// A `write` that is shorter than the buffer and fits makes no call of the device, and so cannot fail. Its bytes are held.
 pub fn makes_no_call_if_it_fits<W: Write + Drop, const S: usize>(
     w: &mut BufWriter<W, S>,
     x: &[u8],
 ) -> Result<usize>
     ensures { length x.now < S → length (writer_buffer w.old) + length x.now ≤ S
-        → IsOk result × (writer_inner w.new ≡ writer_inner w.old) }
+        → (result ≡ Ok (length x.now)) × (writer_inner w.new ≡ writer_inner w.old)
+        × (writer_buffer w.new ≡ writer_buffer w.old ++ x.now) }
 {
     w.write(x)
 }

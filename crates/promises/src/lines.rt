@@ -3,15 +3,19 @@ ghost use Rattle.std.specs.Prelude.{OnOk};
 ghost use Rattle.no_std_io2.specs.Lines.{IsLineState};
 ghost use Rattle.no_std_io2.specs.Pieces.{Lacks, newline};
 ghost use Rattle.no_std_io2.specs.LineWriter.{line_buffer};
+ghost use Rattle.no_std_io2.specs.Write.{Moves, MovesFront, taken, write_mishap};
+ghost use Rattle.promises.specs.Promises.{in_lines, in_tower};
 
 use no_std_io2::io::{BufWriter, LineWriter, Result, Write};
 
-/// After `write_all` returns `Ok` every complete line has been passed on.
+/// After `write_all` returns `Ok` every complete line has been passed on. Some first bytes of the text were accepted, all of them after
+/// `Ok`, and an error is a mishap of the device.
 pub fn holds_no_newline<W: Write + Drop, const S: usize>(
     w: &mut LineWriter<W, S>,
     x: &[u8],
 ) -> Result<()>
-    ensures { OnOk result (Lacks newline (line_buffer w.new)) }
+    ensures line { OnOk result (Lacks newline (line_buffer w.new)) }
+    ensures moves { MovesFront (in_lines W.told w.old) x.now result (in_lines W.told w.new) }
 {
     w.write_all(x)
 }
@@ -21,7 +25,8 @@ pub fn holds_no_newline_in_a_tower<W: Write + Drop, const S: usize, const T: usi
     w: &mut LineWriter<BufWriter<W, S>, T>,
     x: &[u8],
 ) -> Result<()>
-    ensures { OnOk result (Lacks newline (line_buffer w.new)) }
+    ensures line { OnOk result (Lacks newline (line_buffer w.new)) }
+    ensures moves { MovesFront (in_tower W.told w.old) x.now result (in_tower W.told w.new) }
 {
     w.write_all(x)
 }
@@ -31,19 +36,22 @@ pub fn holds_no_newline_in_a_box<W: Write + Drop, const S: usize>(
     w: &mut Box<LineWriter<W, S>>,
     x: &[u8],
 ) -> Result<()>
-    ensures { OnOk result (Lacks newline (line_buffer w.new.value)) }
+    ensures line { OnOk result (Lacks newline (line_buffer w.new.value)) }
+    ensures moves { MovesFront (in_lines W.told w.old.value) x.now result (in_lines W.told w.new.value) }
 {
     w.as_mut().write_all(x)
 }
 
-/// After every call, also a failed one, the buffer of a `LineWriter` has no newline or ends in one.
+/// After a `write`, also a failed one, the buffer of a `LineWriter` has no newline or ends in one. The bytes that the result reports were
+/// accepted, and an error is a mishap of the device.
 pub fn keeps_a_line_state<W: Write + Drop, const S: usize>(
     w: &mut LineWriter<W, S>,
     x: &[u8],
-) -> bool
-    ensures { IsLineState (line_buffer w.new) }
+) -> Result<usize>
+    ensures line { IsLineState (line_buffer w.new) }
+    ensures moves { Moves (in_lines W.told w.old) (taken result x.now) (write_mishap result x.now) (in_lines W.told w.new) }
 {
-    let is_written = w.write(x).is_ok();
+    let result = w.write(x);
     let _held = w.buffer();
-    is_written
+    result
 }

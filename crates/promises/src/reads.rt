@@ -1,5 +1,5 @@
 // What readers give, and where seeks go.
-ghost use Rattle.std.specs.Prelude.{◌≡◌, ◌+◌, ◌<◌, ◌++◌, ℕ, List, Some, IsOk, drop, length, vec_len, vec_capacity, string_bytes};
+ghost use Rattle.std.specs.Prelude.{◌≡◌, ◌+◌, ◌<◌, [], ◌++◌, ℕ, List, Ok, Some, IsOk, drop, length, vec_len, vec_capacity, string_bytes};
 ghost use Rattle.no_std_io2.specs.BufReader.{reader_inner, reader_behind, reader_held, TakesHeld, TakesHeldLine, TakesOver};
 ghost use Rattle.no_std_io2.specs.BufRead.{lender_tells};
 ghost use Rattle.no_std_io2.specs.Buffer.{IsInBuffer, IsSuffix};
@@ -7,7 +7,7 @@ ghost use Rattle.no_std_io2.specs.Events.{Event, bytes};
 ghost use Rattle.no_std_io2.specs.Pieces.{EndsPiece, PieceEnds, newline};
 ghost use Rattle.no_std_io2.specs.Read.{tells, answered, gave};
 ghost use Rattle.no_std_io2.specs.Seek.{Seeks};
-ghost use Rattle.no_std_io2.specs.Takes.{Store, Takes, to_come};
+ghost use Rattle.no_std_io2.specs.Takes.{IsAtEnd, Store, Takes, to_come};
 ghost use Rattle.io_bench.specs.Tally.{tally_inner};
 ghost use Rattle.promises.specs.Promises.{in_chain, in_reader, in_take};
 
@@ -15,23 +15,27 @@ use io_bench::Tally;
 use no_std_io2::io::{BufRead, BufReader, Chain, Read, Result, Seek, SeekFrom, Take};
 use std::alloc::{Allocator, Global};
 
-/// If it is known what a reader is going to give, a `read` gives what comes next, bytes or an error, and nothing else is gone.
+/// If it is known what a reader is going to give, a `read` gives what comes next, bytes or an error, and nothing else is gone. It gives no
+/// byte only at the end, or into an empty buffer.
 pub fn gives_what_comes_next<R: Read>(r: &mut R, buf: &mut [u8]) -> Result<usize>
     ensures { (E : List Event) → to_come (tells R.Read r.old) ≡ Some E
-        → (after : List Event) × (to_come (tells R.Read r.new) ≡ Some after) × (E ≡ answered (gave result buf.new) ++ after) }
+        → (after : List Event) × (to_come (tells R.Read r.new) ≡ Some after) × (E ≡ answered (gave result buf.new) ++ after)
+        × (result ≡ Ok 0 → 0 < length buf.new → E ≡ []) }
 {
     r.read(buf)
 }
 
 /// In a tower the held bytes come first, then the events of the first reader up to the limit, and then those of the second. A `read` takes
-/// what comes next, bytes or an error, and nothing else.
+/// what comes next, bytes or an error, and nothing else. It gives no byte only at the end, or into an empty buffer.
 pub fn gives_what_comes_next_in_a_tower<R: Read, U: Read, const S: usize>(
     r: &mut Box<BufReader<Chain<Take<Tally<R>>, U>, S>>,
     buf: &mut [u8],
 ) -> Result<usize>
-    ensures { Takes (in_reader (in_chain (in_take (λ t. tells R.Read (tally_inner t))) (tells U.Read)) r.old.value)
+    ensures next { Takes (in_reader (in_chain (in_take (λ t. tells R.Read (tally_inner t))) (tells U.Read)) r.old.value)
         (answered (gave result buf.new))
         (in_reader (in_chain (in_take (λ t. tells R.Read (tally_inner t))) (tells U.Read)) r.new.value) }
+    ensures end { result ≡ Ok 0 → 0 < length buf.new
+        → IsAtEnd (in_reader (in_chain (in_take (λ t. tells R.Read (tally_inner t))) (tells U.Read)) r.new.value) }
 {
     r.read(buf)
 }

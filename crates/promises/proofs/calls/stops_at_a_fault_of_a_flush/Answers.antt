@@ -1,5 +1,13 @@
-use Rattle.promises.proofs.CallsEnd.{flush_ends}
+-- The prover does not find which call is the last, which takes an induction over the calls.
+use Rattle.promises.proofs.CallsEnd.{flush_ends, flush_flushed}
+use Rattle.no_std_io2.specs.BufWriter.{writer_buffer, writer_inner}
+use Rattle.promises.proofs.Nothing.{second}
 use Rattle.promises.proofs.calls.stops_at_a_fault_of_a_flush.Goals as goal
 
-pub returns : goal.returns
-returns g c = let made = c.flush.ensures.law.call in (made.0, made.1, flush_ends made.2)
+pub returns-clause-calls : goal.returns-clause-calls
+returns-clause-calls g c =
+    let made = c.flush.ensures.law.call in (made.0, made.1, flush_ends made.2, flush_flushed made.2)
+
+pub returns-clause-empty : goal.returns-clause-empty
+returns-clause-empty g c =
+    second c.flush.result (g.W.Write.told (writer_inner c.flush.new.self)).held (writer_buffer c.flush.new.self) c.flush.ensures.law.empty
