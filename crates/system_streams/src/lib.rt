@@ -4,6 +4,7 @@
 //! A real device does not tell what it will give or take, and may be interrupted for ever. [`Patient`] makes a reader,
 //! writer or seeker of Rust's `std::io` one of this library's, with a number of turns that bounds every loop over it.
 //! [`stdin`], [`stdout`], [`open`] and [`create`] return standard input, standard output and files as such streams.
+//! [`report`] prints a program's fault, and returns its status.
 //! [`copy_through`] copies one stream to another with a buffer at each. [`ToStd`] makes a stream of this library one of
 //! `std::io`, for crates that need those.
 #![tactic(auto)]
@@ -16,6 +17,6 @@ mod to_std;
 
 pub use copy::copy_through;
 pub use patient::Patient;
-pub use streams::{create, open, stdin, stdout};
+pub use streams::{create, open, report, stdin, stdout};
 pub use system::{SystemRead, SystemSeek, SystemWrite};
 pub use to_std::ToStd;

@@ -1,6 +1,6 @@
 // [`Patient`], a reader or writer of the system with a number of turns that bounds every loop over
 // it.
-ghost use Rattle.std.specs.Prelude.{◌≡◌, ◌+◌, ◌<◌, ◌⊎◌, [], None, Some, length, option_copied, IfSome};
+ghost use Rattle.std.specs.Prelude.{◌≡◌, ◌≢◌, true, false, ◌+◌, ◌<◌, ◌⊎◌, [], None, Some, length, option_copied, IfSome};
 ghost use Rattle.std.specs.IoError.{error_kind as std_error_kind};
 ghost use Rattle.no_std_io2.specs.Read.{ReadLaw};
 ghost use Rattle.no_std_io2.specs.Errors.{error_kind};
@@ -84,8 +84,9 @@ impl<D> Patient<D> {
         self.last_error.as_ref()
     }
 
-    /// Returns the reason for an error of this stream, to print it: the system's last error if `fault` is of kind `Other`,
-    /// as a `device fault` is; else an error with the kind and the text of `fault`.
+    /// Returns the reason for an error of this stream, to print it. For a `device fault` it is the last error that the
+    /// device returned, unless that was an interruption, which then came later. For any other error, such as one of a
+    /// formatter, it is an error with the kind and the text of `fault`.
     ///
     /// ```rust
     /// let mut folder = open(rt, ".")?;
@@ -93,12 +94,14 @@ impl<D> Patient<D> {
     /// assert!(rt; folder.reason(fault).kind() == io::ErrorKind::IsADirectory);
     /// ```
     pub fn reason(&self, fault: Error) -> io::Error
-        ensures system { error_kind fault ≡ ErrorKind.Other → IfSome (patient_error self.now) (λ e. result ≡ e) }
+        ensures system { IsDeviceFault fault → IfSome (patient_error self.now) (λ e. std_error_kind e ≢ SystemKind.Interrupted → result ≡ e) }
+        ensures other { (IsDeviceFault fault → ⊥) → std_error_kind result ≡ std_kind (error_kind fault) }
         ensures none { patient_error self.now ≡ None → std_error_kind result ≡ std_kind (error_kind fault) }
-        ensures other { (error_kind fault ≡ ErrorKind.Other → ⊥) → std_error_kind result ≡ std_kind (error_kind fault) }
+        ensures later { IfSome (patient_error self.now) (λ e. std_error_kind e ≡ SystemKind.Interrupted
+            → std_error_kind result ≡ std_kind (error_kind fault)) }
     {
         match self.last_error {
-            Some(e) if fault.kind() == ErrorKind::Other => e,
+            Some(e) if e.kind() != SystemKind::Interrupted && is_device_fault(&fault) => e,
             _ => std_error(fault),
         }
     }
@@ -126,6 +129,9 @@ impl<D> Patient<D> {
     }
 }
 
+// The text of a device's fault.
+const DEVICE_FAULT: &str = "device fault";
+
 fn no_turns_left() -> Error
     ensures { IsOutOfTurns result }
 {
@@ -141,7 +147,18 @@ fn interruption() -> Error
 fn device_fault() -> Error
     ensures { IsDeviceFault result }
 {
-    Error::new(ErrorKind::Other, "device fault")
+    Error::new(ErrorKind::Other, DEVICE_FAULT)
+}
+
+// Returns whether an error is the one that `device_fault` makes.
+fn is_device_fault(fault: &Error) -> bool
+    ensures yes { result ≡ true → IsDeviceFault fault.now }
+    ensures no { result ≡ false → IsDeviceFault fault.now → ⊥ }
+{
+    match fault.get_ref() {
+        Some(text) => fault.kind() == ErrorKind::Other && **text == *DEVICE_FAULT,
+        None => false,
+    }
 }
 
 // The error that a reader or a seeker returns in place of its device's error.
