@@ -30,7 +30,7 @@ pub mod ghost_bytes {
 pub mod io {
     pub use super::buffered::{BufReader, BufWriter, IntoInnerError, LineWriter, Unsent};
     pub use super::util::{
-        CopyError, Empty, Repeat, Sink, copy, copy_sided, empty, read_exact_at, repeat, sink, skip,
+        CopyError, Empty, Repeat, Sink, copy, copy_sided, copy_with, empty, read_exact_at, repeat, sink, skip,
         write_with_retries,
     };
     pub use no_std_io2_base::cursor::{AsSlice, Cursor};

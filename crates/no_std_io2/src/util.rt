@@ -19,7 +19,7 @@ pub use no_std_io2_base::repeats::Repeat;
 pub use no_std_io2_base::sinks::Sink;
 pub use read_at::read_exact_at;
 pub use retries::write_with_retries;
-pub use sides::{CopyError, copy_sided};
+pub use sides::{CopyError, copy_sided, copy_with};
 
 /// Copies all remaining bytes of `reader` to `writer`, through a buffer of `S` bytes on the stack.
 /// It returns their number, or `u64::MAX` if there are more. It ignores the reader's interruptions,

@@ -66,7 +66,19 @@ pub fn copy_sided<R: Read, W: Write, const S: usize>(
     copy_with(reader, writer, &mut buf[..])
 }
 
-/// Copies like [`copy_sided`], through a buffer of the caller's.
+/// Copies like [`copy_sided`], through the buffer `buf` of the caller, which nobody clears first. A program that copies many
+/// streams makes one buffer for all. If `buf` is empty, nothing is copied. Follows `std::io::copy`, which has a buffer of its own.
+///
+/// # Errors
+/// Returns the errors of [`copy_sided`]; after `Write`, up to `buf.len()` bytes that were read are lost.
+///
+/// ```rust
+/// let mut room = [0u8; 64];
+/// let mut device = Vec::<u8>::new(rt.alloc());
+/// copy_with(&mut Cursor::new(*b"abc"), &mut device, &mut room)?;
+/// copy_with(&mut Cursor::new(*b"de"), &mut device, &mut room)?;
+/// assert!(rt; device.as_slice() == b"abcde".as_slice());
+/// ```
 pub fn copy_with<R: Read, W: Write>(
     reader: &mut R,
     writer: &mut W,
