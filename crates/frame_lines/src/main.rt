@@ -6,7 +6,6 @@
 #![tactic(auto)]
 
 ghost use Rattle.std.specs.Prelude.{◌≡◌, [], OnOk, OnErr};
-ghost use Rattle.std.specs.Process.{exit_status};
 ghost use Rattle.line_log.specs.Log.{log_held, log_tells};
 ghost use Rattle.frame_lines.specs.Fits.{FramesFit, LogFits};
 
@@ -17,7 +16,7 @@ use std::alloc::Global;
 use std::process::ExitCode;
 use std::rt::Env;
 use std::{env, io};
-use system_streams::Patient;
+use system_streams::{report, stdin, stdout};
 
 // The longest payload, in bytes.
 const LIMIT: usize = 4096;
@@ -70,34 +69,18 @@ fn print_frames<R: Read + Drop, W: Write + Drop>(
 }
 
 fn run(rt: &HostRuntime) -> Result<()> {
-    let input = Patient::new(rt.reader(), u64::MAX);
-    let output = Patient::new(io::writer(rt), u64::MAX);
-    let mut frames = FrameReader::<_, 512>::new(input);
-    let mut lines = LineLog::<_, LINE>::new(output);
+    let mut frames = FrameReader::<_, 512>::new(stdin(rt));
+    let mut lines = LineLog::<_, LINE>::new(stdout(rt));
     print_frames(&mut frames, &mut lines)
-}
-
-// Returns the status of a run, and prints its fault to standard error.
-fn report(rt: &HostRuntime, answer: Result<()>) -> ExitCode
-    ensures done { OnOk answer (exit_status result ≡ 0) }
-    ensures failed { OnErr answer (exit_status result ≡ 1) }
-{
-    match answer {
-        Ok(()) => ExitCode::SUCCESS,
-        Err(error) => {
-            let _ = eprintln!(rt; "frame_lines: {error}");
-            ExitCode::FAILURE
-        }
-    }
 }
 
 fn main(rt: HostRuntime) -> ExitCode {
     match has_argument(&rt) {
-        Ok(false) => report(&rt, run(&rt)),
+        Ok(false) => report(&rt, "frame_lines", run(&rt)),
         Ok(true) => {
             let _ = eprintln!(rt; "usage: frame_lines");
             ExitCode::from(2)
         }
-        Err(error) => report(&rt, Err(error)),
+        Err(error) => report(&rt, "frame_lines", Err(error)),
     }
 }

@@ -6,18 +6,16 @@
 #![tactic(auto)]
 
 ghost use Rattle.std.specs.Prelude.{◌≡◌, ◌^◌, ◌-◌, length, IfSome, IfNone, OnOk, OnErr};
-ghost use Rattle.std.specs.Process.{exit_status};
 ghost use Rattle.iotower.specs.declared.Command.{Command as Asked};
 ghost use Rattle.iotower.specs.Words.{verb_of, mode_of, AreWords};
 ghost use Rattle.std.specs.Vec.Iter.{into_iter_items};
-ghost use Rattle.system_streams.specs.Patient.{patient_turns};
 
 use no_std_io2::io::{Error, ErrorKind};
 use std::alloc::Global;
 use std::process::ExitCode;
 use std::rt::Env;
 use std::{env, io};
-use system_streams::{Patient, copy_through};
+use system_streams::{copy_through, report, stdin, stdout};
 use tower_play::{Fault, Shape, play};
 
 const USAGE: &str = "usage: iotower copy buf|line, iotower play buf|line|buf-buf|line-buf";
@@ -73,16 +71,9 @@ fn command_of(verb: &str, mode: &str) -> Option<Command>
     }
 }
 
-// Makes a stream of the system a stream of this library, with more turns than a program can use up.
-fn with_all_turns<D>(device: D) -> Patient<D>
-    ensures turns { patient_turns result ≡ 2 ^ 64 - 1 }
-{
-    Patient::new(device, u64::MAX)
-}
-
 fn run(rt: &HostRuntime, command: Command) -> Result<(), Fault> {
-    let input = with_all_turns(rt.reader());
-    let output = with_all_turns(io::writer(rt));
+    let input = stdin(rt);
+    let output = stdout(rt);
     match command {
         Command::Copy { line } => {
             copy_through(input, output, line)?;
@@ -94,27 +85,13 @@ fn run(rt: &HostRuntime, command: Command) -> Result<(), Fault> {
     Ok(())
 }
 
-// Returns the status of a run, and prints its fault to standard error.
-fn report(rt: &HostRuntime, answer: Result<(), Fault>) -> ExitCode
-    ensures done { OnOk answer (exit_status result ≡ 0) }
-    ensures failed { OnErr answer (exit_status result ≡ 1) }
-{
-    match answer {
-        Ok(()) => ExitCode::SUCCESS,
-        Err(fault) => {
-            let _ = eprintln!(rt; "iotower: {fault}");
-            ExitCode::FAILURE
-        }
-    }
-}
-
 fn main(rt: HostRuntime) -> ExitCode {
     match parse_words(&rt) {
-        Ok(Some(command)) => report(&rt, run(&rt, command)),
+        Ok(Some(command)) => report(&rt, "iotower", run(&rt, command)),
         Ok(None) => {
             let _ = eprintln!(rt; "{USAGE}");
             ExitCode::from(2)
         }
-        Err(fault) => report(&rt, Err(fault)),
+        Err(fault) => report(&rt, "iotower", Err(fault)),
     }
 }

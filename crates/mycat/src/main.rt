@@ -10,13 +10,13 @@ ghost use Rattle.std.specs.Prelude.{◌≡◌};
 ghost use Rattle.std.specs.Bool.{OnTrue, OnFalse};
 ghost use Rattle.std.specs.Process.{exit_status};
 
-use no_std_io2::io::{CopyError, copy_sided};
+use no_std_io2::io::{CopyError, copy_with};
 use std::alloc::Global;
 use std::io::Input;
 use std::process::ExitCode;
 use std::rt::{Env, Files};
 use std::{env, io};
-use system_streams::{Patient, SystemRead, SystemWrite, open, stdin, stdout};
+use system_streams::{Patient, SystemRead, SystemWrite, open, report, stdin, stdout};
 
 // The size of the buffer, in bytes.
 const ROOM: usize = 131_072;
@@ -30,12 +30,13 @@ enum Fault {
     Output(io::Error),
 }
 
-// Writes all of one stream to another.
+// Writes all of one stream to another, through this buffer.
 fn pass<D: SystemRead, E: SystemWrite>(
     input: &mut Patient<D>,
     out: &mut Patient<E>,
+    room: &mut [u8],
 ) -> Result<u64, Fault> {
-    match copy_sided::<_, _, ROOM>(input, out) {
+    match copy_with(input, out, room) {
         Ok(count) => Ok(count),
         Err(CopyError::Read(e)) => Err(Fault::Input(input.reason(e))),
         Err(CopyError::Write(e)) => Err(Fault::Output(out.reason(e))),
@@ -47,25 +48,32 @@ fn print_file<R: Files + Input, E: SystemWrite>(
     rt: &R,
     name: &str,
     out: &mut Patient<E>,
+    room: &mut [u8],
 ) -> Result<u64, Fault> {
     if name == "-" {
-        return pass(&mut stdin(rt), out);
+        return pass(&mut stdin(rt), out, room);
     }
     match open(rt, name) {
-        Ok(mut file) => pass(&mut file, out),
+        Ok(mut file) => pass(&mut file, out, room),
         Err(e) => Err(Fault::Input(e)),
     }
+}
+
+// Returns a name as a message shows it.
+fn shown(name: &str) -> &str {
+    if name.is_empty() { "''" } else { name }
 }
 
 // Writes the files with these names, and returns whether nothing failed.
 fn print_files<R: Files + Input + Print + Eprint>(rt: &R, names: &[String]) -> bool {
     let mut out = stdout(rt);
+    let mut room = [0u8; ROOM];
     let mut whole = true;
     'names: for name in names {
-        match print_file(rt, name.as_str(), &mut out) {
+        match print_file(rt, name.as_str(), &mut out, &mut room) {
             Ok(_) => {}
             Err(Fault::Input(e)) => {
-                let _ = eprintln!(rt; "mycat: {name}: {e}");
+                let _ = eprintln!(rt; "mycat: {}: {e}", shown(name.as_str()));
                 whole = false;
             }
             Err(Fault::Output(e)) => {
@@ -94,10 +102,7 @@ fn names<R: Env + Alloc<A = Global>>(rt: &R) -> io::Result<Vec<String>> {
 fn main(rt: HostRuntime) -> ExitCode {
     match names(&rt) {
         Ok(names) => status(print_files(&rt, names.as_slice())),
-        Err(e) => {
-            let _ = eprintln!(rt; "mycat: {e}");
-            ExitCode::FAILURE
-        }
+        Err(e) => report(&rt, "mycat", Err(e)),
     }
 }
 

@@ -6,7 +6,6 @@
 #![tactic(auto)]
 
 ghost use Rattle.std.specs.Prelude.{◌≡◌, ◌<◌, [], length, IfSome, IfNone, OnOk, OnErr};
-ghost use Rattle.std.specs.Process.{exit_status};
 ghost use Rattle.std.specs.Vec.Iter.{into_iter_items};
 ghost use Rattle.tar_list.specs.Words.{Asks};
 ghost use Rattle.tar_reader.specs.Archives.{archive_inner, gathered, left_of_member};
@@ -18,7 +17,7 @@ use std::alloc::Global;
 use std::process::ExitCode;
 use std::rt::Env;
 use std::{env, io};
-use system_streams::Patient;
+use system_streams::{report, stdin, stdout};
 use tar_reader::{Archive, Kind};
 
 const USAGE: &str = "usage: tar_list [NAME]";
@@ -98,36 +97,21 @@ fn copy_member<R: BufRead, W: Write>(
 }
 
 fn run(rt: &HostRuntime, command: Command) -> Result<()> {
-    let input = Patient::new(rt.reader(), u64::MAX);
-    let mut archive = Archive::new(BufReader::<_, BUFFER>::new(input));
-    let mut out = BufWriter::<_, BUFFER>::new(Patient::new(io::writer(rt), u64::MAX));
+    let mut archive = Archive::new(BufReader::<_, BUFFER>::new(stdin(rt)));
+    let mut out = BufWriter::<_, BUFFER>::new(stdout(rt));
     match command {
         Command::List => list(&mut archive, &mut out),
         Command::Copy(name) => copy_member(&mut archive, name.as_str(), &mut out),
     }
 }
 
-// Returns the status of a run, and prints its fault to standard error.
-fn report(rt: &HostRuntime, answer: Result<()>) -> ExitCode
-    ensures done { OnOk answer (exit_status result ≡ 0) }
-    ensures failed { OnErr answer (exit_status result ≡ 1) }
-{
-    match answer {
-        Ok(()) => ExitCode::SUCCESS,
-        Err(error) => {
-            let _ = eprintln!(rt; "tar_list: {error}");
-            ExitCode::FAILURE
-        }
-    }
-}
-
 fn main(rt: HostRuntime) -> ExitCode {
     match parse_words(&rt) {
-        Ok(Some(command)) => report(&rt, run(&rt, command)),
+        Ok(Some(command)) => report(&rt, "tar_list", run(&rt, command)),
         Ok(None) => {
             let _ = eprintln!(rt; "{USAGE}");
             ExitCode::from(2)
         }
-        Err(error) => report(&rt, Err(error)),
+        Err(error) => report(&rt, "tar_list", Err(error)),
     }
 }
