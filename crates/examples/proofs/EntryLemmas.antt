@@ -76,30 +76,30 @@ stored_at content position small near = by (fits_u64 content position) (fits_by 
     by false fits is = absurd (let no : ⊥ = cc in no)
 
 -- a new buffer in front of a content tells it
-new_tells : (content behind held : List ℕ) (at : ℕ) → behind ≡ [] → held ≡ [] → at ≡ 0 → length content < 2 ^ 64
-    → IsSomeAnd (store_before behind held (store_at content at)) (λ s. s.content ≡ content)
-new_tells content behind held at none_behind none_held start small =
-    rw (none_behind, none_held, start) (by (store_at content 0) (stored_at content 0 small (omega arith)))
+new_tells : (content held : List ℕ) (at : ℕ) → held ≡ [] → at ≡ 0 → length content < 2 ^ 64
+    → IsSomeAnd (store_before held (store_at content at)) (λ s. s.content ≡ content)
+new_tells content held at none_held start small =
+    rw (none_held, start) (by (store_at content 0) (stored_at content 0 small (omega arith)))
   where
     same : (s : Store) (t : Bool) → t ≡ true → s.content ≡ content → IsSomeAnd (store_if t (step_back 0 s)) (λ s. s.content ≡ content)
     same s true is told = told
     same s false is told = absurd (let no : ⊥ = cc in no)
 
     by : (o : Option Store) → IsSomeAnd o (λ s. (s.content ≡ content) × (s.position ≡ 0))
-        → IsSomeAnd (store_before [] [] o) (λ s. s.content ≡ content)
+        → IsSomeAnd (store_before [] o) (λ s. s.content ≡ content)
     by None told = told
     by (Some s) told =
         let before : IsBefore [] s = (omega arith, ap (λ n. drop n s.content) (omega arith)) in
         same s (is_before [] s) ((before_decides [] s).1 before) told.0
 
 -- what was found in it is an entry of the content
-pub entry_found : (content behind held : List ℕ) (at i : ℕ) (later : Option Store) (old entry : List ℕ) (reply : Result (Unit {0}) Error)
-    → behind ≡ [] → held ≡ [] → at ≡ 0 → length content < 2 ^ 64
-    → IfSome (store_before behind held (store_at content at)) (λ s. IsSomeAnd later (λ t. (t.content ≡ s.content)
+pub entry_found : (content held : List ℕ) (at i : ℕ) (later : Option Store) (old entry : List ℕ) (reply : Result (Unit {0}) Error)
+    → held ≡ [] → at ≡ 0 → length content < 2 ^ 64
+    → IfSome (store_before held (store_at content at)) (λ s. IsSomeAnd later (λ t. (t.content ≡ s.content)
     × OnOk reply (entry ≡ take (length old) (drop (entry_place i s.content) s.content))))
     → OnOk reply (entry ≡ take (length old) (drop (entry_place i content) content))
-entry_found content behind held at i later old entry reply none_behind none_held start small read =
-    by (store_before behind held (store_at content at)) later (new_tells content behind held at none_behind none_held start small) read
+entry_found content held at i later old entry reply none_held start small read =
+    by (store_before held (store_at content at)) later (new_tells content held at none_held start small) read
   where
     by : (o l : Option Store) → IsSomeAnd o (λ s. s.content ≡ content) → IfSome o (λ s. IsSomeAnd l (λ t. (t.content ≡ s.content)
         × OnOk reply (entry ≡ take (length old) (drop (entry_place i s.content) s.content))))

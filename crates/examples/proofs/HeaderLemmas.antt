@@ -99,8 +99,8 @@ no_fault_taken {a} {b} P e takes = by a.store b.store (store_taken takes)
     by _ _ took = grind (arith, took)
 
 -- if a buffer tells a store, the reader below does
-told_below : (Q : Type 0) (behind held : List ℕ) (o : Option Store) → IfSome o (λ _. Q) → IfSome (store_before behind held o) (λ _. Q)
-told_below Q behind held o below = grind (arith, common_steps)
+told_below : (Q : Type 0) (held : List ℕ) (o : Option Store) → IfSome o (λ _. Q) → IfSome (store_before held o) (λ _. Q)
+told_below Q held o below = grind (arith, common_steps)
 
 module _ {R : Type 0} {S : ℕ} (K : Reader R) (old new : BufReader R S) {buf : List ℕ} {e : Error}
     (below : ExactBelow K old 2 (Err e) buf new) where
@@ -120,13 +120,12 @@ module _ {R : Type 0} {S : ℕ} (K : Reader R) (old new : BufReader R S) {buf : 
 
   -- the end came, unless the reader below tells no store
   pub short_end : IfSome (reader_store K.store old) (λ _. IsAtEnd (tells (buf_reader K) new))
-  short_end = told_below _ (reader_behind old) (reader_held old) (K.store (reader_inner old)) (elim below.are [
+  short_end = told_below _ (reader_held old) (K.store (reader_inner old)) (elim below.are [
     | inl end ↦
         let last = last_read (Ok []) end.1 in
         grind (
           arith,
-          ends_behind S (reader_behind new) (reader_held new)
-              (tells K (reader_inner new)) below.leaves.1.1 (last.4.end refl last.3),
+          ends_behind S (reader_held new) (tells K (reader_inner new)) below.leaves.1.1 (last.4.end refl last.3),
         )
     | inr fault ↦
         let last = last_read (Err e) fault.1 in

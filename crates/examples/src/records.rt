@@ -7,7 +7,7 @@ ghost use Rattle.no_std_io2.specs.Events.{bytes, cut};
 ghost use Rattle.no_std_io2.specs.Takes.{to_come};
 ghost use Rattle.no_std_io2.specs.Read.{tells};
 ghost use Rattle.no_std_io2.specs.Write.{IsFront};
-ghost use Rattle.no_std_io2.specs.BufReader.{reader_held, reader_inner, reader_store, KeepsBuffer};
+ghost use Rattle.no_std_io2.specs.BufReader.{reader_held, reader_inner, reader_store, KeepsBuffer, ReaderIsSound};
 ghost use Rattle.examples.specs.Headers.{SoughtBack};
 
 use no_std_io2::io::{BufReader, Read, Result, Seek};
@@ -35,9 +35,9 @@ pub fn peek_header<R: Read + Seek, const S: usize>(r: &mut BufReader<R, S>) -> R
     ensures steps_back { IfOk result (λ header. IsFront (header.0 ∷ header.1 ∷ []) (reader_held r.new)
         ⊎ SoughtBack ⟦<BufReader<R, S> as Read>⟧ R.Seek r.old (header.0 ∷ header.1 ∷ []) r.new) }
 
-    // A told store keeps its content and its position. The call fails if and only if fewer than two bytes are left;
+    // A sound told store keeps its content and its position. The call fails if and only if fewer than two bytes are left;
     // these are then taken.
-    ensures store { IfSome (reader_store R.store r.old) (λ s. IsSomeAnd (reader_store R.store r.new) (λ t. (t.content ≡ s.content)
+    ensures store { ReaderIsSound R.store r.old → IfSome (reader_store R.store r.old) (λ s. IsSomeAnd (reader_store R.store r.new) (λ t. (t.content ≡ s.content)
         × (let left = drop s.position s.content in
         IfOk result (λ header. (header.0 ∷ header.1 ∷ [] ≡ take 2 left) × (t.position ≡ s.position))
         × IfErr result (λ e. (length left < 2) × IsUnexpectedEnd e × (t.position ≡ s.position + length left))))) }

@@ -126,7 +126,7 @@ module _ {R : Type 0} {S : ℕ} (I : Reader R) (fills : FillsRoom I) (start : Bu
   all r = left_behind fills.left r
 
   told : (r : BufReader R S) → to_come (lender_tells L r) ≡ Some (events_of (all r))
-  told r = told_behind S (reader_behind r) (reader_held r) (tells I (reader_inner r))
+  told r = told_behind S (reader_held r) (tells I (reader_inner r))
       ∙ ap (behind_held (reader_held r)) (fills.told (reader_inner r))
       ∙ ap Some (sym (events_of-append (reader_held r) (fills.left (reader_inner r))))
 

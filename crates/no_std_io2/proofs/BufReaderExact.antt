@@ -302,8 +302,8 @@ exact_held {S = S} {inner} {old} {new} {buf} {buf'} fits same gave left front no
     let gives : GivesHeld old (length buf) (Ok buf') new =
     (same, (ap Ok gave, (front ∙ ap (λ l. reader_behind old ++ l) gave, left))) in
     let takes : Takes (tells (buf_reader inner) old) (events_of buf') (tells (buf_reader inner) new) =
-    rw same (takes_held S (reader_behind old) held _ buf' _ (sym (take-append-drop (length buf) held)
-    ∙ ap (λ l. l ++ drop (length buf) held) (sym gave) ∙ ap (λ l. buf' ++ l) (sym left)) front (held-le old)) in
+    rw same (takes_held S held _ buf' _ (sym (take-append-drop (length buf) held)
+    ∙ ap (λ l. l ++ drop (length buf) held) (sym gave) ∙ ap (λ l. buf' ++ l) (sym left)) (held-le old)) in
     let ends : FillsOrEnds (length buf') (events_of buf') (Ok buf') (tells (buf_reader inner) new) =
     (gives_whole buf' (le_refl _), refl) in (
       record {

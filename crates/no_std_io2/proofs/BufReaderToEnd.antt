@@ -66,7 +66,7 @@ module _ {R A : Type 0} {S : ℕ} {K : Reader R} {old new : BufReader R S} {buf 
       shown = inner.appends.0 ∙ shown_all ∙ ap (λ l. buf.items ++ l) (sym gave)
 
       takes : Takes (tells (buf_reader K) old) taken (tells (buf_reader K) new)
-      takes = takes_through S (reader_behind old) held inner.takes empty.0 empty.1
+      takes = takes_through S held inner.takes empty.1
 
       long : length (bytes taken) ≡ length held + length (bytes inner.taken)
       long = ap length gave ∙ length-append held (bytes inner.taken)
@@ -83,8 +83,7 @@ module _ {R A : Type 0} {S : ℕ} {K : Reader R} {old new : BufReader R S} {buf 
           (tells (buf_reader K) new)
       ends (Ok n) (none, end) = (
         HasNoFault-append (events_of held) inner.taken (HasNoFault-events_of held) none,
-        ends_behind S (reader_behind new)
-            (reader_held new) (tells K (reader_inner new)) empty.1 end,
+        ends_behind S (reader_held new) (tells K (reader_inner new)) empty.1 end,
       )
       ends (Err e) (inl (Q, is, none, fault)) = inl (
         events_of held ++ Q,
@@ -138,7 +137,7 @@ module _ {R A : Type 0} {S : ℕ} {K : Reader R} {old new : BufReader R S} {buf 
       append_cancel_right _ _ (reader_held new)
       (kept ∙ ap (λ l. reader_behind old ++ l) split ∙ sym (append_assoc (reader_behind old) part (reader_held new))) in
       let takes : Takes (tells (buf_reader K) old) (events_of part) (tells (buf_reader K) new) =
-      rw same (takes_held S (reader_behind old) (reader_held old) _ part _ split behind (held-le old)) in
+      rw same (takes_held S (reader_held old) _ part _ split (held-le old)) in
       let call : ReaderMay K old (GaveAll part (Err e)) new = inl (refused, same, (reader_held new, split, (behind, refl))) in
       let none = HasNoFault-events_of part in (
         record {

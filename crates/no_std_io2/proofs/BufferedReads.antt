@@ -19,7 +19,7 @@ use Rattle.no_std_io2_base.specs.Read.{answered, fault_of, bytes_given}
 use Rattle.no_std_io2_base.specs.Events.{BeginsWith}
 use Rattle.no_std_io2_base.proofs.EventLemmas.{bytes-append, bytes-events_of, length-events_of, events_of-append}
 use Rattle.no_std_io2_base.proofs.TakesLemmas.{takes_none}
-use Rattle.no_std_io2.specs.BufReader.{behind_held, is_before, step_back, store_if, store_before, reader_told}
+use Rattle.no_std_io2.specs.BufReader.{behind_held, is_before, step_back, store_if, store_before, reader_told, AreBefore}
 use Rattle.no_std_io2.specs.BufReader.{TakesOver}
 use Rattle.no_std_io2.specs.Buffer.{IsInBuffer, IsCutOn}
 
@@ -35,7 +35,7 @@ before_decides whole s =
     (leb-true _ _, le-leb _ _) (bytes_decides _ _)
 
 -- the held bytes are right before the position too
-held_before : (behind held : List ℕ) (s : Store) → IsBefore (behind ++ held) s → IsBefore held s
+pub held_before : (behind held : List ℕ) (s : Store) → IsBefore (behind ++ held) s → IsBefore held s
 held_before behind held s before =
     let long = length-append behind held in
     let at : s.position - length held ≡ (s.position - length (behind ++ held)) + length behind = omega (arith, long, before.0) in (
@@ -52,15 +52,14 @@ told_by : (t : Bool) (held : List ℕ) (s : Store) → (t ≡ true → IsBefore 
 told_by false held s sound = refl
 told_by true held s sound = ap (λ l. Some (events_of l)) (sound refl).1 ∙ ap Some (events_of-append held (drop s.position s.content))
 
-told_before : (behind held : List ℕ) (s : Option Store) (E : Option (List Event))
-    → events_by (store_before behind held s) (behind_held held (events_by s E)) ≡ behind_held held (events_by s E)
-told_before behind held None E = refl
-told_before behind held (Some s) E =
-    told_by (is_before (behind ++ held) s) held s (λ yes. held_before behind held s ((before_decides (behind ++ held) s).0 yes))
+told_before : (held : List ℕ) (s : Option Store) (E : Option (List Event))
+    → events_by (store_before held s) (behind_held held (events_by s E)) ≡ behind_held held (events_by s E)
+told_before held None E = refl
+told_before held (Some s) E = told_by (is_before held s) held s (before_decides held s).0
 
 -- with or without a store: the held bytes, and then what the inner reader tells
-pub told_behind : (room : ℕ) (behind held : List ℕ) (t : Tells) → to_come (reader_told room behind held t) ≡ behind_held held (to_come t)
-told_behind room behind held t = told_before behind held t.store t.events
+pub told_behind : (room : ℕ) (held : List ℕ) (t : Tells) → to_come (reader_told room held t) ≡ behind_held held (to_come t)
+told_behind room held t = told_before held t.store t.events
 
 -- a told store keeps its content, by what this says of a buffer that is a part of it
 keeps_if : (Goes : ℕ → ℕ → ℕ → Type 0) (t t' : Bool) (s s' : Store)
@@ -70,11 +69,10 @@ keeps_if Goes false t' s s' h = tt
 keeps_if Goes true true s s' h = let is = h refl in (is.1, is.2)
 keeps_if Goes true false s s' h = absurd (true≢false (sym (h refl).0))
 
-pub keeps_before : (Goes : ℕ → ℕ → ℕ → Type 0) (behind held behind' held' : List ℕ) (s s' : Store) → s'.content ≡ s.content
-    → (IsBefore (behind ++ held) s
-    → IsBefore (behind' ++ held') s' × Goes (length s.content) (s.position - length held) (s'.position - length held'))
-    → KeepsContent (store_before behind held (Some s)) Goes (store_before behind' held' (Some s'))
-keeps_before Goes behind held behind' held' s s' same h = grind (arith, common_steps, before_decides, keeps_if)
+pub keeps_before : (Goes : ℕ → ℕ → ℕ → Type 0) (held held' : List ℕ) (s s' : Store) → s'.content ≡ s.content
+    → (IsBefore held s → IsBefore held' s' × Goes (length s.content) (s.position - length held) (s'.position - length held'))
+    → KeepsContent (store_before held (Some s)) Goes (store_before held' (Some s'))
+keeps_before Goes held held' s s' same h = grind (arith, common_steps, before_decides, keeps_if)
 
 -- bytes that were before the position of a store still are, if bytes are read behind them and others leave in front
 stays_before : (s s' : Store) (whole whole' front y : List ℕ) → drop s.position s.content ≡ y ++ drop s'.position s'.content
@@ -91,28 +89,30 @@ stays_before s s' whole whole' front y read same moved is before =
           ∙ drop-append_seam front (whole' ++ rest),
     )
 
--- The inner reader took Q. Its bytes went behind the held ones, x was given of these, and some bytes left the buffer in front.
-pub store_moves : (behind held behind' held' front x : List ℕ) (Q : List Event) {a b : Tells} → Takes a Q b
-    → held ++ bytes Q ≡ x ++ held' → (behind ++ held) ++ bytes Q ≡ front ++ (behind' ++ held')
-    → KeepsContent (store_before behind held a.store) (λ len was now. now ≡ was + length x) (store_before behind' held' b.store)
-store_moves behind held behind' held' front x Q {a} {b} takes gave stands = by a.store b.store takes.events takes.store
+-- The inner reader took Q. Its bytes came after these, and some left in front.
+pub goes_before : (whole whole' front : List ℕ) (Q : List Event) {a b : Tells} → Takes a Q b → whole ++ bytes Q ≡ front ++ whole'
+    → KeepsContent (store_before whole a.store) (λ len was now. now ≡ was + length front) (store_before whole' b.store)
+    × (AreBefore whole a.store → AreBefore whole' b.store)
+goes_before whole whole' front Q {a} {b} takes stands = by a.store b.store takes.events takes.store
   where
     by : (s s' : Option Store) → AreTaken (events_by s a.events) Q (events_by s' b.events)
         → KeepsContent s (λ len was now. now ≡ was + length (bytes Q)) s'
-        → KeepsContent (store_before behind held s) (λ len was now. now ≡ was + length x) (store_before behind' held' s')
-    by None s' taken moved = tt
+        → KeepsContent (store_before whole s) (λ len was now. now ≡ was + length front) (store_before whole' s')
+        × (AreBefore whole s → AreBefore whole' s')
+    by None s' taken moved = (tt, λ before. absurd before)
     by (Some s) None taken moved = absurd moved
     by (Some s) (Some s') taken moved =
-        keeps_before (λ len was now. now ≡ was + length x) behind held behind' held' s s' moved.0 (λ before. (
-          stays_before s s' (behind ++ held) (behind' ++ held') front (bytes Q)
+        let on : IsBefore whole s → IsBefore whole' s' = stays_before s s' whole whole' front (bytes Q)
               (sym (bytes-events_of (drop s.position s.content)) ∙ ap bytes taken
               ∙ bytes-append Q (events_of (drop s'.position s'.content))
               ∙ ap (λ l. bytes Q ++ l) (bytes-events_of (drop s'.position s'.content)))
-              moved.0 moved.1 stands before,
-          let long : length held + length (bytes Q) ≡ length x + length held' =
-              sym (length-append held (bytes Q)) ∙ ap length gave ∙ length-append x held' in
-              omega (arith, long, moved.1, before.0, length-append behind held),
-        ))
+              moved.0 moved.1 stands in
+        let long : length whole + length (bytes Q) ≡ length front + length whole' =
+              sym (length-append whole (bytes Q)) ∙ ap length stands ∙ length-append front whole' in (
+          keeps_before (λ len was now. now ≡ was + length front) whole whole' s s' moved.0
+              (λ before. (on before, omega (arith, long, moved.1, before.0))),
+          λ before. (before_decides whole' s').1 (on ((before_decides whole s).0 before)),
+        )
 
 -- fewer inner turns are worth more than a full buffer
 pub turns_behind : (room h h' p q t t' : ℕ) → h + q ≡ p + h' → h' ≤ room → t' + min 1 q ≤ t
@@ -132,116 +132,100 @@ taken_behind held held' P Q (Some E) (Some E') taken is =
     ∙ append_assoc P (events_of held') E'
 
 -- The inner reader took Q. The held bytes and then Q are P and then the bytes that are now held. So P was taken.
-pub takes_behind : (room : ℕ) (behind held behind' held' front : List ℕ) (P Q : List Event) {a b : Tells} → Takes a Q b
-    → events_of held ++ Q ≡ P ++ events_of held' → (behind ++ held) ++ bytes Q ≡ front ++ (behind' ++ held') → length held' ≤ room
-    → Takes (reader_told room behind held a) P (reader_told room behind' held' b)
-takes_behind room behind held behind' held' front P Q {a} {b} takes is stands fits = record {
+pub takes_behind : (room : ℕ) (held held' : List ℕ) (P Q : List Event) {a b : Tells} → Takes a Q b
+    → events_of held ++ Q ≡ P ++ events_of held' → length held' ≤ room
+    → Takes (reader_told room held a) P (reader_told room held' b)
+takes_behind room held held' P Q {a} {b} takes is fits = record {
   events =
-      subst (λ E. AreTaken (to_come (reader_told room behind held a)) P E) (sym (told_behind room behind' held' b))
-      (subst (λ E. AreTaken E P (behind_held held' (to_come b))) (sym (told_behind room behind held a))
+      subst (λ E. AreTaken (to_come (reader_told room held a)) P E) (sym (told_behind room held' b))
+      (subst (λ E. AreTaken E P (behind_held held' (to_come b))) (sym (told_behind room held a))
       (taken_behind held held' P Q (to_come a) (to_come b) takes.events is));
-  store = store_moves behind held behind' held' front (bytes P) Q takes
+  store = (goes_before held held' (bytes P) Q takes
       (ap (λ l. l ++ bytes Q) (sym (bytes-events_of held)) ∙ sym (bytes-append (events_of held) Q) ∙ ap bytes is
-      ∙ bytes-append P (events_of held') ∙ ap (λ l. bytes P ++ l) (bytes-events_of held')) stands;
+      ∙ bytes-append P (events_of held') ∙ ap (λ l. bytes P ++ l) (bytes-events_of held'))).0;
   turns = turns_behind room (length held) (length held') (length P) (length Q) a.turns b.turns
       (ap (λ n. n + length Q) (sym (length-events_of held)) ∙ sym (length-append (events_of held) Q) ∙ ap length is
       ∙ length-append P (events_of held') ∙ ap (λ n. length P + n) (length-events_of held')) fits takes.turns;
 }
 
-module _ (room : ℕ) (behind held : List ℕ) {behind' : List ℕ} where
+module _ (room : ℕ) (held : List ℕ) where
   -- some of the held bytes were given
-  pub takes_held : (t : Tells) (x held' : List ℕ) → held ≡ x ++ held' → behind' ≡ behind ++ x → length held ≤ room
-      → Takes (reader_told room behind held t) (events_of x) (reader_told room behind' held' t)
-  takes_held t x held' split on fits =
-      takes_behind room behind held behind' held' [] (events_of x) [] (takes_none t)
+  pub takes_held : (t : Tells) (x held' : List ℕ) → held ≡ x ++ held' → length held ≤ room
+      → Takes (reader_told room held t) (events_of x) (reader_told room held' t)
+  takes_held t x held' split fits =
+      takes_behind room held held' (events_of x) [] (takes_none t)
       (append-nil (events_of held) ∙ ap events_of split ∙ events_of-append x held')
-      (append-nil (behind ++ held) ∙ ap (λ l. behind ++ l) split ∙ sym (append_assoc behind x held') ∙ ap (λ l. l ++ held') (sym on))
       (omega (arith, ap length split, length-append x held', fits))
 
   -- a read into the buffer, in which nothing was held
-  pub takes_fill : {held' : List ℕ} {a b : Tells} (answer : Result (List ℕ) Error) → Takes a (answered answer) b → held ≡ [] → behind' ≡ []
+  pub takes_fill : {held' : List ℕ} {a b : Tells} (answer : Result (List ℕ) Error) → Takes a (answered answer) b → held ≡ []
       → held' ≡ bytes_given answer → length held' ≤ room
-      → Takes (reader_told room behind held a) (fault_of answer) (reader_told room behind' held' b)
-  takes_fill {held'} (Ok x) takes none clear is fits =
-      takes_behind room behind held behind' held' behind [] (events_of x) takes
-      (ap₂ (λ l m. events_of l ++ events_of m) none (sym is))
-      (ap₂ (λ l m. (behind ++ l) ++ m) none (bytes-events_of x ∙ sym is) ∙ ap (λ l. l ++ held') (append-nil behind)
-      ∙ ap (λ l. behind ++ (l ++ held')) (sym clear)) fits
-  takes_fill {held'} (Err e) takes none clear is fits =
-      takes_behind room behind held behind' held' (behind ++ held) _ _ takes
-      (ap₂ (λ l m. events_of l ++ m) none (sym (append-nil _)) ∙ ap (λ l. fault_of (Err e) ++ events_of l) (sym is))
-      (ap₂ (λ l m. (behind ++ held) ++ (l ++ m)) (sym clear) (sym is)) fits
+      → Takes (reader_told room held a) (fault_of answer) (reader_told room held' b)
+  takes_fill {held'} (Ok x) takes none is fits =
+      takes_behind room held held' [] (events_of x) takes (ap₂ (λ l m. events_of l ++ events_of m) none (sym is)) fits
+  takes_fill {held'} (Err e) takes none is fits =
+      takes_behind room held held' _ _ takes
+      (ap₂ (λ l m. events_of l ++ m) none (sym (append-nil _)) ∙ ap (λ l. fault_of (Err e) ++ events_of l) (sym is)) fits
 
   -- the buffer was emptied, and the inner reader took Q
-  pub takes_through : {held' : List ℕ} {a b : Tells} {Q : List Event} → Takes a Q b → behind' ≡ [] → held' ≡ []
-      → Takes (reader_told room behind held a) (events_of held ++ Q) (reader_told room behind' held' b)
-  takes_through {held'} {Q = Q} takes clear none =
-      takes_behind room behind held behind' held' ((behind ++ held) ++ bytes Q) (events_of held ++ Q) Q takes
-      (sym (append-nil _) ∙ ap (λ l. (events_of held ++ Q) ++ events_of l) (sym none))
-      (sym (append-nil _) ∙ ap₂ (λ l m. ((behind ++ held) ++ bytes Q) ++ (l ++ m)) (sym clear) (sym none))
-      (omega (arith, ap length none))
+  pub takes_through : {held' : List ℕ} {a b : Tells} {Q : List Event} → Takes a Q b → held' ≡ []
+      → Takes (reader_told room held a) (events_of held ++ Q) (reader_told room held' b)
+  takes_through {held'} {Q = Q} takes none =
+      takes_behind room held held' (events_of held ++ Q) Q takes
+      (sym (append-nil _) ∙ ap (λ l. (events_of held ++ Q) ++ events_of l) (sym none)) (omega (arith, ap length none))
 
   -- nothing was held, and the inner reader took Q
-  pub takes_direct : {held' : List ℕ} {a b : Tells} {Q : List Event} → Takes a Q b → held ≡ [] → behind' ≡ [] → held' ≡ []
-      → Takes (reader_told room behind held a) Q (reader_told room behind' held' b)
-  takes_direct {held'} {a} {b} {Q} takes empty clear none =
-      subst (λ l. Takes (reader_told room behind held a) (events_of l ++ Q) (reader_told room behind' held' b)) empty
-      (takes_through takes clear none)
+  pub takes_direct : {held' : List ℕ} {a b : Tells} {Q : List Event} → Takes a Q b → held ≡ [] → held' ≡ []
+      → Takes (reader_told room held a) Q (reader_told room held' b)
+  takes_direct {held'} {a} {b} {Q} takes empty none =
+      subst (λ l. Takes (reader_told room held a) (events_of l ++ Q) (reader_told room held' b)) empty (takes_through takes none)
 
 -- a step over bytes of the buffer, forward or back
 pub steps_over : (room : ℕ) (o : ℤ) (behind held behind' held' : List ℕ) (t : Tells) → IsInBuffer o (length behind) (length held)
     → IsCutOn o behind held behind' held' → length held ≤ room → length held' ≤ room
-    → TakesOver o behind held (reader_told room behind held t) (reader_told room behind' held' t)
+    → TakesOver o behind held (reader_told room held t) (reader_told room held' t)
 steps_over room o behind held behind' held' t within cut fits fits' = by o within cut
   where
-    front : behind' ≡ take (length behind') (behind ++ held)
-    front = sym (take_at behind' held' (length behind') refl) ∙ ap (take (length behind')) cut.0
-
     rest : held' ≡ drop (length behind') (behind ++ held)
     rest = sym (drop-append_seam behind' held') ∙ ap (drop (length behind')) cut.0
 
     by : (o : ℤ) → IsInBuffer o (length behind) (length held) → IsCutOn o behind held behind' held'
-        → TakesOver o behind held (reader_told room behind held t) (reader_told room behind' held' t)
+        → TakesOver o behind held (reader_told room held t) (reader_told room held' t)
     by (pos k) within moved =
         let left : held' ≡ drop k held = rest ∙ ap (λ n. drop n (behind ++ held)) moved.1 ∙ drop-append-add behind held k in
-        let more : behind' ≡ behind ++ take k held = front ∙ ap (λ n. take n (behind ++ held)) moved.1 ∙ take-append-add behind held k in
-        takes_held room behind held t (take k held) held'
-        (sym (take-append-drop k held) ∙ ap (λ l. take k held ++ l) (sym left)) more fits
+        takes_held room held t (take k held) held' (sym (take-append-drop k held) ∙ ap (λ l. take k held ++ l) (sym left)) fits
     by (negsuc k) within moved =
         let n = length behind - (k + 1) in
         let at : length behind' ≡ n = omega (arith, moved.1) in
         let left : held' ≡ drop n behind ++ held =
         rest ∙ ap (λ m. drop m (behind ++ held)) at ∙ drop-append-le n behind held (omega (arith, within)) in
-        let fewer : behind' ≡ take n behind =
-        front ∙ ap (λ m. take m (behind ++ held)) at ∙ take-append-le n behind held (omega (arith, within)) in
-        takes_held room behind' held' t (drop n behind) held left
-        (sym (take-append-drop n behind) ∙ ap (λ l. l ++ drop n behind) (sym fewer)) fits'
+        takes_held room held' t (drop n behind) held left fits'
 
 end_behind : (E : Option (List Event)) → IfSome E (λ l. l ≡ []) → IfSome (behind_held [] E) (λ l. l ≡ [])
 end_behind None end = tt
 end_behind (Some E) end = end
 
 -- with nothing held, the inner reader's end is the end
-pub ends_behind : (room : ℕ) (behind held : List ℕ) (t : Tells) → held ≡ [] → IsAtEnd t → IsAtEnd (reader_told room behind held t)
-ends_behind room behind held t none end = grind (arith, common_steps, end_behind, told_behind)
+pub ends_behind : (room : ℕ) (held : List ℕ) (t : Tells) → held ≡ [] → IsAtEnd t → IsAtEnd (reader_told room held t)
+ends_behind room held t none end = grind (arith, common_steps, end_behind, told_behind)
 
 -- and so at the end of a read
-pub end_read : (a : Tells) (room : ℕ) (behind held buf : List ℕ) (reply : Result ℕ Error) → held ≡ []
+pub end_read : (a : Tells) (room : ℕ) (held buf : List ℕ) (reply : Result ℕ Error) → held ≡ []
     → IfOk reply (λ n. n ≡ 0 → 0 < length buf → IsAtEnd a)
-    → IfOk reply (λ n. n ≡ 0 → 0 < length buf → IsAtEnd (reader_told room behind held a))
-end_read a room behind held buf (Ok n) none end = λ zero some. ends_behind room behind held a none (end zero some)
-end_read a room behind held buf (Err e) none end = tt
+    → IfOk reply (λ n. n ≡ 0 → 0 < length buf → IsAtEnd (reader_told room held a))
+end_read a room held buf (Ok n) none end = λ zero some. ends_behind room held a none (end zero some)
+end_read a room held buf (Err e) none end = tt
 
 begins_by : (held : List ℕ) (E : Option (List Event)) → IfSome (behind_held held E) (λ l. BeginsWith l held)
 begins_by held None = tt
 begins_by held (Some E) = record { rest = E; is = refl }
 
 -- the held bytes come next
-pub begins_lent : (room : ℕ) (behind : List ℕ) {held lent : List ℕ} (t : Tells) → lent ≡ held
-    → IfSome (to_come (reader_told room behind held t)) (λ E. BeginsWith E lent)
-begins_lent room behind {held} t is =
-    subst (λ x. IfSome (to_come (reader_told room behind held t)) (λ E. BeginsWith E x)) (sym is)
-    (subst (λ o. IfSome o (λ E. BeginsWith E held)) (sym (told_behind room behind held t)) (begins_by held (to_come t)))
+pub begins_lent : (room : ℕ) {held lent : List ℕ} (t : Tells) → lent ≡ held
+    → IfSome (to_come (reader_told room held t)) (λ E. BeginsWith E lent)
+begins_lent room {held} t is =
+    subst (λ x. IfSome (to_come (reader_told room held t)) (λ E. BeginsWith E x)) (sym is)
+    (subst (λ o. IfSome o (λ E. BeginsWith E held)) (sym (told_behind room held t)) (begins_by held (to_come t)))
 
 -- if nothing was taken, what comes next now came next before
 pub begins_filled : {a b : Tells} (x : List ℕ) → Takes a [] b → IfSome (to_come b) (λ E. BeginsWith E x)

@@ -56,29 +56,37 @@ abbrev pub store_if : Bool → Store → Option Store
 store_if true s = Some s
 store_if false s = None
 
--- the inner store at a position that is lower by the held bytes, if the bytes behind and the held bytes are those right before the inner
--- position
-abbrev pub store_before : List ℕ → List ℕ → Option Store → Option Store
-store_before behind held None = None
-store_before behind held (Some s) = store_if (is_before (behind ++ held) s) (step_back (length held) s)
+-- the inner store at a position that is lower by the held bytes, if these are the bytes of its content right before the inner position
+abbrev pub store_before : List ℕ → Option Store → Option Store
+store_before held None = None
+store_before held (Some s) = store_if (is_before held s) (step_back (length held) s)
 
 -- the events of a `BufReader`: the held bytes, and then the inner reader's events
 abbrev pub reader_events : {R : Type 0} {S : ℕ} → (R → Tells) → BufReader R S → Option (List Event)
 reader_events told r = behind_held (reader_held r) (to_come (told (reader_inner r)))
 
--- the store of a `BufReader`, if its buffer is a part of the inner reader's store
+-- the store of a `BufReader`: the inner reader's, at the position of the first held byte, if the held bytes are its bytes there
 abbrev pub reader_store : {R : Type 0} {S : ℕ} → (R → Option Store) → BufReader R S → Option Store
-reader_store store r = store_before (reader_behind r) (reader_held r) (store (reader_inner r))
+reader_store store r = store_before (reader_held r) (store (reader_inner r))
+
+-- a store is told, and these bytes are those of its content right before its position
+abbrev pub AreBefore : List ℕ → Option Store → Type 0
+AreBefore whole None = ⊥
+AreBefore whole (Some s) = is_before whole s ≡ true
+
+-- a `BufReader` is sound: the bytes behind, and then the held bytes, are those of the inner store right before its position
+abbrev pub ReaderIsSound : {R : Type 0} {S : ℕ} → (R → Option Store) → BufReader R S → Type 0
+ReaderIsSound store r = AreBefore (reader_behind r ++ reader_held r) (store (reader_inner r))
 
 -- the turns of a `BufReader`: one for each held byte, and S + 1 for each turn of the inner reader
 abbrev pub reader_turns : {R : Type 0} {S : ℕ} → (R → ℕ) → BufReader R S → ℕ
 reader_turns {S = room} turns r = length (reader_held r) + (room + 1) * turns (reader_inner r)
 
--- what a `BufReader` with a buffer of this size tells, if these bytes lie behind and are held, and the inner reader tells this
-abbrev pub reader_told : ℕ → List ℕ → List ℕ → Tells → Tells
-reader_told room behind held inner = record {
+-- what a `BufReader` with a buffer of this size tells, if these bytes are held, and the inner reader tells this
+abbrev pub reader_told : ℕ → List ℕ → Tells → Tells
+reader_told room held inner = record {
   events = behind_held held (to_come inner);
-  store = store_before behind held inner.store;
+  store = store_before held inner.store;
   turns = length held + (room + 1) * inner.turns;
 }
 

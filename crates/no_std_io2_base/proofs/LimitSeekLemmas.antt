@@ -6,7 +6,7 @@ use Rattle.no_std_io2_base.specs.{Seek.{here}, Take.{limit_position}, LimitSeeks
 
 -- the members of a bound `Seek`
 abbrev pub seeker : {S : Type 0} → Stores S → SeekMembers S → Seeker S
-seeker stored seek = record { store = stored.store; may = seek.may }
+seeker stored seek = record { store = stored.store; may = seek.may; sound = seek.sound }
 
 -- however it goes on from here, so it does from the start
 abbrev pub GoesOn : {T : Type 0} → Seeker T → ℕ → Take T → Take T → Type 0

@@ -57,6 +57,8 @@ module _ {X : Type 0} (may : X → SeekCall → X → Type 0) {old new : X} wher
 pub record SeeksThrough {X Y : Type 0} (S : Seeker X) (S' : Seeker Y) (put : X → Y) : Type 0 where
   pub store : (x : X) → S'.store (put x) ≡ S.store x
   pub may : (x y : X) (call : SeekCall) → S.may x call y → S'.may (put x) call (put y)
+  pub sound : (x : X) → S'.sound (put x) → S.sound x
+  pub stays : (x : X) → S.sound x → S'.sound (put x)
 
 -- what a call did to a value, it did to that which the value was put into
 module _ {X Y : Type 0} {S : Seeker X} {S' : Seeker Y} (put : X → Y) (through : SeeksThrough S S' put) {a b : X} where
@@ -79,13 +81,17 @@ module _ {X Y : Type 0} {S : Seeker X} {S' : Seeker Y} (put : X → Y) (through 
 module _ {I A : Type 0} {V : I → Type 0} (o : (p : (x : I) × V x) → Seeker (V p.0)) (box : DynBox I A V) where
   -- the value in a box, by what its trait object tells, and the box
   abbrev pub value_seeker : (i : I) → Seeker (V i)
-  value_seeker i = record { store = λ v. (o (i, v)).store v; may = λ v. (o (i, v)).may v }
+  value_seeker i = record { store = λ v. (o (i, v)).store v; may = λ v. (o (i, v)).may v; sound = λ v. (o (i, v)).sound v }
 
   abbrev pub box_seeker : Seeker (DynBox I A V)
-  box_seeker = record { store = λ b. (value_seeker b.vtable).store b.value; may = λ b. BoxMay b (value_seeker b.vtable).may }
+  box_seeker = record {
+    store = λ b. (value_seeker b.vtable).store b.value;
+    may = λ b. BoxMay b (value_seeker b.vtable).may;
+    sound = λ b. (value_seeker b.vtable).sound b.value;
+  }
 
   in_value : SeeksThrough (value_seeker box.vtable) box_seeker (holding box box.vtable)
-  in_value = record { store = λ x. refl; may = λ x y call may. (y, refl, may) }
+  in_value = record { store = λ x. refl; may = λ x y call may. (y, refl, may); sound = λ x is. is; stays = λ x is. is }
 
   -- what a call did to the value that was lent, it did to the box
   pub seek_box : {target : SeekFrom} {reply : Result ℕ Error} (lent : (x : I) × V x) → lent ≡ (box.vtable, box.value)

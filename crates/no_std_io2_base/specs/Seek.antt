@@ -53,6 +53,7 @@ abbrev pub Seeker : Type 0 → Type 1
 Seeker X = record {
   store : X → Option Store;
   may : X → SeekCall → X → Type 0;
+  sound : X → Type 0;
 }
 
 -- if a store is told, this is its position
@@ -63,6 +64,8 @@ IsPosition store n = IfSome store (λ s. s.position ≡ n)
 pub record SeekLaw {X : Type 0} (S : Seeker X) (old : X) (target : SeekFrom) (reply : Result ℕ Error) (new : X) : Type 0 where
   -- a told store keeps its content, and its position moves to the target, or stays if there is none
   pub store : KeepsContent (S.store old) (λ len was now. Seeks len was target reply now) (S.store new)
+  -- a sound store stays sound
+  pub sound : S.sound old → S.sound new
   -- the result is the position
   pub position : IfOk reply (IsPosition (S.store new))
   -- it is one call
@@ -72,6 +75,8 @@ pub record SeekLaw {X : Type 0} (S : Seeker X) (old : X) (target : SeekFrom) (re
 pub record StreamPositionLaw {X : Type 0} (S : Seeker X) (old : X) (reply : Result ℕ Error) (new : X) : Type 0 where
   -- a told store does not change, and the result is its position
   pub store : KeepsContent (S.store old) (λ len was now. (now ≡ was) × (reply ≡ Ok was)) (S.store new)
+  -- a sound store stays sound
+  pub sound : S.sound old → S.sound new
   -- the result is the position
   pub position : IfOk reply (IsPosition (S.store new))
   -- it made one seek, by 0 bytes
@@ -81,6 +86,8 @@ pub record StreamPositionLaw {X : Type 0} (S : Seeker X) (old : X) (reply : Resu
 pub record RewindLaw {X : Type 0} (S : Seeker X) (old : X) (reply : Result (Unit {0}) Error) (new : X) : Type 0 where
   -- a told store keeps its content, and its position is the start
   pub store : KeepsContent (S.store old) (λ len was now. (now ≡ 0) × IsOk reply) (S.store new)
+  -- a sound store stays sound
+  pub sound : S.sound old → S.sound new
   -- it made one seek, to the start
   pub call : WithoutPosition (λ answer. S.may old (Sought (Start 0) answer) new) reply
 
@@ -88,12 +95,17 @@ pub record RewindLaw {X : Type 0} (S : Seeker X) (old : X) (reply : Result (Unit
 pub record StreamLenLaw {X : Type 0} (S : Seeker X) (old : X) (reply : Result ℕ Error) (new : X) : Type 0 where
   -- a told store does not change, and the result is its length
   pub store : KeepsContent (S.store old) (λ len was now. (now ≡ was) × (reply ≡ Ok len)) (S.store new)
+  -- a sound store stays sound
+  pub sound : S.sound old → S.sound new
   -- which calls it made
   pub calls : (C : List SeekCall) × Made S.may old C new × LenCalls C reply
 
 -- `seek_relative(offset)`
 pub record SeekRelativeLaw {X : Type 0} (S : Seeker X) (old : X) (offset : ℤ) (reply : Result (Unit {0}) Error) (new : X) : Type 0 where
-  -- a told store keeps its content, and its position moves by the offset, or stays if there is no such place
-  pub store : KeepsContent (S.store old) (λ len was now. WithoutPosition (λ at. Seeks len was (Current offset) at now) reply) (S.store new)
+  -- a sound told store keeps its content, and its position moves by the offset, or stays if there is no such place
+  pub store : S.sound old
+      → KeepsContent (S.store old) (λ len was now. WithoutPosition (λ at. Seeks len was (Current offset) at now) reply) (S.store new)
+  -- a sound store stays sound
+  pub sound : S.sound old → S.sound new
   -- it made one seek; or it is a call of its own, of a type that has a body for it
   pub call : WithoutPosition (λ answer. S.may old (Sought (Current offset) answer) new) reply ⊎ S.may old (Moved offset reply) new

@@ -10,7 +10,7 @@ use Rattle.no_std_io2.specs.declared.buffered.buf_reader.BufReader.{BufReader}
 use Rattle.no_std_io2.specs.declared.io.Chain.{Chain}
 use Rattle.no_std_io2.specs.declared.io.Take.{Take}
 use Rattle.no_std_io2.specs.BufWriter.{writer_inner, writer_buffer, with_buffer}
-use Rattle.no_std_io2.specs.BufReader.{reader_told, reader_behind, reader_held, reader_inner}
+use Rattle.no_std_io2.specs.BufReader.{reader_told, reader_held, reader_inner}
 use Rattle.no_std_io2.specs.declared.io.Cursor.{Cursor}
 use Rattle.no_std_io2.specs.Cursor.{cursor_inner, cursor_left, cursor_position}
 use Rattle.no_std_io2.specs.Events.{events_of}
@@ -45,7 +45,7 @@ in_chain first second c = record {
 
 -- what a `BufReader` of a reader that tells this tells: the held bytes, and then those events
 abbrev pub in_reader : {R : Type 0} {S : ℕ} → (R → Tells) → BufReader R S → Tells
-in_reader {S = room} told r = reader_told room (reader_behind r) (reader_held r) (told (reader_inner r))
+in_reader {S = room} told r = reader_told room (reader_held r) (told (reader_inner r))
 
 -- what a cursor tells: its bytes from the position on, and its content with the position
 abbrev pub in_cursor : {T : Type 0} → (T → List ℕ) → Cursor T → Tells

@@ -125,7 +125,7 @@ impl<R, const S: usize> BufReader<R, S> {
     }
 }
 
-// Tells the inner reader's store, at a position that is lower by the held bytes, if the buffer is a part of it.
+// Tells the inner reader's store, at a position that is lower by the held bytes, if these are its bytes there.
 impl<R: Stored, const S: usize> Stored for BufReader<R, S> {
     ghost use Rattle.no_std_io2.specs.BufReader.{reader_store};
 

@@ -91,4 +91,6 @@ impl<T: Seek, A: Allocator> Seek for Box<T, A> {
     }
 
     ghost may = { λ old call new. T.may old.value call new.value };
+
+    ghost sound = { λ b. T.sound b.value };
 }

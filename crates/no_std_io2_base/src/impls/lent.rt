@@ -91,4 +91,6 @@ impl<T: Seek> Seek for &mut T {
     }
 
     ghost may = { λ old call new. T.may old.now call new.now };
+
+    ghost sound = { λ r. T.sound r.now };
 }

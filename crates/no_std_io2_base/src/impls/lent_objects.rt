@@ -91,4 +91,6 @@ impl Seek for &mut dyn Seek {
     }
 
     ghost may = { λ s call new. LentMay s (Seek-dyn s.now).Seek.may call new };
+
+    ghost sound = { λ s. (Seek-dyn s.now).Seek.sound s.now.1 };
 }

@@ -52,6 +52,8 @@ impl<A: Allocator> Seek for Box<dyn Seek + Drop, A> {
     }
 
     ghost may = { λ b call new. BoxMay b (Seek-box b).Seek.may call new };
+
+    ghost sound = { λ b. (Seek-box b).Seek.sound b.value };
 }
 
 impl<A: Allocator> Stored for Box<dyn Read + Drop, A> {

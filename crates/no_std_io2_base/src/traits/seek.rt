@@ -48,6 +48,10 @@ pub trait Seek: Stored {
     // What one call with its result may do to the stream. By default it may do anything.
     ghost may: { Self → SeekCall → Self → Type 0 } = { λ _ _ _. Unit {0} };
 
+    // Whether all bytes that a `seek_relative` can go back over without a call of the device are those of the store.
+    // By default there is no doubt about it.
+    ghost sound: { Self → Type 0 } = { λ _. Unit {0} };
+
     /// Moves to `pos`, which may be past the end, and returns the new position, counted from the
     /// start. The content of a told store does not change. Follows `std::io::Seek::seek`.
     ///

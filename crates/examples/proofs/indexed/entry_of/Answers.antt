@@ -1,6 +1,6 @@
 use Rattle.std.proofs.Common.{◌≡◌, ℕ, ◌<◌, ◌^◌, List, Bor, length, take, drop, ap, subst, ◌∙◌, arith, OnOk}
 use Rattle.no_std_io2.specs.Cursor.{cursor_inner, cursor_position}
-use Rattle.no_std_io2.specs.BufReader.{reader_held, reader_behind, reader_inner}
+use Rattle.no_std_io2.specs.BufReader.{reader_held, reader_inner}
 use Rattle.examples.specs.Indexed.{entry_place}
 use Rattle.examples.proofs.EntryLemmas.{entry_found}
 use Rattle.examples.proofs.indexed.entry_of.Goals as goal
@@ -14,6 +14,6 @@ returns c =
     let small : length content < 2 ^ 64 = rw is (let fits : length c.args.file.now < 2 ^ 64 = omega arith in fits) in
     subst
     (λ l. OnOk c.read_entry.result (c.read_entry.new.entry ≡ take (length c.args.entry.now) (drop (entry_place c.args.i l) l))) is
-    (entry_found content (reader_behind r) (reader_held r) (cursor_position (reader_inner r)) c.args.i _ c.args.entry.now
-    c.read_entry.new.entry c.read_entry.result c.new-r.ensures.empty.0 c.new-r.ensures.empty.1
+    (entry_found content (reader_held r) (cursor_position (reader_inner r)) c.args.i _ c.args.entry.now
+    c.read_entry.new.entry c.read_entry.result c.new-r.ensures.empty.1
     (ap cursor_position c.new-r.ensures.inner ∙ c.new.ensures.position) small c.read_entry.ensures.store)

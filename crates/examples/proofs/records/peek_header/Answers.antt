@@ -4,6 +4,7 @@ use Rattle.std.proofs.lemmas.Result.{err_from_is_err_and}
 use Rattle.no_std_io2.specs.Write.{IsFront}
 use Rattle.no_std_io2.proofs.Readers.{reader}
 use Rattle.no_std_io2.specs.BufReader.{reader_held, reader_behind, reader_store}
+use Rattle.no_std_io2.proofs.SoundReads.{calls_stay_sound}
 use Rattle.examples.proofs.SteppedBack.{given_behind, stepped_back, both_items, ends_in_header, held_again}
 use Rattle.examples.proofs.HeaderLemmas.{of_held, header_told, header_stays, header_back, header_short, short_end, says_nothing}
 use Rattle.examples.proofs.records.peek_header.Goals as goal
@@ -37,7 +38,8 @@ returns g c =
           (reader_held c.seek_relative.new.self) end long moved.2.0 moved.2.1 in
           inl (subst (λ l. IsFront l (reader_held c.seek_relative.new.self)) (sym items) again))
           (cases_lt (length (reader_behind mid)) 2));
-      store = rw items (header_stays (reader_store g.R.Stored.store c.seek_relative.new.self) buf read.law.takes given long back.law.store);
+      store = λ sound. rw items (header_stays (reader_store g.R.Stored.store c.seek_relative.new.self) buf read.law.takes given long
+          (back.law.store (calls_stay_sound (reader g.R.Stored g.R.Read) read.law.calls.calls r mid read.law.calls.made sound)));
     }
 
 -- with the header held the move stays in the buffer, and does not fail; over a told store it has a target
@@ -55,8 +57,9 @@ returns-in_err-seek_relative g c =
           absurd (let no : ⊥ = cc ((c.in_err-seek_relative.ensures.own.within (omega (arith, deep))).0) in no);
       told = says_nothing _;
       steps_back = tt;
-      store = header_back (reader_store g.R.Stored.store c.seek_relative.new.self) c.in_err-seek_relative.field-0.0 buf _ read.law.takes
-          read.law.ends.0.given long c.in_err-seek_relative.ensures.law.store;
+      store = λ sound. header_back (reader_store g.R.Stored.store c.seek_relative.new.self) c.in_err-seek_relative.field-0.0 buf _ read.law.takes
+          read.law.ends.0.given long (c.in_err-seek_relative.ensures.law.store
+          (calls_stay_sound (reader g.R.Stored g.R.Read) read.law.calls.calls r c.read_exact.new.self read.law.calls.made sound));
     })
 
 -- a read fails only if too few bytes are left
@@ -70,7 +73,7 @@ returns-in_err-read_exact g c =
       held = λ enough. absurd (let no : ⊥ = cc ((read.leaves.0 enough).1.0) in no);
       told = says_nothing _;
       steps_back = tt;
-      store = header_short read.law.takes (rw long at read.law.ends) (⊎_elim
+      store = λ sound. header_short read.law.takes (rw long at read.law.ends) (⊎_elim
           (λ few. short_end (reader g.R.Stored g.R.Read) r c.read_exact.new.self (read.leaves.1 few))
           (λ enough. absurd (let no : ⊥ = cc ((read.leaves.0 enough).1.0) in no))
           (cases_lt (length (reader_held r)) 2));

@@ -1,6 +1,7 @@
 // `fill_to`, which reads until enough bytes are held.
 ghost use Rattle.std.specs.Prelude.{◌≡◌, ◌≤◌};
 ghost use Rattle.no_std_io2_base.specs.Takes.{KeepsContent};
+ghost use Rattle.no_std_io2.specs.BufReader.{ReaderIsSound};
 ghost use Rattle.no_std_io2.specs.FillTo.{FillsTo};
 
 use super::BufReader;
@@ -10,7 +11,7 @@ use no_std_io2_base::traits::{Read, Stored};
 impl<R: Read, const S: usize> BufReader<R, S> {
     /// Reads until `n` bytes are held, which is at most `S`, and returns `true`. Returns `false` if the end comes
     /// first. It reads into all the room after the held bytes, and ignores interruptions. If `n` are held already, it
-    /// makes no call and changes nothing. [`buffer`](BufReader::buffer) shows the held bytes, so a record that is at
+    /// makes no call and changes nothing; if it reads, no byte lies [`behind`](BufReader::behind). [`buffer`](BufReader::buffer) shows the held bytes, so a record that is at
     /// most `S` bytes long can be taken whole or not at all. Like `std::io::BufReader::peek`, which lends the bytes.
     ///
     /// # Errors
@@ -27,9 +28,10 @@ impl<R: Read, const S: usize> BufReader<R, S> {
     pub fn fill_to(&mut self, n: usize) -> Result<bool>
         requires { n ≤ S }
         ensures fills { FillsTo R.Read n self.old result self.new }
-        // Seen from outside, a told store does not change, and turns do not rise.
+        // Seen from outside, a told store does not change, a sound one stays sound, and turns do not rise.
         ensures store { KeepsContent (⟦<BufReader<R, S> as Stored>⟧.store self.old) (λ len was now. now ≡ was)
             (⟦<BufReader<R, S> as Stored>⟧.store self.new) }
+        ensures sound { ReaderIsSound R.store self.old → ReaderIsSound R.store self.new }
         ensures turns { ⟦<BufReader<R, S> as Read>⟧.turns self.new ≤ ⟦<BufReader<R, S> as Read>⟧.turns self.old }
     {
         'reads: while self.buffer.len() < n {

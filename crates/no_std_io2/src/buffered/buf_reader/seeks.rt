@@ -2,7 +2,7 @@
 ghost use Rattle.std.specs.Prelude.{FitsSigned, SomeIff, ◌<◌, ◌^◌, ◌-ℤ◌, pos, length};
 ghost use Rattle.std.specs.Int.{w64};
 ghost use Rattle.no_std_io2_base.specs.Seek.{WithoutPosition, StreamLenLaw, SeekRelativeLaw, Measured, Moved};
-ghost use Rattle.no_std_io2.specs.BufReader.{reader_held, SeeksOnce, ReaderSeeks, ReaderMaySeek, back_by};
+ghost use Rattle.no_std_io2.specs.BufReader.{reader_held, SeeksOnce, ReaderSeeks, ReaderMaySeek, ReaderIsSound, back_by};
 
 use super::BufReader;
 use no_std_io2_base::error::Result;
@@ -61,6 +61,8 @@ impl<R: Seek, const S: usize> BufReader<R, S> {
 /// reader's, with its text.
 impl<R: Seek, const S: usize> Seek for BufReader<R, S> {
     ghost may = { ReaderMaySeek R.Seek };
+
+    ghost sound = { ReaderIsSound R.store };
 
     fn seek(&mut self, pos: SeekFrom) -> Result<u64> {
         match pos {

@@ -1,4 +1,4 @@
 use Rattle.promises.proofs.towers.seeks_through.Goals as goal
 
 pub returns : goal.returns
-returns g c = let law = c.seek.ensures.law in record { store = law.store; position = law.position; call = law.call }
+returns g c = let law = c.seek.ensures.law in record { store = law.store; sound = law.sound; position = law.position; call = law.call }

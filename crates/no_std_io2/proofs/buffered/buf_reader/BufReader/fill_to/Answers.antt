@@ -1,8 +1,7 @@
 -- Reads until enough bytes are held: after each read, and at the three ends.
 use Rattle.std.proofs.Common.{sym, ◌∙◌, arith}
-use Rattle.no_std_io2.specs.BufReader.{reader_behind}
-use Rattle.no_std_io2.proofs.FillToLemmas.{filled_none, filled_more, filled_again, fills_fault, fills_end, fills_enough, none_behind}
-use Rattle.no_std_io2.proofs.FillToLemmas.{fills_store, fills_turns, spends_more, spends_again}
+use Rattle.no_std_io2.proofs.FillToLemmas.{filled_none, filled_more, filled_again, fills_fault, fills_end, fills_enough}
+use Rattle.no_std_io2.proofs.FillToLemmas.{fills_store, fills_sound, fills_turns, spends_more, spends_again}
 use Rattle.no_std_io2.proofs.buffered.buf_reader.BufReader.fill_to.Goals as goal
 
 pub reads-init : goal.reads-init
@@ -28,23 +27,17 @@ reads-smaller g c = spends_again c.in-Err.ensures.read
 pub returns-in-Err-2 : goal.returns-in-Err-2
 returns-in-Err-2 g c =
     let read = c.in-Err.ensures in
-    let fills = fills_fault c.reads.invariant (omega arith) c.requires read.read
+    let fills = fills_fault c.reads.invariant (omega arith) c.requires read.read read.behind
     (sym c.is_interrupted.ensures ∙ c.if-is_interrupted.false) in
-    let behind = none_behind (reader_behind c.args.self.now) read.behind in
-    record { fills = fills; store = fills_store c.requires fills _ behind; turns = fills_turns c.requires fills }
+    record { fills = fills; store = fills_store c.requires fills; sound = fills_sound c.requires fills; turns = fills_turns c.requires fills }
 
 pub returns-in-Ok-eq0 : goal.returns-in-Ok-eq0
 returns-in-Ok-eq0 g c =
     let read = c.read_on.ensures in
-    let fills = fills_end c.reads.invariant (omega arith) c.requires read.read c.in-Ok-eq0.is (omega arith) in
-    let behind = none_behind (reader_behind c.args.self.now) read.behind in
-    record { fills = fills; store = fills_store c.requires fills _ behind; turns = fills_turns c.requires fills }
+    let fills = fills_end c.reads.invariant (omega arith) c.requires read.read read.behind c.in-Ok-eq0.is (omega arith) in
+    record { fills = fills; store = fills_store c.requires fills; sound = fills_sound c.requires fills; turns = fills_turns c.requires fills }
 
 pub returns : goal.returns
 returns g c =
     let fills = fills_enough c.reads.invariant (omega (arith, c.reads-test.false)) in
-    record {
-      fills = fills;
-      store = fills_store c.requires fills c.reads.invariant.front c.reads.invariant.behind;
-      turns = fills_turns c.requires fills;
-    }
+    record { fills = fills; store = fills_store c.requires fills; sound = fills_sound c.requires fills; turns = fills_turns c.requires fills }

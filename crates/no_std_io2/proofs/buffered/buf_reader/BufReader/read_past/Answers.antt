@@ -6,8 +6,8 @@ use Rattle.std.proofs.lemmas.Result.{err_from_is_err_and}
 use Rattle.no_std_io2_base.specs.Read.{tells}
 use Rattle.no_std_io2_base.proofs.Readers.{reader}
 use Rattle.no_std_io2_base.proofs.TakesLemmas.{read_law, takes_then}
-use Rattle.no_std_io2.specs.Buffer.{buffer_held, buffer_behind}
-use Rattle.no_std_io2.specs.BufReader.{reader_held, reader_behind, went_past, was_filled}
+use Rattle.no_std_io2.specs.Buffer.{buffer_held}
+use Rattle.no_std_io2.specs.BufReader.{reader_held, went_past, was_filled}
 use Rattle.no_std_io2.proofs.BufferedReads.{takes_held, takes_direct, takes_fill, ends_behind, end_read}
 use Rattle.no_std_io2.proofs.BufReaderCalls.{split_held, by_filled}
 use Rattle.no_std_io2.proofs.buffered.buf_reader.BufReader.read_past.Goals as goal
@@ -23,9 +23,8 @@ returns-then-buf g c =
     record {
       law = record {
         bound = read.bound;
-        takes = takes_direct g.row.S (reader_behind r) held read.takes none clear.behind clear.held;
-        end = end_read (tells (reader g.R.Stored g.R.Read) c.read.new.self) g.row.S (buffer_behind c.clear.new.self)
-            (buffer_held c.clear.new.self) c.read.new.buf c.read.result clear.held read.end;
+        takes = takes_direct g.row.S held read.takes none clear.held;
+        end = end_read (tells (reader g.R.Stored g.R.Read) c.read.new.self) g.row.S (buffer_held c.clear.new.self) c.read.new.buf c.read.result clear.held read.end;
         call = went_past none (omega (arith, c.read.auto.buf)) (read_law c.read.result read) (clear.behind, clear.held);
       };
       short = λ _. clear.held;
@@ -42,7 +41,7 @@ returns-in_err-fill g c =
     rw (p.1, p.2) (record {
       law = record {
         bound = tt;
-        takes = takes_direct g.row.S (reader_behind r) held fill.read.takes none fill.behind fill.err;
+        takes = takes_direct g.row.S held fill.read.takes none fill.err;
         end = tt;
         call = was_filled none (omega (arith, c.if-buf.false)) (Err _) fill.read (refl, (fill.behind, fill.err));
       };
@@ -64,12 +63,11 @@ returns g c =
       law = record {
         bound = omega (arith, is.count, c.give.auto.buf);
         takes = takes_then
-            (takes_fill g.row.S (reader_behind r) held (Ok mid) fill.read.takes none fill.behind refl fill.read.bound)
-            (takes_held g.row.S (buffer_behind c.fill.new.self) mid _ (take n shown) _
-            (split_held n mid shown is.gave is.held) is.behind fill.read.bound);
+            (takes_fill g.row.S held (Ok mid) fill.read.takes none refl fill.read.bound)
+            (takes_held g.row.S mid _ (take n shown) _ (split_held n mid shown is.gave is.held) fill.read.bound);
         end = λ zero room.
             let empty : mid ≡ [] = nil_from_length mid (omega (arith, zero, room, is.count, c.give.auto.buf)) in
-            ends_behind g.row.S _ _ (tells (reader g.R.Stored g.R.Read) c.fill.new.from) (is.held ∙ ap (drop n) empty ∙ drop-nil n)
+            ends_behind g.row.S _ (tells (reader g.R.Stored g.R.Read) c.fill.new.from) (is.held ∙ ap (drop n) empty ∙ drop-nil n)
             (fill.read.end (ap Ok empty) (omega (arith, c.if-buf.false)));
         call = by_filled n (length shown) mid shown none (omega (arith, c.if-buf.false, c.give.auto.buf)) fill.read
             (omega (arith, is.count, c.give.auto.buf)) is.gave (is.behind ∙ ap (λ l. l ++ take n shown) fill.behind) is.held;

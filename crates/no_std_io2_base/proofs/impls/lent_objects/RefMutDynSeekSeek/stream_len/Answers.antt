@@ -7,5 +7,5 @@ pub returns : goal.returns
 returns g c =
     record {
       law = stream_len_through (λ v. record c.args.self.now { now = (c.args.self.now.now.0, v) })
-          (record { store = λ x. refl; may = λ x y call may. (y, refl, may) }) c.stream_len.ensures;
+          (record { store = λ x. refl; may = λ x y call may. (y, refl, may); sound = λ x is. is; stays = λ x is. is }) c.stream_len.ensures;
     }

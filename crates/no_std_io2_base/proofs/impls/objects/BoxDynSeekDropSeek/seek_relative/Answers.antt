@@ -9,6 +9,6 @@ returns g c =
     let o = goal.Seek-dyn g in
     let did = rw (to_z-of_z w64 c.args.offset c.ranges.offset) at c.seek_relative.ensures in
     record {
-      law = seek_relative_box (λ p. record { store = (o p).Stored.store; may = (o p).Seek.may }) c.args.self.now
+      law = seek_relative_box (λ p. record { store = (o p).Stored.store; may = (o p).Seek.may; sound = (o p).Seek.sound }) c.args.self.now
           c.deref_box_mut-1.result.now (search rules) c.seek_relative.new.self did;
     }

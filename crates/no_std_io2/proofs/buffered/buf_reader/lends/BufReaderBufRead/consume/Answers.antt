@@ -1,5 +1,5 @@
 use Rattle.std.proofs.Common.{take, refl, sym, take-append-drop, ◌∙◌, ap, ◌++◌}
-use Rattle.no_std_io2.specs.BufReader.{reader_held, reader_behind}
+use Rattle.no_std_io2.specs.BufReader.{reader_held}
 use Rattle.no_std_io2.proofs.BufferedReads.{takes_held}
 use Rattle.no_std_io2.proofs.BufReaderRoom.{held-le}
 use Rattle.no_std_io2.proofs.buffered.buf_reader.lends.BufReaderBufRead.consume.Goals as goal
@@ -13,8 +13,8 @@ returns g c =
     record {
       law = record {
         held = is.held;
-        takes = takes_held g.row.S (reader_behind r) held _ (take n held) _
-            (sym (take-append-drop n held) ∙ ap (λ l. take n held ++ l) (sym is.held)) is.behind (held-le r);
+        takes = takes_held g.row.S held _ (take n held) _
+            (sym (take-append-drop n held) ∙ ap (λ l. take n held ++ l) (sym is.held)) (held-le r);
         call = (refl, (is.behind, is.held));
       };
     }

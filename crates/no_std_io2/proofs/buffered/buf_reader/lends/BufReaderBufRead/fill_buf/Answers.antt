@@ -5,8 +5,8 @@ use Rattle.std.proofs.lemmas.Result.{err_from_is_err_and}
 use Rattle.no_std_io2_base.specs.Read.{tells}
 use Rattle.no_std_io2_base.proofs.Readers.{reader}
 use Rattle.no_std_io2_base.proofs.TakesLemmas.{takes_none, stays_at_end}
-use Rattle.no_std_io2.specs.Buffer.{buffer_held, buffer_behind}
-use Rattle.no_std_io2.specs.BufReader.{reader_held, reader_behind, lent_held, lent_read}
+use Rattle.no_std_io2.specs.Buffer.{buffer_held}
+use Rattle.no_std_io2.specs.BufReader.{reader_held, lent_held, lent_read}
 use Rattle.no_std_io2.proofs.BufferedReads.{takes_fill, begins_lent, begins_filled, ends_behind}
 use Rattle.no_std_io2.proofs.buffered.buf_reader.lends.BufReaderBufRead.fill_buf.Goals as goal
 
@@ -29,7 +29,7 @@ returns-then-len-gt0 g c =
       record {
         law = record {
           held = λ _. is;
-          front = begins_lent g.row.S (reader_behind r) (tells (reader g.R.Stored g.R.Read) r.inner) is;
+          front = begins_lent g.row.S (tells (reader g.R.Stored g.R.Read) r.inner) is;
           end = λ none. absurd (not_empty none);
         };
         after_borrow = tt;
@@ -52,7 +52,7 @@ returns-in_err-fill g c =
         λ _. tt,
         record {
           lends = fill.err;
-          takes = takes_fill g.row.S (reader_behind r) held (Err _) fill.read.takes none fill.behind fill.err
+          takes = takes_fill g.row.S held (Err _) fill.read.takes none fill.err
               (omega (arith, ap length fill.err));
           unchanged = λ some. absurd (omega (arith, some, ap length none));
           end = λ empty. absurd (let no : ⊥ = cc in no);
@@ -74,7 +74,7 @@ returns g c =
     let fill = c.in_ok-fill.ensures in
     let is = c.as_slice-2.ensures.value in
     let inner = tells (reader g.R.Stored g.R.Read) c.fill.new.from in
-    let takes = takes_fill g.row.S (reader_behind r) held (Ok mid) fill.read.takes none fill.behind refl fill.read.bound in (
+    let takes = takes_fill g.row.S held (Ok mid) fill.read.takes none refl fill.read.bound in (
       (
         refl,
         λ _. tt,
@@ -85,17 +85,17 @@ returns g c =
           end = λ empty.
               let none : c.as_slice-2.result.now ≡ [] = cc in
               let gone = sym is ∙ none in
-              ends_behind g.row.S (buffer_behind c.fill.new.self) mid inner gone (fill.read.end (ap Ok gone) r.some_room);
+              ends_behind g.row.S mid inner gone (fill.read.end (ap Ok gone) r.some_room);
           call = rw is (lent_read none fill.read (fill.behind, refl));
         },
       ),
       record {
         law = record {
           held = λ some. absurd (omega (arith, some, ap length none));
-          front = begins_filled c.as_slice-2.result.now takes (begins_lent g.row.S (buffer_behind c.fill.new.self) inner is);
+          front = begins_filled c.as_slice-2.result.now takes (begins_lent g.row.S inner is);
           end = λ empty.
               let gone = sym is ∙ empty in
-              stays_at_end takes (ends_behind g.row.S (buffer_behind c.fill.new.self) mid inner gone
+              stays_at_end takes (ends_behind g.row.S mid inner gone
               (fill.read.end (ap Ok gone) r.some_room));
         };
         after_borrow = tt;

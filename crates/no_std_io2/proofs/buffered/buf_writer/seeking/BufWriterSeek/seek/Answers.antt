@@ -30,6 +30,7 @@ pub returns-in_err-send-clause-law : goal.returns-in_err-send-clause-law
 returns-in_err-send-clause-law g c = record {
   store = store_refused _ (writer_buffer c.args.self.now) (g.W.Stored.store (writer_inner c.args.self.now)) _
       (λ none. no_ok (sent_idle c.in_err-send.ensures.calls none).1);
+  sound = λ is. is;
   position = rw (err_from_is_err_and c.from_residual.result c.from_residual.ensures.1).1 tt;
   call = (returns-in_err-send-clause-first g c, returns-in_err-send-clause-sent g c);
 }
@@ -41,6 +42,7 @@ returns-clause-law g c =
     record {
       store = store_sought _ (writer_buffer c.args.self.now) _ (g.W.Stored.store (writer_inner c.args.self.now)) _ (writes_whole sent.2)
           (λ none. rw (c.get_mut.ensures.value, (sent_idle sent none).0) at inner.store);
+      sound = λ is. is;
       position = position_sought _ _ c.seek.result inner.position;
       call = (returns-clause-first g c, returns-clause-sent g c);
     }

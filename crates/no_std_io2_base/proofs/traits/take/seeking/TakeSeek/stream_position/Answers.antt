@@ -5,4 +5,4 @@ use Rattle.no_std_io2_base.proofs.traits.take.seeking.TakeSeek.stream_position.G
 pub returns-clause-law : goal.returns-clause-law
 returns-clause-law g c =
     let at = c.position.ensures in
-    record { store = tt; position = tt; call = rw (at.is) (stays_here _ _ (subst (λ n. n < 2 ^ 64) at.is at.fits)) }
+    record { store = tt; sound = λ is. is; position = tt; call = rw (at.is) (stays_here _ _ (subst (λ n. n < 2 ^ 64) at.is at.fits)) }
