@@ -24,6 +24,10 @@ pub struct Queue {
 }
 
 impl Queue {
+    fn new() -> Queue {
+        Queue { bytes: [0; 64], len: 0 }
+    }
+
     fn waiting(&self) -> &[u8] {
         &self.bytes[..self.len.min(CAPACITY)]
     }
@@ -84,13 +88,12 @@ fn print<W: Write>(w: &mut W, readings: &[u32]) -> Result<()> {
 }
 
 #[unsafe(no_mangle)]
-pub unsafe extern "C" fn bare_report(readings: *const u32, count: usize, port: &mut Queue) -> u32 {
-    let mut w = LineWriter::<Queue, 32>::new(*port);
+pub unsafe extern "C" fn bare_report(kept: &mut Queue, port: &mut Queue, readings: *const u32, count: usize) -> u32 {
+    let mut w = LineWriter::<Queue, 32>::new(Queue::new());
     if print(&mut w, unsafe { from_raw_parts(readings, count) }).is_err() {
-        return FULL;
+        return REFUSED;
     }
-    *port = *w.get_ref();
-    DONE
+    append(w.get_ref(), kept, port)
 }
 
 // Sends what is kept, as `write_rest` does here.
@@ -122,13 +125,25 @@ pub extern "C" fn bare_resume(kept: &mut Queue, port: &mut Queue) -> u32 {
     }
 }
 
+// Puts all bytes of a queue behind those that wait for the port, and behind what is kept.
+#[inline(never)]
+fn append(text: &Queue, kept: &mut Queue, port: &mut Queue) -> u32 {
+    let _ = bare_resume(kept, port);
+    let bytes = text.waiting();
+    if kept.waiting().len() + port.waiting().len() + bytes.len() > CAPACITY {
+        return FULL;
+    }
+    put(port, bytes);
+    DONE
+}
+
 #[unsafe(no_mangle)]
 pub unsafe extern "C" fn bare_log(kept: &mut Queue, port: &mut Queue, text: *const u8, count: usize) -> u32 {
     let text = unsafe { from_raw_parts(text, count) };
     if text.len() >= CAPACITY || text.contains(&b'\n') {
         return REFUSED;
     }
-    let _ = send(kept, port);
+    let _ = bare_resume(kept, port);
     if kept.waiting().len() + text.len() >= CAPACITY {
         return FULL;
     }
@@ -161,6 +176,76 @@ pub unsafe extern "C" fn bare_message(port: &mut Queue, room: *mut u8, size: usi
     DONE
 }
 
+fn send_whole<W: Write>(w: &mut W, payload: &[u8]) -> Result<()> {
+    w.write_all(&(payload.len() as u32).to_le_bytes())?;
+    w.write_all(payload)?;
+    w.flush()
+}
+
+#[unsafe(no_mangle)]
+pub unsafe extern "C" fn bare_send(kept: &mut Queue, port: &mut Queue, payload: *const u8, count: usize) -> u32 {
+    let mut w = BufWriter::<Queue, 65>::new(Queue::new());
+    if send_whole(&mut w, unsafe { from_raw_parts(payload, count) }).is_err() {
+        return REFUSED;
+    }
+    append(w.get_ref(), kept, port)
+}
+
+fn told_len(mut bytes: &[u8]) -> Option<usize> {
+    let mut header = [0; 4];
+    bytes.read_exact(&mut header).ok()?;
+    Some(u32::from_le_bytes(header) as usize)
+}
+
+#[unsafe(no_mangle)]
+pub unsafe extern "C" fn bare_receive(port: &mut Queue, room: *mut u8, size: usize, len: &mut usize) -> u32 {
+    let room = unsafe { from_raw_parts_mut(room, size) };
+    let Some(n) = told_len(port.waiting()) else {
+        return PARTIAL;
+    };
+    if n > CAPACITY - 4 {
+        return REFUSED;
+    }
+    if n > room.len() {
+        return FULL;
+    }
+    let mut rest = &port.waiting()[4..];
+    if rest.read_exact(&mut room[..n]).is_err() {
+        return PARTIAL;
+    }
+    *len = n;
+    port.advance(4 + n);
+    DONE
+}
+
+#[unsafe(no_mangle)]
+pub unsafe extern "C" fn bare_skip(port: &mut Queue, left: &mut usize) -> u32 {
+    if *left == 0 {
+        let Some(told) = told_len(port.waiting()) else {
+            return PARTIAL;
+        };
+        *left = 4 + told;
+    }
+    let gone = port.waiting().len().min(*left);
+    port.advance(gone);
+    *left -= gone;
+    if *left > 0 { PARTIAL } else { DONE }
+}
+
+fn print_event<W: Write>(w: &mut W, number: u32) -> Result<()> {
+    write!(w, "event {number}\n")?;
+    w.flush()
+}
+
+#[unsafe(no_mangle)]
+pub unsafe extern "C" fn bare_event(kept: &mut Queue, port: &mut Queue, number: u32) -> u32 {
+    let mut w = LineWriter::<Queue, 32>::new(Queue::new());
+    if print_event(&mut w, number).is_err() {
+        return REFUSED;
+    }
+    append(w.get_ref(), kept, port)
+}
+
 fn copy_whole<W: Write>(from: &[u8], w: &mut W) -> Result<()> {
     let mut r = BufReader::<&[u8], 16>::new(from);
     copy::<_, _, 16>(&mut r, w)?;
@@ -168,11 +253,10 @@ fn copy_whole<W: Write>(from: &[u8], w: &mut W) -> Result<()> {
 }
 
 #[unsafe(no_mangle)]
-pub unsafe extern "C" fn bare_copy(from: *const u8, count: usize, port: &mut Queue) -> u32 {
-    let mut w = BufWriter::<Queue, 32>::new(*port);
+pub unsafe extern "C" fn bare_copy(kept: &mut Queue, port: &mut Queue, from: *const u8, count: usize) -> u32 {
+    let mut w = BufWriter::<Queue, 32>::new(Queue::new());
     if copy_whole(unsafe { from_raw_parts(from, count) }, &mut w).is_err() {
-        return FULL;
+        return REFUSED;
     }
-    *port = *w.get_ref();
-    DONE
+    append(w.get_ref(), kept, port)
 }

@@ -78,8 +78,8 @@ uint32_t bare_copy(struct bare_queue *kept, struct bare_queue *port, const uint8
 uint32_t bare_message(struct bare_queue *port, uint8_t *room, size_t size, size_t *len);
 
 /* Takes a frame off the bytes that a port received.
-   BARE_DONE: it is gone from `port`; its payload is the first `*len` bytes of `room`. What `room` holds behind them is not said.
-   Else nothing is gone from `port`, `*len` is as it was, and what `room` holds is not said.
+   BARE_DONE: it is gone from `port`; its payload is the first `*len` bytes of `room`, and the rest of `room` is as it was.
+   Else nothing has changed.
    BARE_REFUSED: the payload has more than 60 bytes, so no queue can hold the frame. No room helps: to go on, drop it by `bare_skip`.
    BARE_FULL: a queue can hold the frame, and the payload is longer than `room`. Give more room, or drop it by `bare_skip`.
    BARE_PARTIAL: the frame has not come whole. If its length has come, a queue can hold the frame, and the payload fits `room`. */

@@ -77,7 +77,6 @@ static void report(void)
 static void play_line(void)
 {
     size_t size, len = 9999;
-    uint32_t status;
     put_char(*at);
     put_char(' ');
     switch (*at++) {
@@ -116,10 +115,9 @@ static void play_line(void)
         break;
     case 'g':
         size = clear();
-        status = bare_receive(&inbox, room, size, &len);
-        put_number(status);
+        put_number(bare_receive(&inbox, room, size, &len));
         put_number(len);
-        put_hex(room, status == BARE_DONE ? len : 0);
+        put_hex(room, size);
         break;
     case 'k':
         put_number(bare_skip(&inbox, &left));

@@ -34,12 +34,6 @@ function report(readings) {
     return `${exports.bare_report(KEPT, PORT, READINGS, BigInt(readings.length))} `;
 }
 
-// Gives a frame; its payload is shown.
-function receive([size]) {
-    const status = exports.bare_receive(INBOX, ROOM, clear(size), LEN);
-    return `${status} ${number(LEN)}${hex(ROOM, status === 0 ? Number(number(LEN)) : 0)}`;
-}
-
 const calls = {
     r: report,
     l: ([text]) => `${exports.bare_log(KEPT, PORT, BYTES, given(text))} `,
@@ -49,7 +43,7 @@ const calls = {
     d: ([size]) => `${exports.bare_take(INBOX, ROOM, clear(size))} `,
     m: ([size]) => `${exports.bare_message(INBOX, ROOM, clear(size), LEN)} ${number(LEN)}${hex(ROOM, Number(size))}`,
     f: ([text]) => `${exports.bare_send(KEPT, PORT, BYTES, given(text))} `,
-    g: receive,
+    g: ([size]) => `${exports.bare_receive(INBOX, ROOM, clear(size), LEN)} ${number(LEN)}${hex(ROOM, Number(size))}`,
     k: () => `${exports.bare_skip(INBOX, LEFT)} ${number(LEFT)}`,
     e: ([event]) => `${exports.bare_event(KEPT, PORT, Number(event))} `,
     c: ([text]) => `${exports.bare_copy(KEPT, PORT, BYTES, given(text))} `,

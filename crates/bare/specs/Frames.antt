@@ -1,13 +1,8 @@
--- What is cut off received bytes, if they are frames, and the line of an event.
-use Rattle.std.specs.Prelude.{◌≡◌, ◌⊎◌, ℕ, ◌+◌, ◌-◌, ◌<◌, ◌≤◌, List, ◌++◌, length, take, drop, codes, decimal}
+-- What is cut off received bytes, if they are frames.
+use Rattle.std.specs.Prelude.{◌≡◌, ◌⊎◌, ℕ, ◌+◌, ◌-◌, ◌<◌, ◌≤◌, List, ◌++◌, length, take, drop}
 use Rattle.framing.specs.Frames.{frame, told_length, IsPart}
-use Rattle.line_log.specs.Log.{line_of}
 use Rattle.bare.specs.Status.{done, full, partial, refused}
 use Rattle.bare.specs.Queue.{capacity}
-
--- `event 17`
-abbrev pub event_line : ℕ → List ℕ
-event_line number = line_of (codes "event " ++ decimal number)
 
 -- the length of a payload is there, and no queue can hold its frame
 abbrev pub IsTooBig : List ℕ → Type 0
@@ -23,11 +18,11 @@ IsHeldBack bytes size status = ((status ≡ refused) × IsTooBig bytes)
     ⊎ ((status ≡ full) × CanCome bytes × (size < told_length bytes))
     ⊎ ((status ≡ partial) × IsPart bytes × (4 ≤ length bytes → (4 + told_length bytes ≤ capacity) × (told_length bytes ≤ size)))
 
--- A frame was taken, whose payload is at the front of the room; or it is not given, and all its bytes still wait.
-abbrev pub Unframes : List ℕ → ℕ → ℕ → List ℕ → List ℕ → ℕ → Type 0
-Unframes bytes len status bytes' room' len' =
-    ((status ≡ done) × (bytes ≡ frame (take len' room') ++ bytes') × (len' ≤ length room'))
-    ⊎ (IsHeldBack bytes (length room') status × (bytes' ≡ bytes) × (len' ≡ len))
+-- A frame was taken, whose payload is at the front of the room; or it is not given, and nothing changed.
+abbrev pub Unframes : List ℕ → List ℕ → ℕ → ℕ → List ℕ → List ℕ → ℕ → Type 0
+Unframes bytes room len status bytes' room' len' =
+    ((status ≡ done) × (bytes ≡ frame (take len' room') ++ bytes') × (len' ≤ length room) × (drop len' room' ≡ drop len' room))
+    ⊎ (IsHeldBack bytes (length room) status × (bytes' ≡ bytes) × (room' ≡ room) × (len' ≡ len))
 
 -- How many bytes of a frame are to be dropped. If none was dropped yet, its length says it.
 abbrev pub IsToDrop : List ℕ → ℕ → ℕ → Type 0
@@ -37,5 +32,5 @@ IsToDrop bytes left all = ((0 < left) × (all ≡ left)) ⊎ ((left ≡ 0) × (4
 abbrev pub Skips : List ℕ → ℕ → ℕ → List ℕ → ℕ → Type 0
 Skips bytes left status bytes' left' =
     ((all : ℕ) × IsToDrop bytes left all × (bytes' ≡ drop all bytes) × (left' ≡ all - length bytes)
-        × (((status ≡ done) × (left' ≡ 0)) ⊎ ((status ≡ partial) × (0 < left'))))
+    × (((status ≡ done) × (left' ≡ 0)) ⊎ ((status ≡ partial) × (0 < left'))))
     ⊎ ((status ≡ partial) × (left ≡ 0) × (length bytes < 4) × (bytes' ≡ bytes) × (left' ≡ 0))

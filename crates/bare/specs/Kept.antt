@@ -24,7 +24,7 @@ abbrev pub AppendsOrNot : List ℕ → Queue → Queue → ℕ → Queue → Que
 AppendsOrNot bytes kept port status kept' port' =
     ((status ≡ done) × (waiting kept' ≡ []) × (waiting port' ≡ waiting port ++ waiting kept ++ bytes))
     ⊎ ((status ≡ full) × (length bytes ≤ capacity) × (capacity < length (waiting port) + length (waiting kept) + length bytes)
-        × ((ended : ℕ) × Resumes (waiting kept) (waiting port) ended (waiting kept') (waiting port')))
+    × ((ended : ℕ) × Resumes (waiting kept) (waiting port) ended (waiting kept') (waiting port')))
 
 -- nothing changed
 abbrev IsSame : Queue → Queue → Queue → Queue → Type 0

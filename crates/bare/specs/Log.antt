@@ -1,8 +1,7 @@
 -- What a log does.
-use Rattle.std.specs.Prelude.{◌≡◌, ◌⊎◌, ℕ, ◌+◌, ◌<◌, ◌≤◌, List, [], ◌∷◌, ◌++◌, length, Contains, Result, Ok, Err}
-use Rattle.no_std_io2.specs.Write.{IsFront}
+use Rattle.std.specs.Prelude.{◌≡◌, ◌⊎◌, ℕ, ◌+◌, ◌<◌, ◌≤◌, List, [], ◌∷◌, ◌++◌, length, Contains}
 use Rattle.no_std_io2.specs.Pieces.{Lacks, newline}
-use Rattle.bare.specs.Status.{done, kept, full, refused}
+use Rattle.bare.specs.Status.{kept, full, refused}
 use Rattle.bare.specs.Queue.{capacity}
 use Rattle.bare.specs.Kept.{Resumes}
 

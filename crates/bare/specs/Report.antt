@@ -1,4 +1,4 @@
--- The text of a report.
+-- The text of a report, and of an event.
 use Rattle.std.specs.Prelude.{ℕ, ◌+◌, List, [], ◌∷◌, ◌++◌, codes, decimal}
 
 -- a text for each value, which are numbered from i on, joined
@@ -13,3 +13,7 @@ reading_line i reading = codes "sensor " ++ (decimal i ++ (codes " = " ++ (decim
 -- the lines of all readings
 abbrev pub report : List ℕ → List ℕ
 report readings = texts_from reading_line 0 readings
+
+-- the line of an event: `event 17`
+abbrev pub event_line : ℕ → List ℕ
+event_line number = codes "event " ++ (decimal number ++ 10 ∷ [])

@@ -1,16 +1,15 @@
-//! Frames and printed lines, whole or not at all.
+//! Frames, whole or not at all.
 ghost use Rattle.std.specs.Prelude.{◌≡◌, ◌+◌, ◌++◌, ◌<◌, ◌≤◌, ◌^◌, length, OnOk, OnErr, IfNone, IfSome};
 ghost use Rattle.framing.specs.Frames.{frame, told_length};
 ghost use Rattle.framing.specs.Sending.{writes_to, frames_held};
 ghost use Rattle.bare.specs.Queue.{waiting, capacity};
-ghost use Rattle.bare.specs.Kept.{Appends, PrintsOrNot};
-ghost use Rattle.bare.specs.Frames.{Unframes, IsToDrop, Skips, event_line};
+ghost use Rattle.bare.specs.Kept.{Appends};
+ghost use Rattle.bare.specs.Frames.{Unframes, IsToDrop, Skips};
 
 use crate::kept::append;
-use crate::queue::{CAPACITY, Queue};
+use crate::queue::{CAPACITY, Queue, bare_take};
 use crate::{DONE, FULL, PARTIAL, REFUSED};
-use framing::{FrameReader, FrameWriter};
-use line_log::LineLog;
+use framing::FrameWriter;
 use no_std_io2::io::Result;
 
 // The number of bytes in which a frame has its length.
@@ -58,17 +57,17 @@ fn told_len(bytes: &[u8]) -> Option<usize>
     Some(u32::from_le_bytes(header) as usize)
 }
 
-/// Gives the payload of the next frame that a port received: it is moved to the front of `room`, and `len` is then its length. What `room`
-/// holds behind it is not said.
+/// Gives the payload of the next frame that a port received: it is moved into `room`, and `len` is then its length.
 ///
 /// Returns [`REFUSED`] if no queue can hold the frame, since its payload has more than 60 bytes. Returns [`FULL`] if a queue can, and the
-/// payload is longer than `room`. Returns [`PARTIAL`] if neither is so, or its length has not come, and the frame has not come whole. All
-/// its bytes still wait then, `len` is as it was, and what `room` holds is not said.
+/// payload is longer than `room`. Returns [`PARTIAL`] if neither is so, or its length has not come, and the frame has not come whole.
+/// Nothing has changed then.
 #[unsafe(no_mangle)]
 pub extern "C" fn bare_receive(port: &mut Queue, room: &mut [u8], len: &mut usize) -> u32
-    ensures { Unframes (waiting port.old) len.old result (waiting port.new) room.new len.new }
+    ensures { Unframes (waiting port.old) room.old len.old result (waiting port.new) room.new len.new }
 {
-    let Some(told) = told_len(port.waiting()) else {
+    let bytes = port.waiting();
+    let Some(told) = told_len(bytes) else {
         return PARTIAL;
     };
     if told > CAPACITY - HEADER {
@@ -77,16 +76,12 @@ pub extern "C" fn bare_receive(port: &mut Queue, room: &mut [u8], len: &mut usiz
     if told > room.len() {
         return FULL;
     }
-    let mut r = FrameReader::<&[u8], 64>::new(port.waiting());
-    match r.next(room) {
-        Ok(Some(n)) => {
-            *len = n;
-            port.advance(HEADER + n);
-            DONE
-        }
-        Ok(None) => PARTIAL,
-        Err(_ended_inside) => PARTIAL,
+    if bytes.len() < HEADER + told {
+        return PARTIAL;
     }
+    port.advance(HEADER);
+    *len = bare_take(port, &mut room[..told]);
+    DONE
 }
 
 // Returns how many bytes of a frame are to be dropped, if that is known.
@@ -118,20 +113,4 @@ pub extern "C" fn bare_skip(port: &mut Queue, left: &mut usize) -> u32
     port.advance(gone);
     *left = all - gone;
     if gone < all { PARTIAL } else { DONE }
-}
-
-/// Puts the line `event 17` behind the bytes that wait for the port. The kept bytes go first.
-///
-/// Returns [`DONE`] if the port has the whole line. Returns [`FULL`] if it does not fit; then only kept bytes were sent. That it never
-/// returns [`REFUSED`] is tested, and not promised.
-#[unsafe(no_mangle)]
-pub extern "C" fn bare_event(kept: &mut Queue, port: &mut Queue, number: u32) -> u32
-    ensures { PrintsOrNot (event_line number) kept.old port.old result kept.new port.new }
-{
-    let mut log = LineLog::<Queue, 64>::new(Queue::new());
-    let logged: Result<()> = log.log_text(format_args!("event {number}"));
-    if logged.is_err() || log.is_behind() {
-        return REFUSED;
-    }
-    append(log.get_ref(), kept, port)
 }

@@ -26,7 +26,10 @@ impl Queue {
     pub(crate) fn new() -> Queue
         ensures { waiting result ≡ [] }
     {
-        Queue { bytes: [0; 64], len: 0 }
+        Queue {
+            bytes: [0; 64],
+            len: 0,
+        }
     }
 
     /// Returns the bytes that wait.

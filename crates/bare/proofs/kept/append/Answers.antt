@@ -10,6 +10,12 @@ returns-then-waiting-bytes-gt-CAPACITY c =
     let short : length (waiting c.args.text.now) ≤ 64 = grind (arith, common_steps, length-take) in
     let sizes = simp length-append at (ap length c.bare_resume.ensures.order) in
     let full : 64 < length (waiting c.args.port.now) + length (waiting c.args.kept.now) + length (waiting c.args.text.now) =
-        omega (arith, sizes, c.if-waiting-bytes-gt-CAPACITY.true, ap length c.waiting.ensures, ap length c.waiting-2.ensures,
-            ap length c.waiting-bytes.ensures) in
+    omega (
+      arith,
+      sizes,
+      c.if-waiting-bytes-gt-CAPACITY.true,
+      ap length c.waiting.ensures,
+      ap length c.waiting-2.ensures,
+      ap length c.waiting-bytes.ensures,
+    ) in
     inr (refl, short, full, (_, c.bare_resume.ensures))
