@@ -20,14 +20,14 @@ pub fn holds_nothing_after_a_flush<W: Write>(w: &mut W) -> Result<()>
 /// After `flush` returns `Ok` each buffer of a tower is empty, and so is whatever the device itself holds back. No byte is lost, and an
 /// error is a mishap of the device.
 pub fn empties_a_tower<W: Write + Drop, const S: usize, const T: usize>(
-    w: &mut LineWriter<BufWriter<W, S>, T>,
+    tower: &mut LineWriter<BufWriter<W, S>, T>,
 ) -> Result<()>
-    ensures outer { OnOk result (line_buffer w.new ≡ []) }
-    ensures inner { OnOk result (writer_buffer (line_inner w.new) ≡ []) }
-    ensures device { OnOk result ((W.told (writer_inner (line_inner w.new))).held ≡ []) }
-    ensures moves { Moves (in_tower W.told w.old) [] (call_mishap result) (in_tower W.told w.new) }
+    ensures outer { OnOk result (line_buffer tower.new ≡ []) }
+    ensures inner { OnOk result (writer_buffer (line_inner tower.new) ≡ []) }
+    ensures device { OnOk result ((W.told (writer_inner (line_inner tower.new))).held ≡ []) }
+    ensures moves { Moves (in_tower W.told tower.old) [] (call_mishap result) (in_tower W.told tower.new) }
 {
-    w.flush()
+    tower.flush()
 }
 
 /// `into_inner` returns the device with every accepted byte, or an error with the writer that still holds what was not sent. The error is

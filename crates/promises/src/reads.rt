@@ -28,16 +28,16 @@ pub fn gives_what_comes_next<R: Read>(r: &mut R, buf: &mut [u8]) -> Result<usize
 /// In a tower the held bytes come first, then the events of the first reader up to the limit, and then those of the second. A `read` takes
 /// what comes next, bytes or an error, and nothing else. It gives no byte only at the end, or into an empty buffer.
 pub fn gives_what_comes_next_in_a_tower<R: Read, U: Read, const S: usize>(
-    r: &mut Box<BufReader<Chain<Take<Tally<R>>, U>, S>>,
+    tower: &mut Box<BufReader<Chain<Take<Tally<R>>, U>, S>>,
     buf: &mut [u8],
 ) -> Result<usize>
-    ensures next { Takes (in_reader (in_chain (in_take (λ t. tells R.Read (tally_inner t))) (tells U.Read)) r.old.value)
+    ensures next { Takes (in_reader (in_chain (in_take (λ t. tells R.Read (tally_inner t))) (tells U.Read)) tower.old.value)
         (answered (gave result buf.new))
-        (in_reader (in_chain (in_take (λ t. tells R.Read (tally_inner t))) (tells U.Read)) r.new.value) }
+        (in_reader (in_chain (in_take (λ t. tells R.Read (tally_inner t))) (tells U.Read)) tower.new.value) }
     ensures end { result ≡ Ok 0 → 0 < length buf.new
-        → IsAtEnd (in_reader (in_chain (in_take (λ t. tells R.Read (tally_inner t))) (tells U.Read)) r.new.value) }
+        → IsAtEnd (in_reader (in_chain (in_take (λ t. tells R.Read (tally_inner t))) (tells U.Read)) tower.new.value) }
 {
-    r.read(buf)
+    tower.read(buf)
 }
 
 /// `read_until` appends one piece: the bytes up to and including the next delimiter, or all if there is none. After an error it has

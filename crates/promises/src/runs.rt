@@ -26,32 +26,32 @@ pub fn accepts_by_its_replies<W: Write>(
 
 /// If a device tells how many failures are to come, at most that many calls of a run over it fail.
 pub fn fails_at_most<W: Write>(
-    w: &mut W,
+    device: &mut W,
     ops: &[Op<'_>],
     replies: &mut Vec<Reply>,
 ) -> Result<()>
-    ensures failures { OnOk result (IfSome (W.told w.old).mishaps
+    ensures failures { OnOk result (IfSome (W.told device.old).mishaps
         (λ m. failures ops.now (appended replies.old.items replies.new.items) ≤ length m)) }
-    ensures calls { OnOk result (RunCalls W.Write w.old ops.now
-        (appended replies.old.items replies.new.items) w.new) }
+    ensures calls { OnOk result (RunCalls W.Write device.old ops.now
+        (appended replies.old.items replies.new.items) device.new) }
     ensures fails { OnErr result ((vec_capacity replies.old < vec_len replies.old + length ops.now)
-        × (w.new ≡ w.old) × (replies.new.items ≡ replies.old.items)) }
+        × (device.new ≡ device.old) × (replies.new.items ≡ replies.old.items)) }
 {
-    run_writes(w, ops, replies)
+    run_writes(device, ops, replies)
 }
 
 /// If none is to come, no call fails.
 pub fn succeeds_at_a_steady_device<W: Write>(
-    w: &mut W,
+    device: &mut W,
     ops: &[Op<'_>],
     replies: &mut Vec<Reply>,
 ) -> Result<()>
-    ensures steady { OnOk result ((W.told w.old).mishaps ≡ Some []
+    ensures steady { OnOk result ((W.told device.old).mishaps ≡ Some []
         → failures ops.now (appended replies.old.items replies.new.items) ≡ 0) }
-    ensures calls { OnOk result (RunCalls W.Write w.old ops.now
-        (appended replies.old.items replies.new.items) w.new) }
+    ensures calls { OnOk result (RunCalls W.Write device.old ops.now
+        (appended replies.old.items replies.new.items) device.new) }
     ensures fails { OnErr result ((vec_capacity replies.old < vec_len replies.old + length ops.now)
-        × (w.new ≡ w.old) × (replies.new.items ≡ replies.old.items)) }
+        × (device.new ≡ device.old) × (replies.new.items ≡ replies.old.items)) }
 {
-    run_writes(w, ops, replies)
+    run_writes(device, ops, replies)
 }
