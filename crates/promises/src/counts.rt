@@ -1,24 +1,22 @@
 // How many calls the inner stream gets: each number that counts its calls rises by so many. A `Tally` has such a number.
-ghost use Rattle.std.specs.Prelude.{ℕ, ◌≡◌, ◌+◌, ◌-◌, ◌/◌, ◌<◌, ◌≤◌, ◌^◌, min, nat_lt, if◌then◌else◌, length, IfOk, IsOkAnd, Ok, OnOk};
+ghost use Rattle.std.specs.Prelude.{ℕ, ◌≡◌, ◌+◌, ◌<◌, ◌≤◌, ◌^◌, min, nat_lt, if◌then◌else◌, length, IfOk, IsOkAnd, Ok, OnOk};
 ghost use Rattle.std.specs.Int.{div_ceil};
 ghost use Rattle.no_std_io2.specs.BufReader.{reader_held, reader_inner};
 ghost use Rattle.no_std_io2.specs.BufWriter.{writer_buffer, writer_inner, writing_calls};
-ghost use Rattle.no_std_io2.specs.LineWriter.{line_inner};
-ghost use Rattle.no_std_io2.specs.Meter.{Costs, CostsAtMost, IsMeter};
+ghost use Rattle.no_std_io2.specs.Meter.{Costs, IsMeter};
 ghost use Rattle.no_std_io2.specs.Read.{answered, gave, tells};
 ghost use Rattle.no_std_io2.specs.ReadMeter.{FillsRoom, IsReadMeter};
 ghost use Rattle.no_std_io2.specs.Takes.{Takes};
 ghost use Rattle.no_std_io2.specs.Write.{calls_for};
 ghost use Rattle.no_std_io2.specs.Writers.{TakesAll};
-ghost use Rattle.io_bench.specs.Asks.{AllFit, left_behind};
 ghost use Rattle.io_bench.specs.Tally.{tally_inner, tally_reads, tally_writes};
 ghost use Rattle.promises.specs.Counts.{exact_left, exact_reads};
 ghost use Rattle.promises.specs.Loops.{CountsLoop, CountsToEnd};
 ghost use Rattle.promises.specs.Promises.{in_reader};
 
-use io_bench::{Ask, ReadTotals, Tally, run_reads};
+use io_bench::Tally;
 use no_std_io2::io::{
-    AsSlice, BufRead, BufReader, BufWriter, Cursor, IntoInnerError, LineWriter, Read, Result, Take,
+    AsSlice, BufRead, BufReader, BufWriter, Cursor, IntoInnerError, Read, Result, Take,
     Write, copy,
 };
 use std::alloc::Allocator;
@@ -61,26 +59,6 @@ fn counts_an_into_inner<W: Write + Drop, const S: usize>(
     ensures { IfOk result (λ t. Costs W.Write (writer_inner w) (calls_for (writer_buffer w)) t) }
 {
     w.into_inner()
-}
-
-// A `write` of a `LineWriter` makes at most 3 inner writes.
-fn counts_a_write_of_lines<W: Write + Drop, const S: usize>(
-    w: &mut Box<LineWriter<W, S>>,
-    x: &[u8],
-) -> Result<usize>
-    ensures { CostsAtMost W.Write (line_inner w.old.value) 3 (line_inner w.new.value) }
-{
-    w.write(x)
-}
-
-// So does a `write_all`.
-fn counts_a_write_all_of_lines<W: Write + Drop, const S: usize>(
-    w: &mut LineWriter<W, S>,
-    x: &[u8],
-) -> Result<()>
-    ensures { CostsAtMost W.Write (line_inner w.old) 3 (line_inner w.new) }
-{
-    w.write_all(x)
 }
 
 // A `read` takes what comes next. It makes one inner read if nothing is held, and else none.
@@ -153,21 +131,6 @@ fn counts_a_copy<R: Read, W: Write, const S: usize>(reader: &mut R, writer: &mut
         (cost reader.new ≡ cost reader.old + (div_ceil (length (fills.left reader.old)) S + 1)) }
 {
     copy::<R, W, S>(reader, writer)
-}
-
-// If a run through a buffer of S bytes over a filling reader takes N bytes and meets the end Z times, at most `N / S + 1 + Z` reads are
-// made.
-fn bounds_the_reads_of_a_run<R: Read, const S: usize>(
-    r: &mut BufReader<Tally<R>, S>,
-    asks: &[Ask],
-    buf: &mut [u8],
-) -> ReadTotals
-    requires { AllFit (length buf.old) asks.now }
-    ensures { (fills : FillsRoom R.Read) → tally_reads (reader_inner r.new) ≤ tally_reads (reader_inner r.old)
-        + ((length (left_behind (λ t. fills.left (tally_inner t)) r.old) - length (left_behind (λ t. fills.left (tally_inner t)) r.new)) / S
-        + 1 + result.at_end) }
-{
-    run_reads(r, asks, buf)
 }
 
 // Slices and cursors are filling, and so is a box or a `Take` of a filling reader.

@@ -5,6 +5,7 @@
 #![tactic(auto)]
 
 mod adaptors;
+mod bounds;
 mod bytes;
 mod calls;
 mod counts;
@@ -20,6 +21,10 @@ mod system;
 mod towers;
 mod values;
 
+pub use bounds::{
+    bounds_the_reads_of_a_run, bounds_the_writes_of_a_line_write,
+    bounds_the_writes_of_a_line_write_all,
+};
 pub use bytes::{
     continues_with_the_rest, keeps_every_byte, keeps_every_byte_in_a_tower,
     keeps_every_byte_of_a_flush, keeps_every_byte_of_a_write_all, keeps_what_is_out,

@@ -1,10 +1,11 @@
+-- The prover does not count the inner calls.
 use Rattle.no_std_io2.specs.LineWriter.{line_inner, line_buffer, LineWriteAllCalls}
 use Rattle.no_std_io2.proofs.LineWriterCalls.{line_write_all_keeps}
 use Rattle.io_bench.proofs.StepCosts.{few_cost}
-use Rattle.promises.proofs.counts.counts_a_write_all_of_lines.Goals as goal
+use Rattle.promises.proofs.bounds.bounds_the_writes_of_a_line_write_all.Goals as goal
 
-pub returns : goal.returns
-returns g c = λ cost meter takes.
+pub returns-clause-bound : goal.returns-clause-bound
+returns-clause-bound g c = λ cost meter takes.
     let t = c.write_all.ensures.calls in
     few_cost g.W.Write cost meter (line_inner {S = g.row.S}) line_buffer
     (LineWriteAllCalls g.row.S c.args.x.now) c.args.w.now c.write_all.new.self

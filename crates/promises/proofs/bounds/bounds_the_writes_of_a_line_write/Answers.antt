@@ -1,12 +1,19 @@
+-- The prover does not count the inner calls.
 use Rattle.no_std_io2.specs.LineWriter.{line_inner, line_buffer, LineWriteCalls}
 use Rattle.no_std_io2.proofs.LineWriterCalls.{line_write_keeps}
 use Rattle.io_bench.proofs.StepCosts.{few_cost}
-use Rattle.promises.proofs.counts.counts_a_write_of_lines.Goals as goal
+use Rattle.promises.proofs.bounds.bounds_the_writes_of_a_line_write.Goals as goal
 
-pub returns : goal.returns
-returns g c = λ cost meter takes.
+pub returns-clause-bound : goal.returns-clause-bound
+returns-clause-bound g c = λ cost meter takes.
     let old = c.args.w.now.value in
     let new = c.write.new.self.value in
     let t = c.write.ensures.law.call in
     few_cost g.W.Write cost meter (line_inner {S = g.row.S}) line_buffer (LineWriteCalls g.row.S c.args.x.now) old new t
     (line_write_keeps g.W.Write g.row.S t.2 (line_inner old) (line_inner new) t.1 takes).2
+
+pub returns-clause-all : goal.returns-clause-all
+returns-clause-all g c = λ takes.
+    let t = c.write.ensures.law.call in
+    let keeps = line_write_keeps g.W.Write g.row.S t.2 (line_inner c.args.w.now.value) (line_inner c.write.new.self.value) t.1 takes in
+    (keeps.0, keeps.1)
