@@ -1,19 +1,21 @@
 -- What follows of a copy, if its reader tells its events or its writer its mishaps.
 use Rattle.std.proofs.lemmas.Grind.{common_steps}
 use Rattle.std.proofs.Common.{◌≡◌, Option, None, Some, true, ℕ, List, ◌∷◌, ◌++◌, [], refl, sym, ap, ◌∙◌, subst, arith, Err, append-nil}
-use Rattle.std.proofs.Common.{IfSome, Ok}
+use Rattle.std.proofs.Common.{IfSome, Ok, Result, length, length-append}
+use Rattle.std.specs.List.{concat}
 use Rattle.std.proofs.lemmas.List.Sums.{sum_by-cons}
 use Rattle.no_std_io2_base.specs.declared.error.Error.{Error}
 use Rattle.no_std_io2_base.specs.declared.error.ErrorKind.{ErrorKind}
 use Rattle.no_std_io2_base.specs.Errors.{IsInterruption, IsFault}
 use Rattle.no_std_io2_base.specs.Events.{Event, byte, fails, HasNoFault, EndsInFault}
-use Rattle.no_std_io2_base.specs.Read.{Reader}
+use Rattle.no_std_io2_base.specs.Read.{Reader, ReadCall, Gave, ReadCallLaw, Gathers, no_read, and_gave, and_again}
 use Rattle.no_std_io2_base.specs.Takes.{Tells, Takes, to_come, IsAtEnd}
-use Rattle.no_std_io2_base.specs.Write.{Told, Moves, HasSpent}
-use Rattle.no_std_io2_base.specs.Writers.{Writer}
+use Rattle.no_std_io2_base.specs.Write.{Told, Moves, HasSpent, Made, WriteCall}
+use Rattle.no_std_io2_base.specs.Writers.{Writer, CallOf}
+use Rattle.no_std_io2_base.proofs.CallsLemmas.{made_split}
 use Rattle.no_std_io2_base.proofs.EventLemmas.{HasNoFault-front}
 use Rattle.no_std_io2_base.proofs.MovesLemmas.{Moves-steady}
-use Rattle.no_std_io2.specs.Copy.{CopyEnds, Copied, SidesCopied, side_error}
+use Rattle.no_std_io2.specs.Copy.{CopyEnds, Copied, SidesCopied, side_error, Handed, nothing, piece, refused, HandsOn}
 use Rattle.no_std_io2.specs.declared.util.sides.CopyError.{CopyError}
 use Rattle.no_std_io2.specs.declared.util.sides.CopyError.TheVariants.{Read, Write}
 use Rattle.no_std_io2_base.proofs.TakesLemmas.{left_of}
@@ -65,3 +67,38 @@ stays_steady {a} {c} {x} steady m = none_left c.mishaps (subst (λ k. HasSpent k
 pub flushed : (a : Told) {b c : Told} {x : List ℕ}
     → Moves a x [] b → Moves b [] [] c → c.held ≡ [] → c.out ≡ a.out ++ a.held ++ x
 flushed a {b = b} {c = c} m n empty = grind (arith, common_steps)
+
+-- no pieces, no calls
+none_handed : {S : ℕ} {xs : List (List ℕ)} {C : List WriteCall} {reply : Result (Unit {0}) Error} → Handed S xs C reply → concat xs ≡ []
+    → C ≡ []
+none_handed nothing is = refl
+none_handed (piece {x = x} {xs = xs} some fits calls more) is = absurd (omega (arith, some, ap length is, length-append x (concat xs)))
+none_handed (refused {x = x} some fits calls) is = absurd (omega (arith, some, ap length is, length-append x []))
+
+-- reads without room give nothing
+none_gathered : {R : Type 0} (K : Reader R) {C : List ReadCall} {x : List ℕ} → Gathers (λ _ room. room ≡ 0) C x → (a b : R)
+    → Made (ReadCallLaw K) a C b → x ≡ []
+none_gathered K no_read a b made = refl
+none_gathered K (and_gave C x y room before whole more) a b made =
+    let (mid, first, last) = made_split (ReadCallLaw K) C a (Gave room (Ok y) ∷ []) b made in
+    absurd (omega (arith, whole, more, last.1.bound))
+none_gathered K (and_again C x room e before whole again) a b made =
+    let (mid, first, last) = made_split (ReadCallLaw K) C a (Gave room (Err e) ∷ []) b made in none_gathered K before a mid first
+
+module _ {R W : Type 0} {K : Reader R} {I : Writer W} where
+  hands_none : {last : List ReadCall} {from from' : R} {old new : W} {reply : Result (Unit {0}) Error}
+      → HandsOn K I 0 last from old reply from' new → new ≡ old
+  hands_none {last = last} {from = from} {from' = from'} {old = old} {new = new} hands =
+      let (mid, first, rest) = made_split (ReadCallLaw K) hands.reads from last from' hands.asked in
+      let none : concat hands.pieces ≡ [] = none_gathered K hands.gathered from mid first in
+      subst (λ C. Made (CallOf I) old C new) (none_handed hands.handed none) hands.made
+
+  -- a `copy_with` through an empty buffer, and a `copy_sided` with S = 0, leave the writer as it was,
+  pub sides_none : {from from' : R} {old new : W} (reply : Result ℕ CopyError) → SidesCopied K I 0 from old reply from' new → new ≡ old
+  sides_none (Ok n) copied = hands_none copied.calls
+  sides_none (Err (Read e)) copied = hands_none copied.calls
+  sides_none (Err (Write e)) copied = hands_none copied.calls
+
+  -- and so does a `copy` with S = 0
+  pub copied_none : {from from' : R} {old new : W} (reply : Result ℕ Error) → Copied K I 0 from old reply from' new → new ≡ old
+  copied_none reply (sided, same, copied) = sides_none sided copied

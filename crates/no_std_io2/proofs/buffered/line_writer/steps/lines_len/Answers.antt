@@ -1,8 +1,9 @@
+-- The newline is the last byte; or there is none in a short text; or it is found, or not: each by what the lines are then.
 use Rattle.std.proofs.lemmas.Grind.{common_steps}
-use Rattle.std.proofs.Common.{◌≡◌, ◌+◌, ◌∷◌, ◌++◌, length, drop, take, arith, ap, sym, length-drop}
+use Rattle.std.proofs.Common.{◌≡◌, ◌+◌, ◌∷◌, ◌++◌, length, drop, take, arith, ap, sym, ◌∙◌, length-drop, length-append}
 use Rattle.no_std_io2_base.specs.Pieces.{newline}
-use Rattle.no_std_io2_base.specs.Lines.{lines_len}
-use Rattle.no_std_io2_base.proofs.LineLemmas.{lines_are, lines_none, contains_lacks}
+use Rattle.no_std_io2_base.specs.Lines.{lines_len, lines_of, unfinished_line}
+use Rattle.no_std_io2_base.proofs.LineLemmas.{lines_are, lines_none, lines_split, unfinished_none, contains_lacks}
 use Rattle.no_std_io2.proofs.buffered.line_writer.steps.lines_len.Goals as goal
 
 pub returns-in-Some-clause-lines : goal.returns-in-Some-clause-lines
@@ -24,3 +25,9 @@ pub returns-then-lacks_byte-clause-lines : goal.returns-then-lacks_byte-clause-l
 returns-then-lacks_byte-clause-lines c =
     ap length (sym (lines_none c.args.x.now (contains_lacks newline c.args.x.now (λ has.
     c.lacks_byte.ensures c.if-lacks_byte.true has.0 0 (omega arith) has.1 (grind (arith, common_steps, has.2))))))
+
+pub returns-then-ends_in_newline-clause-lines : goal.returns-then-ends_in_newline-clause-lines
+returns-then-ends_in_newline-clause-lines c =
+    let x = c.args.x.now in
+    let none = unfinished_none x (sym c.ends_in_newline.ensures ∙ c.if-ends_in_newline.true) in
+    omega (arith, ap length (lines_split x), length-append (lines_of x) (unfinished_line x), ap length none)
