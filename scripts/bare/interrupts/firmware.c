@@ -57,11 +57,11 @@ static void send(void)
     bare_take(&port, gone, count);
     sending = port.len > 0;
 #ifdef SLOW
-    // The line of qemu takes no time, and its transmitter is never full. Here it takes the time of 1.6 million bits in a second: no SENT
-    // comes before a timer ends.
+    // The line of qemu takes no time, and its transmitter is never full. Here it carries SLOW bytes in a second: no SENT comes before a
+    // timer ends.
     if (count > 0) {
         LET_IN &= ~SENT;
-        __asm__ volatile("msr cntv_tval_el0, %0\n msr cntv_ctl_el0, %1" : : "r"(62500000 / 160000 * count), "r"(1ul));
+        __asm__ volatile("msr cntv_tval_el0, %0\n msr cntv_ctl_el0, %1" : : "r"(62500000 / SLOW * count), "r"(1ul));
     }
 #endif
 }
