@@ -103,12 +103,12 @@ goes_before whole whole' front Q {a} {b} takes stands = by a.store b.store takes
     by (Some s) None taken moved = absurd moved
     by (Some s) (Some s') taken moved =
         let on : IsBefore whole s → IsBefore whole' s' = stays_before s s' whole whole' front (bytes Q)
-              (sym (bytes-events_of (drop s.position s.content)) ∙ ap bytes taken
-              ∙ bytes-append Q (events_of (drop s'.position s'.content))
-              ∙ ap (λ l. bytes Q ++ l) (bytes-events_of (drop s'.position s'.content)))
-              moved.0 moved.1 stands in
+        (sym (bytes-events_of (drop s.position s.content)) ∙ ap bytes taken
+        ∙ bytes-append Q (events_of (drop s'.position s'.content))
+        ∙ ap (λ l. bytes Q ++ l) (bytes-events_of (drop s'.position s'.content)))
+        moved.0 moved.1 stands in
         let long : length whole + length (bytes Q) ≡ length front + length whole' =
-              sym (length-append whole (bytes Q)) ∙ ap length stands ∙ length-append front whole' in (
+        sym (length-append whole (bytes Q)) ∙ ap length stands ∙ length-append front whole' in (
           keeps_before (λ len was now. now ≡ was + length front) whole whole' s s' moved.0
               (λ before. (on before, omega (arith, long, moved.1, before.0))),
           λ before. (before_decides whole' s').1 (on ((before_decides whole s).0 before)),

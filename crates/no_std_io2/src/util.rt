@@ -1,4 +1,4 @@
-//! Functions over streams: [`copy`] copies a reader to a writer, [`skip`] skips bytes, [`read_exact_at`]
+//! Functions over streams: [`copy`] and [`copy_lent`] copy a reader to a writer, [`skip`] skips bytes, [`read_exact_at`]
 //! reads at a place, and [`write_with_retries`] writes again after a fault. [`empty`], [`repeat`] and
 //! [`sink`] make streams without a device.
 ghost use Rattle.std.specs.Prelude.{◌<◌, ◌^◌};
@@ -9,10 +9,12 @@ use no_std_io2_base::error::Result;
 use no_std_io2_base::internal::failed_to_fill;
 use no_std_io2_base::traits::{BufRead, Read, Write};
 
+mod lent;
 mod read_at;
 mod retries;
 mod sides;
 
+pub use lent::copy_lent;
 pub use no_std_io2_base::empties::Empty;
 pub use no_std_io2_base::makers::{empty, repeat, sink};
 pub use no_std_io2_base::repeats::Repeat;

@@ -12,9 +12,11 @@ returns g c =
     let a = line_inner c.args.self.now in
     let b = sender_inner c.flush.new.self in
     let calls = c.flush.ensures in
-    record { law = record {
-      empty = flush_empty g.W.Write calls.2 a b calls.1;
-      moves = flush_tells g.W.Write _ _ _ _ calls.2 a b calls.1;
-      all = λ no. absurd no.0;
-      call = calls;
-    } }
+    record {
+      law = record {
+        empty = flush_empty g.W.Write calls.2 a b calls.1;
+        moves = flush_tells g.W.Write _ _ _ _ calls.2 a b calls.1;
+        all = λ no. absurd no.0;
+        call = calls;
+      };
+    }

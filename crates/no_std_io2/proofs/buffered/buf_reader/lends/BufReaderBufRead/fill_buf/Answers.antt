@@ -35,9 +35,9 @@ returns-then-len-gt0 g c =
         after_borrow = tt;
       },
     )
-    where
-      not_empty : c.as_slice.result.now ≡ [] → ⊥
-      not_empty none = omega (arith, ap length none, ap length c.as_slice.ensures.value, c.len.ensures.len, c.if-len-gt0.true)
+  where
+    not_empty : c.as_slice.result.now ≡ [] → ⊥
+    not_empty none = omega (arith, ap length none, ap length c.as_slice.ensures.value, c.len.ensures.len, c.if-len-gt0.true)
 
 pub returns-in_err-fill : goal.returns-in_err-fill
 returns-in_err-fill g c =
