@@ -5,7 +5,7 @@
 //! argument. If a line does not go out whole, its rest is tried once more before the next frame is read.
 #![tactic(auto)]
 
-ghost use Rattle.std.specs.Prelude.{◌≡◌, [], OnOk, OnErr};
+ghost use Rattle.std.specs.Prelude.{◌≡◌, [], OnOk};
 ghost use Rattle.line_log.specs.Log.{log_held, log_tells};
 ghost use Rattle.frame_lines.specs.Fits.{FramesFit, LogFits};
 

@@ -2,7 +2,7 @@
 use examples::Narrow;
 use no_std_io2::io::{
     BufRead, BufReader, BufWriter, CopyError, Cursor, ErrorKind, LineWriter, Read, Seek, SeekFrom,
-    Write, copy, copy_sided, read_exact_at, skip, write_with_retries,
+    Write, copy, copy_sided, copy_with, read_exact_at, skip, write_with_retries,
 };
 use std::test::Fail;
 
@@ -118,6 +118,12 @@ fn sides(rt: HostRuntime) -> Result<(), Fail> {
     let mut full = Cursor::new([0u8; 2]);
     let side = copy_sided::<_, _, 64>(&mut from, &mut full);
     assert!(rt; matches!(side, Err(CopyError::Write(_)))); // two of the five bytes fit
+
+    let mut room = [0u8; 64];
+    let mut device = Vec::<u8>::new(rt.alloc());
+    copy_with(&mut Cursor::new(*b"abc"), &mut device, &mut room)?;
+    copy_with(&mut Cursor::new(*b"de"), &mut device, &mut room)?;
+    assert!(rt; device.as_slice() == b"abcde".as_slice());
     Ok(())
 }
 

@@ -5,7 +5,7 @@
 //! if the arguments are no command.
 #![tactic(auto)]
 
-ghost use Rattle.std.specs.Prelude.{◌≡◌, ◌^◌, ◌-◌, length, IfSome, IfNone, OnOk, OnErr};
+ghost use Rattle.std.specs.Prelude.{◌≡◌, length, IfSome, IfNone};
 ghost use Rattle.iotower.specs.declared.Command.{Command as Asked};
 ghost use Rattle.iotower.specs.Words.{verb_of, mode_of, AreWords};
 ghost use Rattle.std.specs.Vec.Iter.{into_iter_items};

@@ -57,9 +57,7 @@ pub fn create<R: Files, P: AsPath>(rt: &R, path: P) -> io::Result<Patient<R::Fil
 /// if that fails, nothing more is done. Rust's std has no such call.
 ///
 /// ```rust
-/// fn main(rt: HostRuntime) -> ExitCode {
-///     report(&rt, "copy", run(&rt))
-/// }
+/// Ok(Some(command)) => report(&rt, "tar_list", run(&rt, command)),
 /// ```
 pub fn report<R: Eprint, E: Display + Drop>(rt: &R, program: &str, answer: Result<(), E>) -> ExitCode
     ensures done { OnOk answer (exit_status result ≡ 0) }

@@ -5,20 +5,20 @@
 //! error, and 2 if there are more arguments or one is not UTF-8.
 #![tactic(auto)]
 
-ghost use Rattle.std.specs.Prelude.{◌≡◌, ◌<◌, [], length, IfSome, IfNone, OnOk, OnErr};
+ghost use Rattle.std.specs.Prelude.{◌<◌, length, IfSome, IfNone, OnOk};
 ghost use Rattle.std.specs.Vec.Iter.{into_iter_items};
 ghost use Rattle.tar_list.specs.Words.{Asks};
-ghost use Rattle.tar_reader.specs.Archives.{archive_inner, gathered, left_of_member};
-ghost use Rattle.no_std_io2.specs.Reads.{Fetched};
-ghost use Rattle.tar_reader.specs.Members.{IsArchiveEnd};
+ghost use Rattle.tar_list.specs.Listing.{PrintsLine, Lists, CopiesMember};
 
-use no_std_io2::io::{BufRead, BufReader, BufWriter, Error, ErrorKind, Result, Write, copy};
+use no_std_io2::io::{
+    BufRead, BufReader, BufWriter, Error, ErrorKind, Read, Result, Take, Write, copy,
+};
 use std::alloc::Global;
 use std::process::ExitCode;
 use std::rt::Env;
 use std::{env, io};
 use system_streams::{report, stdin, stdout};
-use tar_reader::{Archive, Kind};
+use tar_reader::{Archive, Header, Kind};
 
 const USAGE: &str = "usage: tar_list [NAME]";
 
@@ -58,17 +58,21 @@ fn parse_words<R: Env + Alloc<A = Global>>(rt: &R) -> Result<Option<Command>> {
     }
 }
 
-// Prints a line for each member: its size and its name.
+// Prints the line of a member: its size and its name.
+fn print_line<W: Write>(header: &Header, out: &mut W) -> Result<()>
+    ensures { PrintsLine header.now (W.told out.old) result (W.told out.new) }
+{
+    write!(out, "{} ", header.member_len())?;
+    out.write_all(header.name.as_slice())?;
+    out.write_all(b"\n")
+}
+
+// Prints the line of each member, and flushes.
 fn list<R: BufRead, W: Write>(archive: &mut Archive<R>, out: &mut W) -> Result<()>
-    // After `Ok`, the archive is at its end, and the writer has sent all that it holds.
-    ensures ended { Fetched R.BufRead (archive_inner archive.old) (λ x how. OnOk result (IsArchiveEnd (gathered archive.new) how))
-        (archive_inner archive.new) }
-    ensures flushed { OnOk result ((W.told out.new).held ≡ []) }
+    ensures { Lists R.BufRead archive.old (W.told out.old) result archive.new (W.told out.new) }
 {
     'members: while let Some(header) = archive.next()? {
-        write!(out, "{} ", header.member_len())?;
-        out.write_all(header.name.as_slice())?;
-        out.write_all(b"\n")?;
+        print_line(&header, out)?;
     }
     out.flush()
 }
@@ -79,9 +83,7 @@ fn copy_member<R: BufRead, W: Write>(
     name: &str,
     out: &mut W,
 ) -> Result<()>
-    // After `Ok`, no byte of the member is left, and the writer has sent all that it holds.
-    ensures whole { OnOk result (left_of_member archive.new ≡ 0) }
-    ensures flushed { OnOk result ((W.told out.new).held ≡ []) }
+    ensures { OnOk result (CopiesMember R.BufRead ⟦<Take<R> as Read>⟧ W.Write name.now archive.old out.old archive.new out.new) }
 {
     let Some(header) = archive.find(name.as_bytes())? else {
         return Err(Error::new(ErrorKind::NotFound, "no member has this name"));

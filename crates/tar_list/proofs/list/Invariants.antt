@@ -1,14 +1,24 @@
--- Each member spends turns of the input, which met neither its end nor a fault.
-use Rattle.std.proofs.Common.{List, ℕ, true, Ok}
+-- Members were passed over, and their lines were printed.
+use Rattle.std.proofs.Common.{List, ℕ, ◌≡◌, ◌++◌, [], Option, true, Ok, Result}
 use Rattle.no_std_io2.proofs.Readers.{lends}
-use Rattle.tar_reader.specs.Archives.{archive_inner, archive_turns}
+use Rattle.no_std_io2.specs.declared.io.Error.{Error}
 use Rattle.no_std_io2.specs.Reads.{Fetches}
+use Rattle.no_std_io2.specs.Write.{Moves}
+use Rattle.tar_reader.specs.declared.header.Header.{Header}
+use Rattle.tar_reader.specs.Archives.{archive_inner, left_of_member, gathered, to_pass, archive_turns}
+use Rattle.tar_reader.specs.Members.{Passes, Settles}
+use Rattle.tar_list.specs.Listing.{lines_of}
 use Rattle.tar_list.proofs.list.Given as goal
 
 abbrev pub invariant-members : goal.invariant-members
 invariant-members g l = record {
   given : List ℕ;
   fetches : Fetches (lends g.R.Stored g.R.Read g.R.BufRead) (archive_inner l.initial.archive) given (Ok true) (archive_inner l.archive);
+  headers : List Header;
+  still : (was : Result (Option Header) Error) → Settles (gathered l.initial.archive) was → l.archive ≡ l.initial.archive;
+  passes : Passes (to_pass l.initial.archive) (left_of_member l.initial.archive) (gathered l.initial.archive ++ given) headers
+      (to_pass l.archive) (left_of_member l.archive) (gathered l.archive);
+  printed : Moves (g.W.Write.told l.initial.out) (lines_of headers) [] (g.W.Write.told l.out);
 }
 
 abbrev pub decreases-members : goal.decreases-members
