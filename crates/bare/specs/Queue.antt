@@ -1,6 +1,8 @@
 -- What a queue holds, and what a call does to it.
 use Rattle.std.specs.Prelude.{◌≡◌, ℕ, ◌<◌, ◌-◌, min, List, length, take, Ok, Err, IsOk}
 use Rattle.no_std_io2.specs.Write.{WriteCall, Wrote, Flushed}
+use Rattle.no_std_io2.specs.Errors.{error_kind}
+use Rattle.no_std_io2.specs.declared.io.ErrorKind.TheVariants.{WouldBlock}
 use Rattle.bare.specs.declared.queue.Queue.{Queue}
 
 -- how many bytes a queue has room for
@@ -11,9 +13,9 @@ capacity = 64
 abbrev pub waiting : Queue → List ℕ
 waiting q = take q.len q.bytes
 
--- A write takes as many bytes as fit. It fails if it has bytes and none fits, and changes nothing then. No other call fails.
+-- A write takes as many bytes as fit. If it has bytes and none fits, it is `WouldBlock`, and changes nothing. No other call fails.
 abbrev pub QueueMay : Queue → WriteCall → Queue → Type 0
 QueueMay old (Wrote x (Ok n)) new = (n ≡ min (length x) (capacity - length (waiting old))) × (0 < length x → 0 < n)
-QueueMay old (Wrote x (Err e)) new = (length (waiting old) ≡ capacity) × (waiting new ≡ waiting old)
+QueueMay old (Wrote x (Err e)) new = (length (waiting old) ≡ capacity) × (waiting new ≡ waiting old) × (error_kind e ≡ WouldBlock)
 QueueMay old (Flushed reply) new = IsOk reply
 QueueMay old _ new = ⊥

@@ -1,3 +1,4 @@
+-- The search does not join what the copy took of the slice with what the buffer and the queue accepted.
 use Rattle.std.proofs.lemmas.Result.{err_from_is_err_and}
 use Rattle.bare.proofs.FullLemmas.{flush_done, flush_full}
 use Rattle.bare.proofs.CopyLemmas.{copied, copy_full}

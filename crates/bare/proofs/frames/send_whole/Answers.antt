@@ -1,3 +1,4 @@
+-- Why a frame does not fit: the search does not take apart the law of the `send` or of the `flush` that failed.
 use Rattle.std.proofs.Common.{arith}
 use Rattle.std.proofs.lemmas.Result.{err_from_is_err_and}
 use Rattle.bare.proofs.FullLemmas.{flush_full}

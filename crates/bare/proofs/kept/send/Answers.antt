@@ -1,3 +1,4 @@
+-- The search does not put the bytes that wait in place of the slice that `write_rest` was given.
 use Rattle.std.proofs.Common.{◌-◌, length, drop, ap, subst, ◌∙◌}
 use Rattle.no_std_io2.specs.Writers.{WriteRestOf}
 use Rattle.bare.specs.Queue.{waiting}

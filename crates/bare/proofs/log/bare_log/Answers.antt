@@ -1,3 +1,4 @@
+-- The search does not see that the two puts are one of the whole line, and the two sendings one sending of all.
 use Rattle.std.proofs.lemmas.Grind.{common_steps}
 use Rattle.std.proofs.Common.{◌≡◌, length, ◌++◌, ap, subst, inl, arith}
 use Rattle.no_std_io2.specs.Pieces.{newline}

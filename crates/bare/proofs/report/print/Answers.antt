@@ -1,3 +1,4 @@
+-- The search does not join the next text with those that were printed, nor all of them with the flush.
 use Rattle.std.proofs.Common.{arith, take_all}
 use Rattle.no_std_io2.proofs.MovesLemmas.{Moves-refl}
 use Rattle.no_std_io2.proofs.TextLemmas.{MovesFront-text}
