@@ -1,0 +1,91 @@
+// `run_reads` on a buffered reader of 4 bytes over a slice whose reads are counted. A row is `run` and the asks; then how many met the
+// end and how many failed, how many inner reads there were since the row before, and how many there may be at most.
+ghost use Rattle.io_bench.specs.Asks.{AllFit, Fits};
+
+use crate::shown::Shown;
+use io_bench::{Ask, Tally, run_reads};
+use no_std_io2::io::BufReader;
+use rows_play::calls::Call;
+use rows_play::fault::{Fault, Made};
+use rows_play::line::{Line, cut, unescape};
+use rows_play::player::{Player, Stream};
+use std::alloc::Global;
+
+// The most bytes of an ask.
+const ROOM: usize = 16;
+
+const SIZE: usize = 4;
+
+// Returns an ask, for a read of at most `ROOM` bytes.
+fn ask_of(words: &str, line: &mut Line) -> Ask
+    ensures { Fits 16 result }
+{
+    let (word, count) = cut(words, " ");
+    match (word, count.parse::<usize>()) {
+        ("read", Ok(count)) => Ask::Read(count.min(ROOM)),
+        ("exact", Ok(count)) => Ask::Exact(count.min(ROOM)),
+        ("fill", Ok(count)) => Ask::Fill(count),
+        _ => {
+            line.tell(Fault::NoCall);
+            Ask::Fill(0)
+        }
+    }
+}
+
+// Returns the asks of a row.
+#[tactic(auto, using(crate::proofs::AsksFit::all_fit_then))]
+fn asks_of(alloc: Global, words: &str, line: &mut Line) -> Vec<Ask>
+    ensures { AllFit 16 result.items }
+{
+    let mut asks = Vec::new(alloc);
+    if words.is_empty() {
+        return asks;
+    }
+    'asks: for words in words.split(", ") {
+        let ask = ask_of(words, line);
+        if asks.push(ask).is_err() {
+            line.cut();
+        }
+    }
+    asks
+}
+
+// A buffered reader, and how many inner reads the rows so far made.
+#[derive(Drop)]
+struct Asking<'a> {
+    reader: BufReader<Tally<&'a [u8]>, SIZE>,
+}
+
+impl<'a> Asking<'a> {
+    // Returns how many bytes are held or left.
+    fn to_come(&self) -> usize {
+        let left = self.reader.get_ref().get_ref().len();
+        left.wrapping_add(self.reader.buffer().len())
+    }
+}
+
+impl<'a> Stream for Asking<'a> {
+    fn play(&mut self, alloc: Global, call: &Call<'_>, line: &mut Line) {
+        let (reads, before) = (self.reader.get_ref().reads(), self.to_come());
+        let asks = asks_of(alloc, call.rest, line);
+        let totals = run_reads(&mut self.reader, &asks, &mut [0; ROOM]);
+        let taken = before.wrapping_sub(self.to_come());
+        line.word("at_end ");
+        line.number(totals.at_end);
+        line.word(", failed ");
+        line.number(totals.failed);
+        line.column();
+        line.number(self.reader.get_ref().reads().wrapping_sub(reads));
+        line.word(" reads, at most ");
+        let most = (taken / SIZE) as u64;
+        line.number(most.wrapping_add(totals.at_end).wrapping_add(1));
+        self.reader.show(line);
+    }
+}
+
+/// Lends a buffered reader over the bytes of a line.
+pub fn lend(words: &str, player: &mut Player<'_, '_>) -> Made<()> {
+    let bytes = unescape(player.alloc, words)?;
+    let reader = BufReader::new(Tally::new(bytes.as_slice()));
+    player.play(&mut Asking { reader })
+}

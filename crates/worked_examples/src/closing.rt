@@ -1,0 +1,109 @@
+// `run_closed` over a sink whose writes are counted, and over one that notes their lengths. A row is `run` and the calls; then their
+// replies, how many inner writes there were and of how many bytes each, and how many there may be at most.
+ghost use Rattle.std.specs.Prelude.{⊤};
+
+use crate::writing::{ops_of, parse_calls, show_replies};
+use io_bench::{Op, Reply, Tally, run_closed};
+use no_std_io2::io::{Result, Sink, Write};
+use rows_play::calls::Call;
+use rows_play::fault::{Fault, Made};
+use rows_play::line::Line;
+use rows_play::player::{Player, Stream};
+use std::alloc::Global;
+
+// A sink that notes the lengths of its writes.
+#[derive(Drop)]
+struct Lengths {
+    sink: Sink,
+    lengths: Line,
+}
+
+impl Write for Lengths {
+    ghost use Rattle.no_std_io2.specs.Sink.{sink_told};
+
+    ghost told = { λ w. sink_told w.sink };
+
+    ghost takes_all = { λ _. ⊤ };
+
+    fn write(&mut self, buf: &[u8]) -> Result<usize> {
+        if !self.lengths.is_empty() {
+            self.lengths.word(", ");
+        }
+        self.lengths.number(buf.len() as u64);
+        self.sink.write(buf)
+    }
+
+    fn flush(&mut self) -> Result<()> {
+        self.sink.flush()
+    }
+}
+
+// Returns the bound on the inner writes of a run of F flushes and N bytes through S: `2 * (N / (S + 1)) + F + 1`.
+fn most_writes(calls: &[Call<'_>], size: u64) -> u64 {
+    let mut given: u64 = 0;
+    let mut flushes: u64 = 0;
+    'calls: for call in calls {
+        given = given.wrapping_add(call.bytes.len() as u64);
+        if call.word == "flush" {
+            flushes = flushes.wrapping_add(1);
+        }
+    }
+    let sent = given.checked_div(size.wrapping_add(1)).unwrap_or(0);
+    sent.wrapping_mul(2).wrapping_add(flushes).wrapping_add(1)
+}
+
+// Makes a run over a sink, and returns the number of its inner writes.
+fn count<const S: usize>(ops: &[Op<'_>], replies: &mut Vec<Reply>) -> Result<u64> {
+    if S == 0 || S >= 1 << 32 {
+        return Ok(0);
+    }
+    Ok(run_closed::<Sink, S>(Tally::new(Sink::new()), ops, replies)?.writes())
+}
+
+// Makes the same run over a sink that notes the lengths, and prints them.
+fn show_lengths<const S: usize>(alloc: Global, ops: &[Op<'_>], line: &mut Line) {
+    if S == 0 || S >= 1 << 32 {
+        return;
+    }
+    let device = Lengths {
+        sink: Sink::new(),
+        lengths: Line::new(alloc),
+    };
+    match run_closed::<Lengths, S>(Tally::new(device), ops, &mut Vec::new(alloc)) {
+        Ok(tally) => line.text(tally.get_ref().lengths.as_str()),
+        Err(_refused) => line.cut(),
+    }
+}
+
+// Runs through a buffer of S bytes.
+#[derive(Drop)]
+struct Closing<const S: usize>;
+
+impl<const S: usize> Stream for Closing<S> {
+    fn play(&mut self, alloc: Global, call: &Call<'_>, line: &mut Line) {
+        let calls = parse_calls(alloc, call.rest, line);
+        let ops = ops_of(alloc, &calls, line);
+        let mut replies = Vec::new(alloc);
+        match count::<S>(&ops, &mut replies) {
+            Ok(writes) => {
+                show_replies(&replies, line);
+                line.column();
+                line.number(writes);
+            }
+            Err(_refused) => line.cut(),
+        }
+        line.word(" writes of ");
+        show_lengths::<S>(alloc, &ops, line);
+        line.word(", at most ");
+        line.number(most_writes(&calls, S as u64));
+    }
+}
+
+/// Lends runs through a buffer of this size.
+pub fn lend(name: &str, player: &mut Player<'_, '_>) -> Made<()> {
+    match name {
+        "8" => player.play(&mut Closing::<8>),
+        "1" => player.play(&mut Closing::<1>),
+        _ => Err(Fault::NoStream),
+    }
+}

@@ -1,0 +1,162 @@
+// The writers of the examples.
+ghost use Rattle.no_std_io2.specs.BufWriter.{BufWriterFits};
+
+use crate::devices::{Device, new_device, parse_acts};
+use crate::shown::{Shown, show_bytes};
+use crate::writing::{play, play_unwrapping};
+use io_bench::{Faulty, Tally};
+use no_std_io2::io::{BufWriter, LineWriter, Result, Sink, Write};
+use rows_play::calls::Call;
+use rows_play::fault::{Fault, Made};
+use rows_play::line::{Line, cut, cut_last};
+use rows_play::player::{Player, Stream};
+use std::alloc::Global;
+use system_streams::{Patient, ToStd};
+
+/// A writer that takes at most `most` bytes in a call.
+#[derive(Drop)]
+pub struct Narrow {
+    taken: Vec<u8>,
+    most: usize,
+}
+
+impl Write for Narrow {
+    ghost use Rattle.no_std_io2.specs.Write.{told_out};
+
+    ghost told = { λ d. told_out d.taken.items };
+
+    fn write(&mut self, buf: &[u8]) -> Result<usize> {
+        let n = buf.len().min(self.most);
+        self.taken.extend_from_slice(&buf[..n])?;
+        Ok(n)
+    }
+
+    fn flush(&mut self) -> Result<()> {
+        Ok(())
+    }
+}
+
+impl Shown for Narrow {
+    fn show(&self, line: &mut Line) {
+        show_bytes("out ", &self.taken, line);
+    }
+}
+
+type Object = Box<dyn Write + Drop>;
+
+/// Lends the writer of this name, which ends with the name of its device.
+pub fn lend(name: &str, words: &str, player: &mut Player<'_, '_>) -> Made<()> {
+    let (level, device) = cut_last(name, " ");
+    match device {
+        "Vec" => lend_vector(level, player),
+        "Faulty" => lend_faulty(level, words, player),
+        "Sink" => lend_sink(level, player),
+        "Narrow" => lend_narrow(words, player),
+        "std" => lend_patient(words, player),
+        _ => Err(Fault::NoStream),
+    }
+}
+
+fn lend_vector(level: &str, player: &mut Player<'_, '_>) -> Made<()> {
+    let vector = Vec::<u8>::new(player.alloc);
+    match level {
+        "" => play(vector, player),
+        "BufWriter 8" => play_unwrapping(BufWriter::<Vec<u8>, 8>::new(vector), player),
+        "LineWriter 64" => play(LineWriter::<Vec<u8>, 64>::new(vector), player),
+        _ => Err(Fault::NoStream),
+    }
+}
+
+fn lend_faulty(level: &str, words: &str, player: &mut Player<'_, '_>) -> Made<()> {
+    let device = new_device(player.alloc, words)?;
+    match level {
+        "" => play(device, player),
+        "BufWriter 8" => play_unwrapping(BufWriter::<Device, 8>::new(device), player),
+        "LineWriter 0" => play(LineWriter::<Device, 0>::new(device), player),
+        "LineWriter 1" => play(LineWriter::<Device, 1>::new(device), player),
+        "LineWriter 4" => play(LineWriter::<Device, 4>::new(device), player),
+        "LineWriter 8" => play(LineWriter::<Device, 8>::new(device), player),
+        "LineWriter 8 BufWriter 8 Box dyn" => lend_boxed(device, player),
+        _ => Err(Fault::NoStream),
+    }
+}
+
+fn lend_boxed(device: Device, player: &mut Player<'_, '_>) -> Made<()> {
+    let object: Object = Box::new(player.alloc, device)?;
+    let below = BufWriter::<Object, 8>::new(object);
+    play(LineWriter::<BufWriter<Object, 8>, 8>::new(below), player)
+}
+
+fn lend_sink(level: &str, player: &mut Player<'_, '_>) -> Made<()> {
+    let tally = Tally::new(Sink::new());
+    match level {
+        "BufWriter 0 Tally" => play(BufWriter::<Tally<Sink>, 0>::new(tally), player),
+        "LineWriter 4 Tally" => play(LineWriter::<Tally<Sink>, 4>::new(tally), player),
+        "LineWriter 8 Box dyn" => {
+            let object: Object = Box::new(player.alloc, Sink::new())?;
+            play(LineWriter::<Object, 8>::new(object), player)
+        }
+        _ => Err(Fault::NoStream),
+    }
+}
+
+fn lend_narrow(words: &str, player: &mut Player<'_, '_>) -> Made<()> {
+    let taken = Vec::new(player.alloc);
+    match words.parse::<usize>() {
+        Ok(most) => play(Narrow { taken, most }, player),
+        Err(_) => Err(Fault::NoNumber),
+    }
+}
+
+// Lends a writer of the standard library with this many turns, `1 of ACTS`.
+fn lend_patient(words: &str, player: &mut Player<'_, '_>) -> Made<()> {
+    let (turns, acts) = cut(words, " of ");
+    let device = ToStd::new(new_device(player.alloc, acts)?);
+    match turns.parse::<u64>() {
+        Ok(turns) => play(Patient::new(device, turns), player),
+        Err(_) => Err(Fault::NoNumber),
+    }
+}
+
+// A vector that is lent to a buffer of 8 bytes, which a row writes to and drops.
+#[derive(Drop)]
+struct Lending<'a> {
+    name: &'a str,
+    words: &'a str,
+    vector: Vec<u8>,
+}
+
+// Writes to a new buffer over a device, which is dropped then.
+fn write_and_drop<W: Write + Drop>(device: W, call: &Call<'_>, line: &mut Line)
+    requires { BufWriterFits W.row 8 }
+{
+    let mut w = BufWriter::<W, 8>::new(device);
+    match call.word {
+        "write" => line.length(&w.write(&call.bytes)),
+        "write_all" => line.done(&w.write_all(&call.bytes)),
+        _ => line.tell(Fault::NoCall),
+    }
+}
+
+impl<'a> Stream for Lending<'a> {
+    fn play(&mut self, alloc: Global, call: &Call<'_>, line: &mut Line) {
+        match (self.name, parse_acts(alloc, self.words)) {
+            ("BufWriter 8 &mut Vec", _) => write_and_drop(&mut self.vector, call, line),
+            ("BufWriter 8 Faulty &mut Vec", Ok(acts)) => {
+                write_and_drop(Faulty::new(&mut self.vector, acts), call, line);
+            }
+            _ => line.tell(Fault::NoStream),
+        }
+        show_bytes("vector ", &self.vector, line);
+    }
+}
+
+/// Lends a buffer over a borrowed vector.
+pub fn lend_lent(name: &str, words: &str, player: &mut Player<'_, '_>) -> Made<()> {
+    let vector = Vec::new(player.alloc);
+    player.play(&mut Lending {
+        name,
+        words,
+        vector,
+    })
+}
