@@ -1,4 +1,5 @@
-//! Stands for the crate `memchr`, of which the original crate calls two functions, where there is no C library: as short as it can be.
+//! Stands for the crate `memchr`, of which the original crate calls two functions, where there is no C library: as
+//! short as it can be.
 #![no_std]
 
 /// Where this byte first stands.

@@ -1,6 +1,6 @@
-// Prints the most stack that calls of bare.h take: those of the parts that are defined, of REPORT, LOG, MESSAGES, FRAMES
-// and COPY. The stack is painted below the place of the call, and then read from its far end up to the first byte that changed. A program
-// without the C library.
+// Prints the most stack that calls of bare.h take: those of the parts that are defined, of REPORT, LOG, MESSAGES,
+// FRAMES and COPY. The stack is painted below the place of the call, and then read from its far end up to the first
+// byte that changed. A program without the C library.
 #include "bare.h"
 
 #define DEEP 16384

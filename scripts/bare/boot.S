@@ -1,4 +1,4 @@
-# From the loader's 32 bits to 64 bits, with the first GiB mapped as it is and the registers of SSE on, and then to `run`.
+# From the loader's 32 bits to 64 bits, with the first GiB mapped as it is and the registers of SSE on; then to `run`.
         .section .start, "a"
         .long 0x1badb002, 0, -0x1badb002
         .bss

@@ -1,5 +1,6 @@
-// From the start of a 64-bit Arm board, at exception level 1, to `run`: the registers of SIMD on, the memory mapped as it is, with caches,
-// so that an address need not be a multiple, and a stack. When `run` returns, the board ends with status 0.
+// From the start of a 64-bit Arm board, at exception level 1, to `run`: the registers of SIMD on, the memory mapped as
+// it is, with caches, so that an address need not be a multiple, and a stack. When `run` returns, the board ends with
+// status 0.
         .section .start, "ax"
         .globl  _start, finish
         .weak   vectors

@@ -1,4 +1,5 @@
-// Plays a script of calls of bare.h, and prints what each returned and what it left in memory. check_bare says what a line is.
+// Plays a script of calls of bare.h, and prints what each returned and what it left in memory. check_bare says what a
+// line is.
 #include "play.h"
 #include "bare.h"
 

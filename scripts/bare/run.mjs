@@ -1,4 +1,5 @@
-// The home of WebAssembly: plays a script over the module, as play.c does: node --experimental-wasm-memory64 run.mjs MODULE <SCRIPT.
+// The home of WebAssembly: plays a script over the module, as play.c does: node --experimental-wasm-memory64 run.mjs
+// MODULE <SCRIPT.
 import fs from 'fs';
 
 const module = await WebAssembly.compile(fs.readFileSync(process.argv[2]));
@@ -6,7 +7,8 @@ if (WebAssembly.Module.imports(module).length > 0) throw new Error('the module h
 const {exports} = await WebAssembly.instantiate(module, {});
 const memory = new DataView(exports.memory.buffer);
 const PLACE = BigInt(memory.byteLength - 4096);
-const [KEPT, PORT, INBOX, LEN, LEFT, READINGS, BYTES, ROOM] = [0n, 72n, 144n, 216n, 224n, 232n, 512n, 1024n].map(it => PLACE + it);
+const PLACES = [0n, 72n, 144n, 216n, 224n, 232n, 512n, 1024n].map(it => PLACE + it);
+const [KEPT, PORT, INBOX, LEN, LEFT, READINGS, BYTES, ROOM] = PLACES;
 if (exports.__heap_base && exports.__heap_base.value > PLACE) throw new Error('the module uses the end of its memory');
 
 const hex = (from, count) => Buffer.from(memory.buffer, Number(from), count).toString('hex') + ' ';

@@ -1,5 +1,6 @@
 -- What a copy of a slice moved.
-use Rattle.std.proofs.Common.{◌≡◌, ℕ, ◌+◌, ◌<◌, List, [], Some, Result, Ok, Err, length, ap, subst, ◌∙◌, arith, length-append}
+use Rattle.std.proofs.lemmas.Grind.{common_steps}
+use Rattle.std.proofs.Common.{◌≡◌, ℕ, ◌+◌, ◌<◌, List, [], Some, Result, Ok, Err, length, ap, subst, arith, length-append}
 use Rattle.no_std_io2.specs.declared.io.Error.{Error}
 use Rattle.no_std_io2.specs.declared.io.BufWriter.{BufWriter}
 use Rattle.no_std_io2.specs.declared.util.sides.CopyError.TheVariants.{Read, Write}
@@ -20,10 +21,7 @@ module _ {R : Type 0} {K : Reader R} {a a' : R} {w w' : BufWriter Queue 32} (fro
   -- all its bytes, if the copy returned `Ok`
   pub copied : {r : Result ℕ Error} {n : ℕ} → r ≡ Ok n → Copied K buffered 16 a w r a' w'
       → Moves (buffered.told w) from [] (buffered.told w')
-  copied ok copies =
-      let whole = copied_ok (subst (λ r. Copied K buffered 16 a w r a' w') ok copies) in
-      let all = took_all whole.takes is (whole.ends.1 (omega arith)) in
-      subst (λ l. Moves (buffered.told w) l [] (buffered.told w')) (ap bytes all.0 ∙ bytes-events_of from) whole.ends.3
+  copied ok copies = grind (arith, common_steps, buffered, bytes-events_of, copied_ok, took_all)
 
   -- else they do not fit
   pub copy_full : {r : Result ℕ Error} {e : Error} → r ≡ Err e → Copied K buffered 16 a w r a' w'

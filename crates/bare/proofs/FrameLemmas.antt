@@ -1,10 +1,10 @@
 -- What a writer of frames puts into a queue.
 use Rattle.std.proofs.Common.{◌≡◌, ℕ, ◌+◌, ◌<◌, List, [], length, Result, Ok, Err}
-use Rattle.std.proofs.Common.{subst, inl, inr, arith, length-append}
+use Rattle.std.proofs.Common.{inl, inr, arith, length-append}
 use Rattle.std.specs.Int.{w32, to_le_bytes}
 use Rattle.no_std_io2.specs.declared.io.Error.{Error}
 use Rattle.framing.specs.Frames.{frame}
-use Rattle.framing.specs.Sending.{frame_writer, PutsFrame, SendsFrame}
+use Rattle.framing.specs.Sending.{frame_writer, SendsFrame}
 use Rattle.framing.specs.declared.writer.FrameWriter.{FrameWriter}
 use Rattle.bare.specs.declared.queue.Queue.{Queue}
 use Rattle.bare.specs.Queue.{capacity}
@@ -22,12 +22,7 @@ module _ {S : ℕ} {w w' : FrameWriter Queue S} (payload : List ℕ) where
   -- or that failed: if the buffer is longer than all for which a queue has room, it does not fit
   pub frame_full : capacity < S → {r : Result (Unit {0}) Error} {e : Error} → r ≡ Err e → SendsFrame queue payload w r w'
       → capacity < size (buffered.told (frame_writer w)) + length (frame payload)
-  frame_full less err sends = elim sends [
-    | inl short ↦
-        let law = subst (λ r. PutsFrame queue payload w r w') err short.1 in
-        omega (arith, put (frame_writer w) (frame_writer w') (omega (arith, short.0.0, header)) law.calls, size-moves law.moves)
-    | inr long ↦ elim long.0 [ inl past ↦ omega (arith, less, past, header) | inr huge ↦ omega (arith, huge, header) ]
-  ]
+  frame_full less err sends = grind (arith, header, put, queue, size-moves)
     where
       header : length (frame payload) ≡ 4 + length payload
       header = length-append (to_le_bytes w32 (length payload)) payload

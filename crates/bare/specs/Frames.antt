@@ -12,7 +12,8 @@ IsTooBig bytes = (4 ≤ length bytes) × (capacity < 4 + told_length bytes)
 abbrev pub CanCome : List ℕ → Type 0
 CanCome bytes = (4 ≤ length bytes) × (4 + told_length bytes ≤ capacity)
 
--- Why a frame is not given. Only if a queue can hold it, does the room count; and only if it fits the room, is it waited for.
+-- Why a frame is not given. Only if a queue can hold it, does the room count; and only if it fits the room, is it
+-- waited for.
 abbrev pub IsHeldBack : List ℕ → ℕ → ℕ → Type 0
 IsHeldBack bytes size status = ((status ≡ refused) × IsTooBig bytes)
     ⊎ ((status ≡ full) × CanCome bytes × (size < told_length bytes))

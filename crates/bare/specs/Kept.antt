@@ -5,7 +5,8 @@ use Rattle.bare.specs.Status.{done, kept, full, refused}
 use Rattle.bare.specs.declared.queue.Queue.{Queue}
 use Rattle.bare.specs.Queue.{waiting, capacity}
 
--- The waiting bytes went to the port, in order: all of them, or as many as the port took until it was full. The others are kept.
+-- The waiting bytes went to the port, in order: all of them, or as many as the port took until it was full. The others
+-- are kept.
 pub record Resumes (waiting port : List ℕ) (status : ℕ) (waiting' port' : List ℕ) : Type 0 where
   -- what is in the port stays there
   pub front : IsFront port port'
@@ -18,8 +19,8 @@ abbrev pub resume_status : {E : Type 0} → Result (Unit {0}) E → ℕ
 resume_status (Ok u) = done
 resume_status (Err e) = kept
 
--- The port has all that was kept, and these bytes behind it. Or these bytes fit into a queue, but not there; then only kept bytes went to
--- the port, as many as it took.
+-- The port has all that was kept, and these bytes behind it. Or these bytes fit into a queue, but not there; then only
+-- kept bytes went to the port, as many as it took.
 abbrev pub AppendsOrNot : List ℕ → Queue → Queue → ℕ → Queue → Queue → Type 0
 AppendsOrNot bytes kept port status kept' port' =
     ((status ≡ done) × (waiting kept' ≡ []) × (waiting port' ≡ waiting port ++ waiting kept ++ bytes))
@@ -35,7 +36,8 @@ abbrev pub Appends : List ℕ → Queue → Queue → ℕ → Queue → Queue �
 Appends bytes kept port status kept' port' = AppendsOrNot bytes kept port status kept' port'
     ⊎ ((status ≡ refused) × (capacity < length bytes) × IsSame kept port kept' port')
 
--- A text was printed and appended, or not; or it was not printed, and nothing changed. Why not is not said: no `fmt` says when it fails.
+-- A text was printed and appended, or not; or it was not printed, and nothing changed. Why not is not said: no `fmt`
+-- says when it fails.
 abbrev pub PrintsOrNot : List ℕ → Queue → Queue → ℕ → Queue → Queue → Type 0
 PrintsOrNot text kept port status kept' port' =
     AppendsOrNot text kept port status kept' port' ⊎ ((status ≡ refused) × IsSame kept port kept' port')

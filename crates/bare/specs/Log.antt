@@ -17,8 +17,8 @@ IsShortLine text = Lacks newline text × (length text < capacity)
 abbrev pub IsNoLine : List ℕ → Type 0
 IsNoLine text = Contains text newline ⊎ (capacity ≤ length text)
 
--- A line was logged: it waits behind the kept bytes, and they are sent. Or it can't be a line, and nothing changed. Or it can, the port is
--- full, it does not fit beside what is still kept, and only the kept bytes were sent.
+-- A line was logged: it waits behind the kept bytes, and they are sent. Or it can't be a line, and nothing changed. Or
+-- it can, the port is full, it does not fit beside what is still kept, and only the kept bytes were sent.
 abbrev pub LogsThrough : List ℕ → List ℕ → List ℕ → ℕ → List ℕ → List ℕ → Type 0
 LogsThrough text waiting port status waiting' port' =
     (IsShortLine text × Resumes (waiting ++ line text) port status waiting' port')

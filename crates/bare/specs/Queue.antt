@@ -13,7 +13,8 @@ capacity = 64
 abbrev pub waiting : Queue → List ℕ
 waiting q = take q.len q.bytes
 
--- A write takes as many bytes as fit. If it has bytes and none fits, it is `WouldBlock`, and changes nothing. No other call fails.
+-- A write takes as many bytes as fit. If it has bytes and none fits, it is `WouldBlock`, and changes nothing. No other
+-- call fails.
 abbrev pub QueueMay : Queue → WriteCall → Queue → Type 0
 QueueMay old (Wrote x (Ok n)) new = (n ≡ min (length x) (capacity - length (waiting old))) × (0 < length x → 0 < n)
 QueueMay old (Wrote x (Err e)) new = (length (waiting old) ≡ capacity) × (waiting new ≡ waiting old) × (error_kind e ≡ WouldBlock)

@@ -23,8 +23,8 @@ fn copy_whole(from: &[u8], w: &mut BufWriter<Queue, 32>) -> Result<()>
 
 /// Copies these bytes behind those that wait for the port, in pieces. The kept bytes go first.
 ///
-/// Returns [`DONE`](crate::DONE) if the port has all of them. Returns [`FULL`](crate::FULL) if they do not fit; then only kept bytes were
-/// sent. Returns [`REFUSED`] if they are more than 64; then nothing has changed.
+/// Returns [`DONE`](crate::DONE) if the port has all of them. Returns [`FULL`](crate::FULL) if they do not fit; then
+/// only kept bytes were sent. Returns [`REFUSED`] if they are more than 64; then nothing has changed.
 #[unsafe(no_mangle)]
 pub extern "C" fn bare_copy(kept: &mut Queue, port: &mut Queue, from: &[u8]) -> u32
     ensures { Appends from.now kept.old port.old result kept.new port.new }

@@ -29,11 +29,11 @@ fn send_whole(w: &mut FrameWriter<Queue, ROOM>, payload: &[u8]) -> Result<()>
     w.flush()
 }
 
-/// Puts the frame of a payload behind the bytes that wait for the port: its length in four bytes, the lowest first, and its bytes. The
-/// kept bytes go first.
+/// Puts the frame of a payload behind the bytes that wait for the port: its length in four bytes, the lowest first, and
+/// its bytes. The kept bytes go first.
 ///
-/// Returns [`DONE`] if the port has the whole frame. Returns [`FULL`] if it does not fit; then only kept bytes were sent. Returns
-/// [`REFUSED`] if the payload has more than 60 bytes; then nothing has changed.
+/// Returns [`DONE`] if the port has the whole frame. Returns [`FULL`] if it does not fit; then only kept bytes were
+/// sent. Returns [`REFUSED`] if the payload has more than 60 bytes; then nothing has changed.
 #[unsafe(no_mangle)]
 pub extern "C" fn bare_send(kept: &mut Queue, port: &mut Queue, payload: &[u8]) -> u32
     ensures { Appends (frame payload.now) kept.old port.old result kept.new port.new }
@@ -59,9 +59,9 @@ fn told_len(bytes: &[u8]) -> Option<usize>
 
 /// Gives the payload of the next frame that a port received: it is moved into `room`, and `len` is then its length.
 ///
-/// Returns [`REFUSED`] if no queue can hold the frame, since its payload has more than 60 bytes. Returns [`FULL`] if a queue can, and the
-/// payload is longer than `room`. Returns [`PARTIAL`] if neither is so, or its length has not come, and the frame has not come whole.
-/// Nothing has changed then.
+/// Returns [`REFUSED`] if no queue can hold the frame, since its payload has more than 60 bytes. Returns [`FULL`] if a
+/// queue can, and the payload is longer than `room`. Returns [`PARTIAL`] if neither is so, or its length has not come,
+/// and the frame has not come whole. Nothing has changed then.
 #[unsafe(no_mangle)]
 pub extern "C" fn bare_receive(port: &mut Queue, room: &mut [u8], len: &mut usize) -> u32
     ensures { Unframes (waiting port.old) room.old len.old result (waiting port.new) room.new len.new }
@@ -98,8 +98,8 @@ fn to_drop(bytes: &[u8], left: usize) -> Option<usize>
     }
 }
 
-/// Drops what has come of the next frame, however long it is: the way on if [`bare_receive`] returned [`REFUSED`]. `left` is the number of
-/// its bytes that are still to be dropped, and 0 before the first call.
+/// Drops what has come of the next frame, however long it is: the way on if [`bare_receive`] returned [`REFUSED`].
+/// `left` is the number of its bytes that are still to be dropped, and 0 before the first call.
 ///
 /// Returns [`DONE`] if the whole frame is gone; `left` is 0 then. Else returns [`PARTIAL`], and the next call goes on.
 #[unsafe(no_mangle)]

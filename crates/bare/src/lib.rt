@@ -1,7 +1,8 @@
-//! What a firmware exports to C: a report, a log through a port, the messages and frames that a port received, and a copy. The header is
-//! `bare.h`.
+//! What a firmware exports to C: a report, a log through a port, the messages and frames that a port received, and a
+//! copy. The header is `bare.h`.
 //!
-//! No call allocates, panics, keeps a pointer or calls the system. Each returns a number: a status, or how many bytes it moved.
+//! No call allocates, panics, keeps a pointer or calls the system. Each returns a number: a status, or how many bytes
+//! it moved.
 #![tactic(auto)]
 
 mod copying;

@@ -6,11 +6,12 @@ use crate::kept::bare_resume;
 use crate::queue::{CAPACITY, Queue, bare_put};
 use crate::{FULL, REFUSED};
 
-/// Logs a line: sends the kept bytes, and then `text` and a newline. Bytes that the port does not take are kept, in order.
+/// Logs a line: sends the kept bytes, and then `text` and a newline. Bytes that the port does not take are kept,
+/// in order.
 ///
-/// Returns [`DONE`](crate::DONE) if the port has all of them, and [`KEPT`](crate::KEPT) if it is full and some are kept. Returns [`FULL`]
-/// if it is full and the line does not fit beside the bytes that are kept, and [`REFUSED`] if `text` has a newline or 64 bytes or more;
-/// nothing of the line is accepted then.
+/// Returns [`DONE`](crate::DONE) if the port has all of them, and [`KEPT`](crate::KEPT) if it is full and some are
+/// kept. Returns [`FULL`] if it is full and the line does not fit beside the bytes that are kept, and [`REFUSED`] if
+/// `text` has a newline or 64 bytes or more; nothing of the line is accepted then.
 #[unsafe(no_mangle)]
 pub extern "C" fn bare_log(kept: &mut Queue, port: &mut Queue, text: &[u8]) -> u32
     ensures { LogsThrough text.now (waiting kept.old) (waiting port.old) result (waiting kept.new) (waiting port.new) }

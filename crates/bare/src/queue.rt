@@ -8,8 +8,8 @@ use no_std_io2::io::{Error, ErrorKind, Result, Write};
 // How many bytes a queue has room for.
 pub(crate) const CAPACITY: usize = 64;
 
-/// Bytes that wait, in order: the first `len` of `bytes`. An interrupt handler empties the queue of a port that sends, and fills that of
-/// a port that receives, by [`bare_take`] and [`bare_put`].
+/// Bytes that wait, in order: the first `len` of `bytes`. An interrupt handler empties the queue of a port that sends,
+/// and fills that of a port that receives, by [`bare_take`] and [`bare_put`].
 ///
 /// As a writer it takes as many bytes as it has room for, and is `WouldBlock` once it is full.
 #[repr(C)]
@@ -71,8 +71,8 @@ impl Write for Queue {
     }
 }
 
-// Copies bytes over as many others. It is not inlined: LLVM does not know that the slices cannot overlap, and compiles a copy to a
-// test, a call and loops.
+// Copies bytes over as many others. It is not inlined: LLVM does not know that the slices cannot overlap, and compiles
+// a copy to a test, a call and loops.
 #[inline(never)]
 fn copy_over(from: &[u8], to: &mut [u8])
     requires { length from.now ≡ length to.old }

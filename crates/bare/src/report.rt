@@ -21,11 +21,12 @@ fn print<W: Write>(w: &mut W, readings: &[u32]) -> Result<()>
     w.flush()
 }
 
-/// Puts a line for each reading, such as `sensor 0 = 17`, behind the bytes that wait for the port. The kept bytes go first.
+/// Puts a line for each reading, such as `sensor 0 = 17`, behind the bytes that wait for the port. The kept bytes
+/// go first.
 ///
-/// Returns [`DONE`](crate::DONE) if the port has all lines. Returns [`FULL`](crate::FULL) if they do not fit; then only kept bytes were
-/// sent. Returns [`REFUSED`] if the lines have more than 64 bytes; then nothing has changed. That it returns `REFUSED` only then is
-/// tested, and not promised.
+/// Returns [`DONE`](crate::DONE) if the port has all lines. Returns [`FULL`](crate::FULL) if they do not fit; then only
+/// kept bytes were sent. Returns [`REFUSED`] if the lines have more than 64 bytes; then nothing has changed. That it
+/// returns `REFUSED` only then is tested, and not promised.
 #[unsafe(no_mangle)]
 pub extern "C" fn bare_report(kept: &mut Queue, port: &mut Queue, readings: &[u32]) -> u32
     ensures { PrintsOrNot (report readings.now) kept.old port.old result kept.new port.new }
@@ -48,8 +49,8 @@ fn print_event<W: Write>(w: &mut W, number: u32) -> Result<()>
 
 /// Puts the line `event 17` behind the bytes that wait for the port. The kept bytes go first.
 ///
-/// Returns [`DONE`](crate::DONE) if the port has the whole line. Returns [`FULL`](crate::FULL) if it does not fit; then only kept bytes
-/// were sent. That it never returns [`REFUSED`] is tested, and not promised.
+/// Returns [`DONE`](crate::DONE) if the port has the whole line. Returns [`FULL`](crate::FULL) if it does not fit; then
+/// only kept bytes were sent. That it never returns [`REFUSED`] is tested, and not promised.
 #[unsafe(no_mangle)]
 pub extern "C" fn bare_event(kept: &mut Queue, port: &mut Queue, number: u32) -> u32
     ensures { PrintsOrNot (event_line number) kept.old port.old result kept.new port.new }

@@ -1,9 +1,10 @@
-// A serial line by interrupts, over the static library `bare`: an example to copy, for the board `virt` of qemu, which has a PL011 and, in
-// front of the processor, a GICv2.
+// A serial line by interrupts, over the static library `bare`: an example to copy, for the board `virt` of qemu, which
+// has a PL011 and, in front of the processor, a GICv2.
 //
-// Two queues are between the program and the line. The handler empties `port` into the transmitter, and fills `inbox` from the receiver.
-// The program makes each call of the library with interrupts masked, since the handler uses the same queues, and sleeps when it has to
-// wait. It sends 2,000 lines, and then echoes the payload of each frame that comes as a line, until the payload is `stop`.
+// Two queues are between the program and the line. The handler empties `port` into the transmitter, and fills `inbox`
+// from the receiver. The program makes each call of the library with interrupts masked, since the handler uses the same
+// queues, and sleeps when it has to wait. It sends 2,000 lines, and then echoes the payload of each frame that comes as
+// a line, until the payload is `stop`.
 #include "bare.h"
 
 #define REGISTER(place) (*(volatile uint32_t *)(place))
@@ -44,9 +45,9 @@ static struct bare_queue kept;
 // What is told at the end of each part.
 static uint32_t full_count, kept_count, sleep_count, interrupt_count, held_count;
 
-// The transmitter has room. A PL011 interrupts by SENT when its transmitter becomes half empty, and not because it is. So this fills it:
-// only then is the next SENT sure. If `port` is empty then, the program has to ask for the next interrupt. One `bare_take` removes all
-// bytes that went, since each call moves the rest of the queue.
+// The transmitter has room. A PL011 interrupts by SENT when its transmitter becomes half empty, and not because it is.
+// So this fills it: only then is the next SENT sure. If `port` is empty then, the program has to ask for the next
+// interrupt. One `bare_take` removes all bytes that went, since each call moves the rest of the queue.
 static void send(void)
 {
     uint8_t gone[FIFO];
@@ -57,8 +58,8 @@ static void send(void)
     bare_take(&port, gone, count);
     sending = port.len > 0;
 #ifdef SLOW
-    // The line of qemu takes no time, and its transmitter is never full. Here it carries SLOW bytes in a second: no SENT comes before a
-    // timer ends.
+    // The line of qemu takes no time, and its transmitter is never full. Here it carries SLOW bytes in a second: no
+    // SENT comes before a timer ends.
     if (count > 0) {
         LET_IN &= ~SENT;
         __asm__ volatile("msr cntv_tval_el0, %0\n msr cntv_ctl_el0, %1" : : "r"(62500000 / SLOW * count), "r"(1ul));
@@ -66,9 +67,9 @@ static void send(void)
 #endif
 }
 
-// Bytes have come. This reads as many as `inbox` has room for: a byte that was read cannot be put back. If `inbox` is full, the rest stays
-// in the receiver, and the program lets the interrupt in again when it has made room. RECEIVED is not cleared: it ends when all bytes were
-// read, and would be lost otherwise.
+// Bytes have come. This reads as many as `inbox` has room for: a byte that was read cannot be put back. If `inbox` is
+// full, the rest stays in the receiver, and the program lets the interrupt in again when it has made room. RECEIVED is
+// not cleared: it ends when all bytes were read, and would be lost otherwise.
 static void receive(void)
 {
     uint8_t bytes[BARE_CAPACITY];
@@ -109,9 +110,9 @@ static void mask(void)
     __asm__ volatile("msr daifset, #2" : : : "memory");
 }
 
-// Lets interrupts in after a call. Before that, it asks for the line's interrupt if bytes wait and it would not come; and if the program
-// has to wait, it sends what is kept, and sleeps. `wfi` ends for a masked interrupt too: after the unmasking, the program might sleep
-// through the only one.
+// Lets interrupts in after a call. Before that, it asks for the line's interrupt if bytes wait and it would not come;
+// and if the program has to wait, it sends what is kept, and sleeps. `wfi` ends for a masked interrupt too: after the
+// unmasking, the program might sleep through the only one.
 static void unmask(int sleeps)
 {
     if (sleeps)
@@ -127,8 +128,8 @@ static void unmask(int sleeps)
     __asm__ volatile("msr daifclr, #2" : : : "memory");
 }
 
-// Ends a call that puts bytes into the port. After FULL, nothing was accepted: the same call has to be made again. After KEPT, the bytes
-// were accepted, and must not be put again.
+// Ends a call that puts bytes into the port. After FULL, nothing was accepted: the same call has to be made again.
+// After KEPT, the bytes were accepted, and must not be put again.
 static int is_full(uint32_t status)
 {
     full_count += status == BARE_FULL;

@@ -2,7 +2,8 @@
         .text
         .balign 2048
         .globl  vectors
-// Sixteen entries of 128 bytes. One is for use: an interrupt at this level, on this stack. The others end the board with status 1.
+// Sixteen entries of 128 bytes. One is for use: an interrupt at this level, on this stack. The others end the board
+// with status 1.
 vectors:
         .rept   5
         b       fail
@@ -39,9 +40,9 @@ fail:   mov     x0, #1
         \what   x\first, x\second, [sp, #\place]
         .endm
 
-// Saves what a C function may change. That includes the SIMD registers: `bare_take` copies eight bytes or more through them, and so may
-// the code that was interrupted. All 32 whole: a function restores only the lower halves of q8 to q15. The address and the state to return
-// to stay in their registers, since no second interrupt comes.
+// Saves what a C function may change. That includes the SIMD registers: `bare_take` copies eight bytes or more through
+// them, and so may the code that was interrupted. All 32 whole: a function restores only the lower halves of q8 to q15.
+// The address and the state to return to stay in their registers, since no second interrupt comes.
 irq:    sub     sp, sp, #672
         others  stp
         simd    stp

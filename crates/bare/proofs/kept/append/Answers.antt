@@ -1,4 +1,5 @@
--- If the bytes do not fit, the search does not add up the sizes of the two queues before and after the kept bytes were sent.
+-- If the bytes do not fit, the search does not add up the sizes of the two queues before and after the kept bytes
+-- were sent.
 use Rattle.std.proofs.Common.{◌≤◌, ◌<◌, ◌+◌, length, refl, ap, arith, inr, length-append}
 use Rattle.std.proofs.lemmas.Grind.{common_steps}
 use Rattle.std.proofs.lemmas.List.{length-take}

@@ -1,4 +1,5 @@
 -- The search does not join the next text with those that were printed, nor all of them with the flush.
+use Rattle.std.proofs.lemmas.Grind.{common_steps}
 use Rattle.std.proofs.Common.{arith, take_all}
 use Rattle.no_std_io2.proofs.MovesLemmas.{Moves-refl}
 use Rattle.no_std_io2.proofs.TextLemmas.{MovesFront-text}
@@ -15,6 +16,4 @@ readings-preserved g c =
     c.readings.invariant (MovesFront-text c.write.ensures.law.moves)
 
 pub returns-clause-text : goal.returns-clause-text
-returns-clause-text g c =
-    printed_all reading_line c.args.readings.now c.readings.i-counter c.flush.result
-    (take_all c.readings.i-counter c.args.readings.now c.readings-test.false) c.readings.invariant c.flush.ensures.law.moves
+returns-clause-text g c = grind (arith, common_steps, printed_all, take_all)
