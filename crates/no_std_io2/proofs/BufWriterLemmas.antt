@@ -9,6 +9,8 @@ use Rattle.no_std_io2_base.specs.Write.{Told, Moves, MovesFront}
 use Rattle.no_std_io2.specs.declared.buffered.buf_writer.BufWriter.{BufWriter}
 use Rattle.no_std_io2_base.proofs.MovesLemmas.{MovesFront-whole}
 use Rattle.no_std_io2.specs.BufWriter.{with_buffer, writer_inner, writer_buffer, writer_told}
+use Rattle.no_std_io2.specs.declared.buffered.line_writer.LineWriter.{LineWriter}
+use Rattle.no_std_io2.specs.LineWriter.{line_inner, line_buffer, line_told}
 use Rattle.no_std_io2.specs.Buffer.{IsSuffix}
 
 -- What the inner writer accepted, x, came from the front of the buffer and of what was given, y.
@@ -54,16 +56,37 @@ Moves-device {b = b} {x = x} {k = k} told w device inner none is m = grind (arit
 bare : (t : Told) → with_buffer t [] ≡ t
 bare t = ap (λ held. record t { held = held }) (append-nil t.held)
 
--- the bytes that an empty buffer accepted after `Ok`, if it holds nothing afterwards, are what its device accepted
+-- if nothing is held below and in a buffer, nothing is in the buffer
+pub buffer_none : (r : Result (Unit {0}) Error) (below buffer : List ℕ) → OnOk r (below ++ buffer ≡ []) → OnOk r (buffer ≡ [])
+buffer_none (Ok u) below buffer none = nil_from_length buffer (omega (arith, ap length none, length-append below buffer))
+buffer_none (Err e) below buffer none = tt
+
+-- the bytes that an empty buffer accepted after `Ok`, if it is empty again, are what its device accepted
+pub device_moves : (a b : Told) {x : List ℕ} (r : Result (Unit {0}) Error) (held left : List ℕ) → held ≡ [] → OnOk r (left ≡ [])
+    → MovesFront (with_buffer a held) x r (with_buffer b left) → OnOk r (Moves a x [] b)
+device_moves a b {x} (Ok u) held left none sent f =
+    subst (λ t. Moves a x [] t) (ap (λ l. with_buffer b l) sent ∙ bare b)
+    (subst (λ t. Moves t x [] (with_buffer b left)) (ap (λ l. with_buffer a l) none ∙ bare a) (MovesFront-whole x u f))
+device_moves a b (Err e) held left none sent f = tt
+
+-- the same of a `BufWriter`, of which nothing is held at any level,
 pub MovesFront-device : {W : Type 0} {S : ℕ} (told : W → Told) (w v : BufWriter W S) (x : List ℕ) (r : Result (Unit {0}) Error)
     → MovesFront (writer_told told w) x r (writer_told told v) → writer_buffer w ≡ []
     → OnOk r ((writer_told told v).held ≡ [])
     → OnOk r (Moves (told (writer_inner w)) x [] (told (writer_inner v)))
-MovesFront-device told w v x (Ok u) f none flushed =
-    let below = (told (writer_inner v)).held in
-    let buffer = writer_buffer v in
-    let sent : buffer ≡ [] = nil_from_length buffer (omega (arith, ap length flushed, length-append below buffer)) in
-    subst (λ b. Moves (told (writer_inner w)) x [] b)
-    (ap (λ held. with_buffer (told (writer_inner v)) held) sent ∙ bare (told (writer_inner v)))
-    (Moves-device told w (writer_inner w) refl none refl (MovesFront-whole x u f))
-MovesFront-device told w v x (Err e) f none flushed = tt
+MovesFront-device told w v x r f none flushed =
+    device_moves _ _ r (writer_buffer w) (writer_buffer v) none (buffer_none r (told (writer_inner v)).held (writer_buffer v) flushed) f
+
+-- and of a `LineWriter`
+pub MovesFront-line_device : {W : Type 0} {S : ℕ} (told : W → Told) (w v : LineWriter W S) (x : List ℕ) (r : Result (Unit {0}) Error)
+    → MovesFront (line_told told w) x r (line_told told v) → line_buffer w ≡ []
+    → OnOk r ((line_told told v).held ≡ [])
+    → OnOk r (Moves (told (line_inner w)) x [] (told (line_inner v)))
+MovesFront-line_device told w v x r f none flushed =
+    device_moves _ _ r (line_buffer w) (line_buffer v) none (buffer_none r (told (line_inner v)).held (line_buffer v) flushed) f
+
+-- an empty `LineWriter` in front of a device, as `Moves-device`
+pub Moves-line_device : {W : Type 0} {S : ℕ} {a : Told} {b : Told} {x : List ℕ} {k : List ErrorKind} (told : W → Told)
+    (w : LineWriter W S) (device : W) → line_inner w ≡ device → line_buffer w ≡ [] → a ≡ line_told told w → Moves a x k b
+    → Moves (told device) x k b
+Moves-line_device {b = b} {x = x} {k = k} told w device inner none is m = grind (arith, common_steps)

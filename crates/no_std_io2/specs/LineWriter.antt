@@ -3,7 +3,7 @@ use Rattle.std.specs.Prelude.{ℕ, List, ◌≡◌, ◌+◌, ◌<◌, ◌≤◌,
 use Rattle.std.specs.Prelude.{if◌then◌else◌}
 use Rattle.std.specs.Prelude.{Result, Ok, Err, IsOk}
 use Rattle.no_std_io2_base.specs.declared.error.Error.{Error}
-use Rattle.no_std_io2_base.specs.Write.{WriteCall, Wrote, WroteAll, Flushed, AllCalls}
+use Rattle.no_std_io2_base.specs.Write.{Told, WriteCall, Wrote, WroteAll, Flushed, AllCalls}
 use Rattle.no_std_io2.specs.declared.buffered.line_writer.LineWriter.{LineWriter}
 use denote.Param.{param, number}
 use denote.RattleType.{RattleType}
@@ -11,7 +11,7 @@ use Rattle.std.specs.Mem.{FitsInMemory}
 use Rattle.no_std_io2.specs.contracts.buffered.line_writer.LineWriter.{the_row as lines-row}
 use Rattle.no_std_io2_base.specs.Pieces.{Lacks, newline}
 use Rattle.no_std_io2_base.specs.Lines.{lines_of, lines_len, unfinished_line}
-use Rattle.no_std_io2.specs.BufWriter.{sender_inner, sender_buffer, buffer_after}
+use Rattle.no_std_io2.specs.BufWriter.{sender_inner, sender_buffer, with_buffer, buffer_after}
 use Rattle.no_std_io2.specs.BufWriter.{Step, Then, PastEmpty, SendCalls, WriteCalls, WriteAllCalls, FlushCalls}
 
 -- `w.get_ref()`
@@ -21,6 +21,10 @@ line_inner w = sender_inner w.core.buffered
 -- `w.buffer()`
 abbrev pub line_buffer : {W : Type 0} {S : ℕ} → LineWriter W S → List ℕ
 line_buffer w = sender_buffer w.core.buffered
+
+-- what a `LineWriter` over a writer that tells this tells: its own buffer is held too
+abbrev pub line_told : {W : Type 0} {S : ℕ} → (W → Told) → LineWriter W S → Told
+line_told told w = with_buffer (told (line_inner w)) (line_buffer w)
 
 -- the held bytes, a line state, are sent if they end in a newline; if not, there is no call
 abbrev pub SendLineCalls : Step (Unit {0})

@@ -1,8 +1,8 @@
 //! [`BufWriter`], a buffer in front of a writer.
-ghost use Rattle.std.specs.Prelude.{◌≡◌, ◌≤◌, [], length};
+ghost use Rattle.std.specs.Prelude.{◌≡◌, ◌≤◌, [], length, OnOk};
 ghost use Rattle.std.specs.Borrow.{Lends, sem};
 ghost use Rattle.no_std_io2.specs.contracts.buffered.buf_writer.BufWriter.{the_row as writer-row};
-ghost use Rattle.no_std_io2_base.specs.Writers.{WriteAllOf, WriteOf};
+ghost use Rattle.no_std_io2_base.specs.Writers.{WriteAllOf, WriteOf, FlushOf};
 ghost use Rattle.no_std_io2.specs.BufWriter.{BufferMay, writer_inner, writer_buffer, writer_told, InnerCalls};
 ghost use Rattle.no_std_io2.specs.Unsent.{unsent_bytes};
 ghost use Rattle.no_std_io2.specs.BufWriter.{Unwraps, Buffers, BuffersAll};
@@ -193,7 +193,10 @@ impl<W: Write + Drop, const S: usize> Write for BufWriter<W, S> {
     /// # Errors
     /// Returns the sending's fault if the sending fails; the inner writer is then not flushed. Returns
     /// the inner `flush`'s error if that fails. Bytes that were not sent are still held.
-    fn flush(&mut self) -> Result<()> {
+    fn flush(&mut self) -> Result<()>
+        ensures law { FlushOf ⟦<Self as Write>⟧ self.old result self.new }
+        ensures unheld { OnOk result (writer_buffer self.new ≡ []) }
+    {
         self.core.flush()
     }
 

@@ -4,11 +4,11 @@ ghost use Rattle.std.specs.Borrow.{Lends, sem};
 ghost use Rattle.no_std_io2.specs.contracts.buffered.line_writer.LineWriter.{the_row as line-row};
 ghost use Rattle.no_std_io2_base.specs.Lines.{IsLineState};
 ghost use Rattle.no_std_io2_base.specs.Pieces.{Lacks, newline};
-ghost use Rattle.no_std_io2.specs.LineWriter.{line_inner, line_buffer, LineCalls};
+ghost use Rattle.no_std_io2.specs.LineWriter.{line_inner, line_buffer, line_told, LineCalls};
 ghost use Rattle.no_std_io2.specs.LineWriter.{LineWriteAllCalls, line_buffer_after, line_buffer_filled};
 ghost use Rattle.no_std_io2.specs.LineWriter.{IsShortText, HoldsShort};
-ghost use Rattle.no_std_io2.specs.BufWriter.{TakesStep, Unwraps, into_inner_error_writer, with_buffer, BufferMay};
-ghost use Rattle.no_std_io2_base.specs.Writers.{TakesAll, WriteAllOf, WriteOf};
+ghost use Rattle.no_std_io2.specs.BufWriter.{TakesStep, Unwraps, into_inner_error_writer, BufferMay};
+ghost use Rattle.no_std_io2_base.specs.Writers.{TakesAll, WriteAllOf, WriteOf, FlushOf};
 
 mod state;
 mod steps;
@@ -135,7 +135,7 @@ impl<W: Write + Drop + fmt::Debug, const S: usize> fmt::Debug for LineWriter<W, 
 /// Sends bytes line by line. Its `out` is the inner writer's `out`; its `held` is the inner writer's
 /// `held`, then its own buffer.
 impl<W: Write + Drop, const S: usize> Write for LineWriter<W, S> {
-    ghost told = { λ w. with_buffer (W.told (line_inner w)) (line_buffer w) };
+    ghost told = { line_told W.told };
 
     ghost may = { BufferMay W.Write (LineCalls S) line_inner line_buffer };
 
@@ -170,7 +170,10 @@ impl<W: Write + Drop, const S: usize> Write for LineWriter<W, S> {
     /// Returns `WriteZero` if an inner write of held bytes takes no byte, and the inner writer's error
     /// if an inner call fails. Bytes that were not sent are still held, and a later flush continues
     /// with them.
-    fn flush(&mut self) -> Result<()> {
+    fn flush(&mut self) -> Result<()>
+        ensures law { FlushOf ⟦<Self as Write>⟧ self.old result self.new }
+        ensures unheld { OnOk result (line_buffer self.new ≡ []) }
+    {
         self.core.buffered.flush()
     }
 

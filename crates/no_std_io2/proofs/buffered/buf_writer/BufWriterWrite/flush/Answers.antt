@@ -1,4 +1,5 @@
 use Rattle.no_std_io2.specs.BufWriter.{sender_inner, writer_inner}
+use Rattle.no_std_io2.proofs.BufWriterLemmas.{buffer_none}
 use Rattle.no_std_io2.proofs.BufWriterCalls.{flush_empty, flush_tells, flush_counts}
 use Rattle.no_std_io2.proofs.buffered.buf_writer.BufWriterWrite.flush.Goals as goal
 
@@ -8,11 +9,13 @@ returns g c =
     let a = writer_inner c.args.self.now in
     let b = sender_inner c.flush.new.self in
     let calls = c.flush.ensures in
+    let empty = flush_empty I calls.2 a b calls.1 in
     record {
       law = record {
-        empty = flush_empty I calls.2 a b calls.1;
+        empty = empty;
         moves = flush_tells I _ _ _ _ calls.2 a b calls.1;
         all = λ t. (flush_counts I _ _ _ _ calls.2 a b calls.1 t).0;
         call = calls;
       };
+      unheld = buffer_none _ _ _ empty;
     }

@@ -1,5 +1,6 @@
 use Rattle.no_std_io2.specs.BufWriter.{sender_inner}
 use Rattle.no_std_io2.specs.LineWriter.{line_inner}
+use Rattle.no_std_io2.proofs.BufWriterLemmas.{buffer_none}
 use Rattle.no_std_io2.proofs.BufWriterCalls.{flush_empty, flush_tells}
 use Rattle.no_std_io2.proofs.LineWriterStates.{flush_state}
 use Rattle.no_std_io2.proofs.buffered.line_writer.LineWriterWrite.flush.Goals as goal
@@ -12,11 +13,13 @@ returns g c =
     let a = line_inner c.args.self.now in
     let b = sender_inner c.flush.new.self in
     let calls = c.flush.ensures in
+    let empty = flush_empty g.W.Write calls.2 a b calls.1 in
     record {
       law = record {
-        empty = flush_empty g.W.Write calls.2 a b calls.1;
+        empty = empty;
         moves = flush_tells g.W.Write _ _ _ _ calls.2 a b calls.1;
         all = λ no. absurd no.0;
         call = calls;
       };
+      unheld = buffer_none _ _ _ empty;
     }
