@@ -15,4 +15,4 @@ moved bs s e le within =
 -- the bytes behind the first n are moved to the front
 pub take_moved : (bs : List ℕ) (n len : ℕ) → length bs ≡ 64
     → take (min len 64 - min n (min len 64)) (copy_within bs (min n (min len 64)) (min len 64) 0) ≡ drop n (take len bs)
-take_moved bs n len all = grind (arith, common_steps, common_steps, drop_min, moved, take_min)
+take_moved bs n len all = grind (arith, common_steps, drop_min, moved, take_min)
