@@ -6,6 +6,7 @@
 
 mod adaptors;
 mod bounds;
+mod boxed_memory;
 mod bytes;
 mod calls;
 mod counts;
