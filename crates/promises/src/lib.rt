@@ -1,7 +1,7 @@
 //! README's promises, and what docs/MODEL.md says in its tables, as proved callers. Nothing calls these functions. The contract of each
 //! one says a fact in the words of a user, and its body makes the calls that the fact is about. A contract is as strong as what a caller
-//! can prove from it: if a change makes a contract of the library, or a ghost member of an `impl`, say less, one of these functions is no
-//! longer proved. README names those that are public.
+//! can prove from it. Of a call through a box or a tower a caller knows what the ghost members say, and no clause of the call's own; so
+//! these callers fail if a member that they need says less. README names the functions that are public.
 #![tactic(auto)]
 
 mod adaptors;
