@@ -1,5 +1,8 @@
 -- The store after a call, if it was told before; and the events.
-use Rattle.std.proofs.Common.{◌≡◌, ◌<◌, ◌++◌, ℕ, zero, suc, List, [], Option, None, Some, Result, Ok, Err, IfOk, IfSome, length, refl, subst, ◌∙◌}
+use Rattle.std.proofs.Common.{◌≡◌, ◌+◌, ◌-◌, ◌<◌, ◌++◌, ℕ, zero, suc, List, [], Option, None, Some, Result, Ok, Err, IfOk, IfSome, length, refl, subst, sym, ap, ap₂, ◌∙◌, drop, arith, drop-drop}
+use Rattle.std.proofs.Math.Seq.{drop-append_seam}
+use Rattle.no_std_io2.specs.BufReader.{step_back, store_before, store_if}
+use Rattle.no_std_io2.proofs.BufferedReads.{before_decides}
 use Rattle.no_std_io2.specs.declared.io.Error.{Error}
 use Rattle.no_std_io2.specs.Events.{Event}
 use Rattle.no_std_io2.specs.Read.{answered, gave}
@@ -21,3 +24,16 @@ pub none_left : (buf : List ℕ) (reply : Result ℕ Error) {told : Option (List
 none_left buf (Ok zero) end now is none some = is ∙ subst (λ o. IfSome o (λ F. F ≡ [])) now (end refl some)
 none_left buf (Ok (suc n)) end now is none some = absurd (let no : ⊥ = cc in no)
 none_left buf (Err e) end now is none some = absurd (let no : ⊥ = cc in no)
+
+-- The held bytes stand in the content right before the position, with `front` before them: so the store is told, at their first byte.
+pub store_below : (held front after : List ℕ) (s : Store) {content : List ℕ} → content ≡ front ++ (held ++ after) → s.content ≡ content
+    → s.position ≡ length front + length held → store_before held (Some s) ≡ Some (step_back (length held) s)
+store_below held front after s has same at =
+    let all : s.content ≡ front ++ (held ++ after) = same ∙ has in
+    let from_held : drop (s.position - length held) s.content ≡ held ++ after =
+    ap₂ drop (omega (arith, at)) all ∙ drop-append_seam front (held ++ after) in
+    let from_after : drop s.position s.content ≡ after =
+    ap₂ drop at all ∙ sym (drop-drop (length held) (length front) (front ++ (held ++ after)))
+    ∙ ap (drop (length held)) (drop-append_seam front (held ++ after)) ∙ drop-append_seam held after in
+    ap (λ t. store_if t (step_back (length held) s))
+    ((before_decides held s).1 (omega (arith, at), from_held ∙ ap (λ l. held ++ l) (sym from_after)))

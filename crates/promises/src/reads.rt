@@ -1,6 +1,6 @@
 // What readers give, and where seeks go.
 ghost use Rattle.std.specs.Prelude.{◌≡◌, ◌+◌, ◌<◌, [], ◌++◌, ℕ, List, Ok, Some, IsOk, drop, length, vec_len, vec_capacity, string_bytes};
-ghost use Rattle.no_std_io2.specs.BufReader.{reader_inner, reader_behind, reader_held, TakesHeld, TakesHeldLine, TakesOver};
+ghost use Rattle.no_std_io2.specs.BufReader.{reader_inner, reader_behind, reader_held, reader_store, TakesHeld, TakesHeldLine, TakesOver};
 ghost use Rattle.no_std_io2.specs.BufRead.{lender_tells};
 ghost use Rattle.no_std_io2.specs.Buffer.{IsInBuffer, IsSuffix};
 ghost use Rattle.no_std_io2.specs.Events.{Event, bytes};
@@ -56,6 +56,22 @@ pub fn goes_to_its_target<S: Seek>(s: &mut S, target: SeekFrom) -> Result<u64>
         × (now.content ≡ was.content) × Seeks (length was.content) was.position target result now.position }
 {
     s.seek(target)
+}
+
+// After a seek of the inner reader itself, a `BufReader` tells its store where its held bytes agree with the content. So its own next seek
+// goes from the first held byte.
+fn goes_on_after_a_seek_below<R: Read + Seek + Drop, const S: usize>(
+    r: &mut BufReader<R, S>,
+    place: u64,
+    target: SeekFrom,
+) -> Result<u64>
+    ensures { (was : Store) → R.store (reader_inner r.old) ≡ Some was → (front after : List ℕ)
+        → was.content ≡ front ++ (reader_held r.old ++ after) → place ≡ length front + length (reader_held r.old)
+        → (now : Store) × (reader_store R.store r.new ≡ Some now) × (now.content ≡ was.content)
+        × Seeks (length was.content) (length front) target result now.position }
+{
+    r.get_mut().seek(SeekFrom::Start(place))?;
+    r.seek(target)
 }
 
 /// A `seek_relative` inside the buffer of a `BufReader` succeeds and makes no inner call, and the events to come move along.

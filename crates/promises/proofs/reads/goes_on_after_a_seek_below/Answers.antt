@@ -1,0 +1,30 @@
+-- The prover does not compare the held bytes with those of the content.
+use Rattle.std.proofs.Common.{◌≡◌, ℕ, ◌-◌, Ok, Err, ◌∙◌, ap, arith, length, refl, subst}
+use Rattle.no_std_io2.specs.declared.io.SeekFrom.TheVariants.{Start}
+use Rattle.no_std_io2.specs.Seek.{Seeks}
+use Rattle.no_std_io2.specs.BufReader.{reader_held, store_before}
+use Rattle.promises.proofs.ToldAfter.{store_after, store_below}
+use Rattle.promises.proofs.reads.goes_on_after_a_seek_below.Goals as goal
+
+pub returns-in_err-seek : goal.returns-in_err-seek
+returns-in_err-seek g c = λ was told front after has at.
+    let goes = λ (len was now : ℕ). Seeks len was (Start c.args.place) (Err c.in_err-seek.field-0.0) now in
+    let kept = (store_after goes _ _ c.in_err-seek.ensures.law.store (ap g.R.Stored.store c.get_mut.ensures.value ∙ told)).2 in
+    absurd (kept.1.0 c.args.place refl)
+
+pub returns : goal.returns
+returns g c = λ was told front after has at.
+    let below = λ (len was now : ℕ). Seeks len was (Start c.args.place) (Ok c.in_ok-seek.field-0) now in
+    let (s, is, kept) = store_after below _ _ c.in_ok-seek.ensures.law.store (ap g.R.Stored.store c.get_mut.ensures.value ∙ told) in
+    let held = reader_held c.args.r.now in
+    let place = kept.1.1 ∙ kept.1.0 ∙ at in
+    let here = store_below held front after s has kept.0 place in
+    let goes = λ (len was now : ℕ). Seeks len was c.args.target c.seek-2.result now in
+    let (now, still, ends) = store_after goes _ _ c.seek-2.ensures.law.store (ap (store_before held) is ∙ here) in
+    let first : s.position - length held ≡ length front = omega (arith, place) in (
+      now,
+      still,
+      ends.0 ∙ kept.0,
+      subst (λ len. Seeks len (length front) c.args.target c.seek-2.result now.position) (ap length kept.0)
+      (subst (λ was. Seeks (length s.content) was c.args.target c.seek-2.result now.position) first ends.1),
+    )
