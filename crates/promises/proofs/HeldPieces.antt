@@ -5,7 +5,6 @@ use Rattle.std.proofs.Common.{arith}
 use Rattle.std.proofs.Common.{Result, Ok, Err, ⊎_elim, inl, inr, append_assoc, append-nil, length-append, length-take-le, take-append-drop}
 use Rattle.std.proofs.Common.{take_all}
 use Rattle.std.proofs.Common.{Vec, String, string_bytes, IfOk}
-use Rattle.std.proofs.lemmas.Bool.{cases_lt}
 use Rattle.no_std_io2.specs.declared.io.Error.{Error}
 use Rattle.no_std_io2.specs.Errors.{IsOutOfMemory}
 use Rattle.no_std_io2.specs.Write.{Made}

@@ -11,7 +11,7 @@ ghost use Rattle.io_bench.specs.Tally.{tally_inner, tally_reads};
 ghost use Rattle.promises.specs.Promises.{in_lines};
 
 use io_bench::{Ask, ReadTotals, Tally, run_reads};
-use no_std_io2::io::{BufRead, BufReader, LineWriter, Result, Read, Write};
+use no_std_io2::io::{BufRead, BufReader, LineWriter, Read, Result, Write};
 
 /// If a list of reads through a buffer of S bytes takes N bytes of a reader that fills its room, and meets the end Z times, it makes at
 /// most `N / S + 1 + Z` inner reads. Each read of the list is made, once and in order; it gives at least one byte, except at the end; and

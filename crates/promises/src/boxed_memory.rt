@@ -12,10 +12,7 @@ use std::boxed::BoxedSlice;
 use std::collections::VecDeque;
 
 // A cursor over a vector puts the whole buffer at its position, or nothing.
-fn puts_all_over_a_vector<A: Allocator>(
-    c: &mut Box<Cursor<Vec<u8, A>>>,
-    x: &[u8],
-) -> Result<usize>
+fn puts_all_over_a_vector<A: Allocator>(c: &mut Box<Cursor<Vec<u8, A>>>, x: &[u8]) -> Result<usize>
     ensures puts { PutsWhole (cursor_inner c.old.value).items (cursor_position c.old.value) x.now result
         (cursor_inner c.new.value).items (cursor_position c.new.value) }
     ensures full { OnErr result (vec_capacity (cursor_inner c.old.value) < cursor_position c.old.value + length x.now) }

@@ -16,8 +16,7 @@ ghost use Rattle.promises.specs.Promises.{in_reader};
 
 use io_bench::Tally;
 use no_std_io2::io::{
-    AsSlice, BufRead, BufReader, BufWriter, Cursor, IntoInnerError, Read, Result, Take,
-    Write, copy,
+    AsSlice, BufRead, BufReader, BufWriter, Cursor, IntoInnerError, Read, Result, Take, Write, copy,
 };
 use std::alloc::Allocator;
 

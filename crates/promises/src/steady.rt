@@ -1,4 +1,4 @@
-// What a caller of `copy` can prove if its writer has no mishap to come.
+// What a caller of `copy` can prove of a writer with no mishap to come, and of a copy through no buffer.
 ghost use Rattle.std.specs.Prelude.{◌≡◌, ◌<◌, ◌^◌, ◌++◌, [], Some, IsOkAnd, List};
 ghost use Rattle.no_std_io2.specs.Events.{Event, bytes, HasNoFault};
 ghost use Rattle.no_std_io2.specs.Takes.{to_come};
@@ -19,4 +19,11 @@ fn copy_and_flush<R: Read, W: Write, const S: usize>(reader: &mut R, writer: &mu
     let n = copy::<R, W, S>(reader, writer)?;
     writer.flush()?;
     Ok(n)
+}
+
+// Through no buffer a copy leaves the writer as it was.
+fn copies_nothing<R: Read, W: Write>(reader: &mut R, writer: &mut W) -> Result<u64>
+    ensures { writer.new ≡ writer.old }
+{
+    copy::<R, W, 0>(reader, writer)
 }

@@ -26,5 +26,5 @@ returns g c = λ was told front after has at.
       still,
       ends.0 ∙ kept.0,
       subst (λ len. Seeks len (length front) c.args.target c.seek-2.result now.position) (ap length kept.0)
-      (subst (λ was. Seeks (length s.content) was c.args.target c.seek-2.result now.position) first ends.1),
+          (subst (λ was. Seeks (length s.content) was c.args.target c.seek-2.result now.position) first ends.1),
     )
