@@ -1,157 +1,153 @@
--- A look at a header of two bytes: what was read, and that the position is as it was.
-use Rattle.std.proofs.Common.{◌≡◌, ℕ, ◌+◌, ◌<◌, List, [], ◌∷◌, ◌++◌, length, take, drop, Option, None, Some, Result, Ok, Err, negsuc}
-use Rattle.std.proofs.Common.{refl, sym, ap, subst, ◌∙◌, arith, inl, inr, IfSome, IsSomeAnd, length-append}
+-- A look at a header: no byte is lost, and it is the next two bytes.
+use Rattle.std.proofs.Common.{◌≡◌, ℕ, ◌+◌, ◌<◌, ◌≤◌, List, [], ◌∷◌, ◌++◌, length, take, slice_index_or, Bool, true, false, Option, None, Some, Result, Ok, Err}
+use Rattle.std.proofs.Common.{refl, sym, ap, subst, ◌∙◌, arith, inl, inr, ◌⊎◌, IfOk, IfErr, IfSome, IsSomeAnd, append_assoc, append-nil, length-append}
+use Rattle.std.proofs.Common.{if◌then◌else◌, drop}
+use Rattle.std.proofs.Math.Seq.{take-append_seam, drop-append_seam}
 use Rattle.std.proofs.lemmas.Grind.{common_steps}
-use Rattle.std.proofs.Math.Seq.{take-append_seam}
 use Rattle.no_std_io2.specs.declared.io.Error.{Error}
-use Rattle.no_std_io2.specs.declared.io.SeekFrom.TheVariants.{Current}
 use Rattle.no_std_io2.specs.declared.buffered.buf_reader.BufReader.{BufReader}
-use Rattle.no_std_io2.specs.Errors.{IsUnexpectedEnd}
-use Rattle.no_std_io2.specs.Events.{Event, fails, events_of, bytes, cut}
-use Rattle.no_std_io2.specs.Takes.{Store, Tells, Takes, AreTaken, KeepsContent, events_by, to_come, IsAtEnd}
-use Rattle.no_std_io2.specs.Read.{Reader, tells, FillsOrEnds, Gave, GaveLaw, ReadCallLaw, GathersUntil}
-use Rattle.no_std_io2.specs.Write.{Made}
-use Rattle.no_std_io2.specs.Seek.{Seeks, WithoutPosition}
-use Rattle.no_std_io2.specs.BufReader.{reader_held, reader_behind, reader_inner, reader_store, GivesHeld, ExactBelow, AsksExact}
-use Rattle.no_std_io2.specs.BufReader.{store_before}
-use Rattle.no_std_io2.proofs.TakesLemmas.{made_takes, takes_then}
-use Rattle.no_std_io2.proofs.CallsLemmas.{made_split}
-use Rattle.no_std_io2.proofs.EventLemmas.{bytes-append, bytes-events_of, bytes-cut, length-events_of}
-use Rattle.no_std_io2.proofs.PlaceLemmas.{StoreTaken, store_taken}
-use Rattle.no_std_io2.proofs.BufferedReads.{ends_behind}
+use Rattle.no_std_io2.specs.BufReader.{reader_held, reader_behind, reader_inner, behind_held}
+use Rattle.no_std_io2.specs.Errors.{IsFault, IsUnexpectedEnd}
+use Rattle.no_std_io2.specs.Events.{Event, fails, bytes, events_of, bytes_to_fault, first_fault, HasNoFault}
+use Rattle.no_std_io2.specs.FillTo.{FillsTo, HasTo}
+use Rattle.no_std_io2.specs.Read.{Reader, tells}
+use Rattle.no_std_io2.specs.Reads.{GathersTo, Took}
+use Rattle.no_std_io2.specs.Takes.{Tells, Takes, AreTaken, to_come, IsAtEnd}
+use Rattle.no_std_io2.specs.Write.{IsFront}
 use Rattle.no_std_io2.proofs.BufReaderCalls.{buf_reader}
+use Rattle.no_std_io2.proofs.BufferedReads.{told_behind}
+use Rattle.no_std_io2.proofs.EventLemmas.{bytes-append, bytes-behind, bytes-events_of, HasNoFault-append, HasNoFault-events_of}
+use Rattle.no_std_io2.proofs.GivenPieces.{first_fault-append, bytes_to_fault-append}
+use Rattle.no_std_io2.proofs.ReadsLemmas.{Reads-takes}
+use Rattle.examples.specs.Headers.{LooksAhead, LosesFirst, SeesHeader, PeeksAt}
 
--- held bytes were given: they are gone from the front of these, and lie behind
-pub of_held : {R : Type 0} {S : ℕ} (old new : BufReader R S) (n : ℕ) (buf : List ℕ) → GivesHeld old n (Ok buf) new
-    → (buf ≡ take n (reader_held old)) × (reader_held new ≡ drop n (reader_held old)) × (reader_behind new ≡ reader_behind old ++ buf)
-    × (reader_inner new ≡ reader_inner old)
-of_held old new n buf given =
-    let is : buf ≡ take n (reader_held old) = cc (given.1.0) in
-    (is, given.1.1.1, given.1.1.0 ∙ ap (λ l. reader_behind old ++ l) (sym is), given.0)
+-- what a buffer in front of a reader tells to come
+told_of : {R : Type 0} {S : ℕ} (K : Reader R) (r : BufReader R S)
+    → to_come (tells (buf_reader K) r) ≡ behind_held (reader_held r) (to_come (tells K (reader_inner r)))
+told_of {S = room} K r = told_behind room (reader_held r) (tells K (reader_inner r))
 
--- the next n bytes were taken
-pub header_told : {a b : Tells} {P : List Event} (n : ℕ) (header : List ℕ) → Takes a P b → bytes P ≡ header → length header ≡ n
-    → IfSome (to_come a) (λ E. header ≡ bytes (cut n E))
-header_told {a} {b} {P} n header takes given long = by (to_come a) (to_come b) takes.events
+-- bytes that were moved into the buffer are still to come
+still_come : (held given : List ℕ) (P : List Event) (E E' : Option (List Event)) → AreTaken E P E' → bytes P ≡ given
+    → IfSome (behind_held held E) (λ F. IsSomeAnd (behind_held (held ++ given) E') (λ F'. bytes F ≡ [] ++ bytes F'))
+still_come held given P (Some E) (Some E') are is = grind (arith, append_assoc, bytes-append, bytes-behind)
+still_come held given P None E' are is = tt
+still_come held given P (Some E) None are is = absurd are
+
+-- what the look returns, by how the `fill_to` ended
+peeks_at : (how : Result Bool Error) (reply : Result (ℕ × ℕ) Error) (held given : List ℕ) (P E' : List Event) (now : Tells)
+    → SeesHeader how reply (held ++ given) → HasTo 2 how (length (held ++ given)) → bytes P ≡ given → GathersTo P how now
+    → to_come now ≡ Some E' → PeeksAt (events_of held ++ (P ++ E')) reply
+peeks_at (Ok true) (Ok header) held given P E' now sees enough is ends told =
+    let whole : bytes (events_of held ++ (P ++ E')) ≡ (header.0 ∷ header.1 ∷ sees.0) ++ bytes E' =
+    grind (arith, append_assoc, bytes-append, bytes-behind, is, sees.1) in
+    sym (ap (take 2) whole)
+peeks_at (Ok false) (Err e) held given P E' now sees few is ends told =
+    let none : E' ≡ [] = subst (λ o. IfSome o (λ l. l ≡ [])) told ends.1 in
+    let clean = HasNoFault-append (events_of held) (P ++ []) (HasNoFault-events_of held) (HasNoFault-append P [] ends.0 tt) in
+    let read : bytes_to_fault (events_of held ++ (P ++ [])) ≡ bytes (events_of held ++ (P ++ [])) =
+    ap bytes_to_fault (sym (append-nil (events_of held ++ (P ++ []))))
+    ∙ bytes_to_fault-append (events_of held ++ (P ++ [])) [] clean ∙ append-nil _ in
+    let all : bytes (events_of held ++ (P ++ [])) ≡ held ++ given =
+    ap (λ l. bytes (events_of held ++ l)) (append-nil P) ∙ bytes-behind held P ∙ ap (λ l. held ++ l) is in
+    rw none (omega (arith, few, ap length (read ∙ all)), inl (sees, clean))
+peeks_at (Err fault) (Err e) held given P E' now sees few is ends told =
+    let (Q, split, clean, real) = ends in
+    let front = HasNoFault-append (events_of held) Q (HasNoFault-events_of held) clean in
+    let order : events_of held ++ (P ++ E') ≡ (events_of held ++ Q) ++ fails fault ∷ E' = rw split (grind (arith, append_assoc)) in
+    let given_is : bytes Q ≡ given = grind (arith, common_steps, bytes-append, ap bytes split, is) in
+    let mine : first_fault (fails fault ∷ E') ≡ Some fault = ap (λ t. if t then first_fault E' else Some fault) real in
+    let gone : bytes_to_fault (fails fault ∷ E') ≡ [] = ap (λ t. if t then bytes_to_fault E' else []) real in
+    rw (sees, order) (
+      omega (
+        arith,
+        few,
+        ap length (bytes_to_fault-append (events_of held ++ Q) (fails fault ∷ E') front),
+        ap length gone,
+        ap length (bytes-append (events_of held) Q),
+        ap length (bytes-events_of held),
+        ap length given_is,
+        length-append held given,
+        length-append (bytes (events_of held ++ Q)) (bytes_to_fault (fails fault ∷ E')),
+        length-append (bytes (events_of held)) (bytes Q),
+      ),
+      inr (first_fault-append (events_of held ++ Q) (fails fault ∷ E') front ∙ mine),
+    )
+peeks_at _ _ held given P E' now sees few is ends told = absurd sees
+
+-- what a look sees, by how the `fill_to` ended: the first two bytes of those that are shown; the end; or its fault
+pub sees_two : {how : Result Bool Error} (held shown : List ℕ) → how ≡ Ok true → HasTo 2 how (length held) → shown ≡ held
+    → SeesHeader how (Ok (slice_index_or shown 0 0, slice_index_or shown 1 0)) held
+sees_two held shown is enough same = rw (is, same) (by held (rw is at enough))
   where
-    by : (E E' : Option (List Event)) → AreTaken E P E' → IfSome E (λ l. header ≡ bytes (cut n l))
-    by E E' are = grind (arith, common_steps, bytes-cut, bytes-append, take-append_seam)
+    by : (held : List ℕ) → 2 ≤ length held → IsFront (slice_index_or held 0 0 ∷ slice_index_or held 1 0 ∷ []) held
+    by (a ∷ b ∷ rest) enough = (rest, refl)
+    by (a ∷ []) enough = absurd (omega (arith, enough))
+    by [] enough = absurd (omega (arith, enough))
 
--- whatever it is, nothing is said of it
-pub says_nothing : {A : Type 0} (o : Option A) → IfSome o (λ _. Unit {0})
-says_nothing o = grind arith
+pub sees_end : {how : Result Bool Error} (e : Error) (held : List ℕ) → how ≡ Ok false → IsUnexpectedEnd e → SeesHeader how (Err e) held
+sees_end e held is end = rw is end
 
--- the bytes that were taken are the first of a content from its position on
-taken_first : {s t : Store} {P : List Event} → StoreTaken s P t
-    → drop s.position s.content ≡ bytes P ++ drop t.position t.content
-taken_first took = simp (bytes-append, bytes-events_of) at (ap bytes took.split)
+pub sees_fault : {how : Result Bool Error} (e : Error) (held : List ℕ) → how ≡ Err e → SeesHeader how (Err e) held
+sees_fault e held is = rw is refl
 
-first_are : {s t : Store} {P : List Event} (n : ℕ) (header : List ℕ) → StoreTaken s P t → bytes P ≡ header → length header ≡ n
-    → header ≡ take n (drop s.position s.content)
-first_are n header took given long = grind (arith, common_steps, taken_first took, take-append_seam)
+module _ {R : Type 0} {S : ℕ} (K : Reader R) {old new : BufReader R S} (small : 2 ≤ S) (filled : Result Bool Error)
+    (fills : FillsTo K 2 old filled new) where
+  took : Took (tells K (reader_inner old)) fills.given filled (tells K (reader_inner new))
+  took = Reads-takes (λ at room asks. omega (arith, asks.0, asks.1, small)) filled fills.reads
 
--- the header was read and stepped back over
-pub header_stays : {a b : Tells} (z : Option Store) {P : List Event} (header : List ℕ) → Takes a P b → bytes P ≡ header → length header ≡ 2
-    → KeepsContent b.store (λ len was now. WithoutPosition (λ at. Seeks len was (Current (negsuc 1)) at now) (Ok tt)) z
-    → IfSome a.store (λ s. IsSomeAnd z (λ t. (t.content ≡ s.content)
-    × (((header ≡ take 2 (drop s.position s.content)) × (t.position ≡ s.position)) × Unit {0})))
-header_stays {a} {b} z {P} header takes given long back = by a.store b.store z (store_taken takes) back
+  -- a look loses no byte
+  pub look_stays : LosesFirst (tells (buf_reader K) old) [] (tells (buf_reader K) new)
+  look_stays = rw (told_of K old, told_of K new, fills.holds)
+      (still_come (reader_held old) fills.given took.taken _ _ took.takes.events took.are)
+
+  -- it returned the next two bytes, or there are none
+  pub look_told : (reply : Result (ℕ × ℕ) Error) → SeesHeader filled reply (reader_held new)
+      → IfSome (to_come (tells (buf_reader K) old)) (λ E. PeeksAt E reply)
+  look_told reply sees = rw (told_of K old)
+      (by (to_come (tells K (reader_inner old))) (to_come (tells K (reader_inner new))) took.takes.events refl)
+    where
+      by : (E E' : Option (List Event)) → AreTaken E took.taken E' → to_come (tells K (reader_inner new)) ≡ E'
+          → IfSome (behind_held (reader_held old) E) (λ F. PeeksAt F reply)
+      by None E' are told = tt
+      by (Some E) None are told = absurd are
+      by (Some E) (Some E') are told = rw are (peeks_at filled reply (reader_held old) fills.given took.taken E' _
+          (rw fills.holds at sees) (rw fills.holds at fills.enough) took.are took.ends told)
+
+-- the bytes of the events that were taken are gone from the front
+pub takes_loses : {a b : Tells} {P : List Event} (x : List ℕ) → Takes a P b → bytes P ≡ x → LosesFirst a x b
+takes_loses {a} {b} {P} x takes are = by (to_come a) (to_come b) takes.events
   where
-    by : (x y z : Option Store) → IfSome x (λ s. IsSomeAnd y (StoreTaken s P))
-        → KeepsContent y (λ len was now. WithoutPosition (λ at. Seeks len was (Current (negsuc 1)) at now) (Ok tt)) z
-        → IfSome x (λ s. IsSomeAnd z (λ t. (t.content ≡ s.content)
-        × (((header ≡ take 2 (drop s.position s.content)) × (t.position ≡ s.position)) × Unit {0})))
-    by (Some s) (Some m) (Some t) took back =
-        let sought = back.1.1 in
-        let here : t.position ≡ s.position = omega (arith, sought.1, sought.0.0, took.position, ap length given, long) in
-        (back.0 ∙ took.content, ((first_are 2 header took given long, here), tt))
-    by None _ _ took back = tt
-    by _ _ _ took back = grind (arith, took, back)
+    by : (E E' : Option (List Event)) → AreTaken E P E' → IfSome E (λ F. IsSomeAnd E' (λ F'. bytes F ≡ x ++ bytes F'))
+    by None E' taken = tt
+    by (Some E) None taken = absurd taken
+    by (Some E) (Some E') taken = rw taken (bytes-append P E' ∙ ap (λ l. l ++ bytes E') are)
 
--- the seek back has a target, so it does not fail
-pub header_back : {a b : Tells} (z : Option Store) {P : List Event} (e : Error) (header : List ℕ) (Q : Store → Store → Type 0) → Takes a P b
-    → bytes P ≡ header → length header ≡ 2
-    → KeepsContent b.store (λ len was now. WithoutPosition (λ at. Seeks len was (Current (negsuc 1)) at now) (Err e)) z
-    → IfSome a.store (λ s. IsSomeAnd z (Q s))
-header_back {a} {b} z {P} e header Q takes given long back = by a.store b.store z (store_taken takes) back
+-- one after the other
+pub loses_then : (a b c : Tells) (x y : List ℕ) → LosesFirst a x b → LosesFirst b y c → LosesFirst a (x ++ y) c
+loses_then a b c x y first next = by (to_come a) (to_come b) (to_come c) first next
   where
-    by : (x y z : Option Store) → IfSome x (λ s. IsSomeAnd y (StoreTaken s P))
-        → KeepsContent y (λ len was now. WithoutPosition (λ at. Seeks len was (Current (negsuc 1)) at now) (Err e)) z
-        → IfSome x (λ s. IsSomeAnd z (Q s))
-    by (Some s) (Some m) (Some t) took back =
-        absurd (back.1.0 s.position (omega (arith, took.position, ap length given, long), omega (arith, s.fits.1)))
-    by None _ _ took back = tt
-    by _ _ _ took back = grind (arith, took, back)
+    by : (E F G : Option (List Event)) → IfSome E (λ l. IsSomeAnd F (λ m. bytes l ≡ x ++ bytes m))
+        → IfSome F (λ l. IsSomeAnd G (λ m. bytes l ≡ y ++ bytes m)) → IfSome E (λ l. IsSomeAnd G (λ m. bytes l ≡ (x ++ y) ++ bytes m))
+    by None F G first next = tt
+    by (Some E) None G first next = absurd first
+    by (Some E) (Some F) None first next = absurd next
+    by (Some E) (Some F) (Some G) first next = grind (arith, append_assoc, first, next)
 
--- bytes alone have no fault among them
-no_fault_among : (x : List ℕ) (Q R : List Event) (e : Error) → events_of x ≡ (Q ++ fails e ∷ []) ++ R → ⊥
-no_fault_among (b ∷ x) (q ∷ Q) R e is = no_fault_among x Q R e (cc)
-no_fault_among (b ∷ x) [] R e is = cc
-no_fault_among [] [] R e is = cc
-no_fault_among [] (q ∷ Q) R e is = cc
+-- a record that is held whole, after a look at its header
+record_held : (payload rest held : List ℕ) (wanted tag len : ℕ) → held ≡ wanted ∷ length payload ∷ payload ++ rest
+    → IsFront (tag ∷ len ∷ []) held → (2 + len ≤ length held) × (take len (drop 2 held) ≡ payload) × (drop len (drop 2 held) ≡ rest)
+record_held payload rest held wanted tag len is front = grind (arith, common_steps, take-append_seam, drop-append_seam)
 
--- so a reader that tells a store took no fault
-no_fault_taken : {a b : Tells} (P : List Event) (e : Error) → Takes a (P ++ fails e ∷ []) b → IfSome a.store (λ _. ⊥)
-no_fault_taken {a} {b} P e takes = by a.store b.store (store_taken takes)
+pub record_seen : {R : Type 0} {S : ℕ} {K : Reader R} {old new : BufReader R S} {tag len : ℕ} (payload rest : List ℕ) (wanted : ℕ)
+    → LooksAhead K old (Ok (tag, len)) new → reader_held old ≡ wanted ∷ length payload ∷ payload ++ rest
+    → (new ≡ old) × (2 + len ≤ length (reader_held new)) × (take len (drop 2 (reader_held new)) ≡ payload)
+    × (drop len (drop 2 (reader_held new)) ≡ rest)
+record_seen {old = old} {new} {tag} {len} payload rest wanted look is =
+    let same = look.fills.still (omega (arith, ap length is)) in
+    let held = record_held payload rest (reader_held new) wanted tag len (ap reader_held same ∙ is) (by look.filled look.sees) in
+    (same, held.0, held.1, held.2)
   where
-    by : (x y : Option Store) → IfSome x (λ s. IsSomeAnd y (StoreTaken s (P ++ fails e ∷ []))) → IfSome x (λ _. ⊥)
-    by (Some s) (Some t) took = no_fault_among (drop s.position s.content) P (events_of (drop t.position t.content)) e took.split
-    by _ _ took = grind (arith, took)
-
--- if a buffer tells a store, the reader below does
-told_below : (Q : Type 0) (held : List ℕ) (o : Option Store) → IfSome o (λ _. Q) → IfSome (store_before held o) (λ _. Q)
-told_below Q held o below = grind (arith, common_steps)
-
-module _ {R : Type 0} {S : ℕ} (K : Reader R) (old new : BufReader R S) {buf : List ℕ} {e : Error}
-    (below : ExactBelow K old 2 (Err e) buf new) where
-  -- the last inner read
-  last_read : (answer : Result (List ℕ) Error) → GathersUntil (AsksExact S 2 (length (reader_held old))) below.reads below.given answer
-      → (mid : R) × (room : ℕ) × ((P : List Event) × Takes (tells K (reader_inner old)) P (tells K mid)) × (0 < room)
-      × GaveLaw K mid room answer (reader_inner new)
-  last_read answer (D, room, gathers, asks, is) =
-      let made = subst (λ C. Made (ReadCallLaw K) (reader_inner old) C (reader_inner new)) is below.made in
-      let parts = made_split (ReadCallLaw K) D (reader_inner old) (Gave room answer ∷ []) (reader_inner new) made in (
-        parts.0,
-        room,
-        made_takes K D (reader_inner old) parts.0 parts.1,
-        omega (arith, asks.0, asks.1),
-        subst (λ x. GaveLaw K parts.0 room answer x) (sym parts.2.2) parts.2.1,
-      )
-
-  -- the end came, unless the reader below tells no store
-  pub short_end : IfSome (reader_store K.store old) (λ _. IsAtEnd (tells (buf_reader K) new))
-  short_end = told_below _ (reader_held old) (K.store (reader_inner old)) (elim below.are [
-    | inl end ↦
-        let last = last_read (Ok []) end.1 in
-        grind (
-          arith,
-          ends_behind S (reader_held new) (tells K (reader_inner new)) below.leaves.1.1 (last.4.end refl last.3),
-        )
-    | inr fault ↦
-        let last = last_read (Err e) fault.1 in
-        let none = no_fault_taken last.2.0 e (takes_then last.2.1 last.4.takes) in grind arith
-  ])
-
--- fewer than two bytes were left, and were taken
-pub header_short : {a b : Tells} {P : List Event} {e : Error} → Takes a P b → FillsOrEnds 2 P (Err e) b → IfSome a.store (λ _. IsAtEnd b)
-    → IfSome a.store (λ s. IsSomeAnd b.store (λ t. (t.content ≡ s.content) × (Unit {0} × ((length (drop s.position s.content) < 2)
-    × IsUnexpectedEnd e × (t.position ≡ s.position + length (drop s.position s.content))))))
-header_short {a} {b} {P} {e} takes ends end = by a.store b.store b.events (store_taken takes) end
-  where
-    by : (x y : Option Store) (E : Option (List Event)) → IfSome x (λ s. IsSomeAnd y (StoreTaken s P))
-        → IfSome x (λ _. IfSome (events_by y E) (λ l. l ≡ []))
-        → IfSome x (λ s. IsSomeAnd y (λ t. (t.content ≡ s.content) × (Unit {0} × ((length (drop s.position s.content) < 2)
-        × IsUnexpectedEnd e × (t.position ≡ s.position + length (drop s.position s.content))))))
-    by (Some s) (Some t) E took end =
-        let rest = drop t.position t.content in
-        let all : length (drop s.position s.content) ≡ length (bytes P) =
-        omega (arith, ap length (taken_first took), length-append (bytes P) rest, ap length end, length-events_of rest) in
-        let is_end : IsUnexpectedEnd e = elim ends.1 [
-          | inl fault ↦
-              absurd (no_fault_among (drop s.position s.content) fault.0 (events_of rest) e
-              (took.split ∙ ap (λ l. l ++ events_of rest) fault.1))
-          | inr end ↦ end.0
-        ] in
-        (took.content, (tt, (omega (arith, all, ends.0), is_end, omega (arith, all, took.position))))
-    by None _ _ took end = tt
-    by _ _ E took end = grind (arith, took)
+    by : (how : Result Bool Error) → SeesHeader how (Ok (tag, len)) (reader_held new) → IsFront (tag ∷ len ∷ []) (reader_held new)
+    by (Ok true) sees = sees
+    by (Ok false) sees = absurd sees
+    by (Err e) sees = absurd sees

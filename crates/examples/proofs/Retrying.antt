@@ -1,4 +1,4 @@
--- Writes that are made again after faults.
+-- Texts that are written through a buffer, and writes that are made again after faults.
 use Rattle.std.proofs.Common.{◌≡◌, ℕ, List, [], ◌++◌, length, Result, Ok, Err, true, false, refl, ap, subst, ◌∙◌, arith, length-append}
 use Rattle.std.proofs.lemmas.List.{nil_from_length}
 use Rattle.std.proofs.lemmas.Grind.{common_steps}
@@ -7,9 +7,8 @@ use Rattle.no_std_io2.specs.declared.io.Error.{Error}
 use Rattle.no_std_io2.specs.declared.buffered.buf_writer.BufWriter.{BufWriter}
 use Rattle.no_std_io2.specs.BufWriter.{with_buffer, writer_inner, writer_buffer, writer_told}
 use Rattle.no_std_io2.specs.Retries.{Tries, last, again}
-use Rattle.no_std_io2.specs.Write.{Told, Moves, Sends}
+use Rattle.no_std_io2.specs.Write.{Told, Moves, MovesFront}
 use Rattle.no_std_io2.proofs.BufWriterLemmas.{MovesFront-device}
-use Rattle.no_std_io2.proofs.MovesLemmas.{MovesFront-sends}
 
 -- if a buffer in front of a writer holds nothing, neither does the writer
 pub both_empty : (a : Told) (buffer : List ℕ) → (with_buffer a buffer).held ≡ [] → (a.held ≡ []) × (buffer ≡ [])
@@ -18,12 +17,11 @@ both_empty a buffer none =
     (nil_from_length a.held (omega (arith, ap length none, short)), nil_from_length buffer (omega (arith, ap length none, short)))
 
 -- through a new buffer, which holds nothing afterwards, a text came to the device
-pub came_out : {W : Type 0} {S : ℕ} (told : W → Told) (device : W) (w v : BufWriter W S) (x left : List ℕ) → writer_inner w ≡ device
-    → writer_buffer w ≡ [] → Sends (writer_told told w) x (Ok tt) (writer_told told v) left → left ≡ [] → (writer_told told v).held ≡ []
+pub came_out : {W : Type 0} {S : ℕ} (told : W → Told) (device : W) (w v : BufWriter W S) (x : List ℕ) → writer_inner w ≡ device
+    → writer_buffer w ≡ [] → MovesFront (writer_told told w) x (Ok tt) (writer_told told v) → (writer_told told v).held ≡ []
     → Moves (told device) x [] (told (writer_inner v))
-came_out told device w v x left inner none sends done flushed =
-    subst (λ d. Moves (told d) x [] (told (writer_inner v))) inner
-    (MovesFront-device told w v x (Ok tt) (MovesFront-sends x left sends done) none flushed)
+came_out told device w v x inner none moves flushed =
+    subst (λ d. Moves (told d) x [] (told (writer_inner v))) inner (MovesFront-device told w v x (Ok tt) moves none flushed)
 
 module _ {W : Type 0} {law : W → List ℕ → Result (Unit {0}) Error → W → List ℕ → Type 0} where
   -- one try that succeeded

@@ -1,13 +1,39 @@
--- What a look at a header of two bytes changes.
-use Rattle.std.specs.Prelude.{ℕ, negsuc, List, [], ◌∷◌, Ok}
-use Rattle.no_std_io2.specs.BufReader.{ReaderSeeks}
-use Rattle.no_std_io2.specs.Read.{Reader, ReadExactLaw}
-use Rattle.no_std_io2.specs.Seek.{Seeker, WithoutPosition}
+-- A look at a header of two bytes, and what was taken of the bytes to come.
+use Rattle.std.specs.Prelude.{◌≡◌, ◌<◌, ◌⊎◌, ℕ, List, [], ◌∷◌, ◌++◌, length, take, Bool, true, false, Option, None, Some, Result, Ok, Err, IfSome, IsSomeAnd}
+use Rattle.no_std_io2.specs.BufReader.{reader_held}
+use Rattle.no_std_io2.specs.Errors.{IsUnexpectedEnd}
+use Rattle.no_std_io2.specs.Events.{Event, bytes, bytes_to_fault, first_fault, HasNoFault}
+use Rattle.no_std_io2.specs.FillTo.{FillsTo}
+use Rattle.no_std_io2.specs.Read.{Reader}
+use Rattle.no_std_io2.specs.Takes.{Tells, to_come}
+use Rattle.no_std_io2.specs.Write.{IsFront}
 use Rattle.no_std_io2.specs.declared.buffered.buf_reader.BufReader.{BufReader}
-use Rattle.no_std_io2.specs.declared.io.SeekFrom.TheVariants.{Current}
+use Rattle.no_std_io2.specs.declared.io.Error.{Error}
 
--- the header was read by `read_exact`, and then a seek went back by two bytes, outside the buffer
-abbrev pub SoughtBack : {R : Type 0} {S : ℕ} → Reader (BufReader R S) → Seeker R → BufReader R S → List ℕ → BufReader R S → Type 0
-SoughtBack {R} {S} reader inner old header new =
-    (between : BufReader R S) × ReadExactLaw reader old (0 ∷ 0 ∷ []) (Ok tt) header between
-    × WithoutPosition (λ answer. ReaderSeeks inner between (Current (negsuc 1)) answer new) (Ok tt)
+-- of the bytes to come, if they are told, these are gone from the front, and no others
+abbrev pub LosesFirst : Tells → List ℕ → Tells → Type 0
+LosesFirst old x new = IfSome (to_come old) (λ E. IsSomeAnd (to_come new) (λ E'. bytes E ≡ x ++ bytes E'))
+
+-- two bytes are held, and are the header; or the end came first, or this fault
+abbrev pub SeesHeader : Result Bool Error → Result (ℕ × ℕ) Error → List ℕ → Type 0
+SeesHeader (Ok true) (Ok header) held = IsFront (header.0 ∷ header.1 ∷ []) held
+SeesHeader (Ok false) (Err e) held = IsUnexpectedEnd e
+SeesHeader (Err fault) (Err e) held = e ≡ fault
+SeesHeader _ _ held = ⊥
+
+-- A look at the header: a `fill_to(2)`, after which the header is still held.
+pub record LooksAhead {R : Type 0} {S : ℕ} (inner : Reader R) (old : BufReader R S) (reply : Result (ℕ × ℕ) Error) (new : BufReader R S)
+    : Type 0 where
+  pub filled : Result Bool Error
+  pub fills : FillsTo inner 2 old filled new
+  pub sees : SeesHeader filled reply (reader_held new)
+
+-- What a look at the header returns if E is to come: the next two bytes; or an error, if fewer come before the first fault or the end.
+abbrev pub PeeksAt : List Event → Result (ℕ × ℕ) Error → Type 0
+PeeksAt E (Ok header) = header.0 ∷ header.1 ∷ [] ≡ take 2 (bytes E)
+PeeksAt E (Err e) = (length (bytes_to_fault E) < 2) × ((IsUnexpectedEnd e × HasNoFault E) ⊎ (first_fault E ≡ Some e))
+
+-- the bytes of the record that was returned
+abbrev pub record_bytes : ℕ → Option (List ℕ) → List ℕ
+record_bytes tag None = []
+record_bytes tag (Some payload) = tag ∷ length payload ∷ payload

@@ -2,8 +2,9 @@
 //! the CALLING pages of `no_std_io2` and `system_streams` show or name all modules except `records`.
 #![tactic(auto)]
 
-ghost use Rattle.std.specs.Prelude.{◌≡◌, ◌++◌, IfOk};
+ghost use Rattle.std.specs.Prelude.{◌≡◌, [], ◌++◌, IfOk};
 ghost use Rattle.no_std_io2.specs.BufWriter.{BufWriterFits};
+ghost use Rattle.no_std_io2.specs.Write.{Moves};
 
 mod broken;
 mod checksum;
@@ -58,6 +59,8 @@ pub fn save(device: Vec<u8>, text: &[u8]) -> Result<Vec<u8>>
 /// Does the same as `save`, over any device that fits in memory with its buffer.
 pub fn save_to<W: Write + Drop>(device: W, text: &[u8]) -> Result<W>
     requires { BufWriterFits W.row 64 }
+    ensures saved { IfOk result (λ d. Moves (W.told device) text.now [] (W.told d)) }
+    ensures out { IfOk result (λ d. (W.told d).held ≡ []) }
 {
     let mut w = BufWriter::<W, 64>::new(device);
     w.write_all(text)?;

@@ -1,35 +1,55 @@
-use Rattle.std.proofs.Common.{◌≡◌, ◌≤◌, ◌++◌, length, take, drop, sym, ap, ◌∙◌, arith, length-drop}
+-- The payload goes through the borrow of a vector, and the search does not join the two calls.
+use Rattle.std.proofs.Common.{◌≡◌, ◌≤◌, ◌++◌, length, take, drop, sym, ap, ◌∙◌, arith, length-drop, refl, ap₂}
+use Rattle.std.proofs.lemmas.Result.{err_from_is_err_and}
+use Rattle.no_std_io2.specs.Events.{events_of}
 use Rattle.std.proofs.Math.Seq.{take-append_seam}
-use Rattle.std.proofs.lemmas.List.{length-take-le}
-use Rattle.no_std_io2.specs.BufReader.{reader_held, reader_behind}
-use Rattle.examples.proofs.SteppedBack.{moved_on}
+use Rattle.no_std_io2.specs.BufReader.{reader_held}
+use Rattle.no_std_io2.proofs.EventLemmas.{bytes-append, bytes-events_of}
+use Rattle.no_std_io2.proofs.TakesLemmas.{takes_then}
+use Rattle.examples.proofs.HeaderLemmas.{takes_loses}
 use Rattle.examples.proofs.records.read_payload.Goals as goal
 
-pub returns-in_err-read_exact : goal.returns-in_err-read_exact
-returns-in_err-read_exact g c = λ enough.
-    let moved = c.seek_relative.ensures.own.within (omega (arith, enough)) in
-    let left = moved_on 2 (reader_behind c.args.r.now) (reader_held c.args.r.now) _ _ moved.2.0 moved.2.1 in
+pub returns-in_err-read_exact-clause-held : goal.returns-in_err-read_exact-clause-held
+returns-in_err-read_exact-clause-held g c = λ enough.
     let long : length c.deref_mut.result.now ≡ c.args.len = c.deref_mut.ensures.len ∙ c.in_ok-payload.ensures.len ∙ c.from.ensures in
-    let room : length c.deref_mut.result.now ≤ length (reader_held c.seek_relative.new.self) =
-    omega (arith, enough, long, ap length left, length-drop 2 (reader_held c.args.r.now)) in
+    let room : length c.deref_mut.result.now ≤ length (reader_held c.consume.new.self) =
+    omega (arith, enough, long, ap length c.consume.ensures.law.held, length-drop 2 (reader_held c.args.r.now)) in
     let given = c.in_err-read_exact.ensures.leaves.0 room in
     absurd (let no : ⊥ = cc (given.1.0) in no)
 
-pub returns : goal.returns
-returns g c = λ enough.
-    let moved = c.seek_relative.ensures.own.within (omega (arith, enough)) in
-    let left = moved_on 2 (reader_behind c.args.r.now) (reader_held c.args.r.now) _ _ moved.2.0 moved.2.1 in
+pub returns-in_err-read_exact-clause-failed : goal.returns-in_err-read_exact-clause-failed
+returns-in_err-read_exact-clause-failed g c =
+    let p = err_from_is_err_and c.from_residual-in_err-read_exact.result c.from_residual-in_err-read_exact.ensures.1 in
+    rw p.1 (_, takes_loses _ (takes_then c.consume.ensures.law.takes c.in_err-read_exact.ensures.law.takes) refl)
+
+pub returns-clause-held : goal.returns-clause-held
+returns-clause-held g c = λ enough.
+    let left = c.consume.ensures.law.held in
     let long : length c.deref_mut.result.now ≡ c.args.len = c.deref_mut.ensures.len ∙ c.in_ok-payload.ensures.len ∙ c.from.ensures in
-    let room : length c.deref_mut.result.now ≤ length (reader_held c.seek_relative.new.self) =
+    let room : length c.deref_mut.result.now ≤ length (reader_held c.consume.new.self) =
     omega (arith, enough, long, ap length left, length-drop 2 (reader_held c.args.r.now)) in
     let given = c.in_ok-read_exact.ensures.leaves.0 room in
-    let is : c.read_exact.new.buf ≡ take (length c.deref_mut.result.now) (reader_held c.seek_relative.new.self) = cc (given.1.0) in
-    let got : length c.read_exact.new.buf ≡ length c.deref_mut.result.now = ap length is ∙ length-take-le _ _ room in (
+    let is : c.read_exact.new.buf ≡ take (length c.deref_mut.result.now) (reader_held c.consume.new.self) = cc (given.1.0) in (
       ap (λ m. take m (c.read_exact.new.buf ++ drop (length c.read_exact.new.buf) c.in_ok-payload.payload.items))
-          (sym c.deref_mut.ensures.len ∙ sym got)
+          (sym c.deref_mut.ensures.len ∙ sym c.read_exact.auto.buf)
           ∙ take-append_seam c.read_exact.new.buf _ ∙ is
-          ∙ ap (λ m. take m (reader_held c.seek_relative.new.self)) long ∙ ap (take c.args.len) left,
-      given.1.1.1 ∙ ap (λ m. drop m (reader_held c.seek_relative.new.self)) long ∙ ap (drop c.args.len) left,
+          ∙ ap (λ m. take m (reader_held c.consume.new.self)) long ∙ ap (take c.args.len) left,
+      given.1.1.1 ∙ ap (λ m. drop m (reader_held c.consume.new.self)) long ∙ ap (drop c.args.len) left,
       tt,
-      given.0 ∙ moved.1,
+      tt,
+      given.0 ∙ c.consume.ensures.law.call.0,
+    )
+
+pub returns-clause-told : goal.returns-clause-told
+returns-clause-told g c =
+    let buf = c.read_exact.new.buf in
+    let read = c.in_ok-read_exact.ensures.law in
+    let front = take 2 (reader_held c.args.r.now) in
+    let is : take c.in_ok-payload.payload.len (buf ++ drop (length buf) c.in_ok-payload.payload.items) ≡ buf =
+    ap (λ m. take m (buf ++ drop (length buf) c.in_ok-payload.payload.items)) (sym c.deref_mut.ensures.len ∙ sym c.read_exact.auto.buf)
+    ∙ take-append_seam buf _ in
+    rw is (
+      c.read_exact.auto.buf ∙ c.deref_mut.ensures.len ∙ c.in_ok-payload.ensures.len ∙ c.from.ensures,
+      takes_loses _ (takes_then c.consume.ensures.law.takes read.takes)
+          (bytes-append (events_of front) read.taken ∙ ap₂ (λ x y. x ++ y) (bytes-events_of front) read.ends.0.given),
     )

@@ -1,24 +1,32 @@
-use Rattle.std.proofs.Common.{length, ap, ◌∙◌, arith}
+-- The search does not join the look and the payload if an error goes through a `?`, or if the record is held.
+use Rattle.std.proofs.Common.{[], ap, ◌∙◌}
 use Rattle.std.proofs.lemmas.Result.{err_from_is_err_and}
-use Rattle.no_std_io2.specs.BufReader.{reader_held}
-use Rattle.examples.proofs.SteppedBack.{record_held}
+use Rattle.no_std_io2.specs.BufReader.{reader_inner, reader_held, reader_behind}
+use Rattle.no_std_io2.specs.Read.{tells}
+use Rattle.no_std_io2.proofs.BufReaderCalls.{buf_reader}
+use Rattle.no_std_io2.proofs.Readers.{reader}
+use Rattle.examples.proofs.HeaderLemmas.{record_seen, loses_then}
 use Rattle.examples.proofs.records.read_record.Goals as goal
 
 pub returns-clause-whole : goal.returns-clause-whole
 returns-clause-whole g c = λ payload rest is.
-    let peeked = c.in_ok-tag.ensures.held (omega (arith, ap length is)) in
-    let parts =
-    record_held payload rest (reader_held c.args.r.now) (reader_held c.peek_header.new.r) c.args.wanted c.in_ok-tag.tag c.in_ok-tag.len
-    is peeked.0 peeked.1.1 in
-    let taken = c.in_ok-payload.ensures parts.0 in
-    (taken.0 ∙ parts.1, taken.1 ∙ parts.2, tt, taken.3 ∙ peeked.2)
+    let seen = record_seen payload rest c.args.wanted c.in_ok-tag.ensures.looks is in
+    let taken = c.in_ok-payload.ensures.held seen.1 in
+    (taken.0 ∙ seen.2, taken.1 ∙ seen.3, tt, tt, taken.4 ∙ ap reader_inner seen.0)
 
 pub returns-in_err-payload-clause-whole : goal.returns-in_err-payload-clause-whole
 returns-in_err-payload-clause-whole g c = λ payload rest is.
-    let peeked = c.in_ok-tag.ensures.held (omega (arith, ap length is)) in
-    let parts =
-    record_held payload rest (reader_held c.args.r.now) (reader_held c.peek_header.new.r) c.args.wanted c.in_ok-tag.tag c.in_ok-tag.len
-    is peeked.0 peeked.1.1 in
-    let taken = c.in_err-payload.ensures parts.0 in
+    let seen = record_seen payload rest c.args.wanted c.in_ok-tag.ensures.looks is in
+    let taken = c.in_err-payload.ensures.held seen.1 in
     let p = err_from_is_err_and c.from_residual-in_err-payload.result c.from_residual-in_err-payload.ensures.1 in
-    rw (p.1, p.2) (tt, tt, taken.2, taken.3 ∙ peeked.2)
+    rw (p.1, p.2)
+    (tt, tt, taken.2, (taken.3.0 ∙ ap reader_behind seen.0, taken.3.1 ∙ ap reader_held seen.0), taken.4 ∙ ap reader_inner seen.0)
+
+pub returns-in_err-payload-clause-failed : goal.returns-in_err-payload-clause-failed
+returns-in_err-payload-clause-failed g c =
+    let p = err_from_is_err_and c.from_residual-in_err-payload.result c.from_residual-in_err-payload.ensures.1 in
+    let before = tells (buf_reader (reader g.R.Stored g.R.Read)) c.args.r.now in
+    let between = tells (buf_reader (reader g.R.Stored g.R.Read)) c.peek_header.new.r in
+    let after = tells (buf_reader (reader g.R.Stored g.R.Read)) c.read_payload.new.r in
+    let failed = c.in_err-payload.ensures.failed in
+    rw p.1 (failed.0, loses_then before between after [] failed.0 c.in_ok-tag.ensures.stays failed.1)
