@@ -108,7 +108,7 @@ module _ {X : Type 0} {R : Lender X} {old now after : X} (before : RecordsTaken 
                     HasNoFault-append length_taken.taken s.taken length_taken.no_fault end.1,
                     end.0,
                     cut,
-                    IsAll-behind length_taken.taken s.taken length_taken.takes end.2,
+                    IsAll-behind length_taken.taken s.taken length_taken.takes (takes_all s.taken s.takes end.2),
                   )
             ],
           );

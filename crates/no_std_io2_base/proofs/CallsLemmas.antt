@@ -3,6 +3,8 @@ use Rattle.std.proofs.{lemmas.Grind.{common_steps}, Common.{arith, ◌≡◌, �
 use Rattle.std.proofs.Common.{append_assoc, inl}
 use Rattle.no_std_io2_base.specs.{declared.error.Error.{Error}, Write.{WriteCall, Made, WroteAll, Writes, none, took, again, stuck, fault}}
 use Rattle.no_std_io2_base.specs.{Write.{AllCalls}, Writers.{Writer, CallOf}}
+use Rattle.std.proofs.Math.Nat.{mod-add-mod}
+use Rattle.std.proofs.Common.{◌+◌, ◌%◌, length, sym, ◌∙◌}
 
 -- one call more
 pub made_more : {W A : Type 0} (may : W → A → W → Type 0) (C : List A) (a : W) {b c : W} {call : A}
@@ -30,6 +32,16 @@ pub made_split : {W A : Type 0} (may : W → A → W → Type 0) (C : List A) (a
 made_split may [] a D c made = (a, refl, made)
 made_split may (call ∷ C) a D c made =
     let rest = made_split may C made.0 D c made.2 in (rest.0, (made.0, made.1, rest.1), rest.2)
+
+-- If each call raises a number by one, modulo m, the number counts the calls.
+pub made_counts : {W A : Type 0} (may : W → A → W → Type 0) (count : W → ℕ) (m : ℕ)
+    → ((a b : W) (call : A) → may a call b → count b % m ≡ (count a + 1) % m)
+    → (C : List A) (a b : W) → Made may a C b → count b % m ≡ (count a + length C) % m
+made_counts may count m each [] a b made = ap (λ w. count w % m) made ∙ ap (λ n. n % m) (omega arith)
+made_counts may count m each (call ∷ C) a b made =
+    made_counts may count m each C made.0 b made.2 ∙ sym (mod-add-mod (count made.0) m (length C))
+    ∙ ap (λ n. (n + length C) % m) (each a made.0 call made.1) ∙ mod-add-mod (count a + 1) m (length C)
+    ∙ ap (λ n. n % m) (omega arith)
 
 -- after an `Ok` nothing is left
 pub writes_whole : {text : List ℕ} {C : List WriteCall} {x left : List ℕ} {reply : Result (Unit {0}) Error}

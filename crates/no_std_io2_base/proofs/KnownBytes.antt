@@ -7,6 +7,11 @@ use Rattle.std.proofs.Common.{length, Result, Ok, Err, IfSome, IsOk, Some, inl, 
 use Rattle.std.proofs.{Common.{length-append}, lemmas.Grind.{common_steps}, lemmas.List.{append_cancel_left}}
 use Rattle.no_std_io2_base.specs.{declared.error.Error.{Error}, Events.{Event, bytes, cut, events_of, fails, HasNoFault, EndsInFault}}
 use Rattle.no_std_io2_base.specs.{Takes.{Tells, Takes, to_come}, Read.{Reader, tells, ReadExactLaw, AllOrNone, FillsOrEnds, gave_whole}}
+use Rattle.no_std_io2_base.proofs.TakesLemmas.{all_taken}
+use Rattle.no_std_io2_base.proofs.EventLemmas.{bytes-cut}
+use Rattle.no_std_io2_base.specs.Read.{ReadFullLaw}
+use Rattle.std.proofs.Common.{length-take, ⊎_elim, refl}
+use Rattle.std.proofs.lemmas.Bool.{cases_lt}
 
 -- cut right after the bytes x, only these are left
 cut_behind : (x : List ℕ) (rest : List Event) → cut (length x) (events_of x ++ rest) ≡ events_of x
@@ -55,6 +60,28 @@ pub exact_known : {S : Type 0} {R : Reader S} {old new : S} {buf buf' : List ℕ
     → to_come (tells R old) ≡ Some (events_of x ++ rest)
     → IsOk reply × (buf' ≡ x) × (to_come (tells R new) ≡ Some rest)
 exact_known x rest law long told = ends_known x rest told law.taken _ _ long law.takes law.ends
+
+-- no more bytes are before a cut than it allows
+bytes_within : (n : ℕ) (P : List Event) → cut n P ≡ P → length (bytes P) ≤ n
+bytes_within n P within = omega (arith, ap (λ l. length (bytes l)) within, ap length (bytes-cut n P), length-take n (bytes P))
+
+-- A `read_full` into room for as many bytes gives x, and the rest is to come.
+pub full_known : {S : Type 0} {R : Reader S} {old new : S} {buf buf' : List ℕ} {filled filled' : ℕ} (reply : Result (Unit {0}) Error)
+    (x : List ℕ) (rest : List Event) → ReadFullLaw R old buf filled reply buf' filled' new → length x ≡ length buf - filled
+    → to_come (tells R old) ≡ Some (events_of x ++ rest)
+    → IsOk reply × (filled' ≡ filled + length x) × (take filled' buf' ≡ take filled buf ++ x) × (to_come (tells R new) ≡ Some rest)
+full_known {R = R} {old} {new} {buf} {filled = filled} (Ok u) x rest law long told =
+    let few : length (bytes law.taken) ≤ length x = omega (arith, long, bytes_within (length buf - filled) law.taken law.ends.1) in
+    let many : length (bytes law.taken) ≡ length x = ⊎_elim
+    (λ short. absurd (not_too_few x rest told law.taken law.takes short
+    (all_taken law.taken (length x) (to_come (tells R new)) (law.ends.2 (omega (arith, short, long))))))
+    (λ enough. omega (arith, few, enough))
+    (cases_lt (length (bytes law.taken)) (length x)) in
+    let (same, behind) =
+    whole_back x rest told law.taken law.takes (subst (λ n. cut n law.taken ≡ law.taken) (sym long) law.ends.1) many in
+    (refl, law.counts ∙ ap (λ n. filled + n) many, law.fills ∙ ap (λ l. take filled buf ++ l) same, behind)
+full_known (Err e) x rest law long told =
+    absurd (no_fault_before x rest told law.taken law.takes law.ends.0 (omega (arith, law.ends.1, long)))
 
 -- It succeeds if the buffer is no longer than x.
 pub ReadsExact-enough : {S : Type 0} {R : Reader S} {old new : S} {buf buf' : List ℕ} {reply : Result (Unit {0}) Error} (x : List ℕ)

@@ -5,6 +5,9 @@ use Rattle.std.proofs.{lemmas.List.Sums.{sum_by-append, sum_by-cons}, lemmas.Boo
 use Rattle.no_std_io2_base.specs.{declared.error.ErrorKind.{ErrorKind}, declared.error.Error.{Error}, Write.{Told, IsFront, HasSpent}}
 use Rattle.no_std_io2_base.specs.Write.{Moves, MovesFront, MovesEach, Sends, call_mishap, zero_write}
 use Rattle.std.specs.{List.{concat}, Result.{OnOk}}
+use Rattle.std.proofs.lemmas.List.{take_more, flat_map_more}
+use Rattle.std.proofs.lemmas.Grind.{flat_map-append}
+use Rattle.std.proofs.Common.{◌<◌, take, drop, get_or, take-append-drop, flat_map}
 
 -- what holds, holds after an `Ok`
 pub after_ok : {A E : Type 0} {P : Type 0} (reply : Result A E) → P → OnOk reply P
@@ -119,3 +122,31 @@ Sends-then {left} f g = grind (arith, common_steps)
 pub Moves-each : (a c : Told) (xs : List (List ℕ)) → MovesEach a xs c → Moves a (concat xs) [] c
 Moves-each a c [] f = f
 Moves-each a c (x ∷ xs) f = Moves-then f.1 (Moves-each f.0 c xs f.2)
+
+-- `write_rest(&mut x)?; flush()`, if the first returned `Ok`
+pub Sends-flush : {a b c : Told} {r : Result (Unit {0}) Error} {u : Unit {0}} {x left : List ℕ} → Sends a x (Ok u) b left
+    → Moves b [] (call_mishap r) c → Sends a x r c left
+Sends-flush f g = record { sent = f.sent; split = f.split; moves = Moves-ends f.moves g }
+
+-- A loop writes the text of each element of a list.
+module _ {X : Type 0} (text : X → List ℕ) (xs : List X) (i : ℕ) (d : X) (within : i < length xs) where
+  text_more : flat_map text (take (i + 1) xs) ≡ flat_map text (take i xs) ++ text (get_or xs i d)
+  text_more = ap (flat_map text) (take_more xs i d within) ∙ sym (flat_map_more text [] (take i xs) (get_or xs i d))
+
+  text_all : flat_map text xs ≡ (flat_map text (take i xs) ++ text (get_or xs i d)) ++ flat_map text (drop (i + 1) xs)
+  text_all = ap (flat_map text) (sym (take-append-drop (i + 1) xs)) ∙ flat_map-append text (take (i + 1) xs) (drop (i + 1) xs)
+      ∙ ap (λ l. l ++ flat_map text (drop (i + 1) xs)) text_more
+
+  -- one text more was written
+  pub MovesFront-next : {a b c : Told} {u v : Unit {0}} → MovesFront a (flat_map text (take i xs)) (Ok u) b
+      → MovesFront b (text (get_or xs i d)) (Ok v) c → MovesFront a (flat_map text (take (i + 1) xs)) (Ok tt) c
+  MovesFront-next {a} {c = c} f g =
+      subst (λ l. MovesFront a l (Ok tt) c) (sym text_more) (MovesFront-join (flat_map text (take i xs)) (text (get_or xs i d)) (Ok tt) f g)
+
+  -- or an error came: some front of all was written
+  pub MovesFront-stop : {a b c : Told} {u : Unit {0}} {e : Error} → MovesFront a (flat_map text (take i xs)) (Ok u) b
+      → MovesFront b (text (get_or xs i d)) (Err e) c → MovesFront a (flat_map text xs) (Err e) c
+  MovesFront-stop {a} {c = c} {e = e} f g =
+      subst (λ l. MovesFront a l (Err e) c) (sym text_all)
+      (MovesFront-first (flat_map text (take i xs) ++ text (get_or xs i d)) (flat_map text (drop (i + 1) xs)) e
+      (MovesFront-join (flat_map text (take i xs)) (text (get_or xs i d)) (Err e) f g))

@@ -3,6 +3,12 @@ use Rattle.std.proofs.{lemmas.Grind.{common_steps}, Common.{◌≡◌, ◌≢◌
 use Rattle.std.proofs.Common.{length, refl, sym, ap, ◌∙◌, subst, arith, true≢false, eqb-true, eq-eqb, ne_eqb, suc-ne-zero, get_or, drop}
 use Rattle.std.specs.List.{concat}
 use Rattle.no_std_io2_base.specs.Pieces.{Lacks, ends_in, in_front, pieces, ArePieces}
+use Rattle.std.proofs.Common.{count_by, cond, ◌⊎◌, ◌+◌, inl, inr}
+use Rattle.std.proofs.lemmas.List.Sums.{sum_by-append, sum_by-cons}
+use Rattle.no_std_io2_base.specs.Events.{Event, byte, bytes}
+use Rattle.no_std_io2_base.specs.Takes.{Tells, IsAll}
+use Rattle.no_std_io2_base.specs.Pieces.{EndsPiece, EndsAt}
+use Rattle.no_std_io2_base.proofs.EventLemmas.{bytes-append}
 
 -- the pieces if the first byte is d, and if it is not
 pub pieces-at : (d b : ℕ) (bs : List ℕ) → b ≡ d → pieces d (b ∷ bs) ≡ (b ∷ []) ∷ pieces d bs
@@ -98,3 +104,23 @@ pub ends_in-lacks : (d : ℕ) (bs : List ℕ) → Lacks d bs → ends_in d bs �
 ends_in-lacks d [] h = refl
 ends_in-lacks d (b ∷ []) h = ne_eqb b d h.0
 ends_in-lacks d (b ∷ c ∷ bs) h = ends_in-lacks d (c ∷ bs) h.1
+
+-- bytes without a d have none
+pub count-lacks : (d : ℕ) (bs : List ℕ) → Lacks d bs → count_by (λ b. b == d) bs ≡ 0
+count-lacks d [] none = refl
+count-lacks d (b ∷ bs) none =
+    omega (arith, sum_by-cons (λ b. cond (b == d) 1 0) b bs, ap {B = ℕ} (λ t. cond t 1 0) (ne_eqb b d none.0), count-lacks d bs none.1)
+
+-- bytes that end in d, the only one in them, have one
+pub count-piece : (d : ℕ) (bs : List ℕ) → EndsPiece d bs → count_by (λ b. b == d) bs ≡ 1
+count-piece d bs (front, is, none) =
+    let one : count_by (λ b. b == d) (d ∷ []) ≡ 1 = omega (arith, sum_by-cons (λ b. cond (b == d) 1 0) d [], ap {B = ℕ} (λ t. cond t 1 0) (eq-eqb d d refl)) in
+    ap (count_by (λ b. b == d)) is ∙ sum_by-append _ front (d ∷ []) ∙ omega (arith, count-lacks d front none, one)
+
+-- What one piece is, by its last byte: it ends in d, or it is the last one.
+pub piece_ended : (d : ℕ) (old : Tells) (P : List Event) → EndsAt d P ⊎ (Lacks d (bytes P) × IsAll old P)
+    → (ends_in d (bytes P) ≡ true → EndsPiece d (bytes P)) × (ends_in d (bytes P) ≡ false → Lacks d (bytes P) × IsAll old P)
+piece_ended d old P (inl (front, is, none)) =
+    let same : bytes P ≡ bytes front ++ d ∷ [] = ap bytes is ∙ bytes-append front (byte d ∷ []) in
+    (λ _. (bytes front, same, none), λ not. absurd (true≢false (sym (ap (ends_in d) same ∙ ends_in-end d (bytes front)) ∙ not)))
+piece_ended d old P (inr last) = (λ ended. absurd (true≢false (sym ended ∙ ends_in-lacks d (bytes P) last.0)), λ _. last)

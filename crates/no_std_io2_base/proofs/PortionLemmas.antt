@@ -7,7 +7,7 @@ use Rattle.no_std_io2_base.specs.{BufRead.{lender_tells, ConsumeLaw, FilledLaw, 
 use Rattle.no_std_io2_base.specs.Passing.{no_portion, and_portion, and_waited, Skipped}
 use Rattle.no_std_io2_base.proofs.{CallsLemmas.{made_more, made_then}, EventLemmas.{HasNoFault-append, HasNoFault-events_of}}
 use Rattle.no_std_io2_base.proofs.{EventLemmas.{length-events_of}, PieceLemmas.{bytes_more, bytes_still}, TakesLemmas.{takes_none}}
-use Rattle.no_std_io2_base.proofs.TakesLemmas.{takes_then, takes_still, takes_turns, takes_all, spends, stays_at_end}
+use Rattle.no_std_io2_base.proofs.TakesLemmas.{takes_then, takes_still, takes_turns, spends}
 
 -- Of n bytes, `left` are still wanted; the others were taken, by these calls.
 pub record PortionsTaken {X : Type 0} (R : Lender X) (old : X) (n left : ℕ) (now : X) : Type 0 where
@@ -81,7 +81,7 @@ module _ {X : Type 0} {R : Lender X} {old now : X} {n left : ℕ} (before : Port
       taken = before.taken;
       takes = takes_still before.takes filled.takes;
       count = before.count;
-      ends = (more, inr (end, before.no_fault, takes_all before.taken before.takes (stays_at_end filled.takes (filled.end (ap Ok none)))));
+      ends = (more, inr (end, before.no_fault, filled.end (ap Ok none)));
       calls = (
         before.calls ++ Filled (Ok lent) ∷ [],
         made_more (LendCallLaw R) before.calls old before.made filled,

@@ -9,6 +9,8 @@ use Rattle.no_std_io2_base.specs.{Read.{ReadCallLaw, GaveLaw, ReadLaw, ReadExact
 use Rattle.no_std_io2_base.specs.{BufRead.{as_reader, LendCallLaw}, Write.{Made}}
 use Rattle.no_std_io2_base.proofs.{CallsLemmas.{made_map}, EventLemmas.{bytes-append, bytes-events_of, length-events_of, HasNoFault-append}}
 use Rattle.no_std_io2_base.proofs.{EventLemmas.{HasNoFault-events_of, cut-append}, ReadExactExits.{some_bytes}}
+use Rattle.std.proofs.lemmas.List.{append_cancel_left}
+use Rattle.std.proofs.Common.{OnOk}
 
 are_none : (E : Option (List Event)) → AreTaken E [] E
 are_none x1 = grind (arith, common_steps)
@@ -79,6 +81,28 @@ left_of {a} {b} {P} {E} takes told = by (to_come b) (subst (λ o. AreTaken o P (
     by None are = absurd are
     by (Some after) are = (after, refl, are)
 
+-- if events were told, and all of them were taken, none are to come
+pub at_end_after : {a b : Tells} {P E : List Event} → Takes a P b → to_come a ≡ Some E → IsAll a P → IsAtEnd b
+at_end_after {a} {b} {P} {E} takes told all =
+    let (after, still, split) = left_of takes told in
+    let whole : E ≡ P = subst (λ o. IfSome o (λ l. l ≡ P)) told all in
+    subst (λ o. IfSome o (λ l. l ≡ [])) (sym still) (append_cancel_left P after [] (sym split ∙ whole ∙ sym (append-nil P)))
+
+-- what was taken is a front of the bytes that were to come
+pub front_taken : {a b : Tells} (bs x : List ℕ) → TakesBytes a x b → to_come a ≡ Some (events_of bs) → (rest : List ℕ) × (bs ≡ x ++ rest)
+front_taken bs x took told =
+    let (after, still, split) = left_of took.takes told in
+    (bytes after, sym (bytes-events_of bs) ∙ ap bytes split ∙ bytes-append took.taken after ∙ ap (λ l. l ++ bytes after) took.are)
+
+-- and the others are what is to come then
+pub front_gone : {a b : Tells} (bs x cs : List ℕ) → TakesBytes a x b → to_come a ≡ Some (events_of bs) → to_come b ≡ Some (events_of cs)
+    → bs ≡ x ++ cs
+front_gone {b = b} bs x cs took told left =
+    let (after, still, split) = left_of took.takes told in
+    let same : after ≡ events_of cs = let both : Some after ≡ Some (events_of cs) = sym still ∙ left in cc in
+    let bytes_left : bytes after ≡ cs = ap bytes same ∙ bytes-events_of cs in
+    sym (bytes-events_of bs) ∙ ap bytes split ∙ bytes-append took.taken after ∙ ap (λ l. l ++ bytes after) took.are ∙ ap (λ l. x ++ l) bytes_left
+
 -- bytes, and then bytes
 pub TakesBytes-then : {a b c : Tells} {x y : List ℕ} → TakesBytes a x b → TakesBytes b y c → TakesBytes a (x ++ y) c
 TakesBytes-then {x = x} first next = record {
@@ -92,6 +116,13 @@ TakesBytes-then {x = x} first next = record {
 pub TakesBytes-fills : {S : Type 0} {R : Reader S} {old new : S} {buf buf' : List ℕ} {u : Unit {0}} → ReadExactLaw R old buf (Ok u) buf' new
     → TakesBytes (tells R old) buf' (tells R new)
 TakesBytes-fills law = record { taken = law.taken; takes = law.takes; no_fault = law.ends.0.no_fault; are = law.ends.0.given }
+
+-- two buffers were filled, one after the other
+pub TakesBytes-pair : {S : Type 0} {R : Reader S} {old mid new : S} {first first' second second' : List ℕ} {u : Unit {0}}
+    (reply : Result (Unit {0}) Error) → ReadExactLaw R old first (Ok u) first' mid → ReadExactLaw R mid second reply second' new
+    → OnOk reply (TakesBytes (tells R old) (first' ++ second') (tells R new))
+TakesBytes-pair (Ok u) one next = TakesBytes-then (TakesBytes-fills one) (TakesBytes-fills next)
+TakesBytes-pair (Err e) one next = tt
 
 -- all that is to come behind P is all, with P in front
 pub IsAll-behind : {a b : Tells} (P Q : List Event) → Takes a P b → IsAll b Q → IsAll a (P ++ Q)

@@ -1,7 +1,7 @@
 -- The bytes that `skip` skips, and the calls that take a number of bytes.
 use Rattle.std.specs.Prelude.{◌≡◌, ◌⊎◌, ℕ, ◌+◌, ◌-◌, ◌<◌, min, List, [], ◌∷◌, ◌++◌, length, take, Result, Ok, Err}
 use Rattle.no_std_io2_base.specs.{declared.error.Error.{Error}, Errors.{IsFault, IsInterruption, IsUnexpectedEnd}, Events.{Event, bytes}}
-use Rattle.no_std_io2_base.specs.{Events.{HasNoFault, EndsInFault}, Takes.{Tells, Takes, IsAll}, Read.{ReadCall, Filled, Consumed}}
+use Rattle.no_std_io2_base.specs.{Events.{HasNoFault, EndsInFault}, Takes.{Tells, Takes, IsAtEnd}, Read.{ReadCall, Filled, Consumed}}
 use Rattle.no_std_io2_base.specs.{BufRead.{Lender, lender_tells, LendCallLaw}, Write.{Made}}
 
 -- C are the calls of a loop that takes `want` bytes and has taken x: each `fill_buf` lent some bytes, and as many of them as were still
@@ -23,9 +23,9 @@ SkipCalls n C x (Ok u) = PortionCalls n C x
 SkipCalls n C x (Err e) = (IsFault e × PortionsUntil n C x (Err e)) ⊎ (IsUnexpectedEnd e × PortionsUntil n C x (Ok []))
 
 -- how a `skip` that took P ended, with `left` bytes still to be skipped: all were skipped; or a fault came first, or the end
-abbrev pub SkipEnds : Tells → List Event → Result (Unit {0}) Error → ℕ → Type 0
-SkipEnds old P (Ok u) left = HasNoFault P × (left ≡ 0)
-SkipEnds old P (Err e) left = (0 < left) × (EndsInFault P e ⊎ (IsUnexpectedEnd e × HasNoFault P × IsAll old P))
+abbrev pub SkipEnds : List Event → Result (Unit {0}) Error → ℕ → Tells → Type 0
+SkipEnds P (Ok u) left new = HasNoFault P × (left ≡ 0)
+SkipEnds P (Err e) left new = (0 < left) × (EndsInFault P e ⊎ (IsUnexpectedEnd e × HasNoFault P × IsAtEnd new))
 
 -- `skip(&mut left)`: of n bytes, `left` are still to be skipped
 pub record Skipped {X : Type 0} (R : Lender X) (old : X) (n : ℕ) (reply : Result (Unit {0}) Error) (left : ℕ) (new : X) : Type 0 where
@@ -35,6 +35,6 @@ pub record Skipped {X : Type 0} (R : Lender X) (old : X) (n : ℕ) (reply : Resu
   -- its bytes are the skipped ones
   pub count : length (bytes taken) + left ≡ n
   -- how it ended
-  pub ends : SkipEnds (lender_tells R old) taken reply left
+  pub ends : SkipEnds taken reply left (lender_tells R new)
   -- which calls it made
   pub calls : (C : List ReadCall) × Made (LendCallLaw R) old C new × SkipCalls n C (bytes taken) reply

@@ -84,7 +84,8 @@ abbrev pub ComesBehind : Tells → List Event → List ℕ → Type 0
 ComesBehind t P x = IfSome (to_come t) (λ E. (rest : List Event) × (E ≡ P ++ (events_of x ++ rest)))
 
 -- How a call that took the events P of one piece ended: with the first d, or at the end; or before a d, with a fault, or since an
--- allocation failed for the next bytes of the piece. `lacks` is the reason why these and the bytes of P needed one.
+-- allocation failed for the next bytes of the piece. `lacks` is the reason why these and the bytes of P needed one. At the end P is all
+-- that was told. The last call is then a `consume` of no byte, after which a reader that told nothing may tell events (`at_end_after`).
 abbrev pub PieceEnds : (ℕ → Type 0) → ℕ → Tells → List Event → Result ℕ Error → Type 0
 PieceEnds lacks d old P (Ok n) = HasNoFault P × (n ≡ length (bytes P)) × (EndsAt d P ⊎ (Lacks d (bytes P) × IsAll old P))
 PieceEnds lacks d old P (Err e) = Lacks d (bytes P) × (EndsInFault P e ⊎ (HasNoFault P × IsOutOfMemory e
