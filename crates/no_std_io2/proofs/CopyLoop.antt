@@ -13,7 +13,7 @@ use Rattle.no_std_io2_base.specs.Writers.{Writer, WriteAllOf, CallOf, TakesAll}
 use Rattle.no_std_io2_base.proofs.CallsLemmas.{made_more, made_then}
 use Rattle.no_std_io2_base.proofs.EventLemmas.{bytes-append, bytes-events_of, HasNoFault-append, HasNoFault-events_of}
 use Rattle.no_std_io2_base.proofs.MovesLemmas.{Moves-refl, Moves-then}
-use Rattle.no_std_io2_base.proofs.PieceLemmas.{bytes_still}
+use Rattle.no_std_io2_base.proofs.PieceLemmas.{bytes-fails}
 use Rattle.no_std_io2_base.proofs.ReadExactExits.{some_bytes}
 use Rattle.no_std_io2_base.proofs.ReadLoop.{ReadsSoFar, reads_none, reads_more, reads_again}
 use Rattle.no_std_io2_base.proofs.TakesLemmas.{takes_then, takes_still, takes_turns, read_law, read_spends, nothing_read}
@@ -111,7 +111,7 @@ module _ {R W : Type 0} {K : Reader R} {I : Writer W} {S : ℕ} {from : R} {old 
             takes = takes_then took.takes read.takes;
             ends = (
               (took.taken, refl, took.no_fault, fault),
-              subst (λ l. Moves (I.told old) l [] (I.told now)) (sym (bytes_still took.taken e ∙ took.are)) before.moves,
+              subst (λ l. Moves (I.told old) l [] (I.told now)) (sym (bytes-fails took.taken e ∙ took.are)) before.moves,
             );
             all = before.all;
             calls = hands_last long (Err e) (read_law (Err e) read);

@@ -23,8 +23,8 @@ abbrev pub chain_tells : Bool → Tells → Tells → Tells
 chain_tells done first second =
     record { events = chain_to_come done first second; store = None; turns = first.turns + second.turns }
 
-all_taken : (E E' F : Option (List Event)) (P : List Event) → AreTaken E P E' → IfSome E' (λ l. l ≡ []) → AreTaken (both_to_come E F) P F
-all_taken x1 x2 x3 x4 taken end = grind (arith, common_steps)
+all_of_both : (E E' F : Option (List Event)) (P : List Event) → AreTaken E P E' → IfSome E' (λ l. l ≡ []) → AreTaken (both_to_come E F) P F
+all_of_both x1 x2 x3 x4 taken end = grind (arith, common_steps)
 
 module _ {T U : Type 0} (R : Reader T) (S : Reader U) where
   -- as the marks say
@@ -65,9 +65,9 @@ drained : {S A : Type 0} {lacks : ℕ → Type 0} {R : Reader S} {old new : S} {
 drained {R = R} {old} {new} {buf} {answer = answer} x law same = grind (arith, common_steps, append_cancel_left, drains)
 
 -- how it ended, of a reader that is at its end if the other is
-ends_at : (l : Type 0) (P : List Event) (t t' : Tells) (reply : Result ℕ Error) → (IsAtEnd t → IsAtEnd t') → DrainsOrStops l P reply t
+end_of_both : (l : Type 0) (P : List Event) (t t' : Tells) (reply : Result ℕ Error) → (IsAtEnd t → IsAtEnd t') → DrainsOrStops l P reply t
     → DrainsOrStops l P reply t'
-ends_at l x2 t t' x5 end stops = grind (arith, common_steps)
+end_of_both l x2 t t' x5 end stops = grind (arith, common_steps)
 
 -- how it stopped, after other events without a fault
 stops_then : {l l' : Type 0} (P Q : List Event) {e : Error} → HasNoFault P → (l → l') → EndsInFault Q e
@@ -101,7 +101,7 @@ module _ {T U A : Type 0} (R : Reader T) (S : Reader U) {old new : Chain T U} {b
       → ReadToEndLaw S (chain_second old) buf reply buf' (chain_second new) → ReadToEndLaw (chain_reader R S) old buf reply buf' new
   end_second reply done same law = to_end_call reply law.taken ([], λ _. refl, by_second done same (drained [] law refl))
       (by_second_takes R S done same law.takes) law.appends.0 law.appends.1
-      (ends_at _ law.taken _ _ reply (done_ends R S new (ap chain_is_done same ∙ done)) law.ends) law.capacity
+      (end_of_both _ law.taken _ _ reply (done_ends R S new (ap chain_is_done same ∙ done)) law.ends) law.capacity
 
   -- of the first alone, which failed
   pub end_first : {e : Error} → chain_is_done old ≡ false → new ≡ record old { first = chain_first new }

@@ -1,12 +1,12 @@
 -- The calls of a reader that lends, one after another, and what they take.
-use Rattle.std.proofs.Common.{◌≡◌, ◌⊎◌, ℕ, ◌+◌, ◌-◌, ◌<◌, ◌≤◌, List, [], ◌∷◌, ◌++◌, length, take, Bool, true, false, Result, Ok, Err, refl, sym, ap}
-use Rattle.std.proofs.Common.{◌∙◌, subst, append_assoc, append-nil, arith, inl, inr, length-take-le}
+use Rattle.std.proofs.Common.{◌≡◌, ℕ, ◌<◌, ◌≤◌, List, [], ◌∷◌, ◌++◌, length, take, Bool, true, false, Result, Ok, Err, refl, sym, ap}
+use Rattle.std.proofs.Common.{◌∙◌, subst, append_assoc, append-nil, inl, inr}
 use Rattle.no_std_io2_base.specs.declared.error.Error.{Error}
 use Rattle.no_std_io2_base.specs.Errors.{IsInterruption, IsFault}
 use Rattle.no_std_io2_base.specs.Read.{ReadCall, Gave, GaveExactly, GaveAll, Filled, Consumed, GaveLaw, ReadCallLaw, Gathers, GathersUntil}
-use Rattle.no_std_io2_base.specs.Read.{no_read, and_gave, and_again, IsRest, FullCalls, ReadFullLaw}
+use Rattle.no_std_io2_base.specs.Read.{no_read, and_gave, and_again}
 use Rattle.no_std_io2_base.specs.BufRead.{Lender, lender_tells, as_reader, FilledLaw, ConsumeLaw, LendCallLaw}
-use Rattle.no_std_io2_base.specs.Passing.{PortionCalls, PortionsUntil, no_portion, and_portion, and_waited, Skipped}
+use Rattle.no_std_io2_base.specs.Passing.{PortionCalls, PortionsUntil, no_portion, and_portion, and_waited}
 use Rattle.no_std_io2_base.specs.Write.{Made}
 use Rattle.no_std_io2_base.proofs.CallsLemmas.{made_then, made_split}
 use Rattle.no_std_io2_base.specs.Reads.{AllGoOn, Asked, Fetches}
@@ -47,9 +47,11 @@ module _ {X : Type 0} {R : Lender X} where
 
   -- one read
   pub fetches_gave : {a b : X} (room : ℕ) (y : List ℕ) → GaveLaw (as_reader R) a room (Ok y) b → 0 < length y → Fetches R a y (Ok true) b
-  fetches_gave {b = b} room y law some = record { took = Took-bytes y law.takes; calls = (Gave room (Ok y) ∷ [], (b, law, refl), (some, tt)) }
+  fetches_gave {b = b} room y law some =
+      record { took = Took-bytes y law.takes; calls = (Gave room (Ok y) ∷ [], (b, law, refl), (some, tt)) }
 
-  pub fetches_again : {a b : X} (room : ℕ) {e : Error} → GaveLaw (as_reader R) a room (Err e) b → IsInterruption e → Fetches R a [] (Ok true) b
+  pub fetches_again : {a b : X} (room : ℕ) {e : Error} → GaveLaw (as_reader R) a room (Err e) b → IsInterruption e
+      → Fetches R a [] (Ok true) b
   fetches_again {b = b} room {e = e} law again =
       record { took = Took-again law.takes again; calls = (Gave room (Err e) ∷ [], (b, law, refl), (again, tt)) }
 
@@ -99,8 +101,8 @@ module _ {X : Type 0} {R : Lender X} where
       subst (Fetches R a x (Ok true)) (sym parts.2.2)
       (rw append-nil at (fetches_then (fetches_portions so_far parts.0 parts.1) (fetches_waited parts.2.1 again)))
 
-  pub fetches_portions_until : {a : X} {n : ℕ} {C : List ReadCall} {x : List ℕ} {answer : Result (List ℕ) Error} (how : Result Bool Error) (b : X)
-      → ((c : X) → FilledLaw R c answer b → Fetches R c [] how b)
+  pub fetches_portions_until : {a : X} {n : ℕ} {C : List ReadCall} {x : List ℕ} {answer : Result (List ℕ) Error}
+      (how : Result Bool Error) (b : X) → ((c : X) → FilledLaw R c answer b → Fetches R c [] how b)
       → PortionsUntil n C x answer → Made (LendCallLaw R) a C b → Fetches R a x how b
   fetches_portions_until {a} {answer = answer} how b last (D, so_far, more, is) made =
       let parts = made_split (LendCallLaw R) D a (Filled answer ∷ []) b (rw is at made) in

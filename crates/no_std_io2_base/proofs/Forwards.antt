@@ -30,9 +30,10 @@ module _ {X Y : Type 0} {R : Reader X} {R' : Reader Y} (put : X → Y) (through 
       → ReadExactLaw R' (put a) buf reply buf' (put b)
   exact_through {buf' = buf'} {reply} law = grind (arith, common_steps, between, made_map, call_through)
 
-  pub to_end_through : {A : Type 0} {lacks : ℕ → Type 0} {buf buf' : Vec ℕ A} {reply : Result ℕ Error} → ToEndLaw lacks R a buf reply buf' b
+  pub drained_through : {A : Type 0} {lacks : ℕ → Type 0} {buf buf' : Vec ℕ A} {reply : Result ℕ Error}
+      → ToEndLaw lacks R a buf reply buf' b
       → ToEndLaw lacks R' (put a) buf reply buf' (put b)
-  to_end_through {lacks = lacks} {reply = reply} law = grind (arith, common_steps, between, made_map, call_through)
+  drained_through {lacks = lacks} {reply = reply} law = grind (arith, common_steps, between, made_map, call_through)
 
 -- and R' holds what R holds
 pub record LendsThrough {X Y : Type 0} (R : Lender X) (R' : Lender Y) (put : X → Y) : Type 0 where
@@ -132,5 +133,5 @@ module _ {W V : Type 0} {store : V → Option Store} {turns : V → ℕ} {events
       record { store = λ w. store (put old w); turns = λ w. turns (put old w); events = λ w. events (put old w); may = may } in
       let through : ReadsThrough part whole (put old) = record { told = λ w. refl; may = passed_on old back twice } in
       subst (λ v. ToEndLaw lacks whole v buf reply buf' new) was
-      (subst (λ v. ToEndLaw lacks whole (put old (get old)) buf reply buf' v) is (to_end_through {R = part} {R' = whole}
+      (subst (λ v. ToEndLaw lacks whole (put old (get old)) buf reply buf' v) is (drained_through {R = part} {R' = whole}
       (put old) through law))

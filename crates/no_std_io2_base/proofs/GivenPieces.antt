@@ -59,12 +59,14 @@ GivenRead d E piece (Err e) after = ((pieces_given d E ≡ []) × (first_fault E
 given_next : (d : ℕ) (E P after : List Event) → E ≡ P ++ after → HasNoFault P → EndsAt d P ⊎ (Lacks d (bytes P) × (after ≡ []))
     → 0 < length (bytes P) → GivesNext d E (bytes P) after
 given_next d E P after split free ends some =
-    grind (arith, common_steps, first_fault-append, bytes_to_fault-append, bytes-append, append_assoc, given-front, before-first, given-last)
+    grind (arith, common_steps, first_fault-append, bytes_to_fault-append, bytes-append, append_assoc, given-front, before-first,
+    given-last)
 
 -- if they have no byte, they are all
 given_none : (d : ℕ) (E P after : List Event) → E ≡ P ++ after → HasNoFault P → EndsAt d P ⊎ (Lacks d (bytes P) × (after ≡ []))
     → length (bytes P) ≡ 0 → GivesNone d E
-given_none d x2 x3 after split free x7 x8 = grind (arith, common_steps, bytes-append, length-append, common_steps, given-front, nil_from_length, first_fault-append)
+given_none d x2 x3 after split free x7 x8 =
+    grind (arith, common_steps, bytes-append, length-append, given-front, nil_from_length, first_fault-append)
 
 -- bytes without a d give no piece that a d ended
 none_ended : (d : ℕ) (bs : List ℕ) → Lacks d bs → filter (ends_in d) (pieces d bs) ≡ []
@@ -173,8 +175,8 @@ module _ {X T : Type 0} {R : Lender X} {old new : X} {view : T → List ℕ} {tr
           by_read (Ok n) after yields (inr given) = given.1
           by_read (Err e) after yields given = absurd (let no : ⊥ = cc in no)
 
-      -- an error is the first fault, before which there is no piece; or it refuses the next piece; or memory was refused, and a byte was to
-      -- come
+      -- an error is the first fault, before which there is no piece; or it refuses the next piece;
+      -- or memory was refused, and a byte was to come
       pub next_error : {e : Error} → NextPieceLaw R old view trim refuses d (Some (Err e)) new
           → ((pieces_given d E ≡ []) × (first_fault E ≡ Some e))
           ⊎ (((piece : List ℕ) × (after : List Event) × GivesNext d E piece after × refuses piece e)

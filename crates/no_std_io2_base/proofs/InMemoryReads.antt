@@ -22,9 +22,9 @@ pub split_at : (n : ℕ) (all : List ℕ) {part rest : List ℕ} → part ≡ ta
 split_at n all {part} front left = sym (take-append-drop n all) ∙ ap (λ l. l ++ drop n all) (sym front) ∙ ap (λ l. part ++ l) (sym left)
 
 -- as many as fit
-fitting : (left part rest : List ℕ) (room : ℕ) → left ≡ part ++ rest → length part ≡ min (length left) room
+fitting_part : (left part rest : List ℕ) (room : ℕ) → left ≡ part ++ rest → length part ≡ min (length left) room
     → (part ≡ take room left) × (rest ≡ drop room left)
-fitting left part rest room split long = grind (arith, common_steps)
+fitting_part left part rest room split long = grind (arith, common_steps)
 
 -- From old to new a reader gave `part` of the bytes that were left.
 pub record GivesPart {S : Type 0} (R : Reader S) (left : S → List ℕ) (old : S) (part : List ℕ) (new : S) : Type 0 where
@@ -44,11 +44,11 @@ module _ {S : Type 0} {R : Reader S} {left : S → List ℕ} {old new : S} {part
   read_part buf' n is bound none call = grind (arith, common_steps)
 
   -- a `read_to_end` appended it
-  pub to_end_part : {A : Type 0} {buf buf' : Vec ℕ A} (reply : Result ℕ Error) → buf'.items ≡ buf.items ++ part
+  pub memory_drained : {A : Type 0} {buf buf' : Vec ℕ A} (reply : Result ℕ Error) → buf'.items ≡ buf.items ++ part
       → IfOk reply (λ n. (n ≡ length part) × (left new ≡ []))
       → IfErr reply (λ e. IsOutOfMemory e × (vec_capacity buf < vec_len buf' + least_room)) → vec_capacity buf ≤ vec_capacity buf'
       → R.may old (GaveAll part (ended reply)) new → ReadToEndLaw R old buf reply buf' new
-  to_end_part {buf = buf} {buf'} reply grown done failed capacity call =
+  memory_drained {buf = buf} {buf'} reply grown done failed capacity call =
       grind (arith, common_steps, ends, to_end_by, drains_ended, bytes-events_of, HasNoFault-events_of, length-append)
 
 module _ {S : Type 0} {R : Reader S} {left : S → List ℕ}
@@ -64,7 +64,7 @@ module _ {S : Type 0} {R : Reader S} {left : S → List ℕ}
   exact_part {new} {buf' = buf'} gives empty =
       let room = length buf' in
       let long = ap length gives.split ∙ length-append buf' (left new) in
-      let front = fitting (left old) buf' (left new) room gives.split (omega (arith, long)) in
+      let front = fitting_part (left old) buf' (left new) room gives.split (omega (arith, long)) in
       let fills : FillsOrEnds room (events_of buf') (Ok buf') (tells R new) = (gives_whole buf' (le_refl _), refl) in
       let given : GivesLeft left old (GaveExactly room (Ok buf')) new =
       (λ fits. (ap Ok front.0, front.1), λ short. absurd (omega (arith, short, long))) in

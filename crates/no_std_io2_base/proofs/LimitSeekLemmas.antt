@@ -5,12 +5,12 @@ use Rattle.no_std_io2_base.specs.{declared.traits.stored.Stored.{Ghosts as Store
 use Rattle.no_std_io2_base.specs.{Seek.{here}, Take.{limit_position}, LimitSeeks.{LimitGoes, LimitMaySeek, arrived}}
 
 -- the members of a bound `Seek`
-abbrev pub seeker : {S : Type 0} → Stores S → SeekMembers S → Seeker S
-seeker stored seek = record { store = stored.store; may = seek.may; sound = seek.sound }
+abbrev pub limit_seeker : {S : Type 0} → Stores S → SeekMembers S → Seeker S
+limit_seeker stored seek = record { store = stored.store; may = seek.may; sound = seek.sound }
 
 -- however it goes on from here, so it does from the start
-abbrev pub GoesOn : {T : Type 0} → Seeker T → ℕ → Take T → Take T → Type 0
-GoesOn {T} S n old now = (reply : Result ℕ Error) (new : Take T) → LimitGoes S n now reply new → LimitGoes S n old reply new
+abbrev pub LimitGoesOn : {T : Type 0} → Seeker T → ℕ → Take T → Take T → Type 0
+LimitGoesOn {T} S n old now = (reply : Result ℕ Error) (new : Take T) → LimitGoes S n now reply new → LimitGoes S n old reply new
 
 -- a seek by 0 bytes makes no step
 pub stays_here : {T : Type 0} (S : Seeker T) (t : Take T) → limit_position t < 2 ^ 64

@@ -8,20 +8,20 @@ use Rattle.no_std_io2_base.specs.Lines.{IsLineState}
 use Rattle.no_std_io2_base.proofs.PieceLaws.{pieces_are, ends_in-lacks}
 
 -- one byte more in front: it belongs to the lines, if there are some or it is a newline; if not, to the unfinished line
-abbrev Joins : ℕ → List ℕ → Type 0
-Joins b bs = ((b ≡ newline ⊎ 0 < lines_len bs) × (lines_of (b ∷ bs) ≡ b ∷ lines_of bs) × (unfinished_line (b ∷ bs) ≡ unfinished_line bs))
+abbrev JoinsLine : ℕ → List ℕ → Type 0
+JoinsLine b bs = ((b ≡ newline ⊎ 0 < lines_len bs) × (lines_of (b ∷ bs) ≡ b ∷ lines_of bs) × (unfinished_line (b ∷ bs) ≡ unfinished_line bs))
     ⊎ (b ≢ newline × (lines_of bs ≡ []) × (lines_of (b ∷ bs) ≡ []) × (unfinished_line (b ∷ bs) ≡ b ∷ unfinished_line bs))
 
-joins : (b : ℕ) (bs : List ℕ) → Joins b bs
+joins : (b : ℕ) (bs : List ℕ) → JoinsLine b bs
 unfolding lines_of unfinished_line
 joins b bs = by_byte (b == newline) refl
   where
-    by_end : (ps : List (List ℕ)) → b ≢ newline → pieces newline bs ≡ ps → ArePieces newline bs ps → Joins b bs
+    by_end : (ps : List (List ℕ)) → b ≢ newline → pieces newline bs ≡ ps → ArePieces newline bs ps → JoinsLine b bs
     by_end ([] ∷ ps) other is h = absurd (omega (arith, h.none_empty.0))
     by_end ((c ∷ p) ∷ q ∷ ps) other is h = grind (arith, common_steps)
     by_end ps other is h = grind (arith, common_steps)
 
-    by_byte : (t : Bool) → (b == newline) ≡ t → Joins b bs
+    by_byte : (t : Bool) → (b == newline) ≡ t → JoinsLine b bs
     by_byte true e = grind (arith, common_steps)
     by_byte false e =
         by_end (pieces newline bs) (λ is. true≢false (sym (eq-eqb b newline is) ∙ e)) refl (pieces_are newline bs)

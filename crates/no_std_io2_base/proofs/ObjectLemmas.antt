@@ -39,7 +39,8 @@ pub queue_back : (w y : queue.Denot) → queue.coded.code w ≡ queue.coded.code
 queue_back w y codes = row_back queue (λ q. q.items) w y codes
 
 -- the bytes of a cursor over a vector
-pub cursor_back : (w y : Cursor (Vec ℕ Global)) → (cursor-row vec).coded.code w ≡ (cursor-row vec).coded.code y → y.inner.items ≡ w.inner.items
+pub cursor_back : (w y : Cursor (Vec ℕ Global)) → (cursor-row vec).coded.code w ≡ (cursor-row vec).coded.code y
+    → y.inner.items ≡ w.inner.items
 cursor_back w y codes = row_back (cursor-row vec) (λ (c : Cursor (Vec ℕ Global)). c.inner.items) w y codes
 
 -- and its position

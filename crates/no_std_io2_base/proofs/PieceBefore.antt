@@ -50,9 +50,9 @@ behind_both : {a b : Tells} (P Q : List Event) (x : List ℕ) → Takes a P b �
 behind_both {a} {b} P Q x takes comes = grind (arith, common_steps)
 
 -- the ends of a piece, if events without bytes and without a fault were taken before
-ends_behind : (lacks : ℕ → Type 0) {a b : Tells} (d : ℕ) (P Q : List Event) (read : Result ℕ Error) → Takes a P b → HasNoFault P
+piece_ends_behind : (lacks : ℕ → Type 0) {a b : Tells} (d : ℕ) (P Q : List Event) (read : Result ℕ Error) → Takes a P b → HasNoFault P
     → bytes P ≡ [] → PieceEnds lacks d b Q read → PieceEnds lacks d a (P ++ Q) read
-ends_behind lacks d P Q (Ok n) takes free none ends = (
+piece_ends_behind lacks d P Q (Ok n) takes free none ends = (
   HasNoFault-append P Q free ends.0,
   ends.1 ∙ ap length (same Q),
   ⊎_elim
@@ -66,7 +66,7 @@ ends_behind lacks d P Q (Ok n) takes free none ends = (
   where
     same : (R : List Event) → bytes R ≡ bytes (P ++ R)
     same R = sym (bytes-append P R ∙ ap (λ l. l ++ bytes R) none)
-ends_behind lacks d P Q (Err e) takes free none ends =
+piece_ends_behind lacks d P Q (Err e) takes free none ends =
     grind (arith, common_steps, bytes-append, ⊎_elim, EndsInFault-behind, HasNoFault-append, behind_both)
 
 -- A `fill_buf` of which nothing was consumed came before such a loop.
@@ -75,7 +75,7 @@ module _ {X A : Type 0} {R : Lender X} {d : ℕ} {old now new : X} {buf buf' : V
   -- if it lent some bytes, the loop's first one lends the same and changes nothing, so both are as one
   pub until_lent : {lent : List ℕ} → FilledLaw R old (Ok lent) now → 0 < length lent → ReadUntilLaw R old d buf reply buf' new
   until_lent {lent} filled some =
-      search (arith, rules, piece_first, takes_then, ends_behind)
+      search (arith, rules, piece_first, takes_then, piece_ends_behind)
 
   -- if it was interrupted, it is one more
   pub until_waited : {e : Error} → FilledLaw R old (Err e) now → IsInterruption e → ReadUntilLaw R old d buf reply buf' new
@@ -83,7 +83,7 @@ module _ {X A : Type 0} {R : Lender X} {d : ℕ} {old now new : X} {buf buf' : V
     taken = fails e ∷ until.taken;
     takes = takes_then filled.takes until.takes;
     appends = until.appends;
-    ends = ends_behind (λ n. vec_capacity buf < vec_len buf + n) d (fails e ∷ []) until.taken reply filled.takes
+    ends = piece_ends_behind (λ n. vec_capacity buf < vec_len buf + n) d (fails e ∷ []) until.taken reply filled.takes
         (again, tt) refl until.ends;
     capacity = until.capacity;
     calls = record {

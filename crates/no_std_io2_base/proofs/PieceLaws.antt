@@ -3,7 +3,7 @@ use Rattle.std.proofs.{lemmas.Grind.{common_steps}, Common.{◌≡◌, ◌≢◌
 use Rattle.std.proofs.Common.{length, refl, sym, ap, ◌∙◌, subst, arith, true≢false, eqb-true, eq-eqb, ne_eqb, suc-ne-zero, get_or, drop}
 use Rattle.std.specs.List.{concat}
 use Rattle.no_std_io2_base.specs.Pieces.{Lacks, ends_in, in_front, pieces, ArePieces}
-use Rattle.std.proofs.Common.{count_by, cond, ◌⊎◌, ◌+◌, inl, inr}
+use Rattle.std.proofs.Common.{count_by, cond, ◌⊎◌, inl, inr}
 use Rattle.std.proofs.lemmas.List.Sums.{sum_by-append, sum_by-cons}
 use Rattle.no_std_io2_base.specs.Events.{Event, byte, bytes}
 use Rattle.no_std_io2_base.specs.Takes.{Tells, IsAll}
@@ -114,7 +114,8 @@ count-lacks d (b ∷ bs) none =
 -- bytes that end in d, the only one in them, have one
 pub count-piece : (d : ℕ) (bs : List ℕ) → EndsPiece d bs → count_by (λ b. b == d) bs ≡ 1
 count-piece d bs (front, is, none) =
-    let one : count_by (λ b. b == d) (d ∷ []) ≡ 1 = omega (arith, sum_by-cons (λ b. cond (b == d) 1 0) d [], ap {B = ℕ} (λ t. cond t 1 0) (eq-eqb d d refl)) in
+    let one : count_by (λ b. b == d) (d ∷ []) ≡ 1 =
+    omega (arith, sum_by-cons (λ b. cond (b == d) 1 0) d [], ap {B = ℕ} (λ t. cond t 1 0) (eq-eqb d d refl)) in
     ap (count_by (λ b. b == d)) is ∙ sum_by-append _ front (d ∷ []) ∙ omega (arith, count-lacks d front none, one)
 
 -- What one piece is, by its last byte: it ends in d, or it is the last one.

@@ -9,12 +9,12 @@ use Rattle.no_std_io2_base.specs.{Takes.{AreTaken, to_come}, Pieces.{Lacks, but_
 use Rattle.no_std_io2_base.proofs.EventLemmas.{bytes-append, bytes-events_of, events_of-append}
 
 -- some bytes more
-pub bytes_more : (P : List Event) (x : List ℕ) → bytes (P ++ events_of x) ≡ bytes P ++ x
-bytes_more P x = bytes-append P (events_of x) ∙ ap (λ l. bytes P ++ l) (bytes-events_of x)
+pub bytes-more : (P : List Event) (x : List ℕ) → bytes (P ++ events_of x) ≡ bytes P ++ x
+bytes-more P x = bytes-append P (events_of x) ∙ ap (λ l. bytes P ++ l) (bytes-events_of x)
 
 -- an error brings no bytes
-pub bytes_still : (P : List Event) (e : Error) → bytes (P ++ fails e ∷ []) ≡ bytes P
-bytes_still P e = bytes-append P (fails e ∷ []) ∙ append-nil (bytes P)
+pub bytes-fails : (P : List Event) (e : Error) → bytes (P ++ fails e ∷ []) ≡ bytes P
+bytes-fails P e = bytes-append P (fails e ∷ []) ∙ append-nil (bytes P)
 
 -- if two lists of bytes have no d, both joined have none
 pub Lacks-append : (d : ℕ) (bs cs : List ℕ) → Lacks d bs → Lacks d cs → Lacks d (bs ++ cs)

@@ -9,7 +9,7 @@ use Rattle.no_std_io2_base.specs.{Read.{Consumed}, BufRead.{Lender, lender_tells
 use Rattle.no_std_io2_base.specs.{BufRead.{LendCallLaw, ReadUntilLaw, lent_bytes}, Pieces.{Lacks, EndsPiece, EndsAt, FindsPiece, PieceEnds}}
 use Rattle.no_std_io2_base.specs.{Pieces.{PartCalls, no_part, and_part, and_waited, PieceMade}, Write.{Made}}
 use Rattle.no_std_io2_base.proofs.{CallsLemmas.{made_more, made_then}, EventLemmas.{events_of-append, HasNoFault-append}}
-use Rattle.no_std_io2_base.proofs.{EventLemmas.{HasNoFault-events_of, length-events_of}, PieceLemmas.{bytes_more, bytes_still}}
+use Rattle.no_std_io2_base.proofs.{EventLemmas.{HasNoFault-events_of, length-events_of}, PieceLemmas.{bytes-more, bytes-fails}}
 use Rattle.no_std_io2_base.proofs.{PieceLemmas.{Lacks-append, found_part, comes_behind}, TakesLemmas.{takes_none, takes_then, takes_still}}
 use Rattle.no_std_io2_base.proofs.TakesLemmas.{takes_turns, takes_all, spends, stays_at_end}
 
@@ -53,7 +53,7 @@ module _ {X : Type 0} {R : Lender X} {d : ℕ} {old now after : X} {P : List Eve
     -- after an interruption the loop continues
     pub part_waited : IsInterruption e → PartTaken R d old (P ++ fails e ∷ []) after
     part_waited again =
-        let same = sym (bytes_still P e) in
+        let same = sym (bytes-fails P e) in
         let calls = before.calls ++ Filled (Err e) ∷ [] in
         record {
           takes = takes_then before.takes filled.takes;
@@ -68,7 +68,7 @@ module _ {X : Type 0} {R : Lender X} {d : ℕ} {old now after : X} {P : List Eve
     pub piece_faulted : {lacks : ℕ → Type 0} {may_refuse : Type 0} → IsFault e
         → PieceTaken R lacks may_refuse d old (P ++ fails e ∷ []) (Err e) after
     piece_faulted fault =
-        let same = sym (bytes_still P e) in
+        let same = sym (bytes-fails P e) in
         record {
           takes = takes_then before.takes filled.takes;
           ends = (subst (Lacks d) same before.lacks, inl (P, refl, before.no_fault, fault));
@@ -123,7 +123,7 @@ module _ {X : Type 0} {R : Lender X} {d : ℕ} {old now after : X} {P : List Eve
       part_more going =
           let (some, lacks, all) = found.open_ended going in
           let whole : take n lent ≡ lent = take_all n lent (omega (arith, all)) in
-          let more = sym (bytes_more P (take n lent)) in
+          let more = sym (bytes-more P (take n lent)) in
           let calls = before.calls ++ Filled (Ok lent) ∷ Consumed n ∷ [] in
           record {
             takes = takes;
@@ -150,7 +150,7 @@ module _ {X : Type 0} {R : Lender X} {d : ℕ} {old now after : X} {P : List Eve
       ended (inl end) = inl (
         P ++ events_of end.0,
         ap (λ l. P ++ l) (ap events_of end.1 ∙ events_of-append end.0 (d ∷ [])) ∙ sym (append_assoc P (events_of end.0) (byte d ∷ [])),
-        subst (Lacks d) (sym (bytes_more P end.0)) (Lacks-append d (bytes P) end.0 before.lacks end.2),
+        subst (Lacks d) (sym (bytes-more P end.0)) (Lacks-append d (bytes P) end.0 before.lacks end.2),
       )
       ended (inr none) =
           let zero : n ≡ 0 = omega (arith, found.within, ap length none) in
@@ -168,7 +168,7 @@ module _ {X : Type 0} {R : Lender X} {d : ℕ} {old now after : X} {P : List Eve
         calls = record {
           calls = before.calls ++ Filled (Ok lent) ∷ Consumed n ∷ [];
           made = made;
-          are = (before.calls, bytes P, lent, n, before.are, subst (FindsPiece d lent n) whole found, bytes_more P (take n lent), refl);
+          are = (before.calls, bytes P, lent, n, before.are, subst (FindsPiece d lent n) whole found, bytes-more P (take n lent), refl);
         };
       }
 
@@ -187,7 +187,7 @@ until_none {R = R} {d} {old} = record { taken = []; part = part_none R d old; ca
 gave_more : (buf : List ℕ) {xs ys : List ℕ} (P : List Event) (x : List ℕ) → xs ≡ buf ++ bytes P → ys ≡ xs ++ x
     → ys ≡ buf ++ bytes (P ++ events_of x)
 gave_more buf P x gave more =
-    more ∙ ap (λ l. l ++ x) gave ∙ append_assoc buf (bytes P) x ∙ ap (λ l. buf ++ l) (sym (bytes_more P x))
+    more ∙ ap (λ l. l ++ x) gave ∙ append_assoc buf (bytes P) x ∙ ap (λ l. buf ++ l) (sym (bytes-more P x))
 
 -- a piece that was taken and appended
 pub until_law : {X A : Type 0} {R : Lender X} {d : ℕ} {old new : X} {buf buf' : Vec ℕ A} {P : List Event} {reply : Result ℕ Error}
@@ -204,14 +204,14 @@ module _ {X A : Type 0} {R : Lender X} {d : ℕ} {old now after : X} {buf xs : V
       taken = before.taken ++ fails e ∷ [];
       part = part_waited before.part filled again;
       capacity = before.capacity;
-      gave = before.gave ∙ ap (λ l. buf.items ++ l) (sym (bytes_still before.taken e));
+      gave = before.gave ∙ ap (λ l. buf.items ++ l) (sym (bytes-fails before.taken e));
     }
 
     -- a fault ends the loop
     pub until_fault : IsFault e → ReadUntilLaw R old d buf (Err e) xs after
     until_fault fault =
         until_law (piece_faulted before.part filled fault) before.capacity
-        (before.gave ∙ ap (λ l. buf.items ++ l) (sym (bytes_still before.taken e)))
+        (before.gave ∙ ap (λ l. buf.items ++ l) (sym (bytes-fails before.taken e)))
 
   module _ {lent : List ℕ} {n : ℕ} {is_whole : Bool} (filled : FilledLaw R now (Ok lent) after) (found : FindsPiece d lent n is_whole)
       {v : Vec ℕ A} (grown : vec_capacity xs ≤ vec_capacity v) where

@@ -6,7 +6,7 @@ use Rattle.no_std_io2_base.specs.{Events.{events_of, bytes, HasNoFault}, Takes.{
 use Rattle.no_std_io2_base.specs.{BufRead.{lender_tells, ConsumeLaw, FilledLaw, LendCallLaw}, Write.{Made}, Passing.{PortionCalls}}
 use Rattle.no_std_io2_base.specs.Passing.{no_portion, and_portion, and_waited, Skipped}
 use Rattle.no_std_io2_base.proofs.{CallsLemmas.{made_more, made_then}, EventLemmas.{HasNoFault-append, HasNoFault-events_of}}
-use Rattle.no_std_io2_base.proofs.{EventLemmas.{length-events_of}, PieceLemmas.{bytes_more, bytes_still}, TakesLemmas.{takes_none}}
+use Rattle.no_std_io2_base.proofs.{EventLemmas.{length-events_of}, PieceLemmas.{bytes-more, bytes-fails}, TakesLemmas.{takes_none}}
 use Rattle.no_std_io2_base.proofs.TakesLemmas.{takes_then, takes_still, takes_turns, spends}
 
 -- Of n bytes, `left` are still wanted; the others were taken, by these calls.
@@ -43,7 +43,7 @@ module _ {X : Type 0} {R : Lender X} {old now : X} {n left : ℕ} (before : Port
 
   module _ {after : X} {e : Error} (filled : FilledLaw R now (Err e) after) where
     same : bytes before.taken ≡ bytes (before.taken ++ fails e ∷ [])
-    same = sym (bytes_still before.taken e)
+    same = sym (bytes-fails before.taken e)
 
     -- an interruption is ignored
     pub portions_waited : IsInterruption e → PortionsTaken R old n left after
@@ -101,7 +101,7 @@ module _ {X : Type 0} {R : Lender X} {old now : X} {n left : ℕ} (before : Port
       -- are taken
       pub portions_took : PortionsTaken R old n (left - len) new
       portions_took =
-          let grown = bytes_more before.taken (take len lent) in
+          let grown = bytes-more before.taken (take len lent) in
           let fits = subst (λ l. len ≤ length l) (sym filled.lends) (omega (arith, least)) in
           let calls = Filled (Ok lent) ∷ Consumed len ∷ [] in
           record {

@@ -77,9 +77,9 @@ module _ {S A : Type 0} {R : Reader S} {old now : S} {buf xs : Vec ℕ A} {fille
   to_end_refused {v = v} refused len front grown why = grind (arith, common_steps)
 
   -- the room is full, and the reader's own `read_to_end` read on: k bytes in all
-  pub to_end_then : {v : Vec ℕ A} {new : S} (reply : Result ℕ Error) (k : ℕ) → vec_len xs ≤ filled → ReadToEndLaw R now xs reply v new
+  pub rest_drained : {v : Vec ℕ A} {new : S} (reply : Result ℕ Error) (k : ℕ) → vec_len xs ≤ filled → ReadToEndLaw R now xs reply v new
       → OnOk reply (k ≡ vec_len v - vec_len buf) → ReadToEndLaw R old buf (recount reply k) v new
-  to_end_then {v} {new} reply k past last is = record {
+  rest_drained {v} {new} reply k past last is = record {
     taken = taken;
     takes = takes_then before.takes last.takes;
     appends = (gave, counts reply is);

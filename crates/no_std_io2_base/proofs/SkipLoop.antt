@@ -3,7 +3,7 @@ use Rattle.std.proofs.{lemmas.Grind.{common_steps}, Common.{◌≡◌, ℕ, ◌+
 use Rattle.std.proofs.Common.{min, length, take, refl, sym, ap, ◌∙◌, arith, length-append, length-take-le}
 use Rattle.no_std_io2_base.specs.{declared.error.Error.{Error}, Errors.{IsInterruption, IsFault}, Events.{Event, fails, events_of, bytes}}
 use Rattle.no_std_io2_base.specs.{BufRead.{Lender, ConsumeLaw, FilledLaw, SkipUntilLaw, at_most_max}, Pieces.{FindsPiece}}
-use Rattle.no_std_io2_base.proofs.{PieceLemmas.{bytes_more, bytes_still}, PieceLoop.{PartTaken, PieceTaken, part_none, part_waited}}
+use Rattle.no_std_io2_base.proofs.{PieceLemmas.{bytes-more, bytes-fails}, PieceLoop.{PartTaken, PieceTaken, part_none, part_waited}}
 use Rattle.no_std_io2_base.proofs.PieceLoop.{part_more, piece_faulted, piece_whole}
 
 -- A part of a piece was skipped so far. The count is its length, at most `usize::MAX`.
@@ -29,7 +29,7 @@ module _ {X : Type 0} {R : Lender X} {d : ℕ} {old now after : X} {skipped : �
     skip_interruption again = record {
       taken = before.taken ++ fails e ∷ [];
       part = part_waited before.part filled again;
-      count = before.count ∙ ap (λ l. min (length l) (2 ^ 64 - 1)) (sym (bytes_still before.taken e));
+      count = before.count ∙ ap (λ l. min (length l) (2 ^ 64 - 1)) (sym (bytes-fails before.taken e));
     }
 
     -- a fault ends the loop
@@ -41,7 +41,7 @@ module _ {X : Type 0} {R : Lender X} {d : ℕ} {old now after : X} {skipped : �
       (total_is : total ≡ min (skipped + n) (2 ^ 64 - 1)) where
     -- the count
     counted : total ≡ min (length (bytes (before.taken ++ events_of (take n lent)))) (2 ^ 64 - 1)
-    counted = grind (arith, common_steps, bytes_more, length-append, length-take-le)
+    counted = grind (arith, common_steps, bytes-more, length-append, length-take-le)
 
     -- after a part of the piece the loop continues
     pub skip_more : is_whole ≡ false → SkipSoFar R d old total new

@@ -15,12 +15,12 @@ use Rattle.std.proofs.Common.{OnOk}
 are_none : (E : Option (List Event)) → AreTaken E [] E
 are_none x1 = grind (arith, common_steps)
 
-stays : (s : Option Store) → KeepsContent s (λ len was now. now ≡ was + 0) s
-stays x1 = grind (arith, common_steps)
+store_stays : (s : Option Store) → KeepsContent s (λ len was now. now ≡ was + 0) s
+store_stays x1 = grind (arith, common_steps)
 
 -- before the first call nothing is taken
 pub takes_none : (t : Tells) → Takes t [] t
-takes_none t = record { events = are_none (to_come t); store = stays t.store; turns = omega arith }
+takes_none t = record { events = are_none (to_come t); store = store_stays t.store; turns = omega arith }
 
 are_then : (E E' E'' : Option (List Event)) (P Q : List Event) → AreTaken E P E' → AreTaken E' Q E'' → AreTaken E (P ++ Q) E''
 are_then x1 x2 x3 x4 x5 first next = grind (arith, common_steps)
@@ -49,7 +49,7 @@ spends takes some = omega (arith, takes.turns)
 pub takes_all : {a b : Tells} (P : List Event) → Takes a P b → IsAtEnd b → IsAll a P
 takes_all {a} {b} P takes end = grind (arith, common_steps)
 
--- a reader stays at its end
+-- a reader store_stays at its end
 pub stays_at_end : {a b : Tells} → Takes a [] b → IsAtEnd b → IsAtEnd a
 stays_at_end takes end = takes_all [] takes end
 
@@ -101,7 +101,8 @@ front_gone {b = b} bs x cs took told left =
     let (after, still, split) = left_of took.takes told in
     let same : after ≡ events_of cs = let both : Some after ≡ Some (events_of cs) = sym still ∙ left in cc in
     let bytes_left : bytes after ≡ cs = ap bytes same ∙ bytes-events_of cs in
-    sym (bytes-events_of bs) ∙ ap bytes split ∙ bytes-append took.taken after ∙ ap (λ l. l ++ bytes after) took.are ∙ ap (λ l. x ++ l) bytes_left
+    sym (bytes-events_of bs) ∙ ap bytes split ∙ bytes-append took.taken after ∙ ap (λ l. l ++ bytes after) took.are
+    ∙ ap (λ l. x ++ l) bytes_left
 
 -- bytes, and then bytes
 pub TakesBytes-then : {a b c : Tells} {x y : List ℕ} → TakesBytes a x b → TakesBytes b y c → TakesBytes a (x ++ y) c
@@ -134,8 +135,8 @@ EndsInFault-behind P Q {e} no_fault fault = grind (arith, common_steps, append_a
 
 module _ {S : Type 0} (R : Reader S) where
   -- a call that keeps its law is one that the reader may make
-  pub law_may : (a b : S) (call : ReadCall) → ReadCallLaw R a call b → R.may a call b
-  law_may a b x3 law = grind (arith, common_steps)
+  pub read_may : (a b : S) (call : ReadCall) → ReadCallLaw R a call b → R.may a call b
+  read_may a b x3 law = grind (arith, common_steps)
 
   -- and it takes something
   pub law_takes : (a b : S) (call : ReadCall) → ReadCallLaw R a call b → (P : List Event) × Takes (tells R a) P (tells R b)
@@ -143,7 +144,7 @@ module _ {S : Type 0} (R : Reader S) where
 
   -- calls, without their laws
   pub made_may : (C : List ReadCall) (a b : S) → Made (ReadCallLaw R) a C b → Made R.may a C b
-  made_may C a b made = made_map (ReadCallLaw R) R.may (λ x. x) law_may C a b made
+  made_may C a b made = made_map (ReadCallLaw R) R.may (λ x. x) read_may C a b made
 
   -- calls take something
   pub made_takes : (C : List ReadCall) (a b : S) → Made (ReadCallLaw R) a C b → (P : List Event) × Takes (tells R a) P (tells R b)

@@ -43,25 +43,25 @@ module _ {S : Type 0} {I : Writer S} {old : S} where
 
 -- a formatter's calls, one after another, print what they print together
 module _ {W S : Type 0} (prints : S → List ℕ → W → Type 0) where
-  abbrev pub Then : W → List ℕ → W → Type 0
-  Then s bs t = (old : S) (text : List ℕ) → prints old text s → prints old (text ++ bs) t
+  abbrev pub PrintsNext : W → List ℕ → W → Type 0
+  PrintsNext s bs t = (old : S) (text : List ℕ) → prints old text s → prints old (text ++ bs) t
 
-  prints_calls : (s : W) {bs : List ℕ} (t : W) (old : S) → WritesInCalls Then s bs t → prints old [] s → prints old bs t
+  prints_calls : (s : W) {bs : List ℕ} (t : W) (old : S) → WritesInCalls PrintsNext s bs t → prints old [] s → prints old bs t
   prints_calls s t old w start = subst (λ l. prints old l t) w.whole
-      (chained_keeps Then (λ xs q. prints old (concat xs) q)
+      (chained_keeps PrintsNext (λ xs q. prints old (concat xs) q)
       (λ xs q x v so_far next. subst (λ l. prints old l v)
       (sym (concat-append xs (x ∷ []) ∙ ap (λ l. concat xs ++ l) (append-nil x))) (next old (concat xs) so_far))
       w.parts s t start w.calls)
 
   -- a specified output was printed through a formatter, after `Ok`
   pub prints_output : (f g : Formatter W) {s t : W} (old : S) (output : Option (List ℕ)) (formatted : Result (Unit {0}) FormatError)
-      → formatter_writer f ≡ s → IsPlainFormatter f → t ≡ formatter_writer g → DisplaysOnOk Then f formatted output g → IsOk formatted
+      → formatter_writer f ≡ s → IsPlainFormatter f → t ≡ formatter_writer g → DisplaysOnOk PrintsNext f formatted output g → IsOk formatted
       → prints old [] s → IfSome output (λ bs. prints old bs t)
   prints_output f g old x4 formatted over plain back shows ok start = grind (arith, common_steps, prints_calls)
 
   -- a text was printed through a formatter: whatever its `fmt` did, and its output if that is specified
   pub prints_shown : (f g : Formatter W) {s t : W} {old : S} (output : Option (List ℕ)) (formatted : Result (Unit {0}) FormatError)
-      → formatter_writer f ≡ s → IsPlainFormatter f → t ≡ formatter_writer g → DisplaysOnOk Then f formatted output g → prints old [] s
+      → formatter_writer f ≡ s → IsPlainFormatter f → t ≡ formatter_writer g → DisplaysOnOk PrintsNext f formatted output g → prints old [] s
       → ∥ ((old : S) × (text : List ℕ) × prints old text t) ∥₁
       → ∥ ((old : S) × (text : List ℕ) × prints old text t × (IsOk formatted → IfSome output (λ bs. text ≡ bs))) ∥₁
   prints_shown f g None formatted over plain back shows start had = ∥∥₁_map had (λ p. (p.0, p.1, p.2, λ ok. tt))

@@ -7,14 +7,14 @@ use Rattle.no_std_io2_base.specs.{Write.{WriteCall, Made, Writes, none, took, ag
 use Rattle.no_std_io2_base.specs.Writers.{CallOf}
 use Rattle.no_std_io2_base.proofs.{CallsLemmas.{writes_whole}, MovesLemmas.{Moves-then}}
 
-one_call : (x : List ℕ) → 0 < length x → calls_for x ≡ 1
-one_call x some = grind (arith, nat_tests)
+one_write : (x : List ℕ) → 0 < length x → calls_for x ≡ 1
+one_write x some = grind (arith, nat_tests)
 
 no_call : (x : List ℕ) → length x ≡ 0 → calls_for x ≡ 0
 no_call x empty = grind (arith, nat_tests)
 
-took_all : {n m : ℕ} → ◌≡◌ {A = Result ℕ Error} (Ok n) (Ok m) → n ≡ m
-took_all is = cc
+took_whole : {n m : ℕ} → ◌≡◌ {A = Result ℕ Error} (Ok n) (Ok m) → n ≡ m
+took_whole is = cc
 
 no_error : {T : Type 0} {e : Error} {n : ℕ} → ◌≡◌ {A = Result ℕ Error} (Err e) (Ok n) → T
 no_error is = absurd (let no : ⊥ = cc in no)
@@ -70,13 +70,13 @@ module _ {S : Type 0} (I : Writer S) where
   writes_all (took {x = x} {n = n} some more w) a b made takes =
       let took = made.1.all takes in
       let rest = writes_all w made.0 b made.2 took.0 in
-      let empty : length (drop n x) ≡ 0 = omega (arith, took_all took.1, length-drop n x) in (
+      let empty : length (drop n x) ≡ 0 = omega (arith, took_whole took.1, length-drop n x) in (
         rest.0,
         rest.1,
-        omega (arith, rest.2, no_call (drop n x) empty, one_call x some),
+        omega (arith, rest.2, no_call (drop n x) empty, one_write x some),
       )
   writes_all (again some interrupted w) a b made takes = no_error (made.1.all takes).1
-  writes_all (stuck {x = x} some says) a b made takes = absurd (omega (arith, some, took_all (made.1.all takes).1))
+  writes_all (stuck {x = x} some says) a b made takes = absurd (omega (arith, some, took_whole (made.1.all takes).1))
   writes_all (fault some is) a b made takes = no_error (made.1.all takes).1
 
   -- the law of `write_rest` follows from its writes

@@ -148,7 +148,7 @@ pub record ReadLineLaw {X A : Type 0} (R : Lender X) (old : X) (buf : String A) 
   pub calls : PieceMade (Unit {0}) (LendCallLaw R) old newline read (bytes taken) new
 
 -- A `next` of `Split` or `Lines` took one piece, as `read_until` takes it into a new vector, and yields it, trimmed, or an error. `view`
--- gives the bytes of an item.
+-- gives the bytes of an item. A new vector has no room, so memory can be refused for the first byte of an item.
 pub record NextPieceLaw {X T : Type 0} (R : Lender X) (old : X) (view : T → List ℕ) (trim : List ℕ → List ℕ)
     (refuses : List ℕ → Error → Type 0) (d : ℕ) (result : Option (Result T Error)) (new : X) : Type 0 where
   pub taken : List Event

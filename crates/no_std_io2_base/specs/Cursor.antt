@@ -44,8 +44,8 @@ IsRefusal place x e =
     × (error_text e ≡ Some (codes "vector position past the greatest usize")))
     ⊎ ((place + length x < 2 ^ 64) × (error_kind e ≡ OutOfMemory) × (error_text e ≡ None))
 
--- `write` of x: a vector has all of x at the place, and the place moved behind x; or the vector had to grow and could not, and nothing
--- changed
+-- `write` of x: a vector has all of x at the place, and the place moved behind x; or the vector had to grow and could not,
+-- and nothing changed
 abbrev pub PutsWhole : List ℕ → ℕ → List ℕ → Result ℕ Error → List ℕ → ℕ → Type 0
 PutsWhole bs place x (Ok n) bs' place' =
     (place + length x < 2 ^ 64) × (n ≡ length x) × (bs' ≡ put_at place x bs) × (place' ≡ place + length x)

@@ -15,7 +15,8 @@ GoesWithin old from Goes reply new = ((n : ℕ) → IsWithin old from n → Goes
     × (((n : ℕ) → IsWithin old from n → ⊥) → IsErrAnd reply IsInvalidSeek × (new ≡ old))
 
 -- The inner stream made this `seek_relative`. If it succeeded, the position moved by the offset too; if not, it stayed.
-pub record LimitSteps {T : Type 0} (S : Seeker T) (old : Take T) (offset : ℤ) (reply : Result (Unit {0}) Error) (new : Take T) : Type 0 where
+pub record LimitSteps {T : Type 0} (S : Seeker T) (old : Take T) (offset : ℤ) (reply : Result (Unit {0}) Error)
+    (new : Take T) : Type 0 where
   pub step : SeekRelativeLaw S (limit_inner old) offset reply (limit_inner new)
   pub len : limit_set new ≡ limit_set old
   pub moves : OnOk reply (IsAtOffset (limit_position old) offset (limit_position new) × (limit_left new ≤ limit_set new))

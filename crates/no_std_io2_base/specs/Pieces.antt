@@ -91,8 +91,8 @@ PieceEnds lacks d old P (Ok n) = HasNoFault P × (n ≡ length (bytes P)) × (En
 PieceEnds lacks d old P (Err e) = Lacks d (bytes P) × (EndsInFault P e ⊎ (HasNoFault P × IsOutOfMemory e
     × ((part : List ℕ) × IsPiecePart d part × ComesBehind old P part × lacks (length (bytes P) + length part))))
 
--- C are the calls of a loop that took x, and no d yet: each `fill_buf` lent some bytes without d, and all of them were consumed; or it was
--- interrupted
+-- C are the calls of a loop that took x, and no d yet: each `fill_buf` lent some bytes without d, and all of them were consumed;
+-- or it was interrupted
 pub data PartCalls (d : ℕ) : List ReadCall → List ℕ → Type 0 where
   no_part : PartCalls d [] []
   and_part : (C : List ReadCall) (x lent : List ℕ) → PartCalls d C x → 0 < length lent → Lacks d lent

@@ -38,8 +38,8 @@ abbrev pub bytes_given : Result (List ℕ) Error → List ℕ
 bytes_given (Ok x) = x
 bytes_given (Err e) = []
 
--- C are reads in a row that gave x: each gave some bytes, or was interrupted. `asks` says into how much room a read is made after that many
--- bytes.
+-- C are reads in a row that gave x: each gave some bytes, or was interrupted. `asks` says into how much room a read
+-- is made after that many bytes.
 pub data Gathers (asks : ℕ → ℕ → Type 0) : List ReadCall → List ℕ → Type 0 where
   no_read : Gathers asks [] []
   and_gave : (C : List ReadCall) (x y : List ℕ) (room : ℕ) → Gathers asks C x → asks (length x) room → 0 < length y

@@ -26,7 +26,8 @@ ReadsTo asks C x (Ok false) = GathersUntil asks C x (Ok [])
 ReadsTo asks C x (Err e) = GathersUntil asks C x (Err e)
 
 -- From old to new reads gave x, and ended like this. `asks` says into how much room a read is made after that many bytes.
-pub record Reads {S : Type 0} (R : Reader S) (asks : ℕ → ℕ → Type 0) (old : S) (x : List ℕ) (how : Result Bool Error) (new : S) : Type 0 where
+pub record Reads {S : Type 0} (R : Reader S) (asks : ℕ → ℕ → Type 0) (old : S) (x : List ℕ) (how : Result Bool Error)
+    (new : S) : Type 0 where
   pub calls : List ReadCall
   pub made : Made (ReadCallLaw R) old calls new
   pub are : ReadsTo asks calls x how

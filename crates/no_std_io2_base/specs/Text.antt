@@ -1,7 +1,9 @@
 -- The law of `write_fmt`.
 use Rattle.std.specs.Prelude.{◌≡◌, ◌⊎◌, ℕ, List, [], ◌++◌, Option, Some, Result, Ok, Err, IfSome, IsErrAnd, codes}
+use Rattle.std.specs.Prelude.{Bool, true, false, take, length, ◌≤◌, ◌<◌}
 use Rattle.no_std_io2_base.specs.{declared.error.Error.{Error}, declared.error.ErrorKind.{ErrorKind}}
-use Rattle.no_std_io2_base.specs.{declared.error.ErrorKind.TheVariants.{Other}, Errors.{error_kind, error_text, IsNoInterruption}}
+use Rattle.no_std_io2_base.specs.{declared.error.ErrorKind.TheVariants.{Other}, Errors.{error_kind, error_text}}
+use Rattle.no_std_io2_base.specs.Errors.{IsNoInterruption, IsUnwritten}
 use Rattle.no_std_io2_base.specs.Write.{Told, MovesFront, WriteCall, WriteAllLaw}
 
 -- From old to new this text was printed to a writer, by one `write_all` after another; this is the result of the last.
@@ -49,3 +51,23 @@ pub record WriteFmtLaw {W : Type 0} (told : W → Told) (takes_all : W → Type 
   -- by such calls; only that they exist is known, because the formatter chooses them
   pub calls : ∥ ((text : List ℕ) × (met : Result (Unit {0}) Error) × Prints told takes_all may old text met new
       × AnswersText output text met reply) ∥₁
+
+-- the first `len` bytes of a buffer of N bytes are this text; or `is_over` says that the text is longer than N bytes
+abbrev pub HasText : ℕ → List ℕ → ℕ → Bool → List ℕ → Type 0
+HasText N bytes len is_over text = (is_over ≡ false → take len bytes ≡ text) × (is_over ≡ true → N < length text)
+
+-- From old to new a text of at most N bytes was printed to a writer, which accepted some front of it, all of it after `Ok`.
+pub record PrintsShort (N : ℕ) (old : Told) (output : Option (List ℕ)) (reply : Result (Unit {0}) Error) (new : Told) : Type 0 where
+  pub text : List ℕ
+  pub short : length text ≤ N
+  pub is : IfSome output (λ bs. text ≡ bs)
+  pub moves : MovesFront old text reply new
+
+-- e says that a text is longer than N bytes, or that its own `fmt` failed
+abbrev RefusesText : ℕ → Option (List ℕ) → Error → Type 0
+RefusesText N output e = (IsUnwritten e × IfSome output (λ bs. N < length bs)) ⊎ ((error_kind e ≡ Other) × IsTextError e)
+
+-- A text of at most N bytes was printed. After an error it was not, or some front of it was; then the writer got no call.
+abbrev pub PrintsOrRefuses : ℕ → Told → Option (List ℕ) → Result (Unit {0}) Error → Told → Type 0
+PrintsOrRefuses N old output (Ok u) new = PrintsShort N old output (Ok u) new
+PrintsOrRefuses N old output (Err e) new = PrintsShort N old output (Err e) new ⊎ (RefusesText N output e × (new ≡ old))

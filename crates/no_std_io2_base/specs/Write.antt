@@ -21,8 +21,8 @@ pub record Told : Type 0 where
 abbrev pub IsFront : List ℕ → List ℕ → Type 0
 IsFront front whole = (rest : List ℕ) × (whole ≡ front ++ rest)
 
--- If mishaps were told, they still are, and those that happened are gone: whichever kinds are counted, at least as many are gone as
--- happened.
+-- If mishaps were told, they still are, and those that happened are gone: whichever kinds are counted, at least as many
+-- are gone as happened.
 abbrev pub HasSpent : Option (List ErrorKind) → List ErrorKind → Option (List ErrorKind) → Type 0
 HasSpent None happened new = ⊤
 HasSpent (Some old) happened None = ⊥
@@ -125,8 +125,8 @@ CallAdds Adds old (Flushed reply) new = Adds old [] new
 abbrev pub RestAdds : {W : Type 0} → (W → List ℕ → W → Type 0) → W → List ℕ → Result (Unit {0}) Error → W → List ℕ → Type 0
 RestAdds Adds old x reply new left = (sent : List ℕ) × (x ≡ sent ++ left) × OnOk reply (left ≡ []) × Adds old sent new
 
--- C are the writes of a loop that writes x, with its result and what it left of x. `text` is the message of its error if a write takes no
--- byte.
+-- C are the writes of a loop that writes x, with its result and what it left of x. `text` is the message of its error if a write
+-- takes no byte.
 pub data Writes (text : List ℕ) : List WriteCall → List ℕ → Result (Unit {0}) Error → List ℕ → Type 0 where
   -- if x is empty, there is no call
   none : Writes text [] [] (Ok tt) []

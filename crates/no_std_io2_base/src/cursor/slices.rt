@@ -59,8 +59,8 @@ impl Write for Cursor<&mut [u8]> {
     fn write_all(&mut self, buf: &[u8]) -> Result<()>
         ensures law { WriteAllOf ⟦<Self as Write>⟧ self.old buf.now result self.new }
 
-        // It writes as many bytes as fit, at the position. It fails if and only if these are not
-        // all.
+        // It writes as many bytes as fit, at the position.
+        // It fails if and only if these are not all.
         ensures puts { PutsAllFitting (cursor_inner self.old).now (cursor_position self.old) buf.now result
             (cursor_inner self.new).now (cursor_position self.new) }
         ensures reference { (cursor_inner self.new).ghost_name ≡ (cursor_inner self.old).ghost_name }
@@ -89,8 +89,8 @@ impl<const N: usize> Write for Cursor<[u8; N]> {
     fn write_all(&mut self, buf: &[u8]) -> Result<()>
         ensures law { WriteAllOf ⟦<Self as Write>⟧ self.old buf.now result self.new }
 
-        // It writes as many bytes as fit, at the position. It fails if and only if these are not
-        // all.
+        // It writes as many bytes as fit, at the position.
+        // It fails if and only if these are not all.
         ensures puts { PutsAllFitting (cursor_inner self.old) (cursor_position self.old) buf.now result
             (cursor_inner self.new) (cursor_position self.new) }
     {
@@ -118,8 +118,8 @@ impl<A: Allocator> Write for Cursor<BoxedSlice<u8, A>> {
     fn write_all(&mut self, buf: &[u8]) -> Result<()>
         ensures law { WriteAllOf ⟦<Self as Write>⟧ self.old buf.now result self.new }
 
-        // It writes as many bytes as fit, at the position. It fails if and only if these are not
-        // all.
+        // It writes as many bytes as fit, at the position.
+        // It fails if and only if these are not all.
         ensures puts { PutsAllFitting (boxed_slice_items (cursor_inner self.old)) (cursor_position self.old) buf.now result
             (boxed_slice_items (cursor_inner self.new)) (cursor_position self.new) }
     {

@@ -2,8 +2,8 @@ ghost use Rattle.std.specs.Prelude.{◌≡◌, ◌≤◌, ◌<◌, ◌+◌, ◌+
 
 use std::simd::Simd;
 
-// Copies a slice of N to 2 N bytes by two moves of N bytes, its first and its last, which may
-// overlap.
+// Copies a slice of N to 2 N bytes by two moves of N bytes, its first and its last,
+// which may overlap.
 #[inline(always)]
 fn copy_ends<const N: usize>(from: &[u8], to: &mut [u8])
     requires same { length from.now ≡ length to.old }

@@ -19,8 +19,8 @@ const MOST_OPENED: usize = 128 * 1024;
 /// Makes room for `wanted` more bytes.
 ///
 /// # Errors
-/// Returns `OutOfMemory` if there was too little room and the vector could not grow; nothing then
-/// changes.
+/// Returns `OutOfMemory` if there was too little room and the vector could not grow; nothing
+/// then changes.
 pub(crate) fn reserve_room<A: Allocator>(buf: &mut Vec<u8, A>, wanted: usize) -> Result<()>
     ensures items { buf.new.items ≡ buf.old.items }
     ensures len { vec_len buf.new ≡ vec_len buf.old }

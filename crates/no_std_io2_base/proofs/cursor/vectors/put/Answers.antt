@@ -1,3 +1,4 @@
+-- The bytes are put over those of the vector, or behind zeros: the search does not split the vector there.
 use Rattle.std.proofs.Common.{◌≡◌, ◌+◌, ◌-◌, ◌++◌, length, take, drop, replicate, arith, ap, sym, ◌∙◌, inl, inr, append_assoc}
 use Rattle.std.proofs.{Common.{length-append, length-take, length-drop}, lemmas.List.{with_items_is}}
 use borrow.Rule.Slice.PartMut.{put_mid}

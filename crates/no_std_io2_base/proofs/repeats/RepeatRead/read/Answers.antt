@@ -1,3 +1,4 @@
+-- The given bytes are the front of the buffer. The search does not split the buffer there.
 use Rattle.std.proofs.Common.{◌≡◌, ◌≤◌, ◌++◌, arith, length, take, drop, replicate, refl, sym, ap, ◌∙◌, take_at, length-take-le}
 use Rattle.std.proofs.{Common.{length-append, length-drop}, lemmas.List.{take-replicate, drop-replicate, length-replicate}}
 use Rattle.no_std_io2_base.proofs.InMemoryReads.{split_at, takes_left, read_left}

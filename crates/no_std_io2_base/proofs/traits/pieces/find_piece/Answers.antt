@@ -1,3 +1,4 @@
+-- Where the delimiter was found, and that it was not: the search does not use what holds of each byte below a place.
 use Rattle.std.proofs.Common.{◌<◌, ◌≢◌, length, rules, arith}
 use Rattle.no_std_io2_base.proofs.PieceLemmas.{all_before, found_at, found_none}
 use Rattle.no_std_io2_base.proofs.traits.pieces.find_piece.Goals as goal

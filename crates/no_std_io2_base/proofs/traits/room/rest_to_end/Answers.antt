@@ -1,7 +1,7 @@
 -- As the trait's `read_to_end` while there is room, and then the reader's own.
 use Rattle.std.proofs.{Common.{Ok, Err, arith, refl, sym, ◌∙◌, le_refl}, lemmas.Result.{err_from_is_err_and}}
 use Rattle.no_std_io2_base.proofs.ReadToEndLoop.{wrote, to_end_none, to_end_read, to_end_interruption, to_end_done, to_end_fault}
-use Rattle.no_std_io2_base.proofs.{ReadToEndLoop.{to_end_then}, TakesLemmas.{read_spends}}
+use Rattle.no_std_io2_base.proofs.{ReadToEndLoop.{rest_drained}, TakesLemmas.{read_spends}}
 use Rattle.no_std_io2_base.proofs.traits.room.rest_to_end.Goals as goal
 
 pub reads-init : goal.reads-init
@@ -47,7 +47,7 @@ pub returns-in_err-read_to_end : goal.returns-in_err-read_to_end
 returns-in_err-read_to_end g c =
     let p = err_from_is_err_and c.from_residual-in_err-read_to_end.result c.from_residual-in_err-read_to_end.ensures.1 in
     rw (p.1, p.2) (record {
-      law = to_end_then c.reads.invariant (Err _) 0 (omega (arith, c.reads-test.false, c.capacity.ensures, c.reads.buf.ok.1))
+      law = rest_drained c.reads.invariant (Err _) 0 (omega (arith, c.reads-test.false, c.capacity.ensures, c.reads.buf.ok.1))
           c.in_err-read_to_end.ensures.law tt;
     })
 
@@ -55,7 +55,7 @@ pub returns : goal.returns
 returns g c =
     let last = c.in_ok-read_to_end.ensures.law in
     record {
-      law = to_end_then c.reads.invariant (Ok _) _ (omega (arith, c.reads-test.false, c.capacity.ensures, c.reads.buf.ok.1)) last
+      law = rest_drained c.reads.invariant (Ok _) _ (omega (arith, c.reads-test.false, c.capacity.ensures, c.reads.buf.ok.1)) last
           (omega arith);
     }
 

@@ -1,3 +1,4 @@
+-- The law, by the lemmas of calls that fill a buffer from memory.
 use Rattle.std.proofs.Common.{◌≡◌, ◌+◌, ◌++◌, arith, rules, length, take, drop, ap, ◌∙◌, refl, append-nil, drop_of_length-le}
 use Rattle.no_std_io2_base.specs.Cursor.{cursor_left}
 use Rattle.no_std_io2_base.proofs.{CursorLemmas.{left_after}, StoreLemmas.{takes_at, told_at}, TakesLemmas.{takes_none}}

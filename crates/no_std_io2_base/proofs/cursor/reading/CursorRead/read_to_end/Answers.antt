@@ -2,7 +2,7 @@
 use Rattle.std.proofs.Common.{◌≡◌, ◌+◌, ◌-◌, ◌++◌, Ok, Err, arith, ap, sym, ◌∙◌, length, length-append, drop}
 use Rattle.std.proofs.lemmas.Result.{err_from_is_err_and}
 use Rattle.no_std_io2_base.specs.Cursor.{cursor_left}
-use Rattle.no_std_io2_base.proofs.{StoreLemmas.{takes_at, told_at, behind_at}, InMemoryReads.{to_end_part}}
+use Rattle.no_std_io2_base.proofs.{StoreLemmas.{takes_at, told_at, behind_at}, InMemoryReads.{memory_drained}}
 use Rattle.no_std_io2_base.proofs.cursor.reading.CursorRead.read_to_end.Goals as goal
 
 pub returns-in_err-answer : goal.returns-in_err-answer
@@ -19,7 +19,7 @@ returns-in_err-answer g c =
     let behind = behind_at content here.pos now part rest left moved in
     let split : drop here.pos content ≡ part ++ drop now content = left ∙ ap (λ l. part ++ l) (sym behind) in
     rw (p.1, p.2) (record {
-      law = to_end_part {left = cursor_left g.T.AsSlice.slice} (record {
+      law = memory_drained {left = cursor_left g.T.AsSlice.slice} (record {
         split = split;
         takes = takes_at content here.pos now part split moved;
         told = told_at content now;
@@ -41,7 +41,7 @@ returns g c =
     let split : drop here.pos content ≡ part ++ drop now content = left ∙ ap (λ l. part ++ l) (sym behind) in
     let none = behind ∙ said.done in
     record {
-      law = to_end_part {left = cursor_left g.T.AsSlice.slice} (record {
+      law = memory_drained {left = cursor_left g.T.AsSlice.slice} (record {
         split = split;
         takes = takes_at content here.pos now part split moved;
         told = told_at content now;

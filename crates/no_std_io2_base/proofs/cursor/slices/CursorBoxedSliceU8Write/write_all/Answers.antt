@@ -1,3 +1,4 @@
+-- The boxed slice has the written bytes: the search does not find that its length stays.
 use Rattle.std.proofs.Common.{◌≡◌, ◌∙◌, subst, sym, take_at}
 use Rattle.std.specs.Box.{boxed_slice_items, boxed_slice_with_items}
 use Rattle.no_std_io2_base.specs.Cursor.{PutsAllFitting}

@@ -1,3 +1,4 @@
+-- The law, from how many bytes fit: the search does not find the lemma for it.
 use Rattle.std.proofs.Common.{rules}
 use Rattle.no_std_io2_base.proofs.CursorLemmas.{fits_moves}
 use Rattle.no_std_io2_base.proofs.cursor.slices.CursorRefMutSliceU8Write.write.Goals as goal

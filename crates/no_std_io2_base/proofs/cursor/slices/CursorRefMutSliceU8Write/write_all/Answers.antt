@@ -1,3 +1,4 @@
+-- The law, from how many bytes fit: the search does not find the lemmas for it.
 use Rattle.no_std_io2_base.proofs.{CallsLemmas.{all_own}, CursorLemmas.{fits_all}}
 use Rattle.no_std_io2_base.proofs.cursor.slices.CursorRefMutSliceU8Write.write_all.Goals as goal
 

@@ -1,3 +1,4 @@
+-- The law: the bytes come from the two slices of the queue, whose lengths the search does not add.
 use Rattle.std.proofs.Common.{◌≡◌, arith, length, take, ap, sym, refl, ◌∙◌, take_at, length-take-le, length-drop, length-append, ◌+◌, ◌≤◌}
 use Rattle.std.proofs.lemmas.List.{take-append-le, nil_from_length}
 use Rattle.no_std_io2_base.proofs.InMemoryReads.{split_at, takes_left, read_part}

@@ -1,3 +1,4 @@
+-- The law: the search does not find which bytes an error left out.
 use Rattle.std.proofs.{lemmas.Grind.{common_steps}, Common.{arith}}
 use Rattle.no_std_io2_base.proofs.{CallsLemmas.{all_own}, CursorLemmas.{appends_all}}
 use Rattle.no_std_io2_base.proofs.impls.queues.VecDequeU8Write.write_all.Goals as goal

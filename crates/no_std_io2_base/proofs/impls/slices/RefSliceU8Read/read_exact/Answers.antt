@@ -1,3 +1,4 @@
+-- The law, by the lemmas of calls that fill a buffer from memory.
 use Rattle.std.proofs.Common.{◌≡◌, [], rules, arith, take, refl, ap, ◌∙◌, append-nil, drop_of_length-le, ◌++◌}
 use Rattle.std.proofs.{lemmas.Grind.{common_steps}, lemmas.List.{take_rest, get_or_read}}
 use Rattle.no_std_io2_base.proofs.InMemoryReads.{split_at, takes_left, exact_part, exact_short}

@@ -1,3 +1,4 @@
+-- The law: the search does not find which bytes an error left out.
 use Rattle.std.specs.Vec.{vec_len, vec_capacity}
 use Rattle.no_std_io2_base.proofs.{CallsLemmas.{all_own}, CursorLemmas.{appends_whole, appends_all}}
 use Rattle.no_std_io2_base.proofs.impls.vectors.VecU8Write.write_all.Goals as goal

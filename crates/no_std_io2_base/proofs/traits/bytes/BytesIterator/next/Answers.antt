@@ -1,3 +1,4 @@
+-- The loop and each of its exits: the list of reads grows at its end, which the search does not do.
 use Rattle.std.proofs.Common.{◌≡◌, arith, refl, sym, ap, ◌∙◌, length, take, take-suc}
 use Rattle.no_std_io2_base.proofs.{NextByteLemmas.{next_end, next_byte, next_fault}, ReadLoop.{reads_none, reads_again}}
 use Rattle.no_std_io2_base.proofs.TakesLemmas.{takes_turns, read_spends}

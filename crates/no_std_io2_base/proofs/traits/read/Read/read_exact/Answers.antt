@@ -1,3 +1,4 @@
+-- The loop and each of its exits, by the lemmas of loops that fill a buffer.
 use Rattle.std.proofs.Common.{sym, ◌∙◌, arith}
 use Rattle.no_std_io2_base.proofs.ReadExactLoop.{exact_end, exact_fault, exact_all}
 use Rattle.no_std_io2_base.proofs.ReadFullLoop.{full_none, full_read, full_interruption, full_end, full_fault, full_all, stays}

@@ -1,3 +1,4 @@
+-- At the limit, after an error and after a loan: the search does not find the lemmas that cut what comes at the limit.
 use Rattle.std.proofs.{Common.{Err, arith, refl, sym, ap, ◌∙◌}, lemmas.Grind.{common_steps}, lemmas.Result.{err_from_is_err_and}}
 use Rattle.no_std_io2_base.specs.{BufRead.{lent_bytes}, Take.{lent_within}, Read.{Filled}}
 use Rattle.no_std_io2_base.proofs.{FillBufHeld.{begins_nothing}, ReadExactExits.{some_bytes}, TakesLemmas.{takes_none, lend_law}}

@@ -1,3 +1,4 @@
+-- The loop and each of its exits, by the lemmas of loops that read to the end.
 use Rattle.std.proofs.{Common.{◌∷◌, [], Ok, arith, ap, refl, sym, ◌∙◌}, lemmas.Grind.{common_steps}, lemmas.Result.{err_from_is_err_and}}
 use Rattle.no_std_io2_base.specs.Read.{ReadLaw}
 use Rattle.no_std_io2_base.proofs.{Readers.{reader}, TakesLemmas.{read_by}, LimitLemmas.{limit_reader, gave_at_limit}, LimitLoops.{limit_fell}}

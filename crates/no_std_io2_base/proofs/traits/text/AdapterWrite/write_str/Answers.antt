@@ -1,3 +1,4 @@
+-- What was printed so far is behind a `∥ ∥₁`, into which the search does not go.
 use Rattle.std.proofs.{lemmas.Grind.{common_steps}, Common.{arith, refl}, Math.Logic.{∥∥₁_map}}
 use Rattle.no_std_io2_base.proofs.TextLemmas.{prints_next, prints_after}
 use Rattle.no_std_io2_base.proofs.traits.text.AdapterWrite.write_str.Goals as goal

@@ -1,3 +1,4 @@
+-- The steps and the exits of the loop, by the lemmas of loops that write.
 use Rattle.std.proofs.Common.{arith, sym, ◌∙◌}
 use Rattle.no_std_io2_base.proofs.WriteExits.{not_empty, is_empty, writes_more, writes_zero, writes_done, writes_fault}
 use Rattle.no_std_io2_base.proofs.WriteExits.{writes_interruption}

@@ -1,0 +1,66 @@
+// The printing of a text to an object, through a buffer on the stack.
+ghost use Rattle.std.specs.Prelude.{◌≡◌, ◌≤◌, ◌<◌, ◌++◌, ◌^◌, ℕ, List, IsOk, length};
+ghost use Rattle.no_std_io2_base.specs.Text.{HasText, PrintsOrRefuses};
+
+use super::write::Write;
+use crate::error::{Error, ErrorKind, Result};
+use crate::impls::copy_bytes;
+use std::fmt;
+use std::fmt::Display;
+
+// A text, in the front of a buffer. If it would not fit, `is_over` says so, and what is left of it is dropped.
+#[derive(Drop)]
+struct Page<'a, const N: usize> {
+    bytes: &'a mut [u8],
+    len: usize,
+    is_over: bool,
+    ghost within: { (length bytes.now ≡ N) × (len ≤ N) },
+}
+
+impl<const N: usize> fmt::Write for Page<'_, N> {
+    ghost write_str_gives = { λ s bs t. (text : List ℕ)
+        → HasText N s.bytes.now s.len s.is_over text → HasText N t.bytes.now t.len t.is_over (text ++ bs) };
+
+    fn write_str(&mut self, s: &str) -> fmt::Result
+        ensures ok { IsOk result → ⟦<Self as fmt::Write>⟧.write_str_gives self.old s.now self.new }
+
+        // An error of the formatter is that of the text.
+        ensures never_fails { IsOk result }
+    {
+        let piece = s.as_bytes();
+        if self.is_over || piece.len() > self.bytes.len() - self.len {
+            self.is_over = true;
+            return Ok(());
+        }
+        let end = self.len + piece.len();
+        copy_bytes(piece, &mut self.bytes[self.len..end]);
+        self.len = end;
+        Ok(())
+    }
+}
+
+/// Prints a text of at most `N` bytes to an object, by one `write_all`: `write!` on an object needs an allocator, and proves nothing of
+/// what came before in its caller.
+///
+/// # Errors
+/// Returns `WriteZero` if the text is longer than `N` bytes, and `formatter error` of kind `Other` if the text's own `fmt` fails. The
+/// device then got no call. Else it returns the error of the `write_all`; some first bytes of the text were then accepted.
+pub fn print_to_object<D: Display + Drop, const N: usize>(w: &mut dyn Write, text: D) -> Result<()>
+    requires { N < 2 ^ 63 }
+    ensures { PrintsOrRefuses N (told w.old) (D.output text) result (told w.new) }
+{
+    let mut room = [0u8; N];
+    let mut page = Page::<N> {
+        bytes: &mut room[..],
+        len: 0,
+        is_over: false,
+    };
+    if fmt::Write::write(&mut page, text).is_err() {
+        return Err(Error::other("formatter error"));
+    }
+    if page.is_over {
+        return Err(Error::new(ErrorKind::WriteZero, "failed to write whole buffer"));
+    }
+    let Page { bytes, len, .. } = page;
+    w.write_all(&bytes[..len])
+}
