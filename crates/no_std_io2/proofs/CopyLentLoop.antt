@@ -12,7 +12,7 @@ use Rattle.no_std_io2_base.specs.Writers.{Writer, WriteAllOf, CallOf, TakesAll}
 use Rattle.no_std_io2_base.proofs.CallsLemmas.{made_more, made_then}
 use Rattle.no_std_io2_base.proofs.EventLemmas.{bytes-append, bytes-events_of, length-events_of, HasNoFault-append, HasNoFault-events_of}
 use Rattle.no_std_io2_base.proofs.MovesLemmas.{Moves-refl, Moves-then}
-use Rattle.no_std_io2_base.proofs.PieceLemmas.{bytes_still}
+use Rattle.no_std_io2_base.proofs.PieceLemmas.{bytes-fails}
 use Rattle.no_std_io2_base.proofs.TakesLemmas.{takes_none, takes_then, takes_still, takes_turns, spends}
 use Rattle.no_std_io2.specs.Copy.{counted}
 use Rattle.no_std_io2.specs.CopyLent.{HandsLent, LentCopied, lends_none, lends_fault, again_lent, piece_lent, piece_refused}
@@ -59,7 +59,7 @@ module _ {R W : Type 0} {K : Lender R} {I : Writer W} {from : R} {old : W} where
     -- the reader's interruption is ignored
     pub lent_again : {e : Error} → FilledLaw K mid (Err e) after → IsInterruption e → LentSoFar K I from old copied after now
     lent_again {e} filled again =
-        let same = bytes_still before.taken e in
+        let same = bytes-fails before.taken e in
         record {
           taken = before.taken ++ fails e ∷ [];
           takes = takes_then before.takes filled.takes;
@@ -86,7 +86,7 @@ module _ {R W : Type 0} {K : Lender R} {I : Writer W} {from : R} {old : W} where
       takes = takes_then before.takes filled.takes;
       ends = (
         (before.taken, refl, before.no_fault, fault),
-        subst (λ l. Moves (I.told old) l [] (I.told now)) (sym (bytes_still before.taken e)) before.moves,
+        subst (λ l. Moves (I.told old) l [] (I.told now)) (sym (bytes-fails before.taken e)) before.moves,
       );
       all = before.all;
       calls = (

@@ -11,7 +11,7 @@ call_steady x1 e f = grind (arith, common_steps, Moves-steady)
 
 module _ {S : Type 0} (I : Writer S) where
   -- what a writer that takes all does: it still takes all, and returns `Ok`
-  abbrev pub TookAll : List ℕ → Result (Unit {0}) Error → S → S → Type 0
+  abbrev TookAll : List ℕ → Result (Unit {0}) Error → S → S → Type 0
   TookAll x reply a b = TakesAll I a → TakesAll I b × IsOk reply
 
   -- `write_all`

@@ -18,7 +18,7 @@ module _ {I A : Type 0} {V : I → Type 0} (box : DynBox I A V) where
   in_box P Q did lent back = subst (λ l. (new : V l.0) → P l.0 l.1 new → Q (holding l.0 new)) (sym back) did
 
 -- the value in a box, by what its trait object tells, and the box
-abbrev pub value_reader : {I : Type 0} {V : I → Type 0} → ((p : (x : I) × V x) → Reader (V p.0)) → (i : I) → Reader (V i)
+abbrev value_reader : {I : Type 0} {V : I → Type 0} → ((p : (x : I) × V x) → Reader (V p.0)) → (i : I) → Reader (V i)
 value_reader o i = record {
   store = λ v. (o (i, v)).store v;
   turns = λ v. (o (i, v)).turns v;
@@ -26,7 +26,7 @@ value_reader o i = record {
   may = λ v. (o (i, v)).may v;
 }
 
-abbrev pub box_reader : {I A : Type 0} {V : I → Type 0} → ((p : (x : I) × V x) → Reader (V p.0)) → Reader (DynBox I A V)
+abbrev box_reader : {I A : Type 0} {V : I → Type 0} → ((p : (x : I) × V x) → Reader (V p.0)) → Reader (DynBox I A V)
 box_reader o = record {
   store = λ b. (value_reader o b.vtable).store b.value;
   turns = λ b. (value_reader o b.vtable).turns b.value;
@@ -53,7 +53,7 @@ module _ {I A : Type 0} {V : I → Type 0} (o : (p : (x : I) × V x) → Reader 
       (ReadExactLaw (box_reader o) box buf reply buf') (λ new. exact_through (holding box box.vtable) of_reader)
 
 -- a value that lends, and its box
-abbrev pub value_lender : {I : Type 0} {V : I → Type 0} → ((p : (x : I) × V x) → Lender (V p.0)) → (i : I) → Lender (V i)
+abbrev value_lender : {I : Type 0} {V : I → Type 0} → ((p : (x : I) × V x) → Lender (V p.0)) → (i : I) → Lender (V i)
 value_lender o i = record {
   store = λ v. (o (i, v)).store v;
   turns = λ v. (o (i, v)).turns v;

@@ -2,7 +2,7 @@
 use Rattle.std.proofs.{lemmas.Grind.{common_steps}, Common.{arith, ◌≡◌, ℕ, List, [], ◌∷◌, ◌++◌, Result, OnOk, refl, ap, subst}}
 use Rattle.std.proofs.Common.{append_assoc, inl}
 use Rattle.no_std_io2_base.specs.{declared.error.Error.{Error}, Write.{WriteCall, Made, WroteAll, Writes, none, took, again, stuck, fault}}
-use Rattle.no_std_io2_base.specs.{Write.{AllCalls}, Writers.{Writer, CallOf}}
+use Rattle.no_std_io2_base.specs.{Write.{Told, CallLaw, WriteAllLaw, AllCalls}, Writers.{Writer, CallOf}}
 use Rattle.std.proofs.Math.Nat.{mod-add-mod}
 use Rattle.std.proofs.Common.{◌+◌, ◌%◌, length, sym, ◌∙◌}
 
@@ -61,8 +61,18 @@ pub all_own : {W : Type 0} {may : W → WriteCall → W → Type 0} {a : W} (b :
     → may a (WroteAll x reply) b → (C : List WriteCall) × Made may a C b × AllCalls C x reply
 all_own b x reply own = (WroteAll x reply ∷ [], (b, own, refl), inl refl)
 
+-- and its law is that of the call
+pub own_law : {W : Type 0} {told : W → Told} {takes_all : W → Type 0} {may : W → WriteCall → W → Type 0} {a b : W} {x : List ℕ}
+    {reply : Result (Unit {0}) Error} → CallLaw told takes_all may a (WroteAll x reply) b → WriteAllLaw told takes_all may a x reply b
+own_law {b = b} {x} {reply} own = record {
+  never_interrupted = own.1;
+  moves = own.2;
+  all = own.3;
+  calls = all_own b x reply own;
+}
+
 -- So far the calls C were made to write `start`: with those that write `left` they write all of it.
-abbrev pub WritesOn : List ℕ → List WriteCall → List ℕ → List ℕ → Type 0
+abbrev WritesOn : List ℕ → List WriteCall → List ℕ → List ℕ → Type 0
 WritesOn text C start left = (D : List WriteCall) (reply : Result (Unit {0}) Error) (end : List ℕ)
     → Writes text D left reply end → Writes text (C ++ D) start reply end
 

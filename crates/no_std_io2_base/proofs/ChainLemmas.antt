@@ -19,7 +19,7 @@ chain_reader R S = record {
 }
 
 -- what a chain of readers that tell this tells
-abbrev pub chain_tells : Bool → Tells → Tells → Tells
+abbrev chain_tells : Bool → Tells → Tells → Tells
 chain_tells done first second =
     record { events = chain_to_come done first second; store = None; turns = first.turns + second.turns }
 
@@ -35,26 +35,26 @@ module _ {T U : Type 0} (R : Reader T) (S : Reader U) where
   marked old new {P} d d' was now takes = grind (arith, common_steps)
 
   -- the first reader alone took something
-  pub by_first_takes : {old new : Chain T U} {P : List Event} → chain_is_done old ≡ false → new ≡ record old { first = chain_first new }
+  by_first_takes : {old new : Chain T U} {P : List Event} → chain_is_done old ≡ false → new ≡ record old { first = chain_first new }
       → Takes (tells R (chain_first old)) P (tells R (chain_first new))
       → Takes (tells (chain_reader R S) old) P (tells (chain_reader R S) new)
   by_first_takes {old} {new} {P} going same takes = grind (arith, common_steps)
 
   -- the first took its last events, and then the second some
-  pub by_both_takes : {old new : Chain T U} {P Q : List Event} → chain_is_done old ≡ false → chain_is_done new ≡ true
+  by_both_takes : {old new : Chain T U} {P Q : List Event} → chain_is_done old ≡ false → chain_is_done new ≡ true
       → Takes (tells R (chain_first old)) P (tells R (chain_first new)) → IsAtEnd (tells R (chain_first new))
       → Takes (tells S (chain_second old)) Q (tells S (chain_second new))
       → Takes (tells (chain_reader R S) old) (P ++ Q) (tells (chain_reader R S) new)
   by_both_takes {old} {new} {P} {Q} going done takes end then = grind (arith, common_steps)
 
   -- the second alone took something
-  pub by_second_takes : {old new : Chain T U} {P : List Event} → chain_is_done old ≡ true → new ≡ record old { second = chain_second new }
+  by_second_takes : {old new : Chain T U} {P : List Event} → chain_is_done old ≡ true → new ≡ record old { second = chain_second new }
       → Takes (tells S (chain_second old)) P (tells S (chain_second new))
       → Takes (tells (chain_reader R S) old) P (tells (chain_reader R S) new)
   by_second_takes {old} {new} {P} done same takes = grind (arith, common_steps)
 
   -- the end of the second is the end of the chain, once the first is done
-  pub done_ends : (c : Chain T U) → chain_is_done c ≡ true → IsAtEnd (tells S (chain_second c)) → IsAtEnd (tells (chain_reader R S) c)
+  done_ends : (c : Chain T U) → chain_is_done c ≡ true → IsAtEnd (tells S (chain_second c)) → IsAtEnd (tells (chain_reader R S) c)
   done_ends c done end =
       subst (λ m. IfSome (chain_to_come m (tells R (chain_first c)) (tells S (chain_second c))) (λ l. l ≡ [])) (sym done) end
 

@@ -16,7 +16,7 @@ pub left_after : (all : List ℕ) (place n : ℕ) → drop (place + n) all ≡ d
 left_after all place n = sym (drop-drop n place all)
 
 -- before a place that is not past the end no zeros are added
-pub bytes_before-within : (place : ℕ) (bs : List ℕ) → place ≤ length bs → bytes_before place bs ≡ take place bs
+bytes_before-within : (place : ℕ) (bs : List ℕ) → place ≤ length bs → bytes_before place bs ≡ take place bs
 bytes_before-within place bs within = grind (arith, common_steps)
 
 -- zeros that follow the bytes, up to a place, are the zeros that would be added before that place
@@ -35,7 +35,7 @@ before-opened more place bs near = elim (cases_lt (length bs) place) [ inl past 
         ∙ ap (λ l. bs ++ l) (take-replicate gap more 0 (omega arith)) ∙ ap (λ l. l ++ replicate gap 0) (sym all)
 
 -- x was put over zeros that followed the bytes, and the zeros after x were cut off
-pub put_opened : (more place : ℕ) (x bs : List ℕ) → length bs ≤ place + length x → place + length x ≤ length bs + more
+put_opened : (more place : ℕ) (x bs : List ℕ) → length bs ≤ place + length x → place + length x ≤ length bs + more
     → take place (bs ++ replicate more 0) ++ x ≡ put_at place x bs
 put_opened more place x bs past near = grind (arith, common_steps, before-opened, append-nil, drop_all)
 
@@ -54,11 +54,11 @@ pub put_lengthened : (place end : ℕ) (x bs grown : List ℕ) → end ≡ place
 put_lengthened place end x bs grown at x7 = grind (arith, common_steps, length-append, length-replicate, drop_all, append-nil, put_opened)
 
 -- the bytes that were put are right before the place after them
-pub before_put : (place : ℕ) (x bs : List ℕ) → bytes_before (place + length x) (put_at place x bs) ≡ bytes_before place bs ++ x
+before_put : (place : ℕ) (x bs : List ℕ) → bytes_before (place + length x) (put_at place x bs) ≡ bytes_before place bs ++ x
 before_put place x bs = grind (arith, common_steps)
 
 -- bytes are out as soon as they are accepted
-pub appends_moves : {old new x : List ℕ} {k : List ErrorKind} → new ≡ old ++ x → count_by is_interruption k ≡ 0
+appends_moves : {old new x : List ℕ} {k : List ErrorKind} → new ≡ old ++ x → count_by is_interruption k ≡ 0
     → Moves (told_out old) x k (told_out new)
 appends_moves {old} {new} {x} is none = grind (arith, common_steps)
 
@@ -88,7 +88,7 @@ puts_moves bs place x (Ok n) bs' place' h = grind (arith, common_steps)
 puts_moves bs place x (Err e) bs' place' h = grind (arith, common_steps)
 
 -- what fits in a slice goes out
-pub fitting_goes_out : (bs : List ℕ) (place : ℕ) (x bs' : List ℕ) (place' : ℕ) → PutsFitting bs place x bs' place'
+fitting_goes_out : (bs : List ℕ) (place : ℕ) (x bs' : List ℕ) (place' : ℕ) → PutsFitting bs place x bs' place'
     → bytes_before place' bs' ≡ bytes_before place bs ++ fitting place x bs
 fitting_goes_out bs place x bs' place' h = grind (arith, common_steps)
 
@@ -103,7 +103,7 @@ fits_moves bs place x {n} {bs'} {place'} count h =
     appends_moves (fitting_goes_out bs place x bs' place' h ∙ ap (λ l. bytes_before place bs ++ l) (sym part)) (quiet_count n x)
 
 -- the same holds for a `write_all` of which not all fits
-pub fits_moves_part : (bs : List ℕ) (place : ℕ) {x : List ℕ} (e : Error) {bs' : List ℕ} {place' : ℕ}
+fits_moves_part : (bs : List ℕ) (place : ℕ) {x : List ℕ} (e : Error) {bs' : List ℕ} {place' : ℕ}
     → error_kind e ≡ WriteZero → PutsFitting bs place x bs' place'
     → MovesFront (told_out (bytes_before place bs)) x (Err e) (told_out (bytes_before place' bs'))
 fits_moves_part bs place {x} e {bs'} {place'} kind h =
@@ -116,7 +116,7 @@ fits_moves_part bs place {x} e {bs'} {place'} kind h =
     }
 
 -- and for one of which all fits
-pub fits_moves_all : (bs : List ℕ) (place : ℕ) {x bs' : List ℕ} {place' : ℕ} → length x ≤ length bs - place
+fits_moves_all : (bs : List ℕ) (place : ℕ) {x bs' : List ℕ} {place' : ℕ} → length x ≤ length bs - place
     → PutsFitting bs place x bs' place'
     → MovesFront (told_out (bytes_before place bs)) x (Ok tt) (told_out (bytes_before place' bs'))
 fits_moves_all bs place {x} {bs'} {place'} room h =
@@ -130,7 +130,7 @@ fits_all bs place (Ok u) h = (tt, fits_moves_all bs place (h.variant.0 refl) h.p
 fits_all bs place (Err e) h = (ap is_interruption h.says.0, fits_moves_part bs place e h.says.0 h.puts)
 
 -- `write_all` of a vector keeps the law: an allocation failed and no byte was accepted, or all were
-pub append_moves : {old new x : List ℕ} (reply : Result (Unit {0}) Error) → OnOk reply (new ≡ old ++ x) → OnErr reply (new ≡ old)
+append_moves : {old new x : List ℕ} (reply : Result (Unit {0}) Error) → OnOk reply (new ≡ old ++ x) → OnErr reply (new ≡ old)
     → IfErr reply IsOutOfMemory
     → MovesFront (told_out old) x reply (told_out new)
 append_moves {x} (Ok tt) is same refused = all_accepted (appends_moves is refl)

@@ -18,7 +18,7 @@ module _ {X Y : Type 0} {R : Reader X} {R' : Reader Y} {put : X → Y} (through 
   between P holds =
       subst (λ t. P t (tells R' (put b))) (sym (through.told a)) (subst (λ t. P (tells R a) t) (sym (through.told b)) holds)
 
-  pub call_through : (call : ReadCall) → ReadCallLaw R a call b → ReadCallLaw R' (put a) call (put b)
+  call_through : (call : ReadCall) → ReadCallLaw R a call b → ReadCallLaw R' (put a) call (put b)
   call_through x1 law = grind (arith, common_steps)
 
 -- what a call did to a value, it did to that which the value was put into
@@ -48,7 +48,7 @@ module _ {X Y : Type 0} {R : Lender X} {R' : Lender Y} {put : X → Y} (through 
   consumed_through : (n : ℕ) → ConsumeLaw R a n b → ConsumeLaw R' (put a) n (put b)
   consumed_through n law = grind (arith, common_steps)
 
-  pub lend_through : (call : ReadCall) → LendCallLaw R a call b → LendCallLaw R' (put a) call (put b)
+  lend_through : (call : ReadCall) → LendCallLaw R a call b → LendCallLaw R' (put a) call (put b)
   lend_through x1 law = grind (arith, common_steps)
 
 module _ {X Y : Type 0} {R : Lender X} {R' : Lender Y} (put : X → Y) (through : LendsThrough R R' put) {a b : X} where

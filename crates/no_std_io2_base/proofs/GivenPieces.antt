@@ -18,7 +18,7 @@ first_fault-append (byte b ∷ P) Q h = first_fault-append P Q h
 first_fault-append (fails e ∷ P) Q h = ap (λ t. if t then first_fault (P ++ Q) else Some e) h.0 ∙ first_fault-append P Q h.1
 
 -- the bytes to the first fault are those of a front that has none, and then those to the fault in the rest
-pub bytes_to_fault-append : (P Q : List Event) → HasNoFault P → bytes_to_fault (P ++ Q) ≡ bytes P ++ bytes_to_fault Q
+bytes_to_fault-append : (P Q : List Event) → HasNoFault P → bytes_to_fault (P ++ Q) ≡ bytes P ++ bytes_to_fault Q
 bytes_to_fault-append [] Q h = refl
 bytes_to_fault-append (byte b ∷ P) Q h = ap (λ l. b ∷ l) (bytes_to_fault-append P Q h)
 bytes_to_fault-append (fails e ∷ P) Q h = ap (λ t. if t then bytes_to_fault (P ++ Q) else []) h.0 ∙ bytes_to_fault-append P Q h.1
@@ -50,7 +50,7 @@ GivesNone d E = (pieces_given d E ≡ []) × (first_fault E ≡ None)
 
 -- What a piece that was read with this result says of the events E: it comes next; or none does. After an error, it is the first fault, and
 -- no piece comes before it; or a byte was to come, and memory was refused.
-abbrev pub GivenRead : ℕ → List Event → List ℕ → Result ℕ Error → List Event → Type 0
+abbrev GivenRead : ℕ → List Event → List ℕ → Result ℕ Error → List Event → Type 0
 GivenRead d E piece (Ok n) after = ((0 < length piece) × GivesNext d E piece after) ⊎ ((length piece ≡ 0) × GivesNone d E)
 GivenRead d E piece (Err e) after = ((pieces_given d E ≡ []) × (first_fault E ≡ Some e))
     ⊎ (IsOutOfMemory e × (0 < length (bytes_to_fault E)))
@@ -74,7 +74,7 @@ none_ended d [] h = refl
 none_ended d (b ∷ bs) h = ap (filter (ends_in d)) (pieces-last d b bs h) ∙ ap (λ t. cond t ((b ∷ bs) ∷ []) []) (ends_in-lacks d (b ∷ bs) h)
 
 -- the first fault ends what is given
-pub given_fault : (d : ℕ) (E : List Event) (e : Error) (taken after : List Event) → E ≡ taken ++ after
+given_fault : (d : ℕ) (E : List Event) (e : Error) (taken after : List Event) → E ≡ taken ++ after
     → Lacks d (bytes taken) → EndsInFault taken e
     → (pieces_given d E ≡ []) × (first_fault E ≡ Some e)
 given_fault d E e taken after split none f =

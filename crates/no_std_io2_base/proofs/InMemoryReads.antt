@@ -10,7 +10,7 @@ use Rattle.no_std_io2_base.proofs.EventLemmas.{events_of-append, length-events_o
 use Rattle.no_std_io2_base.proofs.{ReadCalls.{exact_own, to_end_by}, TakesLemmas.{gives_whole, drains_ended}}
 
 -- what a reader tells that has these bytes left, and no store
-abbrev pub tells_left : List ℕ → Tells
+abbrev tells_left : List ℕ → Tells
 tells_left left = record { events = Some (events_of left); store = None; turns = length left }
 
 -- the first of them are taken

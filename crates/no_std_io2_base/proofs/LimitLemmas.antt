@@ -62,7 +62,7 @@ fault-within : (k : ℕ) (answer : Result (List ℕ) Error) → 0 < k → cut k 
 fault-within k x2 some = grind (arith, common_steps)
 
 -- bytes that are cut are their first ones
-pub cut-events_of : (k : ℕ) (bs : List ℕ) → cut k (events_of bs) ≡ events_of (take k bs)
+cut-events_of : (k : ℕ) (bs : List ℕ) → cut k (events_of bs) ≡ events_of (take k bs)
 cut-events_of zero bs = refl
 cut-events_of (suc k) [] = refl
 cut-events_of (suc k) (b ∷ bs) = ap (λ l. byte b ∷ l) (cut-events_of k bs)
@@ -109,7 +109,7 @@ module _ {T : Type 0} {inner : Reader T} where
   gave_at_limit {t} room low = grind (arith, common_steps)
 
   -- above 0 it is one inner read into as much of the room as the limit allows
-  pub gave_inner : {old new : Take T} (room : ℕ) (answer : Result (List ℕ) Error) → 0 < limit_left old
+  gave_inner : {old new : Take T} (room : ℕ) (answer : Result (List ℕ) Error) → 0 < limit_left old
       → GaveLaw inner (limit_inner old) (min room (limit_left old)) answer (limit_inner new)
       → limit_left new + length (bytes_given answer) ≡ limit_left old → limit_set new ≡ limit_set old
       → GaveLaw (limit_reader inner) old room answer new

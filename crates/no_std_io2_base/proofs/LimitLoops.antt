@@ -64,7 +64,7 @@ untold : {a b : Tells} {Q : List Event} (P : List Event) → to_come a ≡ None 
 untold {a} {b} P none same fewer takes = grind (arith, common_steps)
 
 -- so what the `Take` took, its inner reader took
-pub limit_taken : {T : Type 0} {inner : Reader T} {old new : Take T} (P Q : List Event)
+limit_taken : {T : Type 0} {inner : Reader T} {old new : Take T} (P Q : List Event)
     → Takes (tells (limit_reader inner) old) P (tells (limit_reader inner) new) → LimitTakes inner old Q new
     → length (bytes Q) ≡ length (bytes P) → (R : List Event) × (bytes R ≡ bytes P) × LimitTakes inner old R new
 limit_taken {inner = inner} {old} {new} P Q above below same = elim (lost (to_come (tells inner (limit_inner old)))

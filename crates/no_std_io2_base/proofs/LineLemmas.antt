@@ -9,7 +9,8 @@ use Rattle.no_std_io2_base.proofs.PieceLaws.{pieces_are, ends_in-lacks}
 
 -- one byte more in front: it belongs to the lines, if there are some or it is a newline; if not, to the unfinished line
 abbrev JoinsLine : ℕ → List ℕ → Type 0
-JoinsLine b bs = ((b ≡ newline ⊎ 0 < lines_len bs) × (lines_of (b ∷ bs) ≡ b ∷ lines_of bs) × (unfinished_line (b ∷ bs) ≡ unfinished_line bs))
+JoinsLine b bs =
+    ((b ≡ newline ⊎ 0 < lines_len bs) × (lines_of (b ∷ bs) ≡ b ∷ lines_of bs) × (unfinished_line (b ∷ bs) ≡ unfinished_line bs))
     ⊎ (b ≢ newline × (lines_of bs ≡ []) × (lines_of (b ∷ bs) ≡ []) × (unfinished_line (b ∷ bs) ≡ b ∷ unfinished_line bs))
 
 joins : (b : ℕ) (bs : List ℕ) → JoinsLine b bs

@@ -27,8 +27,8 @@ module _ {S : Type 0} {R : Reader S} {old now new : S} {part ys : List ℕ} (bef
   }
 
   -- with a fault
-  pub next_fault : {e : Error} → ReadLaw R now part (Err e) ys new → IsFault e → length ys ≡ 1 → NextLaw R old (Some (Err e)) new
-  next_fault {e} read fault one = record {
+  pub next_byte_fault : {e : Error} → ReadLaw R now part (Err e) ys new → IsFault e → length ys ≡ 1 → NextLaw R old (Some (Err e)) new
+  next_byte_fault {e} read fault one = record {
     taken = before.taken ++ fails e ∷ [];
     takes = takes_then before.takes read.takes;
     ends = ((before.taken, refl, (before.no_fault, before.are)), fault);

@@ -11,11 +11,11 @@ use Rattle.no_std_io2_base.specs.Pieces.{EndsPiece, EndsAt}
 use Rattle.no_std_io2_base.proofs.EventLemmas.{bytes-append}
 
 -- the pieces if the first byte is d, and if it is not
-pub pieces-at : (d b : ℕ) (bs : List ℕ) → b ≡ d → pieces d (b ∷ bs) ≡ (b ∷ []) ∷ pieces d bs
+pieces-at : (d b : ℕ) (bs : List ℕ) → b ≡ d → pieces d (b ∷ bs) ≡ (b ∷ []) ∷ pieces d bs
 pieces-at d b bs is = ap (λ t. if t then (b ∷ []) ∷ pieces d bs else in_front b (pieces d bs)) (eq-eqb b d is)
 
 -- a first byte that is not d joins the first piece of the rest, or is a piece by itself if there is no rest
-pub pieces-other : (d b : ℕ) (bs : List ℕ) → b ≢ d → pieces d (b ∷ bs) ≡ in_front b (pieces d bs)
+pieces-other : (d b : ℕ) (bs : List ℕ) → b ≢ d → pieces d (b ∷ bs) ≡ in_front b (pieces d bs)
 pieces-other d b bs differ = ap (λ t. if t then (b ∷ []) ∷ pieces d bs else in_front b (pieces d bs)) (ne_eqb b d differ)
 
 -- if the first byte is d, it is a piece by itself, followed by the pieces of the rest

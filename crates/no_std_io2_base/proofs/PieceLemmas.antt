@@ -28,7 +28,7 @@ Lacks-but_last d (b ∷ []) h = tt
 Lacks-but_last d (b ∷ c ∷ bs) h = (h.0, Lacks-but_last d (c ∷ bs) h.1)
 
 -- the last byte alone is left out
-pub but_last-end : (bs : List ℕ) (b : ℕ) → but_last (bs ++ b ∷ []) ≡ bs
+but_last-end : (bs : List ℕ) (b : ℕ) → but_last (bs ++ b ∷ []) ≡ bs
 but_last-end [] b = refl
 but_last-end (a ∷ []) b = refl
 but_last-end (a ∷ c ∷ bs) b = ap (λ l. a ∷ l) (but_last-end (c ∷ bs) b)
@@ -38,7 +38,7 @@ pub all_before : (P : ℕ → Type 0) (bs : List ℕ) (at : ℕ) → at < length
 all_before P bs at within each k e short = grind (arith, common_steps)
 
 -- if a part ends in d, it is the piece
-pub found_end : {d n : ℕ} {bs : List ℕ} → n ≤ length bs → EndsPiece d (take n bs) → FindsPiece d bs n true
+found_end : {d n : ℕ} {bs : List ℕ} → n ≤ length bs → EndsPiece d (take n bs) → FindsPiece d bs n true
 found_end within ends = record { within = within; whole = λ _. inl ends; open_ended = λ e. absurd (true≢false e) }
 
 -- if d is found, the piece ends there

@@ -190,7 +190,7 @@ gave_more buf P x gave more =
     more ∙ ap (λ l. l ++ x) gave ∙ append_assoc buf (bytes P) x ∙ ap (λ l. buf ++ l) (sym (bytes-more P x))
 
 -- a piece that was taken and appended
-pub until_law : {X A : Type 0} {R : Lender X} {d : ℕ} {old new : X} {buf buf' : Vec ℕ A} {P : List Event} {reply : Result ℕ Error}
+until_law : {X A : Type 0} {R : Lender X} {d : ℕ} {old new : X} {buf buf' : Vec ℕ A} {P : List Event} {reply : Result ℕ Error}
     → PieceTaken R (λ n. vec_capacity buf < vec_len buf + n) (Unit {0}) d old P reply new → vec_capacity buf ≤ vec_capacity buf'
     → buf'.items ≡ buf.items ++ bytes P → ReadUntilLaw R old d buf reply buf' new
 until_law {P = P} piece grown gave =

@@ -22,7 +22,7 @@ pub store_taken : {a b : Tells} {P : List Event} → Takes a P b → IfSome a.st
 store_taken {a} {b} {P} takes = grind (arith, common_steps)
 
 -- a told store tells its bytes
-pub store_tells : (a : Tells) → IfSome a.store (λ s. to_come a ≡ Some (events_of (drop s.position s.content)))
+store_tells : (a : Tells) → IfSome a.store (λ s. to_come a ≡ Some (events_of (drop s.position s.content)))
 store_tells a = grind (arith, common_steps)
 
 -- the bytes that were taken are those at the target of the seek

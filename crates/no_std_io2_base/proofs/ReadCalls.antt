@@ -42,7 +42,7 @@ module _ {asks : ℕ → ℕ → Type 0} {C : List ReadCall} {x : List ℕ} (fir
   )
 
 -- reads, and then a `read_to_end` whose result counts only the bytes that it appended itself
-pub to_end_then : {C D : List ReadCall} {x y : List ℕ} (reply reply' : Result ℕ Error) → ended reply ≡ ended reply' → Gathers IsRoom C x
+to_end_then : {C D : List ReadCall} {x y : List ℕ} (reply reply' : Result ℕ Error) → ended reply ≡ ended reply' → Gathers IsRoom C x
     → ToEndCalls D y reply → ToEndCalls (C ++ D) (x ++ y) reply'
 to_end_then {C} {x = x} reply reply' same first (inl own) = inl (
   C ++ own.0,

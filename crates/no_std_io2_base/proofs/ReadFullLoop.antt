@@ -1,6 +1,7 @@
 -- What a loop that fills a buffer by reads has done so far, and what it has done at each of its ends.
 use Rattle.std.proofs.Common.{◌≡◌, ℕ, ◌+◌, ◌-◌, ◌<◌, ◌≤◌, List, [], ◌∷◌, ◌++◌, Result, Ok, Err, length, take, drop, refl, sym, ap, subst}
-use Rattle.std.proofs.Common.{◌∙◌, arith, le_refl, inl, inr, length-take-le, length-take, length-drop, append_assoc, append-nil, length-append}
+use Rattle.std.proofs.Common.{◌∙◌, arith, le_refl, inl, inr, length-take-le, length-take, length-drop}
+use Rattle.std.proofs.Common.{append_assoc, append-nil, length-append}
 use Rattle.std.proofs.lemmas.Slice.{take-put_mid_below}
 use borrow.Rule.Slice.PartMut.{put_mid}
 use Rattle.no_std_io2_base.specs.{declared.error.Error.{Error}, Errors.{IsInterruption, IsFault}, Events.{fails, bytes}, Read.{Reader}}

@@ -8,7 +8,7 @@ use Rattle.no_std_io2_base.specs.{Seek.{RewindLaw, StreamLenLaw, SeekRelativeLaw
 use Rattle.no_std_io2_base.proofs.BoxedObjects.{holding, in_box}
 
 -- some calls were made, with this result
-abbrev pub Lens : {X : Type 0} → (X → SeekCall → X → Type 0) → X → X → Result ℕ Error → Type 0
+abbrev Lens : {X : Type 0} → (X → SeekCall → X → Type 0) → X → X → Result ℕ Error → Type 0
 Lens may old new reply = (C : List SeekCall) × Made may old C new × LenCalls C reply
 
 module _ {X : Type 0} (may : X → SeekCall → X → Type 0) {old new : X} where
@@ -62,28 +62,28 @@ pub record SeeksThrough {X Y : Type 0} (S : Seeker X) (S' : Seeker Y) (put : X �
 
 -- what a call did to a value, it did to that which the value was put into
 module _ {X Y : Type 0} {S : Seeker X} {S' : Seeker Y} (put : X → Y) (through : SeeksThrough S S' put) {a b : X} where
-  pub seek_through : {target : SeekFrom} {reply : Result ℕ Error} → SeekLaw S a target reply b → SeekLaw S' (put a) target reply (put b)
+  seek_through : {target : SeekFrom} {reply : Result ℕ Error} → SeekLaw S a target reply b → SeekLaw S' (put a) target reply (put b)
   seek_through law = grind (arith, common_steps)
 
-  pub stream_position_through : {reply : Result ℕ Error} → StreamPositionLaw S a reply b → StreamPositionLaw S' (put a) reply (put b)
+  stream_position_through : {reply : Result ℕ Error} → StreamPositionLaw S a reply b → StreamPositionLaw S' (put a) reply (put b)
   stream_position_through law = grind (arith, common_steps)
 
-  pub rewind_through : {reply : Result (Unit {0}) Error} → RewindLaw S a reply b → RewindLaw S' (put a) reply (put b)
+  rewind_through : {reply : Result (Unit {0}) Error} → RewindLaw S a reply b → RewindLaw S' (put a) reply (put b)
   rewind_through {reply} law = grind (arith, common_steps)
 
   pub stream_len_through : {reply : Result ℕ Error} → StreamLenLaw S a reply b → StreamLenLaw S' (put a) reply (put b)
   stream_len_through law = grind (arith, common_steps)
 
-  pub seek_relative_through : {offset : ℤ} {reply : Result (Unit {0}) Error} → SeekRelativeLaw S a offset reply b
+  seek_relative_through : {offset : ℤ} {reply : Result (Unit {0}) Error} → SeekRelativeLaw S a offset reply b
       → SeekRelativeLaw S' (put a) offset reply (put b)
   seek_relative_through {offset} {reply} law = grind (arith, common_steps)
 
 module _ {I A : Type 0} {V : I → Type 0} (o : (p : (x : I) × V x) → Seeker (V p.0)) (box : DynBox I A V) where
   -- the value in a box, by what its trait object tells, and the box
-  abbrev pub value_seeker : (i : I) → Seeker (V i)
+  abbrev value_seeker : (i : I) → Seeker (V i)
   value_seeker i = record { store = λ v. (o (i, v)).store v; may = λ v. (o (i, v)).may v; sound = λ v. (o (i, v)).sound v }
 
-  abbrev pub box_seeker : Seeker (DynBox I A V)
+  abbrev box_seeker : Seeker (DynBox I A V)
   box_seeker = record {
     store = λ b. (value_seeker b.vtable).store b.value;
     may = λ b. BoxMay b (value_seeker b.vtable).may;

@@ -48,5 +48,5 @@ module _ {X : Type 0} {R : Lender X} {d : ℕ} {old now after : X} {skipped : �
     skip_more going = grind (arith, common_steps, part_more, counted)
 
     -- the end of the piece ends it
-    pub skip_whole : is_whole ≡ true → SkipUntilLaw R old d (Ok total) new
-    skip_whole whole = skip_law (Ok _) (ap Ok counted) (piece_whole before.part filled found dropped whole refl)
+    pub skip_piece : is_whole ≡ true → SkipUntilLaw R old d (Ok total) new
+    skip_piece whole = skip_law (Ok _) (ap Ok counted) (piece_whole before.part filled found dropped whole refl)

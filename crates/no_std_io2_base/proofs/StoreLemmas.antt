@@ -16,7 +16,7 @@ pub keeps_at : (Goes : ℕ → ℕ → ℕ → Type 0) (content : List ℕ) (was
 keeps_at Goes content was now near goes = grind (arith, common_steps)
 
 -- what a reader tells of a content from a position on
-abbrev pub tells_at : List ℕ → ℕ → Tells
+abbrev tells_at : List ℕ → ℕ → Tells
 tells_at content position = record {
   events = Some (events_of (drop position content));
   store = store_at content position;
@@ -37,4 +37,5 @@ behind_at content was now part rest split moved =
 pub takes_at : (content : List ℕ) (was now : ℕ) (part : List ℕ) → drop was content ≡ part ++ drop now content → now ≡ was + length part
     → Takes (tells_at content was) (events_of part) (tells_at content now)
 takes_at content was now part split moved =
-    grind (arith, common_steps, length-append, tells_at, told_at, events_of-append, keeps_at, length-drop, bytes-events_of, length-events_of)
+    grind (arith, common_steps, length-append, tells_at, told_at, events_of-append, keeps_at, length-drop, bytes-events_of,
+    length-events_of)

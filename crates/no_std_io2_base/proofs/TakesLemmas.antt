@@ -135,11 +135,11 @@ EndsInFault-behind P Q {e} no_fault fault = grind (arith, common_steps, append_a
 
 module _ {S : Type 0} (R : Reader S) where
   -- a call that keeps its law is one that the reader may make
-  pub read_may : (a b : S) (call : ReadCall) → ReadCallLaw R a call b → R.may a call b
+  read_may : (a b : S) (call : ReadCall) → ReadCallLaw R a call b → R.may a call b
   read_may a b x3 law = grind (arith, common_steps)
 
   -- and it takes something
-  pub law_takes : (a b : S) (call : ReadCall) → ReadCallLaw R a call b → (P : List Event) × Takes (tells R a) P (tells R b)
+  law_takes : (a b : S) (call : ReadCall) → ReadCallLaw R a call b → (P : List Event) × Takes (tells R a) P (tells R b)
   law_takes a b x3 law = grind (arith, common_steps)
 
   -- calls, without their laws

@@ -28,14 +28,14 @@ module _ {S : Type 0} {I : Writer S} {old : S} where
   prints_after b {met = Err e} is had x so_far = silent x so_far
 
   -- some front was accepted
-  pub prints_moves : {text : List ℕ} {reply : Result (Unit {0}) Error} {new : S}
+  prints_moves : {text : List ℕ} {reply : Result (Unit {0}) Error} {new : S}
       → PrintsOf I old text reply new → MovesFront (I.told old) text reply (I.told new)
   prints_moves nothing = record { accepted = []; front = IsFront-refl []; whole = refl; moves = Moves-refl (I.told old) }
   prints_moves (piece {text = text} x {reply = reply} so_far wrote) = MovesFront-join text x reply (prints_moves so_far) wrote.moves
   prints_moves (silent {text = text} x {e = e} so_far) = MovesFront-first text x e (prints_moves so_far)
 
   -- and no interruption is returned
-  pub prints_fault : {text : List ℕ} {reply : Result (Unit {0}) Error} {new : S}
+  prints_fault : {text : List ℕ} {reply : Result (Unit {0}) Error} {new : S}
       → PrintsOf I old text reply new → IsNoInterruption reply
   prints_fault nothing = tt
   prints_fault (piece x so_far wrote) = wrote.never_interrupted
@@ -43,7 +43,7 @@ module _ {S : Type 0} {I : Writer S} {old : S} where
 
 -- a formatter's calls, one after another, print what they print together
 module _ {W S : Type 0} (prints : S → List ℕ → W → Type 0) where
-  abbrev pub PrintsNext : W → List ℕ → W → Type 0
+  abbrev PrintsNext : W → List ℕ → W → Type 0
   PrintsNext s bs t = (old : S) (text : List ℕ) → prints old text s → prints old (text ++ bs) t
 
   prints_calls : (s : W) {bs : List ℕ} (t : W) (old : S) → WritesInCalls PrintsNext s bs t → prints old [] s → prints old bs t
@@ -61,7 +61,8 @@ module _ {W S : Type 0} (prints : S → List ℕ → W → Type 0) where
 
   -- a text was printed through a formatter: whatever its `fmt` did, and its output if that is specified
   pub prints_shown : (f g : Formatter W) {s t : W} {old : S} (output : Option (List ℕ)) (formatted : Result (Unit {0}) FormatError)
-      → formatter_writer f ≡ s → IsPlainFormatter f → t ≡ formatter_writer g → DisplaysOnOk PrintsNext f formatted output g → prints old [] s
+      → formatter_writer f ≡ s → IsPlainFormatter f → t ≡ formatter_writer g → DisplaysOnOk PrintsNext f formatted output g
+      → prints old [] s
       → ∥ ((old : S) × (text : List ℕ) × prints old text t) ∥₁
       → ∥ ((old : S) × (text : List ℕ) × prints old text t × (IsOk formatted → IfSome output (λ bs. text ≡ bs))) ∥₁
   prints_shown f g None formatted over plain back shows start had = ∥∥₁_map had (λ p. (p.0, p.1, p.2, λ ok. tt))

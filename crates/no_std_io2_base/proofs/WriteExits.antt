@@ -48,9 +48,9 @@ module _ {S : Type 0} {I : Writer S} {old now : S} {start left : List ℕ}
     writes_interruption wrote some interrupted = calls_more before wrote (λ D r e w. goes_again some interrupted w)
 
     -- a fault stopped it
-    pub writes_fault : {e : Error} → WriteOf I now left (Err e) new → IsFault e → 0 < length left
+    pub writes_stopped : {e : Error} → WriteOf I now left (Err e) new → IsFault e → 0 < length left
         → WriteRestOf I old start (Err e) new left
-    writes_fault {e} wrote is_fault some =
+    writes_stopped {e} wrote is_fault some =
         writes_law I
         (calls_end before (Err e) left (Wrote left (Err e) ∷ []) (new, wrote, refl) (fails some is_fault))
 

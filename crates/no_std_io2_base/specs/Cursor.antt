@@ -34,7 +34,7 @@ abbrev pub fitting : ℕ → List ℕ → List ℕ → List ℕ
 fitting place x bs = take (length bs - place) x
 
 -- the bytes, with those from a place on overwritten by x
-abbrev pub put_over : ℕ → List ℕ → List ℕ → List ℕ
+abbrev put_over : ℕ → List ℕ → List ℕ → List ℕ
 put_over place x bs = take place bs ++ x ++ drop (place + length x) bs
 
 -- the error if x cannot be put at a place: it would end past `usize::MAX`, or an allocation failed

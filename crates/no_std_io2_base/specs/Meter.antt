@@ -2,9 +2,8 @@
 use Rattle.std.specs.Prelude.{◌≡◌, ℕ, ◌+◌, ◌≤◌, List, [], ◌∷◌}
 use Rattle.no_std_io2_base.specs.{Write.{WriteCall, Wrote, WroteAll, Flushed, calls_for}, Writers.{Writer, TakesAll}}
 
--- How many writes a call counts as. A `write_all` of a type that has a body of its own for it counts as one, or as none for no bytes. A
--- flush
--- does not count.
+-- How many writes a call counts as. A `write_all` of a type that has a body of its own for it counts as one, or as none for no bytes.
+-- A flush does not count.
 abbrev charge : WriteCall → ℕ
 charge (Wrote x reply) = 1
 charge (WroteAll x reply) = calls_for x

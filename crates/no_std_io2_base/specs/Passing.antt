@@ -18,12 +18,12 @@ abbrev pub PortionsUntil : ℕ → List ReadCall → List ℕ → Result (List �
 PortionsUntil want C x answer = (D : List ReadCall) × PortionCalls want D x × (length x < want) × (C ≡ D ++ Filled answer ∷ [])
 
 -- C are the calls of a `skip` of n bytes that skipped x: up to the last of them, a fault, or the end
-abbrev pub SkipCalls : ℕ → List ReadCall → List ℕ → Result (Unit {0}) Error → Type 0
+abbrev SkipCalls : ℕ → List ReadCall → List ℕ → Result (Unit {0}) Error → Type 0
 SkipCalls n C x (Ok u) = PortionCalls n C x
 SkipCalls n C x (Err e) = (IsFault e × PortionsUntil n C x (Err e)) ⊎ (IsUnexpectedEnd e × PortionsUntil n C x (Ok []))
 
 -- how a `skip` that took P ended, with `left` bytes still to be skipped: all were skipped; or a fault came first, or the end
-abbrev pub SkipEnds : List Event → Result (Unit {0}) Error → ℕ → Tells → Type 0
+abbrev SkipEnds : List Event → Result (Unit {0}) Error → ℕ → Tells → Type 0
 SkipEnds P (Ok u) left new = HasNoFault P × (left ≡ 0)
 SkipEnds P (Err e) left new = (0 < left) × (EndsInFault P e ⊎ (IsUnexpectedEnd e × HasNoFault P × IsAtEnd new))
 

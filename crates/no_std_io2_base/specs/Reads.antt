@@ -34,7 +34,7 @@ pub record Reads {S : Type 0} (R : Reader S) (asks : ℕ → ℕ → Type 0) (ol
   pub fault : IfErr how IsFault
 
 -- some bytes were given or lent, or the call was interrupted
-abbrev pub GoesOn : Result (List ℕ) Error → Type 0
+abbrev GoesOn : Result (List ℕ) Error → Type 0
 GoesOn (Ok x) = 0 < length x
 GoesOn (Err e) = IsInterruption e
 
@@ -48,7 +48,7 @@ AllGoOn (GaveExactly room answer ∷ C) = ⊥
 AllGoOn (GaveAll x answer ∷ C) = ⊥
 
 -- this call met the end or the fault
-abbrev pub Met : ReadCall → Result (List ℕ) Error → Type 0
+abbrev Met : ReadCall → Result (List ℕ) Error → Type 0
 Met call answer = (call ≡ Filled answer) ⊎ ((room : ℕ) × (call ≡ Gave room answer))
 
 -- such calls were made, and then, at the end or a fault, one more, which met it

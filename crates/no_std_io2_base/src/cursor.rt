@@ -19,8 +19,8 @@ use std::boxed::BoxedSlice;
 use std::ops::DerefSlice;
 
 /// A type that can be borrowed as one slice. The content of a [`Cursor`] has to be one;
-/// `std::io::Cursor` has the bound `AsRef<[u8]>` there. The same value always gives the same
-/// elements.
+/// `std::io::Cursor` has the bound `AsRef<[u8]>` there. The same value always gives
+/// the same elements.
 ///
 /// ```rust
 /// assert!(rt; AsSlice::as_slice(b"abc") == b"abc".as_slice());

@@ -1,7 +1,7 @@
 ghost use Rattle.std.specs.Prelude.{◌≡◌, ◌+◌, ◌-◌, ◌≤◌, ◌<◌, ◌++◌, Ok, IsOk, OnErr};
 ghost use Rattle.std.specs.Prelude.{length, replicate, vec_len, vec_capacity, is_ok, if◌then◌else◌};
 ghost use Rattle.no_std_io2_base.specs.Cursor.{cursor_position, cursor_inner, cursor_out, IsPut, PutsWhole, PutsMay, PutsAll};
-ghost use Rattle.no_std_io2_base.specs.Writers.{FlushOf, WriteAllOf, WriteOf};
+ghost use Rattle.no_std_io2_base.specs.Writers.{WriteAllOf, WriteOf};
 ghost use Rattle.no_std_io2_base.specs.Write.{told_out};
 
 use super::Cursor;

@@ -1,8 +1,8 @@
-ghost use Rattle.std.specs.Prelude.{◌≡◌, ◌+◌, ◌++◌, ◌≤◌, ◌<◌, Ok, IsOk, OnOk, OnErr, IfOk};
+ghost use Rattle.std.specs.Prelude.{◌≡◌, ◌+◌, ◌++◌, ◌≤◌, ◌<◌, Ok, IsOk, OnOk, OnErr};
 ghost use Rattle.std.specs.Prelude.{IfErr, length, vec_len, vec_capacity};
 ghost use Rattle.no_std_io2_base.specs.Errors.{IsOutOfMemory};
 ghost use Rattle.no_std_io2_base.specs.Appends.{AppendsMay};
-ghost use Rattle.no_std_io2_base.specs.Writers.{FlushOf, WriteAllOf, WriteOf};
+ghost use Rattle.no_std_io2_base.specs.Writers.{WriteAllOf};
 ghost use Rattle.no_std_io2_base.specs.Write.{told_out};
 
 use super::copying::copy_bytes;

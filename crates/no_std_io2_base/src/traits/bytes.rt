@@ -9,8 +9,8 @@ use crate::error::Result;
 /// An iterator over a reader's bytes. Made by [`Read::bytes`]; follows Rust's `std::io::Bytes`.
 ///
 /// It yields the reader's bytes and faults in order, and ignores interruptions. It ends when the
-/// reader does; a fault does not end it. Each byte costs a read, so put a buffer in front of a slow
-/// device.
+/// reader does; a fault does not end it. Each byte costs a read, so put a buffer in front of
+/// a slow device.
 ///
 /// ```rust
 /// let mut content = Vec::<u8>::new(rt.alloc());

@@ -39,8 +39,9 @@ impl<const N: usize> fmt::Write for Page<'_, N> {
     }
 }
 
-/// Prints a text of at most `N` bytes to an object, by one `write_all`: `write!` on an object needs an allocator, and proves nothing of
-/// what came before in its caller.
+/// Prints a text of at most `N` bytes to an object: first into a buffer on the stack, and then by one `write_all`. What a `write!`
+/// does to a `&mut dyn Write` stands in no contract; what this call does, in its own. Like `std::io::Write::write_fmt`, but a text
+/// is sent whole or, if it does not fit, not at all.
 ///
 /// # Errors
 /// Returns `WriteZero` if the text is longer than `N` bytes, and `formatter error` of kind `Other` if the text's own `fmt` fails. The

@@ -65,8 +65,8 @@ pub trait Seek: Stored {
     /// Returns the position from the start. Follows `std::io::Seek::stream_position`.
     ///
     /// # Errors
-    /// Returns the error of `seek(SeekFrom::Current(0))` if that fails; over a told store it does
-    /// not.
+    /// Returns the error of `seek(SeekFrom::Current(0))` if that fails; over a told store
+    /// it does not.
     ///
     /// ```rust
     /// let mut r = Cursor::new(*b"abcde");
@@ -82,8 +82,8 @@ pub trait Seek: Stored {
     /// Moves to the start. Follows `std::io::Seek::rewind`.
     ///
     /// # Errors
-    /// Returns the error of `seek(SeekFrom::Start(0))` if that fails; over a told store it does
-    /// not.
+    /// Returns the error of `seek(SeekFrom::Start(0))` if that fails; over a told store
+    /// it does not.
     fn rewind(&mut self) -> Result<()>
         ensures law { RewindLaw ⟦<Self as Seek>⟧ self.old result self.new }
     {

@@ -1,6 +1,6 @@
 use Rattle.no_std_io2_base.specs.Writers.{TakesAll}
 use Rattle.no_std_io2.specs.BufWriter.{sender_inner, writer_inner, writer_buffer}
-use Rattle.no_std_io2_base.proofs.CallsLemmas.{all_own}
+use Rattle.no_std_io2_base.proofs.CallsLemmas.{own_law}
 use Rattle.no_std_io2.proofs.BufWriterCalls.{write_all_fault, write_all_tells, write_all_counts, buffers_all_of}
 use Rattle.no_std_io2.proofs.buffered.buf_writer.BufWriterWrite.write_all.Goals as goal
 
@@ -15,12 +15,4 @@ returns g c =
     let fault = write_all_fault I S calls.2 a b calls.1 in
     let moves = write_all_tells I S x _ _ _ _ calls.2 a b calls.1 in
     let all : TakesAll I a → TakesAll I b = λ t. (write_all_counts I S x _ _ _ _ calls.2 a b calls.1 t).0 in
-    record {
-      law = record {
-        never_interrupted = fault;
-        moves = moves;
-        all = all;
-        calls = all_own _ _ _ (calls, fault, moves, all);
-      };
-      buffer = buffers_all_of I writer_inner writer_buffer S calls;
-    }
+    record { law = own_law (calls, fault, moves, all); buffer = buffers_all_of I writer_inner writer_buffer S calls }

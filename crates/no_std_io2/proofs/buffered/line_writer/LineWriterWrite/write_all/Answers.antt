@@ -1,7 +1,7 @@
 use Rattle.no_std_io2_base.specs.Writers.{CallOf}
 use Rattle.std.proofs.Common.{subst}
 use Rattle.no_std_io2_base.specs.Write.{Made}
-use Rattle.no_std_io2_base.proofs.CallsLemmas.{all_own}
+use Rattle.no_std_io2_base.proofs.CallsLemmas.{own_law}
 use Rattle.no_std_io2.specs.BufWriter.{sender_inner}
 use Rattle.no_std_io2.specs.LineWriter.{line_inner}
 use Rattle.no_std_io2.proofs.LineWriterStates.{line_write_all_state, line_write_all_fits, line_write_all_leaves}
@@ -20,12 +20,7 @@ returns g c =
     let calls = c.write_all.ensures in
     let said = line_write_all_tells I S calls.2 a b calls.1 in
     record {
-      law = record {
-        never_interrupted = said.1;
-        moves = said.0;
-        all = λ no. absurd no.0;
-        calls = all_own _ _ _ (calls, said.1, said.0, λ no. absurd no.0);
-      };
+      law = own_law (calls, said.1, said.0, λ no. absurd no.0);
       calls = calls;
       no_newline_held = (line_write_all_state S calls.2 c.args.self.now.core.line).1;
       held = line_write_all_leaves S calls.2 c.args.self.now.core.line;

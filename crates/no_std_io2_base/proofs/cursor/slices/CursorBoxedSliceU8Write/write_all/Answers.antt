@@ -2,7 +2,7 @@
 use Rattle.std.proofs.Common.{◌≡◌, ◌∙◌, subst, sym, take_at}
 use Rattle.std.specs.Box.{boxed_slice_items, boxed_slice_with_items}
 use Rattle.no_std_io2_base.specs.Cursor.{PutsAllFitting}
-use Rattle.no_std_io2_base.proofs.{CallsLemmas.{all_own}, CursorLemmas.{fits_all}}
+use Rattle.no_std_io2_base.proofs.{CallsLemmas.{own_law}, CursorLemmas.{fits_all}}
 use Rattle.no_std_io2_base.proofs.cursor.slices.CursorBoxedSliceU8Write.write_all.Goals as goal
 
 pub returns : goal.returns
@@ -17,7 +17,4 @@ returns g c =
     let puts = subst (λ bs. PutsAllFitting (boxed_slice_items all) place x reply bs put.pos) (sym kept)
     (subst (λ bs. PutsAllFitting bs place x reply put.content put.pos) c.as_mut_slice.ensures.value c.write_all_fitting.ensures) in
     let said = fits_all _ _ reply puts in
-    record {
-      law = record { never_interrupted = said.0; moves = said.1; all = λ h. h; calls = all_own _ _ _ (puts, said.0, said.1, λ h. h) };
-      puts = puts;
-    }
+    record { law = own_law (puts, said.0, said.1, λ h. h); puts = puts }

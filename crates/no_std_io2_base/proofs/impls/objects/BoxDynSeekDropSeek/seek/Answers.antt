@@ -7,6 +7,7 @@ pub returns : goal.returns
 returns g c =
     let o = goal.Seek-dyn g in
     record {
-      law = seek_box (λ p. record { store = (o p).Stored.store; may = (o p).Seek.may; sound = (o p).Seek.sound }) c.args.self.now c.deref_box_mut-1.result.now
+      law = seek_box (λ p. record { store = (o p).Stored.store; may = (o p).Seek.may; sound = (o p).Seek.sound })
+          c.args.self.now c.deref_box_mut-1.result.now
           (search rules) c.seek.new.self c.seek.ensures;
     }

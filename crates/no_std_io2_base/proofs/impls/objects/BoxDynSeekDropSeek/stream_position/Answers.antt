@@ -8,6 +8,7 @@ returns g c =
     let o = goal.Seek-dyn g in
     record {
       law = stream_position_box
-          (λ p. record { store = (o p).Stored.store; may = (o p).Seek.may; sound = (o p).Seek.sound }) c.args.self.now c.deref_box_mut-1.result.now
+          (λ p. record { store = (o p).Stored.store; may = (o p).Seek.may; sound = (o p).Seek.sound })
+          c.args.self.now c.deref_box_mut-1.result.now
           (search rules) c.stream_position.new.self c.stream_position.ensures;
     }

@@ -1,6 +1,6 @@
 -- The law: the search does not find which bytes an error left out.
 use Rattle.std.specs.Vec.{vec_len, vec_capacity}
-use Rattle.no_std_io2_base.proofs.{CallsLemmas.{all_own}, CursorLemmas.{appends_whole, appends_all}}
+use Rattle.no_std_io2_base.proofs.{CallsLemmas.{own_law}, CursorLemmas.{appends_whole, appends_all}}
 use Rattle.no_std_io2_base.proofs.impls.vectors.VecU8Write.write_all.Goals as goal
 
 pub returns-clause-law : goal.returns-clause-law
@@ -9,4 +9,4 @@ returns-clause-law g c =
     let whole = appends_whole _ _ _ (vec_len c.args.self.now)
     (vec_capacity c.args.self.now) c.append.result said.ok said.err said.refused said.full in
     let all = appends_all _ _ c.append.result whole in
-    record { never_interrupted = all.0; moves = all.1; all = λ h. h; calls = all_own _ _ _ ((whole, said.grows), all.0, all.1, λ h. h) }
+    own_law ((whole, said.grows), all.0, all.1, λ h. h)

@@ -1,13 +1,13 @@
 -- Each exit of the loop, by the lemmas of loops that skip a piece.
 use Rattle.std.proofs.Common.{◌∙◌, sym}
-use Rattle.no_std_io2_base.proofs.{PieceLoop.{filled_law}, SkipLoop.{skip_interruption, skip_fault, skip_more, skip_whole}}
+use Rattle.no_std_io2_base.proofs.{PieceLoop.{filled_law}, SkipLoop.{skip_interruption, skip_fault, skip_more, skip_piece}}
 use Rattle.no_std_io2_base.proofs.traits.buf_read.BufRead.skip_until.Goals as goal
 
 pub returns-then-is_whole : goal.returns-then-is_whole
 returns-then-is_whole g c =
     let filled = filled_law c.in-Ok.is c.fill_buf.ensures.law c.fill_buf.follows.holds-at-none in
     record {
-      law = skip_whole c.pieces.invariant filled c.find_piece-len.ensures c.consume.ensures.law c.saturating_add-skipped.ensures
+      law = skip_piece c.pieces.invariant filled c.find_piece-len.ensures c.consume.ensures.law c.saturating_add-skipped.ensures
           c.if-is_whole.true;
     }
 

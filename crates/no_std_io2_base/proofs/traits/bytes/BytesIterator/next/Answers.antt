@@ -1,6 +1,6 @@
 -- The loop and each of its exits: the list of reads grows at its end, which the search does not do.
 use Rattle.std.proofs.Common.{◌≡◌, arith, refl, sym, ap, ◌∙◌, length, take, take-suc}
-use Rattle.no_std_io2_base.proofs.{NextByteLemmas.{next_end, next_byte, next_fault}, ReadLoop.{reads_none, reads_again}}
+use Rattle.no_std_io2_base.proofs.{NextByteLemmas.{next_end, next_byte, next_byte_fault}, ReadLoop.{reads_none, reads_again}}
 use Rattle.no_std_io2_base.proofs.TakesLemmas.{takes_turns, read_spends}
 use Rattle.no_std_io2_base.proofs.traits.bytes.BytesIterator.next.Goals as goal
 
@@ -36,5 +36,5 @@ returns-in-Err-2-clause-steps g c =
     let before = c.reads.invariant in
     let read = c.in-Err.ensures.law in
     let fault = sym c.is_interrupted.ensures ∙ c.if-is_interrupted.false in
-    let law = next_fault before.reads read fault (c.read.auto.buf ∙ before.long) in
+    let law = next_byte_fault before.reads read fault (c.read.auto.buf ∙ before.long) in
     (law, fault, takes_turns law.takes, omega (arith, read.takes.turns, takes_turns before.reads.takes))

@@ -7,13 +7,17 @@ use Rattle.no_std_io2_base.proofs.traits.seek.Seek.stream_len.Goals as goal
 pub returns-in_err-old : goal.returns-in_err-old
 returns-in_err-old g c =
     let p = err_from_is_err_and c.from_residual.result c.from_residual.ensures.1 in
-    rw (p.1, p.2) (record { law = record { store = search rules; sound = search rules; calls = len_no_place g.Self.Seek.may c.in_err-old.ensures.law.call } })
+    rw (p.1, p.2)
+    (record {
+      law = record { store = search rules; sound = search rules; calls = len_no_place g.Self.Seek.may c.in_err-old.ensures.law.call };
+    })
 
 pub returns-in_err-end : goal.returns-in_err-end
 returns-in_err-end g c =
     let p = err_from_is_err_and c.from_residual-in_err-end.result c.from_residual-in_err-end.ensures.1 in
     let calls = len_no_end g.Self.Seek.may c.in_ok-old.ensures.law.call c.in_err-end.ensures.law.call in
-    rw (p.1, p.2) (record { law = record { store = search rules; sound = search rules; calls = calls } })
+    rw (p.1, p.2)
+    (record { law = record { store = search rules; sound = search rules; calls = calls } })
 
 pub returns-in_err-seek : goal.returns-in_err-seek
 returns-in_err-seek g c =
@@ -21,7 +25,8 @@ returns-in_err-seek g c =
     let calls =
     len_no_way_back g.Self.Seek.may c.in_ok-old.ensures.law.call c.in_ok-end.ensures.law.call c.in_err-seek.ensures.law.call
     c.if-old-end.true in
-    rw (p.1, p.2) (record { law = record { store = search rules; sound = search rules; calls = calls } })
+    rw (p.1, p.2)
+    (record { law = record { store = search rules; sound = search rules; calls = calls } })
 
 pub returns : goal.returns
 returns g c =

@@ -1,6 +1,6 @@
 -- The steps and the exits of the loop, by the lemmas of loops that write.
 use Rattle.std.proofs.Common.{arith, sym, ◌∙◌}
-use Rattle.no_std_io2_base.proofs.WriteExits.{not_empty, is_empty, writes_more, writes_zero, writes_done, writes_fault}
+use Rattle.no_std_io2_base.proofs.WriteExits.{not_empty, is_empty, writes_more, writes_zero, writes_done, writes_stopped}
 use Rattle.no_std_io2_base.proofs.WriteExits.{writes_interruption}
 use Rattle.no_std_io2_base.proofs.traits.write.Write.write_rest.Goals as goal
 
@@ -23,7 +23,7 @@ returns g c =
 pub returns-in-Err-2 : goal.returns-in-Err-2
 returns-in-Err-2 g c =
     let some = not_empty _ c.writes.rest.now c.is_empty.ensures c.writes-test.true in
-    record { law = writes_fault c.writes.invariant c.in-Err.ensures.law (sym c.is_interrupted.ensures ∙ c.if-is_interrupted.false) some }
+    record { law = writes_stopped c.writes.invariant c.in-Err.ensures.law (sym c.is_interrupted.ensures ∙ c.if-is_interrupted.false) some }
 
 pub writes-preserved : goal.writes-preserved
 writes-preserved g c =
