@@ -18,7 +18,7 @@ first_fault-append (byte b ∷ P) Q h = first_fault-append P Q h
 first_fault-append (fails e ∷ P) Q h = ap (λ t. if t then first_fault (P ++ Q) else Some e) h.0 ∙ first_fault-append P Q h.1
 
 -- the bytes to the first fault are those of a front that has none, and then those to the fault in the rest
-bytes_to_fault-append : (P Q : List Event) → HasNoFault P → bytes_to_fault (P ++ Q) ≡ bytes P ++ bytes_to_fault Q
+pub bytes_to_fault-append : (P Q : List Event) → HasNoFault P → bytes_to_fault (P ++ Q) ≡ bytes P ++ bytes_to_fault Q
 bytes_to_fault-append [] Q h = refl
 bytes_to_fault-append (byte b ∷ P) Q h = ap (λ l. b ∷ l) (bytes_to_fault-append P Q h)
 bytes_to_fault-append (fails e ∷ P) Q h = ap (λ t. if t then bytes_to_fault (P ++ Q) else []) h.0 ∙ bytes_to_fault-append P Q h.1
