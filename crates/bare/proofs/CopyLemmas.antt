@@ -9,7 +9,7 @@ use Rattle.no_std_io2.specs.Takes.{to_come}
 use Rattle.no_std_io2.specs.Read.{Reader, tells}
 use Rattle.no_std_io2.specs.Write.{Moves}
 use Rattle.no_std_io2.specs.Copy.{Copied}
-use Rattle.no_std_io2.proofs.CopyLemmas.{copied_ok, took_all, no_fault_at_end}
+use Rattle.no_std_io2.proofs.CopyLemmas.{copied_ok, took_told, no_fault_at_end}
 use Rattle.no_std_io2.proofs.EventLemmas.{bytes-append, bytes-events_of, HasNoFault-events_of, HasNoFault-front}
 use Rattle.no_std_io2.proofs.TakesLemmas.{left_of}
 use Rattle.bare.specs.declared.queue.Queue.{Queue}
@@ -21,7 +21,7 @@ module _ {R : Type 0} {K : Reader R} {a a' : R} {w w' : BufWriter Queue 32} (fro
   -- all its bytes, if the copy returned `Ok`
   pub copied : {r : Result ℕ Error} {n : ℕ} → r ≡ Ok n → Copied K buffered 16 a w r a' w'
       → Moves (buffered.told w) from [] (buffered.told w')
-  copied ok copies = grind (arith, common_steps, buffered, bytes-events_of, copied_ok, took_all)
+  copied ok copies = grind (arith, common_steps, buffered, bytes-events_of, copied_ok, took_told)
 
   -- else they do not fit
   pub copy_full : {r : Result ℕ Error} {e : Error} → r ≡ Err e → Copied K buffered 16 a w r a' w'

@@ -1,31 +1,19 @@
 -- Which inner reads an exact read of a `BufReader` makes, and what is in the buffer then.
-use Rattle.std.proofs.Common.{◌≡◌, ℕ, ◌+◌, ◌-◌, ◌<◌, ◌≤◌, ◌⊎◌, max, min, List, [], ◌∷◌, ◌++◌, Result, Ok, Err, length, take}
-use Rattle.std.proofs.Common.{drop}
-use Rattle.std.proofs.Common.{refl, sym, ap, subst, ◌∙◌, arith, append_assoc, append-nil, length-append, take-append-drop, length-take}
-use Rattle.std.proofs.Common.{length-take-le, length-drop, inl, inr, ⊎_elim, take_all, le_refl}
-use Rattle.std.proofs.lemmas.Bool.{cases_lt}
+use Rattle.std.proofs.Common.{◌≡◌, ℕ, ◌+◌, ◌-◌, ◌<◌, ◌≤◌, ◌⊎◌, max, min, List, [], ◌∷◌, ◌++◌, Result, Ok, Err, length, take, drop, refl}
+use Rattle.std.proofs.Common.{sym, ap, subst, ◌∙◌, arith, append_assoc, append-nil, length-append, take-append-drop, length-take}
+use Rattle.std.proofs.{Common.{length-take-le, length-drop, inl, inr, ⊎_elim, take_all, le_refl}, lemmas.Bool.{cases_lt}}
 use Rattle.std.proofs.lemmas.List.{nil_from_length}
-use Rattle.no_std_io2_base.specs.declared.error.Error.{Error}
-use Rattle.no_std_io2_base.specs.Errors.{IsInterruption}
-use Rattle.no_std_io2_base.specs.Events.{events_of}
-use Rattle.no_std_io2_base.specs.Takes.{Takes}
-use Rattle.no_std_io2_base.specs.Write.{Made, IsFront}
-use Rattle.no_std_io2_base.specs.Read.{Reader, ReadCall, Gave, Gathers, no_read, and_gave, and_again, IsRest, GathersUntil}
-use Rattle.no_std_io2_base.specs.Read.{FillCalls}
-use Rattle.no_std_io2_base.specs.Read.{ExactCalls, tells, FillsOrEnds}
-use Rattle.no_std_io2_base.specs.Read.{ReadCallLaw, GaveLaw, ReadExactLaw, bytes_given}
-use Rattle.no_std_io2_base.proofs.CallsLemmas.{made_more, made_split}
-use Rattle.no_std_io2_base.proofs.ReadCalls.{exact_own}
-use Rattle.no_std_io2_base.proofs.ReadLoop.{ReadsSoFar, reads_none, reads_more, reads_until}
-use Rattle.no_std_io2_base.proofs.ReadFullLoop.{FullSoFar}
-use Rattle.no_std_io2_base.proofs.TakesLemmas.{gives_none, gives_bytes, gives_whole, bytes_more, bytes_still}
-use Rattle.no_std_io2.specs.declared.buffered.buf_reader.BufReader.{BufReader}
-use Rattle.no_std_io2.specs.Buffer.{IsSuffix}
-use Rattle.no_std_io2.specs.BufReader.{reader_held, reader_behind, reader_inner, HasNoBuffer, PassesOn, AsksExact, ExactBelow}
-use Rattle.no_std_io2.specs.BufReader.{LeavesExact, GivesHeld, of_held, went_past, was_filled}
-use Rattle.no_std_io2.proofs.BufferedReads.{takes_held}
-use Rattle.no_std_io2.proofs.BufReaderCalls.{buf_reader, by_held}
-use Rattle.no_std_io2.proofs.BufReaderRoom.{held-le}
+use Rattle.no_std_io2_base.specs.{declared.error.Error.{Error}, Errors.{IsInterruption}, Events.{events_of}, Takes.{Takes}, Write.{Made}}
+use Rattle.no_std_io2_base.specs.{Write.{IsFront}, Read.{Reader, ReadCall, Gave, Gathers, no_read, and_gave, and_again, IsRest}}
+use Rattle.no_std_io2_base.specs.Read.{GathersUntil, FillCalls, ExactCalls, tells, FillsOrEnds, ReadCallLaw, GaveLaw, ReadExactLaw}
+use Rattle.no_std_io2_base.specs.Read.{bytes_given}
+use Rattle.no_std_io2_base.proofs.{CallsLemmas.{made_more, made_split}, ReadCalls.{exact_own}, ReadLoop.{ReadsSoFar, reads_none}}
+use Rattle.no_std_io2_base.proofs.{ReadLoop.{reads_more, reads_until}, ReadFullLoop.{FullSoFar}, TakesLemmas.{gives_none, gives_bytes}}
+use Rattle.no_std_io2_base.proofs.TakesLemmas.{gives_whole, bytes_more, bytes_still}
+use Rattle.no_std_io2.specs.{declared.buffered.buf_reader.BufReader.{BufReader}, Buffer.{IsSuffix}, BufReader.{reader_held, reader_behind}}
+use Rattle.no_std_io2.specs.BufReader.{reader_inner, HasNoBuffer, PassesOn, AsksExact, ExactBelow, LeavesExact, GivesHeld, of_held}
+use Rattle.no_std_io2.specs.BufReader.{went_past, was_filled}
+use Rattle.no_std_io2.proofs.{BufferedReads.{takes_held}, BufReaderCalls.{buf_reader, by_held}, BufReaderRoom.{held-le}}
 
 -- r was read behind bytes of which none were held: y of it is given, and the others are held
 split_more : (held given x y new : List ℕ) {now r : List ℕ} → held ++ given ≡ x ++ now → now ≡ [] → r ≡ y ++ new

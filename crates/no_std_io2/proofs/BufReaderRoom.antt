@@ -1,9 +1,6 @@
 -- How much a `BufReader` holds.
-use Rattle.std.proofs.Common.{◌≡◌, ℕ, ◌-◌, ◌<◌, ◌≤◌, ◌^◌, length, drop, ap, ◌∙◌, arith, length-take}
-use Rattle.std.proofs.Math.Bridge.{le_prop}
-use Rattle.no_std_io2.specs.declared.buffered.buffer.Buffer.{Buffer}
-use Rattle.no_std_io2.specs.declared.buffered.buf_reader.BufReader.{BufReader}
-use Rattle.no_std_io2.specs.BufReader.{reader_held}
+use Rattle.std.proofs.{Common.{◌≡◌, ℕ, ◌-◌, ◌<◌, ◌≤◌, ◌^◌, length, drop, ap, ◌∙◌, arith, length-take}, Math.Bridge.{le_prop}}
+use Rattle.no_std_io2.specs.{declared.buffered.{buffer.Buffer.{Buffer}, buf_reader.BufReader.{BufReader}}, BufReader.{reader_held}}
 
 -- it has some room
 pub some_room : {R : Type 0} {S : ℕ} (r : BufReader R S) → 0 < S

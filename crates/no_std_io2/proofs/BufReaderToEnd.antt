@@ -1,24 +1,14 @@
 -- A read to the end of a `BufReader`: the held bytes are appended, and then those that the inner reader's `read_to_end` appends.
-use Rattle.std.proofs.lemmas.Grind.{common_steps}
-use Rattle.std.proofs.Common.{◌≡◌, ℕ, ◌+◌, ◌-◌, ◌<◌, ◌≤◌, List, [], ◌++◌, Result, Ok, Err, length, refl, sym, ap, ◌∙◌, arith, inl}
-use Rattle.std.proofs.Common.{inr}
-use Rattle.std.proofs.Common.{append_assoc, length-append, le_trans, le_refl, Vec, vec_len, vec_capacity, OnOk, IfOk, append-nil}
-use Rattle.std.proofs.lemmas.List.{append_cancel_left, append_cancel_right}
-use Rattle.no_std_io2_base.specs.declared.error.Error.{Error}
-use Rattle.no_std_io2_base.specs.Errors.{IsOutOfMemory}
-use Rattle.no_std_io2_base.specs.Cursor.{HasMoved}
-use Rattle.no_std_io2_base.specs.Events.{Event, events_of, bytes}
-use Rattle.no_std_io2_base.specs.Takes.{Takes}
-use Rattle.no_std_io2_base.specs.Read.{Reader, tells, GaveAll, ReadToEndLaw, DrainsOrStops, least_room, ended}
+use Rattle.std.proofs.{lemmas.Grind.{common_steps}, Common.{◌≡◌, ℕ, ◌+◌, ◌-◌, ◌<◌, ◌≤◌, List, [], ◌++◌, Result, Ok, Err, length, refl, sym}}
+use Rattle.std.proofs.Common.{ap, ◌∙◌, arith, inl, inr, append_assoc, length-append, le_trans, le_refl, Vec, vec_len, vec_capacity, OnOk}
+use Rattle.std.proofs.{Common.{IfOk, append-nil}, lemmas.List.{append_cancel_left, append_cancel_right}}
+use Rattle.no_std_io2_base.specs.{declared.error.Error.{Error}, Errors.{IsOutOfMemory}, Cursor.{HasMoved}, Events.{Event, events_of, bytes}}
+use Rattle.no_std_io2_base.specs.{Takes.{Takes}, Read.{Reader, tells, GaveAll, ReadToEndLaw, DrainsOrStops, least_room, ended}}
 use Rattle.no_std_io2_base.proofs.EventLemmas.{bytes-append, bytes-events_of, HasNoFault-append, HasNoFault-events_of}
-use Rattle.no_std_io2_base.proofs.ReadCalls.{to_end_by}
-use Rattle.no_std_io2_base.proofs.ReadToEndLoop.{recount}
-use Rattle.no_std_io2_base.proofs.TakesLemmas.{drains_ended}
-use Rattle.no_std_io2.specs.declared.buffered.buf_reader.BufReader.{BufReader}
-use Rattle.no_std_io2.specs.BufReader.{reader_held, reader_behind, reader_inner, HasNoBuffer, ReaderMay}
-use Rattle.no_std_io2.proofs.BufferedReads.{takes_held, takes_through, ends_behind}
-use Rattle.no_std_io2.proofs.BufReaderCalls.{buf_reader}
-use Rattle.no_std_io2.proofs.BufReaderRoom.{held-le}
+use Rattle.no_std_io2_base.proofs.{ReadCalls.{to_end_by}, ReadToEndLoop.{recount}, TakesLemmas.{drains_ended}}
+use Rattle.no_std_io2.specs.{declared.buffered.buf_reader.BufReader.{BufReader}, BufReader.{reader_held, reader_behind, reader_inner}}
+use Rattle.no_std_io2.specs.BufReader.{HasNoBuffer, ReaderMay}
+use Rattle.no_std_io2.proofs.{BufferedReads.{takes_held, takes_through, ends_unheld}, BufReaderCalls.{buf_reader}, BufReaderRoom.{held-le}}
 
 -- the law, and that it is a call of its own
 abbrev pub ToEndOwn : {R A : Type 0} {S : ℕ} → Reader R → BufReader R S → Vec ℕ A → Result ℕ Error → Vec ℕ A → BufReader R S → Type 0
@@ -31,10 +21,10 @@ moved_all held rest old (part, split, shown) none = grind (arith, common_steps, 
 
 module _ {R A : Type 0} {S : ℕ} {K : Reader R} {old new : BufReader R S} {buf buf' : Vec ℕ A} where
   -- the inner reader appended the rest
-  pub to_end_through : {mid : Vec ℕ A} (reply : Result ℕ Error) (k : ℕ) → mid.items ≡ buf.items ++ reader_held old
+  pub held_through : {mid : Vec ℕ A} (reply : Result ℕ Error) (k : ℕ) → mid.items ≡ buf.items ++ reader_held old
       → vec_capacity buf ≤ vec_capacity mid → ReadToEndLaw K (reader_inner old) mid reply buf' (reader_inner new) → HasNoBuffer new
       → OnOk reply (k ≡ vec_len buf' - vec_len buf) → ToEndOwn K old buf (recount reply k) buf' new
-  to_end_through {mid} reply k first grown inner empty is = (
+  held_through {mid} reply k first grown inner empty is = (
     record {
       taken = taken;
       takes = takes;
@@ -83,7 +73,7 @@ module _ {R A : Type 0} {S : ℕ} {K : Reader R} {old new : BufReader R S} {buf 
           (tells (buf_reader K) new)
       ends (Ok n) (none, end) = (
         HasNoFault-append (events_of held) inner.taken (HasNoFault-events_of held) none,
-        ends_behind S (reader_held new) (tells K (reader_inner new)) empty.1 end,
+        ends_unheld S (reader_held new) (tells K (reader_inner new)) empty.1 end,
       )
       ends (Err e) (inl (Q, is, none, fault)) = inl (
         events_of held ++ Q,
@@ -122,17 +112,17 @@ module _ {R A : Type 0} {S : ℕ} {K : Reader R} {old new : BufReader R S} {buf 
   pub to_end_alone : (reply : Result ℕ Error) → reader_held old ≡ [] → ReadToEndLaw K (reader_inner old) buf reply buf' (reader_inner new)
       → HasNoBuffer new → ToEndOwn K old buf reply buf' new
   to_end_alone (Ok n) none inner empty =
-      to_end_through (Ok n) n (sym (append-nil buf.items) ∙ ap (λ l. buf.items ++ l) (sym none)) (le_refl _) inner empty
+      held_through (Ok n) n (sym (append-nil buf.items) ∙ ap (λ l. buf.items ++ l) (sym none)) (le_refl _) inner empty
       (omega (arith, inner.appends.1, ap length inner.appends.0, length-append buf.items (bytes inner.taken), buf'.ok.0, buf.ok.0))
   to_end_alone (Err e) none inner empty =
-      to_end_through (Err e) 0 (sym (append-nil buf.items) ∙ ap (λ l. buf.items ++ l) (sym none)) (le_refl _) inner empty tt
+      held_through (Err e) 0 (sym (append-nil buf.items) ∙ ap (λ l. buf.items ++ l) (sym none)) (le_refl _) inner empty tt
 
   -- the vector had no room for all held bytes, and could not grow: a front of them was appended
-  pub to_end_part : {e : Error} → IsOutOfMemory e → HasMoved (reader_held old) (reader_held new) buf.items buf'.items
+  pub held_part : {e : Error} → IsOutOfMemory e → HasMoved (reader_held old) (reader_held new) buf.items buf'.items
       → reader_behind new ++ reader_held new ≡ reader_behind old ++ reader_held old → reader_inner new ≡ reader_inner old
       → vec_capacity buf ≤ vec_capacity buf' → vec_capacity buf < vec_len buf' + least_room
       → ToEndOwn K old buf (Err e) buf' new
-  to_end_part {e} refused (part, split, shown) kept same grown full =
+  held_part {e} refused (part, split, shown) kept same grown full =
       let behind : reader_behind new ≡ reader_behind old ++ part =
       append_cancel_right _ _ (reader_held new)
       (kept ∙ ap (λ l. reader_behind old ++ l) split ∙ sym (append_assoc (reader_behind old) part (reader_held new))) in

@@ -1,47 +1,32 @@
 -- What the steps of a buffered writer leave, tell and count, and what follows for its calls.
-use Rattle.no_std_io2_base.specs.Writers.{TakesAll, CallOf}
-use Rattle.std.proofs.Common.{rules, []}
-use Rattle.std.proofs.lemmas.Grind.{common_steps}
-use Rattle.std.proofs.lemmas.List.{nil_from_length}
-use Rattle.std.proofs.Common.{◌≡◌, ◌+◌, ℕ, ◌<◌, ◌≤◌, List, ◌∷◌, ◌++◌, length, Result, Ok, Err, OnOk, IsOk, IfOk}
-use Rattle.std.proofs.Common.{refl, sym, subst, ap, ◌∙◌, arith, le_refl, take_all, append-nil, if◌then◌else◌, nat_le, nat_lt, ⊎_elim, inl}
-use Rattle.std.proofs.Common.{inr}
-use Rattle.std.proofs.lemmas.Bool.{cases_lt}
-use Rattle.std.proofs.lemmas.Bool.Decides.{nat_tests}
-use Rattle.no_std_io2_base.specs.declared.error.Error.{Error}
-use Rattle.no_std_io2_base.specs.Errors.{IsNoInterruption}
-use Rattle.no_std_io2_base.specs.Writers.{Writer}
-use Rattle.no_std_io2_base.specs.Write.{Told, Moves, MovesFront, WriteCall, Made, taken, write_mishap, call_mishap}
-use Rattle.no_std_io2_base.specs.Write.{Wrote, Flushed, AllCalls}
-use Rattle.no_std_io2_base.specs.Write.{calls_for, none as no_write}
-use Rattle.no_std_io2_base.proofs.MovesLemmas.{IsFront-refl, Moves-then, zero_write-whole}
-use Rattle.no_std_io2_base.proofs.CallsLemmas.{made_split, writes_whole}
-use Rattle.no_std_io2_base.proofs.WritesFacts.{writes_fault, writes_sends}
-use Rattle.no_std_io2_base.proofs.AllFacts.{all_calls, call_steady}
-use Rattle.no_std_io2_base.specs.Meter.{charges}
-use Rattle.no_std_io2_base.proofs.MeterLemmas.{writes_count, all_count}
-use Rattle.no_std_io2.specs.declared.buffered.sender.Sender.{Sender}
-use Rattle.no_std_io2.specs.BufWriter.{stops, goes_on, with_buffer, TakesStep, sender_inner, sender_buffer, Only}
-use Rattle.no_std_io2.specs.BufWriter.{SendCalls, WayCalls, PutCalls, Buffered, WriteCalls, WriteAllCalls, FlushCalls, PastEmpty}
-use Rattle.no_std_io2.specs.BufWriter.{way_calls, writing_calls, buffer_after, Buffers, BuffersAll}
-use Rattle.no_std_io2.proofs.BufWriterLemmas.{Moves-kept, Moves-emptied, MovesFront-emptied}
-use Rattle.std.proofs.lemmas.Result.{on_ok_weaker}
-use Rattle.no_std_io2.proofs.StepLemmas.{no_ok, Stepped, Leaves, Tells, Sending, Counts, Counted, then_goes_on, then_leaves, then_tells}
-use Rattle.no_std_io2.proofs.StepLemmas.{then_counts}
+use Rattle.no_std_io2_base.specs.{Writers.{TakesAll, CallOf, Writer}, declared.error.Error.{Error}, Errors.{IsNoInterruption}, Write.{Told}}
+use Rattle.no_std_io2_base.specs.Write.{Moves, MovesFront, WriteCall, Made, taken, write_mishap, call_mishap, Wrote, Flushed, AllCalls}
+use Rattle.no_std_io2_base.specs.{Write.{calls_for, none as no_write}, Meter.{charges}}
+use Rattle.std.proofs.Common.{rules, [], ◌≡◌, ◌+◌, ℕ, ◌<◌, ◌≤◌, List, ◌∷◌, ◌++◌, length, Result, Ok, Err, OnOk, IsOk, IfOk, refl, sym}
+use Rattle.std.proofs.Common.{subst, ap, ◌∙◌, arith, le_refl, take_all, append-nil, if◌then◌else◌, nat_le, nat_lt, ⊎_elim, inl, inr}
+use Rattle.std.proofs.lemmas.{Grind.{common_steps}, List.{nil_from_length}, Bool.{cases_lt, Decides.{nat_tests}}, Result.{on_ok_weaker}}
+use Rattle.no_std_io2_base.proofs.{MovesLemmas.{IsFront-refl, Moves-then, zero_write-whole}, CallsLemmas.{made_split, writes_whole}}
+use Rattle.no_std_io2_base.proofs.{WritesFacts.{writes_fault, writes_sends}, AllFacts.{all_calls, call_steady}, MeterLemmas.{writes_count}}
+use Rattle.no_std_io2_base.proofs.MeterLemmas.{all_count}
+use Rattle.no_std_io2.specs.{declared.buffered.sender.Sender.{Sender}, BufWriter.{stops, goes_on, with_buffer, TakesStep, sender_inner}}
+use Rattle.no_std_io2.specs.BufWriter.{sender_buffer, Only, SendCalls, WayCalls, PutCalls, Buffered, WriteCalls, WriteAllCalls, FlushCalls}
+use Rattle.no_std_io2.specs.BufWriter.{PastEmpty, way_calls, writing_calls, buffer_after, Buffers, BuffersAll}
+use Rattle.no_std_io2.proofs.{BufWriterLemmas.{Moves-kept, Moves-emptied, MovesFront-emptied}, StepLemmas.{no_ok, Stepped, Leaves}}
+use Rattle.no_std_io2.proofs.StepLemmas.{StepTells, Sending, Counts, Counted, then_goes_on, then_leaves, then_tells, then_counts}
 
 -- what is left once n more bytes have room,
-abbrev pub way_left : ℕ → ℕ → List ℕ → List ℕ
+abbrev way_left : ℕ → ℕ → List ℕ → List ℕ
 way_left S n held = if nat_le (length held + n) S then held else []
 
 -- and after x was put there
-abbrev pub put_left : ℕ → List ℕ → List ℕ → List ℕ
+abbrev put_left : ℕ → List ℕ → List ℕ → List ℕ
 put_left S x held = if nat_lt (length x) S then held ++ x else []
 
 buffer_after-is : (S : ℕ) (held x : List ℕ) → put_left S x (way_left S (length x) held) ≡ buffer_after S held x
 buffer_after-is S held x = grind (arith, common_steps)
 
 -- bytes that are held need no call, and bytes that go past the buffer need n
-abbrev pub past_calls : ℕ → ℕ → ℕ → ℕ
+abbrev past_calls : ℕ → ℕ → ℕ → ℕ
 past_calls S len n = if nat_le S len then n else 0
 
 past_calls-none : (S len n : ℕ) → len < S → past_calls S len n ≡ 0
@@ -127,16 +112,16 @@ write_whole = grind (arith, common_steps)
 
 module _ {W : Type 0} (I : Writer W) where
   -- the one call that was made
-  pub one_call : {call : WriteCall} {C : List WriteCall} (a b : W) → C ≡ call ∷ [] → Made (CallOf I) a C b → CallOf I a call b
-  one_call {call} a b is made = grind (arith, common_steps)
+  pub one_inner_call : {call : WriteCall} {C : List WriteCall} (a b : W) → C ≡ call ∷ [] → Made (CallOf I) a C b → CallOf I a call b
+  one_inner_call {call} a b is made = grind (arith, common_steps)
 
   -- no call was made, and x follows the held bytes
-  pub idle_tells : (held left x : List ℕ) {C : List WriteCall} (a b : W) → C ≡ [] → left ≡ held ++ x → Made (CallOf I) a C b
+  idle_tells : (held left x : List ℕ) {C : List WriteCall} (a b : W) → C ≡ [] → left ≡ held ++ x → Made (CallOf I) a C b
       → Moves (with_buffer (I.told a) held) x [] (with_buffer (I.told b) left)
   idle_tells held left x a b is put made = Moves-kept I.told a b held left x (subst (λ K. Made (CallOf I) a K b) is made) put
 
   -- what each step tells
-  pub send_tells : Tells I SendCalls (Sending I)
+  pub send_tells : StepTells I SendCalls (Sending I)
   send_tells = grind (arith, common_steps, writes_sends)
 
   -- a sending, or no call
@@ -145,7 +130,7 @@ module _ {W : Type 0} (I : Writer W) where
       → Made (CallOf I) a C b → Sending I (with_buffer (I.told a) held) reply (with_buffer (I.told b) left)
   kept_tells held left C reply a b is ok same made = grind (arith, common_steps)
 
-  pub way_tells : (S n : ℕ) → Tells I (WayCalls S n) (Sending I)
+  pub way_tells : (S n : ℕ) → StepTells I (WayCalls S n) (Sending I)
   way_tells = search (rules, kept_tells, send_tells)
 
   -- what each step counts, over an inner writer that takes all
@@ -162,18 +147,18 @@ module _ {W : Type 0} (I : Writer W) where
 
   module _ {A : Type 0} (S : ℕ) (x : List ℕ) (v : A) (past : List WriteCall → Result A Error → Type 0) where
     -- what goes through a buffer tells what it tells held, and past it
-    pub buffered_tells : (R : Told → Result A Error → Told → Type 0)
+    buffered_tells : (R : Told → Result A Error → Told → Type 0)
         → ((s t : Told) (e : Error) → Moves s [] (call_mishap (Err e)) t → R s (Err e) t)
         → ((s m t : Told) (reply : Result A Error) → Moves s [] [] m → R m reply t → R s reply t)
-        → ((s t : Told) → Moves s x [] t → R s (Ok v) t) → Tells I (PastEmpty past) R → Tells I (Buffered S x v past) R
+        → ((s t : Told) → Moves s x [] t → R s (Ok v) t) → StepTells I (PastEmpty past) R → StepTells I (Buffered S x v past) R
     buffered_tells R fail join hold pass = λ held C reply left write.
         then_tells I (WayCalls S (length x)) (PutCalls S x v past) R fail join (way_tells S (length x)) put_tells write
       where
-        put_tells : Tells I (PutCalls S x v past) R
+        put_tells : StepTells I (PutCalls S x v past) R
         put_tells = grind (arith, common_steps, idle_tells)
 
     -- and counts what way takes, and what goes past
-    pub buffered_counts : (n : ℕ) → Counts I (PastEmpty past) (λ _. n)
+    buffered_counts : (n : ℕ) → Counts I (PastEmpty past) (λ _. n)
         → Counts I (Buffered S x v past) (λ held. way_calls S held (length x) + past_calls S (length x) n)
     buffered_counts n pass = λ held C reply left write.
         then_counts I (WayCalls S (length x)) (PutCalls S x v past) (way_left S (length x)) (λ held. way_calls S held (length x))
@@ -191,27 +176,27 @@ module _ {W : Type 0} (I : Writer W) where
   abbrev pub Writing : List ℕ → Told → Result ℕ Error → Told → Type 0
   Writing x old reply new = Moves old (taken reply x) (write_mishap reply x) new
 
-  pub write_tells : (S : ℕ) (x : List ℕ) → Tells I (WriteCalls S x) (Writing x)
+  pub write_tells : (S : ℕ) (x : List ℕ) → StepTells I (WriteCalls S x) (Writing x)
   write_tells S x = buffered_tells S x (length x) (Only (Wrote x)) (Writing x) (λ s t e m. m)
       (λ s m t r f g. Moves-then {k = []} f g) (λ s t m. rw (take_all _ x (le_refl (length x)), zero_write-whole x) m)
-      (λ held C reply left gone a b made. Moves-emptied gone.0 gone.1 (one_call a b gone.2 made).moves)
+      (λ held C reply left gone a b made. Moves-emptied gone.0 gone.1 (one_inner_call a b gone.2 made).moves)
 
   pub write_counts : (S : ℕ) (x : List ℕ) → Counts I (WriteCalls S x) (λ held. writing_calls S held x)
   write_counts S x = buffered_counts S x (length x) (Only (Wrote x)) 1
       (λ held C reply left gone a b made takes.
-      let law = one_call a b gone.2 made in
+      let law = one_inner_call a b gone.2 made in
       let all = law.all takes in (all.0, subst IsOk (sym all.1) refl, ap charges gone.2 ∙ omega arith))
 
-  pub flush_tells : Tells I FlushCalls (Sending I)
+  pub flush_tells : StepTells I FlushCalls (Sending I)
   flush_tells = λ held C reply left flush.
       then_tells I SendCalls (PastEmpty (Only Flushed)) (Sending I) (λ s t e m. m)
       (λ s m t r f g. Moves-then {k = []} f g) send_tells
-      (λ held C reply left gone a b made. Moves-emptied gone.0 gone.1 (one_call a b gone.2 made).moves) flush
+      (λ held C reply left gone a b made. Moves-emptied gone.0 gone.1 (one_inner_call a b gone.2 made).moves) flush
 
   -- a `write` takes no more than it is given,
   pub write_bound : (S : ℕ) {x held left : List ℕ} {C : List WriteCall} {reply : Result ℕ Error} → WriteCalls S x held C reply left
       → (a b : W) → Made (CallOf I) a C b → IfOk reply (λ n. n ≤ length x)
-  write_bound = grind (arith, common_steps, le_refl, made_split, one_call)
+  write_bound = grind (arith, common_steps, le_refl, made_split, one_inner_call)
 
   -- and all of it, over an inner writer that takes all
   pub write_takes : (S : ℕ) {x held left : List ℕ} {C : List WriteCall} {reply : Result ℕ Error} → WriteCalls S x held C reply left
@@ -221,20 +206,20 @@ module _ {W : Type 0} (I : Writer W) where
     | inl held ↦ held.2
     | inr gone ↦
         let parts = made_split (CallOf I) C a D b made in
-        ((one_call parts.0 b gone.1.2 parts.2).all (way_counts S (length x) _ _ _ _ way a parts.0 parts.1 takes).0).1
+        ((one_inner_call parts.0 b gone.1.2 parts.2).all (way_counts S (length x) _ _ _ _ way a parts.0 parts.1 takes).0).1
   ]
 
   -- `flush` leaves nothing held, here or further in
   pub flush_empty : {held left : List ℕ} {C : List WriteCall} {reply : Result (Unit {0}) Error} → FlushCalls held C reply left
       → (a b : W) → Made (CallOf I) a C b → OnOk reply ((I.told b).held ++ left ≡ [])
-  flush_empty = grind (arith, common_steps, made_split, on_ok_weaker, append-nil, one_call)
+  flush_empty = grind (arith, common_steps, made_split, on_ok_weaker, append-nil, one_inner_call)
 
 module _ {W : Type 0} (I : Writer W) where
   -- a `write_all` accepts some front of x, all of it after `Ok`, and never returns an interruption
-  abbrev pub WritingAll : List ℕ → Told → Result (Unit {0}) Error → Told → Type 0
+  abbrev WritingAll : List ℕ → Told → Result (Unit {0}) Error → Told → Type 0
   WritingAll x old reply new = MovesFront old x reply new
 
-  pub write_all_tells : (S : ℕ) (x : List ℕ) → Tells I (WriteAllCalls S x) (WritingAll x)
+  pub write_all_tells : (S : ℕ) (x : List ℕ) → StepTells I (WriteAllCalls S x) (WritingAll x)
   write_all_tells S x = buffered_tells I S x tt (λ C. AllCalls C x) (WritingAll x)
       (λ s t e m. record { accepted = []; front = (x, refl); whole = tt; moves = m })
       (λ s m t r f g. record { accepted = g.accepted; front = g.front; whole = g.whole; moves = Moves-then {k = []} f g.moves })
@@ -257,7 +242,7 @@ module _ {W : Type 0} (I : Writer W) where
       (all.0, all.1, omega (arith, all.2))
     where
       past_counts : Counts I (PastEmpty (Only Flushed)) (λ _. 0)
-      past_counts = grind (arith, common_steps, call_steady, one_call)
+      past_counts = grind (arith, common_steps, call_steady, one_inner_call)
 
   module _ {B : Type 0} (inner : B → W) (buffer : B → List ℕ) (S : ℕ) {old new : B} where
     -- what follows for `write` and `write_all`

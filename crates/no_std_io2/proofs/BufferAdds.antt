@@ -1,13 +1,8 @@
 -- What each inner call adds to an inner writer's own state, the calls of a buffer in front of it add together.
-use Rattle.std.proofs.lemmas.Bool.Decides.{nat_tests}
-use Rattle.std.proofs.Common.{arith}
-use Rattle.std.proofs.Common.{ℕ, List, Result, append-nil}
-use Rattle.no_std_io2_base.specs.declared.error.Error.{Error}
-use Rattle.no_std_io2_base.specs.Write.{WriteCall, CallAdds, RestAdds, Made}
-use Rattle.no_std_io2_base.proofs.CallsLemmas.{made_split}
-use Rattle.no_std_io2_base.proofs.CallsAdd.{Joins, writes_add}
+use Rattle.std.proofs.{lemmas.Bool.Decides.{nat_tests}, Common.{arith, ℕ, List, Result, append-nil}}
+use Rattle.no_std_io2_base.specs.{declared.error.Error.{Error}, Write.{WriteCall, CallAdds, RestAdds, Made}}
+use Rattle.no_std_io2_base.proofs.{CallsLemmas.{made_split}, CallsAdd.{Joins, writes_add}, MovesLemmas.{after_ok}}
 use Rattle.no_std_io2.specs.BufWriter.{FlushCalls}
-use Rattle.no_std_io2_base.proofs.MovesLemmas.{after_ok}
 
 module _ {W : Type 0} {may : W → WriteCall → W → Type 0} {Adds : W → List ℕ → W → Type 0} (joins : Joins Adds)
     (each : (a b : W) (call : WriteCall) → may a call b → CallAdds Adds a call b) where

@@ -1,26 +1,16 @@
 -- What a buffer in front of a reader tells, and what it takes.
-use Rattle.std.proofs.lemmas.Grind.{common_steps}
-use Rattle.std.proofs.Common.{◌≡◌, ℕ, ℤ, pos, negsuc, zero, suc, ◌+◌, ◌-◌, ◌*◌, ◌≤◌, min, Bool, true, false, true≢false, List, [], ◌++◌}
-use Rattle.std.proofs.Common.{length, take, drop}
-use Rattle.std.proofs.Common.{refl, sym, ap, ap₂, subst, ◌∙◌, arith, append_assoc, append-nil, length-append, take-append-drop}
-use Rattle.std.proofs.Common.{Option, None, Some, IfSome, Result, Ok, Err, IfOk, ◌<◌}
-use Rattle.std.proofs.Math.Nat.{mul-le-mul_left, mul-suc}
-use Rattle.std.proofs.Math.Seq.{drop-append_seam, drop-append-add, take-append-add}
-use Rattle.std.proofs.lemmas.List.{drop-drop, drop-append-le, take-append-le, take_at}
-use Rattle.std.proofs.lemmas.Bool.Decides.{Decides-and}
-use Rattle.std.proofs.lemmas.Bool.{leb-true, le-leb}
-use Rattle.std.specs.Bool.{Decides}
-use Rattle.std.specs.Prelude.{nat_le, nat_eq}
+use Rattle.std.proofs.{lemmas.Grind.{common_steps}, Common.{◌≡◌, ℕ, ℤ, pos, negsuc, zero, suc, ◌+◌, ◌-◌, ◌*◌, ◌≤◌, min, Bool, true, false}}
+use Rattle.std.proofs.Common.{true≢false, List, [], ◌++◌, length, take, drop, refl, sym, ap, ap₂, subst, ◌∙◌, arith, append_assoc}
+use Rattle.std.proofs.Common.{append-nil, length-append, take-append-drop, Option, None, Some, IfSome, Result, Ok, Err, IfOk, ◌<◌}
+use Rattle.std.proofs.Math.{Nat.{mul-le-mul_left, mul-suc}, Seq.{drop-append_seam, drop-append-add}}
+use Rattle.std.proofs.lemmas.{List.{drop-drop, drop-append-le}, Bool.{Decides.{Decides-and}, leb-true, le-leb}}
+use Rattle.std.specs.{Bool.{Decides}, Prelude.{nat_le, nat_eq}}
 use lib.Pointwise.{pointwise, bytes_decides}
-use Rattle.no_std_io2_base.specs.declared.error.Error.{Error}
-use Rattle.no_std_io2_base.specs.Events.{Event, events_of, bytes}
-use Rattle.no_std_io2_base.specs.Takes.{Store, Tells, Takes, AreTaken, KeepsContent, to_come, events_by, IsAtEnd}
-use Rattle.no_std_io2_base.specs.Read.{answered, fault_of, bytes_given}
-use Rattle.no_std_io2_base.specs.Events.{BeginsWith}
+use Rattle.no_std_io2_base.specs.{declared.error.Error.{Error}, Events.{Event, events_of, bytes, BeginsWith}, Takes.{Store, Tells, Takes}}
+use Rattle.no_std_io2_base.specs.{Takes.{AreTaken, KeepsContent, to_come, events_by, IsAtEnd}, Read.{answered, fault_of, bytes_given}}
 use Rattle.no_std_io2_base.proofs.EventLemmas.{bytes-append, bytes-events_of, length-events_of, events_of-append}
 use Rattle.no_std_io2_base.proofs.TakesLemmas.{takes_none}
-use Rattle.no_std_io2.specs.BufReader.{behind_held, is_before, step_back, store_if, store_before, reader_told, AreBefore}
-use Rattle.no_std_io2.specs.BufReader.{TakesOver}
+use Rattle.no_std_io2.specs.BufReader.{behind_held, is_before, step_back, store_if, store_before, reader_told, AreBefore, TakesOver}
 use Rattle.no_std_io2.specs.Buffer.{IsInBuffer, IsCutOn}
 
 -- these bytes are those of the content right before its position
@@ -132,7 +122,7 @@ taken_behind held held' P Q (Some E) (Some E') taken is =
     ∙ append_assoc P (events_of held') E'
 
 -- The inner reader took Q. The held bytes and then Q are P and then the bytes that are now held. So P was taken.
-pub takes_behind : (room : ℕ) (held held' : List ℕ) (P Q : List Event) {a b : Tells} → Takes a Q b
+takes_behind : (room : ℕ) (held held' : List ℕ) (P Q : List Event) {a b : Tells} → Takes a Q b
     → events_of held ++ Q ≡ P ++ events_of held' → length held' ≤ room
     → Takes (reader_told room held a) P (reader_told room held' b)
 takes_behind room held held' P Q {a} {b} takes is fits = record {
@@ -206,14 +196,14 @@ end_behind None end = tt
 end_behind (Some E) end = end
 
 -- with nothing held, the inner reader's end is the end
-pub ends_behind : (room : ℕ) (held : List ℕ) (t : Tells) → held ≡ [] → IsAtEnd t → IsAtEnd (reader_told room held t)
-ends_behind room held t none end = grind (arith, common_steps, end_behind, told_behind)
+pub ends_unheld : (room : ℕ) (held : List ℕ) (t : Tells) → held ≡ [] → IsAtEnd t → IsAtEnd (reader_told room held t)
+ends_unheld room held t none end = grind (arith, common_steps, end_behind, told_behind)
 
 -- and so at the end of a read
 pub end_read : (a : Tells) (room : ℕ) (held buf : List ℕ) (reply : Result ℕ Error) → held ≡ []
     → IfOk reply (λ n. n ≡ 0 → 0 < length buf → IsAtEnd a)
     → IfOk reply (λ n. n ≡ 0 → 0 < length buf → IsAtEnd (reader_told room held a))
-end_read a room held buf (Ok n) none end = λ zero some. ends_behind room held a none (end zero some)
+end_read a room held buf (Ok n) none end = λ zero some. ends_unheld room held a none (end zero some)
 end_read a room held buf (Err e) none end = tt
 
 begins_by : (held : List ℕ) (E : Option (List Event)) → IfSome (behind_held held E) (λ l. BeginsWith l held)

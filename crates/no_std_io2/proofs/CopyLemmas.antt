@@ -1,24 +1,15 @@
 -- What follows of a copy, if its reader tells its events or its writer its mishaps.
-use Rattle.std.proofs.lemmas.Grind.{common_steps}
-use Rattle.std.proofs.Common.{◌≡◌, Option, None, Some, true, ℕ, List, ◌∷◌, ◌++◌, [], refl, sym, ap, ◌∙◌, subst, arith, Err, append-nil}
-use Rattle.std.proofs.Common.{IfSome, Ok, Result, length, length-append}
+use Rattle.std.proofs.{lemmas.Grind.{common_steps}, Common.{◌≡◌, Option, None, Some, true, ℕ, List, ◌∷◌, ◌++◌, [], refl, ap}}
+use Rattle.std.proofs.{Common.{subst, arith, Err, append-nil, Ok, Result, length, length-append}, lemmas.List.Sums.{sum_by-cons}}
 use Rattle.std.specs.List.{concat}
-use Rattle.std.proofs.lemmas.List.Sums.{sum_by-cons}
-use Rattle.no_std_io2_base.specs.declared.error.Error.{Error}
-use Rattle.no_std_io2_base.specs.declared.error.ErrorKind.{ErrorKind}
-use Rattle.no_std_io2_base.specs.Errors.{IsInterruption, IsFault}
-use Rattle.no_std_io2_base.specs.Events.{Event, byte, fails, HasNoFault, EndsInFault}
-use Rattle.no_std_io2_base.specs.Read.{Reader, ReadCall, Gave, ReadCallLaw, Gathers, no_read, and_gave, and_again}
-use Rattle.no_std_io2_base.specs.Takes.{Tells, Takes, to_come, IsAtEnd}
-use Rattle.no_std_io2_base.specs.Write.{Told, Moves, HasSpent, Made, WriteCall}
-use Rattle.no_std_io2_base.specs.Writers.{Writer, CallOf}
-use Rattle.no_std_io2_base.proofs.CallsLemmas.{made_split}
-use Rattle.no_std_io2_base.proofs.EventLemmas.{HasNoFault-front}
-use Rattle.no_std_io2_base.proofs.MovesLemmas.{Moves-steady}
-use Rattle.no_std_io2.specs.Copy.{CopyEnds, Copied, SidesCopied, side_error, Handed, nothing, piece, refused, HandsOn}
-use Rattle.no_std_io2.specs.declared.util.sides.CopyError.{CopyError}
-use Rattle.no_std_io2.specs.declared.util.sides.CopyError.TheVariants.{Read, Write}
+use Rattle.no_std_io2_base.specs.{declared.error.{Error.{Error}, ErrorKind.{ErrorKind}}, Errors.{IsInterruption, IsFault}, Events.{Event}}
+use Rattle.no_std_io2_base.specs.{Events.{byte, fails, HasNoFault, EndsInFault}, Read.{Reader, ReadCall, Gave, ReadCallLaw, Gathers}}
+use Rattle.no_std_io2_base.specs.{Read.{no_read, and_gave, and_again}, Takes.{Tells, Takes, to_come, IsAtEnd}, Write.{Told, Moves}}
+use Rattle.no_std_io2_base.specs.{Write.{HasSpent, Made, WriteCall}, Writers.{Writer, CallOf}}
+use Rattle.no_std_io2_base.proofs.{CallsLemmas.{made_split}, EventLemmas.{HasNoFault-front}, MovesLemmas.{Moves-steady}}
 use Rattle.no_std_io2_base.proofs.TakesLemmas.{left_of}
+use Rattle.no_std_io2.specs.Copy.{CopyEnds, Copied, SidesCopied, side_error, Handed, nothing, piece, refused, HandsOn}
+use Rattle.no_std_io2.specs.declared.util.sides.CopyError.{CopyError, TheVariants.{Read, Write}}
 
 -- events without a fault do not end in one
 pub no_fault_at_end : (P : List Event) (e : Error) → HasNoFault P → EndsInFault P e → ⊥
@@ -32,8 +23,8 @@ no_fault_at_end P e none fault = by fault.0 (subst HasNoFault fault.1 none)
     by (fails f ∷ Q) h = by Q h.1
 
 -- what was taken up to the end is all that was told
-pub took_all : {a b : Tells} {P E : List Event} → Takes a P b → to_come a ≡ Some E → IsAtEnd b → (P ≡ E) × (to_come b ≡ Some [])
-took_all {b = b} {P} takes told end = grind (arith, common_steps, append-nil, left_of)
+pub took_told : {a b : Tells} {P E : List Event} → Takes a P b → to_come a ≡ Some E → IsAtEnd b → (P ≡ E) × (to_come b ≡ Some [])
+took_told {b = b} {P} takes told end = grind (arith, common_steps, append-nil, left_of)
 
 -- a copy fails for a fault of the reader, or a mishap of the writer
 pub copies_steadily : (room : ℕ) {a b : Tells} {P E : List Event} (side : CopyError) (old new : Told) → Takes a P b → to_come a ≡ Some E

@@ -1,23 +1,15 @@
 -- A loop that passes on what a reader lends, piece by piece.
 use Rattle.std.proofs.Common.{◌≡◌, ℕ, ◌+◌, ◌-◌, ◌^◌, ◌<◌, ◌≤◌, min, List, [], ◌∷◌, ◌++◌, Result, Ok, Err, length, take, refl, sym, ap}
 use Rattle.std.proofs.Common.{subst, ◌∙◌, arith, append_assoc, append-nil, length-append, take_all}
-use Rattle.no_std_io2_base.specs.declared.error.Error.{Error}
-use Rattle.no_std_io2_base.specs.Errors.{IsInterruption, IsFault}
-use Rattle.no_std_io2_base.specs.Events.{Event, fails, events_of, bytes, HasNoFault}
-use Rattle.no_std_io2_base.specs.Takes.{Takes}
-use Rattle.no_std_io2_base.specs.Read.{ReadCall, Filled, Consumed}
-use Rattle.no_std_io2_base.specs.BufRead.{Lender, LendCallLaw, FilledLaw, ConsumeLaw, lender_tells}
-use Rattle.no_std_io2_base.specs.Write.{WriteCall, Made, Moves}
-use Rattle.no_std_io2_base.specs.Writers.{Writer, WriteAllOf, CallOf, TakesAll}
-use Rattle.no_std_io2_base.proofs.CallsLemmas.{made_more, made_then}
-use Rattle.no_std_io2_base.proofs.EventLemmas.{bytes-append, bytes-events_of, length-events_of, HasNoFault-append, HasNoFault-events_of}
-use Rattle.no_std_io2_base.proofs.MovesLemmas.{Moves-refl, Moves-then}
-use Rattle.no_std_io2_base.proofs.PieceLemmas.{bytes-fails}
-use Rattle.no_std_io2_base.proofs.TakesLemmas.{takes_none, takes_then, takes_still, takes_turns, spends}
-use Rattle.no_std_io2.specs.Copy.{counted}
-use Rattle.no_std_io2.specs.CopyLent.{HandsLent, LentCopied, lends_none, lends_fault, again_lent, piece_lent, piece_refused}
-use Rattle.no_std_io2.specs.declared.util.sides.CopyError.{CopyError}
-use Rattle.no_std_io2.specs.declared.util.sides.CopyError.TheVariants.{Read, Write}
+use Rattle.no_std_io2_base.specs.{declared.error.Error.{Error}, Errors.{IsInterruption, IsFault}, Events.{Event, fails, events_of, bytes}}
+use Rattle.no_std_io2_base.specs.{Events.{HasNoFault}, Takes.{Takes}, Read.{ReadCall, Filled, Consumed}, BufRead.{Lender, LendCallLaw}}
+use Rattle.no_std_io2_base.specs.{BufRead.{FilledLaw, ConsumeLaw, lender_tells}, Write.{WriteCall, Made, Moves}, Writers.{Writer}}
+use Rattle.no_std_io2_base.specs.Writers.{WriteAllOf, CallOf, TakesAll}
+use Rattle.no_std_io2_base.proofs.{CallsLemmas.{made_more, made_then}, EventLemmas.{bytes-append, bytes-events_of, HasNoFault-append}}
+use Rattle.no_std_io2_base.proofs.{EventLemmas.{HasNoFault-events_of}, MovesLemmas.{Moves-refl, Moves-then}, PieceLemmas.{bytes-fails}}
+use Rattle.no_std_io2_base.proofs.TakesLemmas.{takes_none, takes_then, takes_still}
+use Rattle.no_std_io2.specs.{Copy.{counted}, CopyLent.{HandsLent, LentCopied, lends_none, lends_fault, again_lent, piece_lent}}
+use Rattle.no_std_io2.specs.{CopyLent.{piece_refused}, declared.util.sides.CopyError.{CopyError, TheVariants.{Read, Write}}}
 
 -- So far these events were taken, and their bytes passed on; `copied` counts them. Whatever calls follow, they follow these.
 pub record LentSoFar {R W : Type 0} (K : Lender R) (I : Writer W) (from : R) (old : W) (copied : ℕ) (mid : R) (now : W) : Type 0 where
@@ -74,10 +66,6 @@ module _ {R W : Type 0} {K : Lender R} {I : Writer W} {from : R} {old : W} where
           goes_on = λ C D reply h. subst (λ l. HandsLent l (before.writes ++ D) reply) (sym (append_assoc before.lends (Filled (Err e) ∷ []) C))
               (before.goes_on (Filled (Err e) ∷ C) D reply (again_lent again h));
         }
-
-    -- it spends a turn
-    pub again_spends : {e : Error} → FilledLaw K mid (Err e) after → K.turns after < K.turns mid
-    again_spends {e} filled = let some : 0 < length (fails e ∷ []) = omega arith in spends filled.takes some
 
     -- its fault ends the loop
     pub lent_faulted : {e : Error} → FilledLaw K mid (Err e) after → IsFault e → LentCopied K I from old (Err (Read e)) after now
@@ -145,12 +133,6 @@ module _ {R W : Type 0} {K : Lender R} {I : Writer W} {from : R} {old : W} where
         takes_piece : Takes (lender_tells K after) (events_of x) (lender_tells K next)
         takes_piece = subst (λ l. Takes (lender_tells K after) (events_of l) (lender_tells K next))
             (ap (take n) filled.lends ∙ take_all n x (omega (arith, whole))) dropped.takes
-
-        -- it spends a turn
-        pub piece_spends : K.turns next < K.turns mid
-        piece_spends =
-            let less : K.turns next < K.turns after = spends takes_piece (omega (arith, some, length-events_of x)) in
-            omega (arith, less, takes_turns filled.takes)
 
         -- it was passed on
         pub lent_more : {new : W} {k : ℕ} {done : Unit {0}} → WriteAllOf I now x (Ok done) new → k ≡ min (copied + n) (2 ^ 64 - 1)

@@ -1,21 +1,14 @@
 -- A loop that passes on what it reads, piece by piece, for any reader and any writer.
-use Rattle.std.proofs.lemmas.Grind.{common_steps}
-use Rattle.std.proofs.Common.{◌≡◌, ℕ, ◌+◌, ◌-◌, ◌^◌, ◌<◌, ◌≤◌, min, List, [], ◌∷◌, ◌++◌, Result, Ok, Err, length, take, refl, sym, ap}
-use Rattle.std.proofs.Common.{subst, ◌∙◌, arith, append_assoc, append-nil, length-append, length-take-le}
-use Rattle.std.specs.List.{concat}
+use Rattle.std.proofs.{lemmas.Grind.{common_steps}, Common.{◌≡◌, ℕ, ◌+◌, ◌-◌, ◌^◌, ◌<◌, ◌≤◌, min, List, [], ◌∷◌, ◌++◌, Result, Ok, Err}}
+use Rattle.std.proofs.Common.{length, take, refl, sym, ap, subst, ◌∙◌, arith, append_assoc, append-nil, length-append, length-take-le}
 use Rattle.std.proofs.lemmas.List.Folds.{concat-append}
-use Rattle.no_std_io2_base.specs.declared.error.Error.{Error}
-use Rattle.no_std_io2_base.specs.Errors.{IsInterruption, IsFault}
-use Rattle.no_std_io2_base.specs.Events.{fails, events_of, bytes}
-use Rattle.no_std_io2_base.specs.Read.{Reader, Gave, ReadLaw, GaveLaw, ReadCallLaw}
-use Rattle.no_std_io2_base.specs.Write.{WriteCall, Made, AllCalls, Moves}
+use Rattle.std.specs.List.{concat}
+use Rattle.no_std_io2_base.specs.{declared.error.Error.{Error}, Errors.{IsInterruption, IsFault}, Events.{fails, events_of, bytes}}
+use Rattle.no_std_io2_base.specs.{Read.{Reader, Gave, ReadLaw, GaveLaw, ReadCallLaw}, Write.{WriteCall, Made, AllCalls, Moves}}
 use Rattle.no_std_io2_base.specs.Writers.{Writer, WriteAllOf, CallOf, TakesAll}
-use Rattle.no_std_io2_base.proofs.CallsLemmas.{made_more, made_then}
-use Rattle.no_std_io2_base.proofs.EventLemmas.{bytes-append, bytes-events_of, HasNoFault-append, HasNoFault-events_of}
-use Rattle.no_std_io2_base.proofs.MovesLemmas.{Moves-refl, Moves-then}
-use Rattle.no_std_io2_base.proofs.PieceLemmas.{bytes-fails}
-use Rattle.no_std_io2_base.proofs.ReadExactExits.{some_bytes}
-use Rattle.no_std_io2_base.proofs.ReadLoop.{ReadsSoFar, reads_none, reads_more, reads_again}
+use Rattle.no_std_io2_base.proofs.{CallsLemmas.{made_more, made_then}, EventLemmas.{bytes-append, bytes-events_of, HasNoFault-append}}
+use Rattle.no_std_io2_base.proofs.{EventLemmas.{HasNoFault-events_of}, MovesLemmas.{Moves-refl, Moves-then}, PieceLemmas.{bytes-fails}}
+use Rattle.no_std_io2_base.proofs.{ReadExactExits.{some_bytes}, ReadLoop.{ReadsSoFar, reads_none, reads_more, reads_again}}
 use Rattle.no_std_io2_base.proofs.TakesLemmas.{takes_then, takes_still, takes_turns, read_law, read_spends, nothing_read}
 use Rattle.no_std_io2.specs.Copy.{Handed, nothing, piece, refused, HandsOn, counted, SidesCopied}
 use Rattle.no_std_io2.specs.declared.util.sides.CopyError.TheVariants.{Read, Write}

@@ -1,15 +1,11 @@
 -- The bytes that a line writer holds of those that its inner writer left.
-use Rattle.std.proofs.lemmas.Grind.{common_steps}
-use Rattle.std.proofs.Common.{◌≡◌, ℕ, ◌+◌, ◌-◌, ◌<◌, ◌≤◌, List, ◌++◌, length, take, drop, refl, ap, ◌∙◌, arith, length-take}
-use Rattle.std.proofs.Common.{length-drop, length-append, subst}
-use Rattle.std.proofs.Common.{take-append-drop}
-use Rattle.std.proofs.lemmas.Bool.Decides.{nat_tests}
+use Rattle.std.proofs.{lemmas.Grind.{common_steps}, Common.{◌≡◌, ℕ, ◌+◌, ◌-◌, ◌<◌, ◌≤◌, List, ◌++◌, length, take, drop, refl, ap, ◌∙◌}}
+use Rattle.std.proofs.{Common.{arith, length-take, length-drop, length-append, subst, take-append-drop}, lemmas.Bool.Decides.{nat_tests}}
 use Rattle.std.proofs.lemmas.List.{take_min}
 use lib.Seq.{take-add}
-use Rattle.no_std_io2_base.specs.Pieces.{Lacks, newline, ends_in}
-use Rattle.no_std_io2_base.specs.Lines.{IsLineState, lines_len, lines_of, unfinished_line}
-use Rattle.no_std_io2_base.proofs.LineLemmas.{lines_split, lines_bound, lines_end, lacks_lines, unfinished_lacks, plain_state}
-use Rattle.no_std_io2_base.proofs.LineLemmas.{state_rest, take_lines, drop_lines}
+use Rattle.no_std_io2_base.specs.{Pieces.{Lacks, newline, ends_in}, Lines.{IsLineState, lines_len, lines_of, unfinished_line}}
+use Rattle.no_std_io2_base.proofs.LineLemmas.{lines_split, lines_bound, lines_end, lacks_lines, unfinished_lacks, plain_state, state_rest}
+use Rattle.no_std_io2_base.proofs.LineLemmas.{take_lines, drop_lines}
 use Rattle.no_std_io2.specs.LineWriter.{held_tail, lines_or_all}
 
 -- what follows all lines has no newline

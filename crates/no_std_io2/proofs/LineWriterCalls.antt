@@ -1,37 +1,22 @@
 -- What the calls of a line writer tell and count, by the calls of its inner writer.
-use Rattle.no_std_io2_base.specs.Writers.{TakesAll, CallOf}
-use Rattle.std.proofs.Common.{rules, []}
-use Rattle.std.proofs.lemmas.Grind.{common_steps}
-use Rattle.std.proofs.Common.{◌≡◌, ◌+◌, ℕ, ◌<◌, ◌≤◌, ◌==◌, List, ◌++◌, length, take, Result, Ok, Err, OnOk, IsOk}
-use Rattle.std.proofs.Common.{IfOk}
-use Rattle.std.proofs.Common.{refl, ap, subst, arith, if◌then◌else◌, inl, inr}
-use Rattle.std.proofs.lemmas.Bool.Decides.{nat_tests}
+use Rattle.no_std_io2_base.specs.{Writers.{TakesAll, CallOf, Writer}, declared.error.Error.{Error}, Errors.{IsNoInterruption}, Write.{Told}}
+use Rattle.no_std_io2_base.specs.{Write.{MovesFront, WriteCall, Wrote, Made, calls_for, AllCalls}, Lines.{IsLineState, lines_of, lines_len}}
+use Rattle.no_std_io2_base.specs.{Lines.{unfinished_line}, Meter.{charges}}
+use Rattle.std.proofs.Common.{rules, [], ◌≡◌, ◌+◌, ℕ, ◌<◌, ◌≤◌, ◌==◌, List, ◌++◌, length, take, Result, Ok, Err, OnOk, IsOk, IfOk, refl, ap}
+use Rattle.std.proofs.{Common.{subst, arith, if◌then◌else◌, inl, inr}, lemmas.{Grind.{common_steps}, Bool.Decides.{nat_tests}}}
 use lib.Seq.{take-take}
-use Rattle.no_std_io2_base.specs.declared.error.Error.{Error}
-use Rattle.no_std_io2_base.specs.Errors.{IsNoInterruption}
-use Rattle.no_std_io2_base.specs.Writers.{Writer}
-use Rattle.no_std_io2_base.specs.Write.{Told, MovesFront, WriteCall, Wrote, Made, calls_for, AllCalls}
-use Rattle.no_std_io2_base.proofs.MovesLemmas.{Moves-then}
-use Rattle.no_std_io2_base.proofs.CallsLemmas.{made_split}
-use Rattle.no_std_io2_base.proofs.WritesFacts.{writes_fault}
-use Rattle.no_std_io2_base.proofs.AllFacts.{all_calls}
-use Rattle.no_std_io2_base.specs.Lines.{IsLineState, lines_of, lines_len, unfinished_line}
-use Rattle.no_std_io2.specs.BufWriter.{Then, stops, goes_on, with_buffer, Only}
-use Rattle.no_std_io2.specs.BufWriter.{SendCalls, WriteCalls, WriteAllCalls, buffer_after, writing_calls}
-use Rattle.no_std_io2.specs.LineWriter.{SendLineCalls, HoldsTail, LinesCalls, SendLinesCalls, LineWriteCalls, LineWriteAllCalls}
-use Rattle.no_std_io2.specs.LineWriter.{line_buffer_filled, held_tail}
-use Rattle.no_std_io2.proofs.BufWriterLemmas.{Moves-buffered, Moves-emptied, MovesFront-emptied}
-use Rattle.no_std_io2_base.specs.Meter.{charges}
-use Rattle.no_std_io2_base.proofs.MeterLemmas.{all_count, charges-append}
-use Rattle.no_std_io2.proofs.StepLemmas.{no_ok, Tells, Sending, Counts, Counted, then_leaves, then_tells, then_counts}
-use Rattle.no_std_io2.proofs.BufWriterCalls.{buffered_leaves, send_leaves}
-use Rattle.no_std_io2.proofs.BufWriterCalls.{one_call, send_tells, kept_tells, write_tells, Writing, write_bound, send_counts, idle_counts}
-use Rattle.no_std_io2.proofs.BufWriterCalls.{write_counts}
-use Rattle.no_std_io2.proofs.BufWriterCalls.{write_all_tells, write_all_fault, write_all_counts, writing_all_calls}
-use Rattle.no_std_io2_base.proofs.MovesLemmas.{MovesFront-ends, MovesFront-whole, MovesFront-join, MovesFront-first}
-use Rattle.no_std_io2.proofs.LineWriterStates.{line_left, line_left-is, send_line_leaves, send_lines_leaves, tail_whole}
-use Rattle.no_std_io2_base.proofs.LineLemmas.{lines_some, lines_none, lines_split, take_lines, lines_bound}
-use Rattle.no_std_io2.proofs.HeldTail.{took_tail, tail_fits}
+use Rattle.no_std_io2_base.proofs.MovesLemmas.{Moves-then, MovesFront-ends, MovesFront-whole, MovesFront-join, MovesFront-first}
+use Rattle.no_std_io2_base.proofs.{CallsLemmas.{made_split}, WritesFacts.{writes_fault}, AllFacts.{all_calls}, MeterLemmas.{all_count}}
+use Rattle.no_std_io2_base.proofs.{MeterLemmas.{charges-append}, LineLemmas.{lines_some, lines_none, lines_split, take_lines, lines_bound}}
+use Rattle.no_std_io2.specs.BufWriter.{Then, stops, goes_on, with_buffer, Only, SendCalls, WriteCalls, WriteAllCalls, buffer_after}
+use Rattle.no_std_io2.specs.{BufWriter.{writing_calls}, LineWriter.{SendLineCalls, HoldsTail, LinesCalls, SendLinesCalls, LineWriteCalls}}
+use Rattle.no_std_io2.specs.LineWriter.{LineWriteAllCalls, line_buffer_filled, held_tail}
+use Rattle.no_std_io2.proofs.{BufWriterLemmas.{Moves-buffered, Moves-emptied, MovesFront-emptied}, StepLemmas.{no_ok, StepTells, Sending}}
+use Rattle.no_std_io2.proofs.{StepLemmas.{Counts, Counted, then_leaves, then_tells, then_counts}, BufWriterCalls.{buffered_leaves}}
+use Rattle.no_std_io2.proofs.BufWriterCalls.{send_leaves, one_inner_call, send_tells, kept_tells, write_tells, Writing, write_bound}
+use Rattle.no_std_io2.proofs.BufWriterCalls.{send_counts, idle_counts, write_counts, write_all_tells, write_all_fault, write_all_counts}
+use Rattle.no_std_io2.proofs.{BufWriterCalls.{writing_all_calls}, LineWriterStates.{line_left, line_left-is, send_line_leaves}}
+use Rattle.no_std_io2.proofs.{LineWriterStates.{send_lines_leaves, tail_whole}, HeldTail.{took_tail, tail_fits}}
 
 -- a sent line is one call at most
 abbrev pub line_calls : List ℕ → ℕ
@@ -79,7 +64,7 @@ counted_keeps : {W A : Type 0} (I : Writer W) {n : ℕ} (C : List WriteCall) (re
 counted_keeps I C reply b done few = (done.0, done.1, omega (arith, done.2, few))
 
 module _ {W : Type 0} (I : Writer W) where
-  send_line_tells : Tells I SendLineCalls (Sending I)
+  send_line_tells : StepTells I SendLineCalls (Sending I)
   send_line_tells = search (rules, kept_tells, send_tells)
 
   send_line_counts : Counts I SendLineCalls line_calls
@@ -99,14 +84,14 @@ module _ {W : Type 0} (I : Writer W) where
         rw (none, tail.1, tail.0) (put_tells some n (held_tail S x n) (took_tail S x n) (ap (held_tail S x)) a b call)
     tail_tells some (Err e) reply held left none tail a b call = grind (arith, common_steps, Moves-emptied)
 
-    lines_tell : 0 < lines_len x → Tells I (LinesCalls S x) (Writing I x)
-    lines_tell some = grind (arith, common_steps, tail_tells, one_call)
+    lines_tell : 0 < lines_len x → StepTells I (LinesCalls S x) (Writing I x)
+    lines_tell some = grind (arith, common_steps, tail_tells, one_inner_call)
 
     lines_count : 0 < lines_len x → Counts I (LinesCalls S x) (λ _. 1)
     lines_count some = grind (arith, common_steps)
 
     -- `write` accepts the bytes that its result reports,
-    pub line_write_tells : Tells I (LineWriteCalls S x) (Writing I x)
+    pub line_write_tells : StepTells I (LineWriteCalls S x) (Writing I x)
     line_write_tells = λ held C reply left write a b made. elim write [
       | inl plain ↦
           then_tells I SendLineCalls (WriteCalls S x) (Writing I x) (λ s t e m. m) (λ s m t r f g. Moves-then {k = []} f g)
@@ -127,13 +112,13 @@ module _ {W : Type 0} (I : Writer W) where
     tail_filled (stops p) some a b made takes = no_ok (send_counts I _ _ _ _ p a b made takes).1
     tail_filled (goes_on {C = C} {D = D} {left = left} {reply = reply} p q) some a b made takes =
         let parts = made_split (CallOf I) C a D b made in
-        let law = one_call I parts.0 b q.2 parts.2 in
+        let law = one_inner_call I parts.0 b q.2 parts.2 in
         (tail_whole S x q.1 reply left (law.all (send_counts I _ _ _ _ p a parts.0 parts.1 takes).0).1 some q.3).1
 
   -- no more is taken than was given
   pub line_write_bound : (S : ℕ) {x held left : List ℕ} {C : List WriteCall} {reply : Result ℕ Error} → LineWriteCalls S x held C reply left
       → (a b : W) → Made (CallOf I) a C b → IfOk reply (λ n. n ≤ length x)
-  line_write_bound = grind (arith, nat_tests, made_split, write_bound, tail_bound, one_call)
+  line_write_bound = grind (arith, nat_tests, made_split, write_bound, tail_bound, one_inner_call)
 
   -- over an inner writer that takes all it makes three calls at most,
   pub line_write_keeps : (S : ℕ) {x held left : List ℕ} {C : List WriteCall} {reply : Result ℕ Error} → LineWriteCalls S x held C reply left

@@ -1,32 +1,19 @@
 -- What the calls of a line writer leave: line states, and after an `Ok` these.
-use Rattle.no_std_io2_base.specs.Writers.{CallOf}
-use Rattle.std.proofs.lemmas.Grind.{common_steps}
-use Rattle.std.proofs.Common.{◌≡◌, ◌+◌, ℕ, ◌<◌, ◌≤◌, ◌==◌, ◌∙◌, List, ◌∷◌, ◌++◌, length, take, drop, Result, []}
-use Rattle.std.proofs.Common.{Ok, OnOk}
-use Rattle.std.proofs.Common.{IsOk, IfOk, refl, sym, ap, subst, arith, if◌then◌else◌, inl, inr, take-append-drop}
-use Rattle.std.proofs.lemmas.Bool.Decides.{nat_tests}
-use Rattle.no_std_io2_base.specs.declared.error.Error.{Error}
-use Rattle.no_std_io2_base.specs.Write.{WriteCall, Wrote, Writes, none as no_write, took, again, stuck, fault, AllCalls}
-use Rattle.no_std_io2_base.specs.Writers.{Writer}
-use Rattle.no_std_io2_base.proofs.CallsLemmas.{writes_whole}
-use Rattle.no_std_io2.specs.Buffer.{IsSuffix}
-use Rattle.no_std_io2_base.specs.Pieces.{Lacks, newline}
+use Rattle.no_std_io2_base.specs.{Writers.{CallOf, Writer}, declared.error.Error.{Error}, Write.{WriteCall, Wrote, Writes}}
+use Rattle.no_std_io2_base.specs.{Write.{none as no_write, took, again, stuck, fault, AllCalls}, Pieces.{Lacks, newline}}
 use Rattle.no_std_io2_base.specs.Lines.{IsLineState, lines_of, lines_len, unfinished_line}
-use Rattle.no_std_io2_base.proofs.LineLemmas.{lines_end, lines_none, lines_some, unfinished_lacks, unfinished_none, unfinished_all}
-use Rattle.no_std_io2_base.proofs.LineLemmas.{lacks_contains}
-use Rattle.no_std_io2_base.proofs.LineLemmas.{contains_lines, take_lines, drop_lines, lines_split, plain_state, lacks_rest, state_rest}
-use Rattle.no_std_io2_base.proofs.LineLemmas.{ends_in-append}
-use Rattle.no_std_io2.specs.BufWriter.{Then, stops, goes_on, SendCalls, WayCalls, Buffered, WriteCalls, WriteAllCalls, FlushCalls}
-use Rattle.no_std_io2.specs.BufWriter.{buffer_after}
-use Rattle.no_std_io2.specs.LineWriter.{SendLineCalls, HoldsTail, LinesCalls, SendLinesCalls, LineWriteCalls, LineWriteAllCalls}
-use Rattle.no_std_io2.specs.LineWriter.{line_buffer_after, IsShortText}
-use Rattle.std.proofs.lemmas.Result.{on_ok_weaker}
-use Rattle.no_std_io2_base.proofs.MovesLemmas.{after_ok}
-use Rattle.no_std_io2.proofs.BufWriterLemmas.{IsSuffix-trans}
-use Rattle.no_std_io2.proofs.StepLemmas.{Stepped, Leaves, then_leaves}
-use Rattle.no_std_io2.proofs.BufWriterCalls.{buffered_leaves, buffered_fits, send_leaves, write_whole}
+use Rattle.std.proofs.{lemmas.Grind.{common_steps}, Common.{◌≡◌, ◌+◌, ℕ, ◌<◌, ◌≤◌, ◌==◌, ◌∙◌, List, ◌∷◌, ◌++◌, length, take, drop, Result}}
+use Rattle.std.proofs.Common.{[], Ok, OnOk, IsOk, IfOk, refl, sym, ap, subst, arith, if◌then◌else◌, inl, inr, take-append-drop}
+use Rattle.std.proofs.lemmas.{Bool.Decides.{nat_tests}, Result.{on_ok_weaker}}
+use Rattle.no_std_io2_base.proofs.{CallsLemmas.{writes_whole}, LineLemmas.{lines_end, lines_none, lines_some, unfinished_lacks}}
+use Rattle.no_std_io2_base.proofs.LineLemmas.{unfinished_none, unfinished_all, lacks_contains, contains_lines, take_lines, drop_lines}
+use Rattle.no_std_io2_base.proofs.{LineLemmas.{lines_split, plain_state, lacks_rest, state_rest, ends_in-append}, MovesLemmas.{after_ok}}
 use Rattle.no_std_io2_base.proofs.PieceLemmas.{Lacks-append}
-use Rattle.no_std_io2.proofs.HeldTail.{tail_state}
+use Rattle.no_std_io2.specs.{Buffer.{IsSuffix}, BufWriter.{Then, stops, goes_on, SendCalls, WayCalls, Buffered, WriteCalls, WriteAllCalls}}
+use Rattle.no_std_io2.specs.{BufWriter.{FlushCalls, buffer_after}, LineWriter.{SendLineCalls, HoldsTail, LinesCalls, SendLinesCalls}}
+use Rattle.no_std_io2.specs.LineWriter.{LineWriteCalls, LineWriteAllCalls, line_buffer_after, IsShortText}
+use Rattle.no_std_io2.proofs.{BufWriterLemmas.{IsSuffix-trans}, StepLemmas.{Stepped, Leaves, then_leaves}, BufWriterCalls.{buffered_leaves}}
+use Rattle.no_std_io2.proofs.{BufWriterCalls.{buffered_fits, send_leaves, write_whole}, HeldTail.{tail_state}}
 
 -- what is left of some bytes that were sent is an end of them
 pub writes_end : {text : List ℕ} {C : List WriteCall} {x left : List ℕ} {reply : Result (Unit {0}) Error}
@@ -165,11 +152,11 @@ send_lines_leaves S y = λ held C reply left sends. elim sends [
 ]
 
 -- a line state at an error
-behind_state : (S : ℕ) {y held left : List ℕ} {C : List WriteCall} {reply : Result (Unit {0}) Error}
+behind_lines_state : (S : ℕ) {y held left : List ℕ} {C : List WriteCall} {reply : Result (Unit {0}) Error}
     → Then (WriteAllCalls S y) SendCalls held C reply left → IsLineState held → ((front : List ℕ) → IsLineState (front ++ y))
     → IsLineState left
-behind_state S {y} (stops w) line ended = buffered_line S y tt (λ C. AllCalls C y) w line ended
-behind_state S {y} (goes_on w s) line ended =
+behind_lines_state S {y} (stops w) line ended = buffered_line S y tt (λ C. AllCalls C y) w line ended
+behind_lines_state S {y} (goes_on w s) line ended =
     state_end (writes_end s) (buffered_line S y tt (λ C. AllCalls C y) w line ended)
 
 lines_ended : (x : List ℕ) → 0 < lines_len x → (front : List ℕ) → IsLineState (front ++ lines_of x)
@@ -182,7 +169,7 @@ all_lines_state : (S : ℕ) (x : List ℕ) {held left : List ℕ} {C : List Writ
 all_lines_state S x (stops {left = left} p) line some = (
   elim p [
     | inl past ↦ nothing_state past.1
-    | inr behind ↦ behind_state S behind.1 line (lines_ended x some)
+    | inr behind ↦ behind_lines_state S behind.1 line (lines_ended x some)
   ],
   tt,
 )

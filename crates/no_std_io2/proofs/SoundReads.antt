@@ -1,22 +1,17 @@
 -- A sound `BufReader` stays sound: what its reads do to the bytes behind and the held bytes, over a told store.
-use Rattle.std.proofs.Common.{◌≡◌, ℕ, List, [], ◌∷◌, ◌++◌, Result, Ok, Err, take, drop, refl, sym, ap, ap₂, subst, ◌∙◌, append_assoc, append-nil}
-use Rattle.std.proofs.Common.{inl, inr, take-append-drop}
-use Rattle.no_std_io2_base.specs.declared.error.Error.{Error}
-use Rattle.no_std_io2_base.specs.Events.{Event, bytes}
-use Rattle.no_std_io2_base.specs.Takes.{Takes}
-use Rattle.no_std_io2_base.specs.Write.{Made}
-use Rattle.no_std_io2_base.specs.Read.{Reader, ReadCall, Gave, GaveExactly, GaveAll, Filled, Consumed, ReadCallLaw, tells, answered, bytes_given}
-use Rattle.no_std_io2_base.proofs.EventLemmas.{bytes-events_of}
-use Rattle.no_std_io2_base.proofs.TakesLemmas.{made_takes}
-use Rattle.no_std_io2.specs.declared.buffered.buf_reader.BufReader.{BufReader}
-use Rattle.no_std_io2.specs.BufReader.{reader_held, reader_behind, reader_inner, HasBuffer, ReaderIsSound, GivesHeld, PassesOn, ReadsBelow, FillsBelow}
-use Rattle.no_std_io2.specs.BufReader.{of_held, went_past, was_filled, lent_held, lent_read, ReaderMay}
-use Rattle.no_std_io2.proofs.BufferedReads.{goes_before}
-use Rattle.no_std_io2.proofs.BufReaderCalls.{buf_reader}
+use Rattle.std.proofs.Common.{◌≡◌, ℕ, List, [], ◌∷◌, ◌++◌, Result, Ok, Err, take, drop, refl, sym, ap, ap₂, subst, ◌∙◌, append_assoc}
+use Rattle.std.proofs.Common.{append-nil, inl, inr, take-append-drop}
+use Rattle.no_std_io2_base.specs.{declared.error.Error.{Error}, Events.{Event, bytes}, Takes.{Takes}, Write.{Made}, Read.{Reader, ReadCall}}
+use Rattle.no_std_io2_base.specs.Read.{Gave, GaveExactly, GaveAll, Filled, Consumed, ReadCallLaw, tells, answered, bytes_given}
+use Rattle.no_std_io2_base.proofs.{EventLemmas.{bytes-events_of}, TakesLemmas.{made_takes}}
+use Rattle.no_std_io2.specs.{declared.buffered.buf_reader.BufReader.{BufReader}, BufReader.{reader_held, reader_behind, reader_inner}}
+use Rattle.no_std_io2.specs.BufReader.{HasBuffer, ReaderIsSound, ReadsBelow, FillsBelow, of_held, went_past}
+use Rattle.no_std_io2.specs.BufReader.{was_filled, lent_held, lent_read, ReaderMay}
+use Rattle.no_std_io2.proofs.{BufferedReads.{goes_before}, BufReaderCalls.{buf_reader}}
 
 -- the bytes in the buffer, from the first that lies behind
-abbrev whole : {R : Type 0} {S : ℕ} → BufReader R S → List ℕ
-whole r = reader_behind r ++ reader_held r
+abbrev in_buffer : {R : Type 0} {S : ℕ} → BufReader R S → List ℕ
+in_buffer r = reader_behind r ++ reader_held r
 
 -- the bytes that a read took
 bytes_answered : (answer : Result (List ℕ) Error) → bytes (answered answer) ≡ bytes_given answer
@@ -25,7 +20,7 @@ bytes_answered (Err e) = refl
 
 module _ {R : Type 0} {S : ℕ} (I : Reader R) (old new : BufReader R S) where
   -- the same bytes are in the buffer, and there was no inner call
-  still_sound : reader_inner new ≡ reader_inner old → whole new ≡ whole old → ReaderIsSound I.store old → ReaderIsSound I.store new
+  still_sound : reader_inner new ≡ reader_inner old → in_buffer new ≡ in_buffer old → ReaderIsSound I.store old → ReaderIsSound I.store new
   still_sound same is sound = rw (same, is) sound
 
   -- some first held bytes went behind
@@ -36,9 +31,9 @@ module _ {R : Type 0} {S : ℕ} (I : Reader R) (old new : BufReader R S) where
 
   -- the inner reader took Q, and the bytes in the buffer are the last of its bytes
   read_sound : (front : List ℕ) (Q : List Event) → Takes (tells I (reader_inner old)) Q (tells I (reader_inner new))
-      → bytes Q ≡ front ++ whole new → ReaderIsSound I.store old → ReaderIsSound I.store new
-  read_sound front Q takes is sound = (goes_before (whole old) (whole new) (whole old ++ front) Q takes
-      (ap (λ l. whole old ++ l) is ∙ sym (append_assoc (whole old) front (whole new)))).1 sound
+      → bytes Q ≡ front ++ in_buffer new → ReaderIsSound I.store old → ReaderIsSound I.store new
+  read_sound front Q takes is sound = (goes_before (in_buffer old) (in_buffer new) (in_buffer old ++ front) Q takes
+      (ap (λ l. in_buffer old ++ l) is ∙ sym (append_assoc (in_buffer old) front (in_buffer new)))).1 sound
 
   -- it took Q, and the buffer is empty
   emptied_sound : (Q : List Event) → Takes (tells I (reader_inner old)) Q (tells I (reader_inner new)) → HasBuffer new [] []

@@ -1,14 +1,9 @@
 -- Steps of a writer with a buffer, one after another: what holds of the parts holds of `first?; next`.
-use Rattle.no_std_io2_base.specs.Writers.{TakesAll, CallOf}
-use Rattle.std.proofs.lemmas.Grind.{common_steps}
-use Rattle.std.proofs.Common.{◌≡◌, ℕ, ◌+◌, List, ◌∷◌, ◌++◌, Result, Ok, Err, OnOk, IsOk, ap, arith, false, true, []}
-use Rattle.no_std_io2_base.specs.declared.error.Error.{Error}
-use Rattle.no_std_io2_base.specs.Errors.{error_kind}
-use Rattle.no_std_io2_base.specs.Writers.{Writer}
-use Rattle.no_std_io2_base.specs.Write.{Told, Moves, WriteCall, Made, call_mishap}
-use Rattle.no_std_io2_base.proofs.CallsLemmas.{made_then, made_split}
-use Rattle.no_std_io2_base.specs.Meter.{charges}
-use Rattle.no_std_io2_base.proofs.MeterLemmas.{charges-append}
+use Rattle.no_std_io2_base.specs.{Writers.{TakesAll, CallOf, Writer}, declared.error.Error.{Error}, Errors.{error_kind}, Write.{Told}}
+use Rattle.no_std_io2_base.specs.{Write.{Moves, WriteCall, Made, call_mishap}, Meter.{charges}}
+use Rattle.std.proofs.{lemmas.Grind.{common_steps}, Common.{◌≡◌, ℕ, ◌+◌, List, ◌∷◌, ◌++◌, Result, Ok, Err, OnOk, IsOk, ap, arith, false}}
+use Rattle.std.proofs.Common.{true, []}
+use Rattle.no_std_io2_base.proofs.{CallsLemmas.{made_then, made_split}, MeterLemmas.{charges-append}}
 use Rattle.no_std_io2.specs.BufWriter.{Step, Then, stops, goes_on, with_buffer}
 
 -- no error is `Ok`
@@ -41,8 +36,8 @@ then_leaves = grind (arith, common_steps)
 
 module _ {W : Type 0} (I : Writer W) where
   -- this step changes what is told like this, for every result
-  abbrev pub Tells : {A : Type 0} → Step A → (Told → Result A Error → Told → Type 0) → Type 0
-  Tells {A} step R = (held : List ℕ) (C : List WriteCall) (reply : Result A Error) (left : List ℕ) → step held C reply left
+  abbrev pub StepTells : {A : Type 0} → Step A → (Told → Result A Error → Told → Type 0) → Type 0
+  StepTells {A} step R = (held : List ℕ) (C : List WriteCall) (reply : Result A Error) (left : List ℕ) → step held C reply left
       → (a b : W) → Made (CallOf I) a C b → R (with_buffer (I.told a) held) reply (with_buffer (I.told b) left)
 
   -- no byte is accepted, and an error is a mishap
@@ -53,7 +48,7 @@ module _ {W : Type 0} (I : Writer W) where
       (R : Told → Result A Error → Told → Type 0)
       → ((s t : Told) (e : Error) → Moves s [] (error_kind e ∷ []) t → R s (Err e) t)
       → ((s m t : Told) (reply : Result A Error) → Moves s [] [] m → R m reply t → R s reply t)
-      → Tells first Sending → Tells next R → Then first next held C reply left
+      → StepTells first Sending → StepTells next R → Then first next held C reply left
       → (a b : W) → Made (CallOf I) a C b → R (with_buffer (I.told a) held) reply (with_buffer (I.told b) left)
   then_tells first next R fail join of_first of_next (stops {e = e} p) a b made = fail _ _ e (of_first _ _ _ _ p a b made)
   then_tells first next R fail join of_first of_next (goes_on {C = C} {D = D} {reply = reply} p q) a b made =

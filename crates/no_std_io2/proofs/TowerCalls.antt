@@ -1,8 +1,6 @@
 -- The calls of a tower are calls of the device below it.
-use Rattle.no_std_io2_base.specs.Writers.{CallOf}
+use Rattle.no_std_io2_base.specs.{Writers.{CallOf, Writer}, Write.{WriteCall, Made}}
 use Rattle.std.proofs.Common.{List, ◌∷◌, ◌++◌, ℕ, refl, ap, []}
-use Rattle.no_std_io2_base.specs.Writers.{Writer}
-use Rattle.no_std_io2_base.specs.Write.{WriteCall, Made}
 use Rattle.no_std_io2_base.proofs.CallsLemmas.{made_then, law_may}
 use Rattle.no_std_io2.specs.Towers.{Through}
 

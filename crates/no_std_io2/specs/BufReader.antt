@@ -1,25 +1,18 @@
 -- What a `BufReader` holds and tells, and what its calls do.
-use Rattle.std.specs.Prelude.{◌≡◌, ℕ, ℤ, ◌^◌, ◌<◌, ◌≤◌, negsuc, pos, ◌+◌, ◌-◌, ◌-ℤ◌, ◌*◌, ◌&&◌, max, nat_eq, nat_le}
-use Rattle.std.specs.Prelude.{Bool, true, false, List, [], ◌++◌, length, take, drop, ◌⊎◌, Option, None, Some}
-use Rattle.std.specs.Prelude.{Ok, Err, Result, IsErr, IsErrAnd, OnOk, OnErr}
+use Rattle.std.specs.Prelude.{◌≡◌, ℕ, ℤ, ◌^◌, ◌<◌, ◌≤◌, negsuc, pos, ◌+◌, ◌-◌, ◌-ℤ◌, ◌*◌, ◌&&◌, max, nat_eq, nat_le, Bool, true, false}
+use Rattle.std.specs.Prelude.{List, [], ◌++◌, length, take, drop, ◌⊎◌, Option, None, Some, Ok, Err, Result, IsErr, IsErrAnd, OnOk, OnErr}
+use Rattle.std.specs.Mem.{FitsInMemory}
 use Rattle.std.proofs.Common.{lt_of_le_of_lt, sub-le}
 use lib.Pointwise.{pointwise}
-use denote.Param.{param, number}
-use denote.RattleType.{RattleType}
-use Rattle.std.specs.Mem.{FitsInMemory}
-use Rattle.no_std_io2_base.specs.declared.error.Error.{Error}
-use Rattle.no_std_io2_base.specs.declared.traits.seek.SeekFrom.{SeekFrom}
-use Rattle.no_std_io2_base.specs.declared.traits.seek.SeekFrom.TheVariants.{Current}
-use Rattle.no_std_io2_base.specs.Errors.{IsFault, IsUnexpectedEnd, IsOutOfMemory}
-use Rattle.no_std_io2_base.specs.Events.{Event, events_of}
-use Rattle.no_std_io2_base.specs.Takes.{Store, Tells, Takes, to_come}
-use Rattle.no_std_io2_base.specs.Write.{Made, IsFront}
-use Rattle.no_std_io2_base.specs.Seek.{Seeker, SeekCall, Sought, Measured, Moved, SeekLaw, StreamLenLaw, WithoutPosition}
-use Rattle.no_std_io2_base.specs.Read.{Reader, ReadCall, Gave, GaveExactly, GaveAll, Filled, Consumed, ReadCallLaw, bytes_given, gave_whole}
-use Rattle.no_std_io2_base.specs.Read.{Gathers, GathersUntil, Drains}
+use denote.{Param.{param, number}, RattleType.{RattleType}}
+use Rattle.no_std_io2_base.specs.{declared.{error.Error.{Error}, traits.seek.SeekFrom.{SeekFrom, TheVariants.{Current}}}, Errors.{IsFault}}
+use Rattle.no_std_io2_base.specs.{Errors.{IsUnexpectedEnd, IsOutOfMemory}, Events.{Event, events_of}, Takes.{Store, Tells, Takes, to_come}}
+use Rattle.no_std_io2_base.specs.{Write.{Made, IsFront}, Seek.{Seeker, SeekCall, Sought, Measured, Moved, SeekLaw, StreamLenLaw}}
+use Rattle.no_std_io2_base.specs.{Seek.{WithoutPosition}, Read.{Reader, ReadCall, Gave, GaveExactly, GaveAll, Filled, Consumed}}
+use Rattle.no_std_io2_base.specs.Read.{ReadCallLaw, bytes_given, gave_whole, Gathers, GathersUntil, Drains}
 use Rattle.no_std_io2.specs.contracts.buffered.buf_reader.BufReader.{the_row as reader-row}
-use Rattle.no_std_io2.specs.declared.buffered.buf_reader.BufReader.{BufReader}
-use Rattle.no_std_io2.specs.Buffer.{buffer_held, buffer_behind, IsInBuffer, IsCutOn, IsSuffix}
+use Rattle.no_std_io2.specs.{declared.buffered.buf_reader.BufReader.{BufReader}, Buffer.{buffer_held, buffer_behind, IsInBuffer, IsCutOn}}
+use Rattle.no_std_io2.specs.Buffer.{IsSuffix}
 
 -- `r.buffer()`
 abbrev pub reader_held : {R : Type 0} {S : ℕ} → BufReader R S → List ℕ
@@ -158,9 +151,8 @@ abbrev pub ExactReads : (ℕ → ℕ → Type 0) → List ReadCall → List ℕ 
 ExactReads asks C x (Ok u) = Gathers asks C x
 ExactReads asks C x (Err e) = (IsUnexpectedEnd e × GathersUntil asks C x (Ok [])) ⊎ (IsFault e × GathersUntil asks C x (Err e))
 
--- What such reads, which gave this, leave after the held bytes: what was given of both, and what is still held. Fewer bytes than a full
--- buffer
--- lie behind, the last that were given. After an error all was given, and the buffer is empty.
+-- What such reads, which gave this, leave after the held bytes: what was given of both, and what is still held. Fewer
+-- bytes than a full buffer lie behind, the last that were given. After an error all was given, and the buffer is empty.
 abbrev ExactLeaves : {R : Type 0} {S : ℕ} → BufReader R S → List ℕ → Result (Unit {0}) Error → List ℕ → BufReader R S → Type 0
 ExactLeaves {S = size} old given (Ok u) buf new = (reader_held old ++ given ≡ buf ++ reader_held new)
     × IsSuffix buf (reader_behind new) × (length (reader_behind new) < size)

@@ -1,23 +1,15 @@
 -- What a `BufWriter` and its error hold and tell, how a buffer is sent, and what the calls do. I are the ghost members of the inner writer,
 -- K those of the inner writer as a seeker.
-use Rattle.std.specs.Prelude.{◌≡◌, ℕ, ◌+◌, List, [], ◌++◌, length, nat_lt, nat_le, ◌&&◌, if◌then◌else◌, ◌<◌, ◌≤◌, ◌⊎◌, ◌∷◌, Some}
-use Rattle.std.specs.Prelude.{Result, Ok, Err, IsOk, IsOkAnd, IfOk, IfErr, OnOk, codes, Option, None}
-use Rattle.no_std_io2_base.specs.declared.error.Error.{Error}
-use Rattle.no_std_io2_base.specs.Write.{Told, Moves, call_mishap}
-use Rattle.no_std_io2_base.specs.Write.{WriteCall, Wrote, WroteAll, Flushed, Made, Writes, AllCalls}
-use Rattle.no_std_io2_base.specs.Writers.{Writer, TakesAll, CallOf}
-use Rattle.no_std_io2.specs.Buffer.{buffer_held}
-use Rattle.no_std_io2.specs.declared.buffered.sender.Sender.{Sender}
-use Rattle.no_std_io2.specs.declared.buffered.buf_writer.BufWriter.{BufWriter}
+use Rattle.std.specs.Prelude.{◌≡◌, ℕ, ◌+◌, List, [], ◌++◌, length, nat_lt, nat_le, ◌&&◌, if◌then◌else◌, ◌<◌, ◌≤◌, ◌⊎◌, ◌∷◌, Some, Result}
+use Rattle.std.specs.{Prelude.{Ok, Err, IsOk, IsOkAnd, IfOk, IfErr, OnOk, codes, Option, None}, Mem.{FitsInMemory}}
+use Rattle.no_std_io2_base.specs.{declared.error.Error.{Error}, Write.{Told, Moves, call_mishap, WriteCall, Wrote, WroteAll, Flushed, Made}}
+use Rattle.no_std_io2_base.specs.{Write.{Writes, AllCalls}, Writers.{Writer, TakesAll, CallOf}, Errors.{error_kind, IsFault}}
+use Rattle.no_std_io2_base.specs.{Errors.{IsNoInterruption}, declared.traits.seek.SeekFrom.{SeekFrom}, Seek.{Seeker, SeekCall, Sought}}
+use Rattle.no_std_io2_base.specs.{Seek.{SeekLaw}, Takes.{Store}}
+use Rattle.no_std_io2.specs.{Buffer.{buffer_held}, declared.buffered.{sender.Sender.{Sender}, buf_writer.BufWriter.{BufWriter}}}
 use Rattle.no_std_io2.specs.declared.buffered.into_inner_error.IntoInnerError.{IntoInnerError}
-use Rattle.no_std_io2_base.specs.Errors.{error_kind, IsFault, IsNoInterruption}
-use Rattle.no_std_io2_base.specs.declared.traits.seek.SeekFrom.{SeekFrom}
-use Rattle.no_std_io2_base.specs.Seek.{Seeker, SeekCall, Sought, SeekLaw}
-use Rattle.no_std_io2_base.specs.Takes.{Store}
-use denote.Param.{param, number}
-use denote.RattleType.{RattleType}
-use Rattle.std.specs.Mem.{FitsInMemory}
 use Rattle.no_std_io2.specs.contracts.buffered.buf_writer.BufWriter.{the_row as writer-row}
+use denote.{Param.{param, number}, RattleType.{RattleType}}
 
 -- the inner writer
 abbrev pub sender_inner : {W : Type 0} {S : ℕ} → Sender W S → W
@@ -69,8 +61,8 @@ abbrev pub buffer_after : ℕ → List ℕ → List ℕ → List ℕ
 buffer_after S buffer x =
     if nat_lt (length x) S then (if nat_le (length buffer + length x) S then buffer ++ x else x) else []
 
--- A step of a writer with a buffer relates the bytes held before, the inner calls that were made, the result, and the bytes held
--- afterwards.
+-- A step of a writer with a buffer relates the bytes held before, the inner calls that were made, the result, and the
+-- bytes held afterwards.
 abbrev pub Step : Type 0 → Type 1
 Step A = List ℕ → List WriteCall → Result A Error → List ℕ → Type 0
 
@@ -161,7 +153,7 @@ pub record BuffersAll {W B : Type 0} (I : Writer W) (S : ℕ) (inner : B → W) 
   pub after : OnOk reply (buffer new ≡ buffer_after S (buffer old) x)
 
 -- the bytes of a record x that were accepted, by the result of its call
-abbrev pub all_or_none : Result (Unit {0}) Error → List ℕ → List ℕ
+abbrev all_or_none : Result (Unit {0}) Error → List ℕ → List ℕ
 all_or_none (Ok u) x = x
 all_or_none (Err e) x = []
 
@@ -201,8 +193,8 @@ pub record Unwraps {W B : Type 0} (I : Writer W) (inner : B → W) (buffer : B �
   -- an inner writer that takes all still does
   pub all : TakesAll I (inner old) → IsOkAnd reply (TakesAll I)
 
--- A call of a writer B with a buffer first sent the held bytes: all of them, or as many as went out before a fault, which is then the
--- result.
+-- A call of a writer B with a buffer first sent the held bytes: all of them, or as many as went out before a fault,
+-- which is then the result.
 pub record SendsFirst {W B A : Type 0} (I : Writer W) (inner : B → W) (buffer : B → List ℕ) (old : B) (reply : Result A Error) (new : B)
     : Type 0 where
   pub empty : OnOk reply (buffer new ≡ [])

@@ -1,8 +1,6 @@
 -- The held bytes of a buffer, and those behind them.
 use Rattle.std.specs.Prelude.{◌≡◌, ℕ, ℤ, pos, negsuc, ◌+◌, ◌-◌, ◌≤◌, List, ◌++◌, length, take, slice_range, Ok, Err, Result}
-use Rattle.no_std_io2_base.specs.declared.error.Error.{Error}
-use Rattle.no_std_io2_base.specs.Read.{Reader, GaveLaw, bytes_given}
-use Rattle.no_std_io2_base.specs.Seek.{IsAtOffset}
+use Rattle.no_std_io2_base.specs.{declared.error.Error.{Error}, Read.{Reader, GaveLaw, bytes_given}, Seek.{IsAtOffset}}
 use Rattle.no_std_io2.specs.declared.buffered.buffer.Buffer.{Buffer}
 
 -- the bytes from the start to the end

@@ -1,15 +1,10 @@
 -- Which bytes a copy moves, which calls it makes, and which side ended it.
-use Rattle.std.specs.Prelude.{◌≡◌, ℕ, ◌+◌, ◌-◌, ◌^◌, ◌≤◌, ◌<◌, min, List, [], ◌∷◌, ◌++◌, length, Ok, Err, Result}
-use Rattle.std.specs.List.{concat}
-use Rattle.no_std_io2_base.specs.declared.error.Error.{Error}
-use Rattle.no_std_io2_base.specs.Errors.{error_kind, IsFault}
-use Rattle.no_std_io2_base.specs.Events.{Event, bytes, HasNoFault, EndsInFault}
-use Rattle.no_std_io2_base.specs.Takes.{Tells, Takes, IsAtEnd}
-use Rattle.no_std_io2_base.specs.Read.{Reader, tells, ReadCall, Gave, Gathers, ReadCallLaw}
-use Rattle.no_std_io2_base.specs.Write.{Told, Moves, IsFront, WriteCall, Made, AllCalls}
-use Rattle.no_std_io2_base.specs.Writers.{Writer, CallOf, TakesAll}
-use Rattle.no_std_io2.specs.declared.util.sides.CopyError.{CopyError}
-use Rattle.no_std_io2.specs.declared.util.sides.CopyError.TheVariants.{Read, Write}
+use Rattle.std.specs.{Prelude.{◌≡◌, ℕ, ◌+◌, ◌-◌, ◌^◌, ◌≤◌, ◌<◌, min, List, [], ◌∷◌, ◌++◌, length, Ok, Err, Result}, List.{concat}}
+use Rattle.no_std_io2_base.specs.{declared.error.Error.{Error}, Errors.{error_kind, IsFault}, Events.{Event, bytes, HasNoFault}}
+use Rattle.no_std_io2_base.specs.{Events.{EndsInFault}, Takes.{Tells, Takes, IsAtEnd}, Read.{Reader, tells, ReadCall, Gave, Gathers}}
+use Rattle.no_std_io2_base.specs.{Read.{ReadCallLaw}, Write.{Told, Moves, IsFront, WriteCall, Made, AllCalls}, Writers.{Writer, CallOf}}
+use Rattle.no_std_io2_base.specs.Writers.{TakesAll}
+use Rattle.no_std_io2.specs.declared.util.sides.CopyError.{CopyError, TheVariants.{Read, Write}}
 
 -- the number of bytes, at most `u64::MAX`
 abbrev pub counted : List ℕ → ℕ
@@ -39,8 +34,8 @@ pub data Handed (S : ℕ) : List (List ℕ) → List WriteCall → Result (Unit 
   refused : {x : List ℕ} {C : List WriteCall} {e : Error} → 0 < length x → length x ≤ S → AllCalls C x (Err e)
       → Handed S (x ∷ []) C (Err e)
 
--- The bytes that a reader gave were passed on to a writer, piece by piece: each piece is what one read gave. After them the reader got the
--- calls `last`.
+-- The bytes that a reader gave were passed on to a writer, piece by piece: each piece is what one read gave. After them
+-- the reader got the calls `last`.
 pub record HandsOn {R W : Type 0} (K : Reader R) (I : Writer W) (S : ℕ) (last : List ReadCall) (from : R) (old : W)
     (reply : Result (Unit {0}) Error) (from' : R) (new : W) : Type 0 where
   pub pieces : List (List ℕ)

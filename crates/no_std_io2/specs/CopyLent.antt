@@ -1,16 +1,10 @@
 -- What a `copy_lent` moves, and which calls it makes.
 use Rattle.std.specs.Prelude.{◌≡◌, ℕ, ◌<◌, List, [], ◌∷◌, ◌++◌, length, Ok, Err, Result}
-use Rattle.no_std_io2_base.specs.declared.error.Error.{Error}
-use Rattle.no_std_io2_base.specs.Errors.{error_kind, IsFault, IsInterruption}
-use Rattle.no_std_io2_base.specs.Events.{Event, bytes, HasNoFault, EndsInFault}
-use Rattle.no_std_io2_base.specs.Takes.{Tells, Takes, IsAtEnd}
-use Rattle.no_std_io2_base.specs.Read.{ReadCall, Filled, Consumed}
-use Rattle.no_std_io2_base.specs.BufRead.{Lender, LendCallLaw, lender_tells}
-use Rattle.no_std_io2_base.specs.Write.{Told, Moves, IsFront, WriteCall, Made, AllCalls}
+use Rattle.no_std_io2_base.specs.{declared.error.Error.{Error}, Errors.{error_kind, IsFault, IsInterruption}, Events.{Event, bytes}}
+use Rattle.no_std_io2_base.specs.{Events.{HasNoFault, EndsInFault}, Takes.{Tells, Takes, IsAtEnd}, Read.{ReadCall, Filled, Consumed}}
+use Rattle.no_std_io2_base.specs.{BufRead.{Lender, LendCallLaw, lender_tells}, Write.{Told, Moves, IsFront, WriteCall, Made, AllCalls}}
 use Rattle.no_std_io2_base.specs.Writers.{Writer, CallOf, TakesAll}
-use Rattle.no_std_io2.specs.Copy.{counted}
-use Rattle.no_std_io2.specs.declared.util.sides.CopyError.{CopyError}
-use Rattle.no_std_io2.specs.declared.util.sides.CopyError.TheVariants.{Read, Write}
+use Rattle.no_std_io2.specs.{Copy.{counted}, declared.util.sides.CopyError.{CopyError, TheVariants.{Read, Write}}}
 
 -- C are the calls of the reader, and D those of the writer. Each piece that was lent was passed on by one `write_all`, and then consumed. The
 -- last call of the reader lent nothing, or returned a fault; or it lent a piece whose `write_all` failed.

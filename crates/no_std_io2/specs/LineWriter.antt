@@ -1,18 +1,12 @@
 -- What a `LineWriter` holds and tells, and the inner calls that it makes.
 use Rattle.std.specs.Prelude.{ℕ, List, ◌≡◌, ◌+◌, ◌<◌, ◌≤◌, ◌==◌, ◌⊎◌, [], ◌∷◌, ◌++◌, ◌-◌, length, take, drop, nat_le, Contains}
-use Rattle.std.specs.Prelude.{if◌then◌else◌}
-use Rattle.std.specs.Prelude.{Result, Ok, Err, IsOk}
-use Rattle.no_std_io2_base.specs.declared.error.Error.{Error}
-use Rattle.no_std_io2_base.specs.Write.{Told, WriteCall, Wrote, WroteAll, Flushed, AllCalls}
+use Rattle.std.specs.{Prelude.{if◌then◌else◌, Result, Ok, Err, IsOk}, Mem.{FitsInMemory}}
+use Rattle.no_std_io2_base.specs.{declared.error.Error.{Error}, Write.{Told, WriteCall, Wrote, WroteAll, Flushed, AllCalls}, Pieces.{Lacks}}
+use Rattle.no_std_io2_base.specs.{Pieces.{newline}, Lines.{lines_of, lines_len, unfinished_line}}
 use Rattle.no_std_io2.specs.declared.buffered.line_writer.LineWriter.{LineWriter}
-use denote.Param.{param, number}
-use denote.RattleType.{RattleType}
-use Rattle.std.specs.Mem.{FitsInMemory}
-use Rattle.no_std_io2.specs.contracts.buffered.line_writer.LineWriter.{the_row as lines-row}
-use Rattle.no_std_io2_base.specs.Pieces.{Lacks, newline}
-use Rattle.no_std_io2_base.specs.Lines.{lines_of, lines_len, unfinished_line}
-use Rattle.no_std_io2.specs.BufWriter.{sender_inner, sender_buffer, with_buffer, buffer_after}
-use Rattle.no_std_io2.specs.BufWriter.{Step, Then, PastEmpty, SendCalls, WriteCalls, WriteAllCalls, FlushCalls}
+use Rattle.no_std_io2.specs.{contracts.buffered.line_writer.LineWriter.{the_row as lines-row}, BufWriter.{sender_inner, sender_buffer}}
+use Rattle.no_std_io2.specs.BufWriter.{with_buffer, buffer_after, Step, Then, PastEmpty, SendCalls, WriteCalls, WriteAllCalls, FlushCalls}
+use denote.{Param.{param, number}, RattleType.{RattleType}}
 
 -- `w.get_ref()`
 abbrev pub line_inner : {W : Type 0} {S : ℕ} → LineWriter W S → W
@@ -54,8 +48,8 @@ abbrev pub LinesCalls : ℕ → List ℕ → Step ℕ
 LinesCalls S x held C reply left =
     (held ≡ []) × (answer : Result ℕ Error) × (C ≡ Wrote (lines_of x) answer ∷ []) × HoldsTail S x answer reply left
 
--- the lines y are passed on: by one `write_all` if nothing is held; if not, they go through the buffer after the held bytes, and the buffer
--- is sent
+-- the lines y are passed on: by one `write_all` if nothing is held; if not, they go through the buffer after the held
+-- bytes, and the buffer is sent
 abbrev pub SendLinesCalls : ℕ → List ℕ → Step (Unit {0})
 SendLinesCalls S y held C reply left = PastEmpty (λ D. AllCalls D y) held C reply left
     ⊎ ((0 < length held) × Then (WriteAllCalls S y) SendCalls held C reply left)

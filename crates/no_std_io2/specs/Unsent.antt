@@ -1,7 +1,6 @@
 -- The bytes that a buffered writer did not send.
 use Rattle.std.specs.Prelude.{ℕ, List}
-use Rattle.no_std_io2.specs.declared.buffered.unsent.Unsent.{Unsent}
-use Rattle.no_std_io2.specs.Buffer.{buffer_held}
+use Rattle.no_std_io2.specs.{declared.buffered.unsent.Unsent.{Unsent}, Buffer.{buffer_held}}
 
 -- the bytes
 abbrev pub unsent_bytes : {S : ℕ} → Unsent S → List ℕ

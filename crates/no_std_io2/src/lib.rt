@@ -1,15 +1,14 @@
-//! Byte streams that neither lose, repeat nor reorder a byte, for programs without an operating
-//! system. The names are those of Rust's `std::io`, under [`io`].
+//! Byte streams that neither lose, repeat nor reorder a byte, for programs with and without an
+//! operating system. The names are those of Rust's `std::io`, under [`io`].
 //!
 //! To put a buffer in front of a device, take [`io::BufWriter`], [`io::LineWriter`] or
 //! [`io::BufReader`]. In the examples, `rt` is the `HostRuntime` that `main` and each test take as
 //! an argument, and the code is in a function that returns a `Result`.
 //!
-//! [`io::Cursor`] makes bytes in memory a stream; a slice is a reader, and a vector a writer, without
-//! it. [`io::copy`] copies all bytes of a reader to a writer. A device of your own implements
-//! [`io::Write`], or [`io::Stored`] and [`io::Read`]. If it does not keep the bytes that it takes, it
-//! tells them by [`ghost_bytes::GhostBytes`]. The words of all contracts are under
-//! `Rattle.no_std_io2.specs`.
+//! [`io::Cursor`] makes bytes in memory a stream; a slice is a reader, and a vector a writer, without it. [`io::copy`]
+//! copies all bytes of a reader to a writer. A device of your own implements [`io::Write`], or [`io::Stored`] and
+//! [`io::Read`]. If it does not keep the bytes that it takes, it tells them by [`ghost_bytes::GhostBytes`]. The words
+//! of all contracts are under `Rattle.no_std_io2.specs`.
 #![tactic(auto)]
 
 pub mod buffered;

@@ -23,10 +23,9 @@ pub use read_at::read_exact_at;
 pub use retries::write_with_retries;
 pub use sides::{CopyError, copy_sided, copy_with};
 
-/// Copies all remaining bytes of `reader` to `writer`, through a buffer of `S` bytes on the stack.
-/// It returns their number, or `u64::MAX` if there are more. It ignores the reader's interruptions,
-/// passes on what each read gives by one `write_all`, and does not flush `writer`. Follows
-/// `std::io::copy`.
+/// Copies all remaining bytes of `reader` to `writer`, through a buffer of `S` bytes on the stack. It returns their
+/// number, or `u64::MAX` if there are more. It ignores the reader's interruptions, passes on what each read gives by
+/// one `write_all`, and does not flush `writer`. Follows `std::io::copy`.
 ///
 /// If `S` is above 0 and each read gives as many bytes as fit, `copy` makes one read for each `S`
 /// bytes, rounded up, and one more, which finds the end.
@@ -58,10 +57,9 @@ pub fn copy<R: Read, W: Write, const S: usize>(reader: &mut R, writer: &mut W) -
 /// is 0, no call is made. `std::io` has no such function; there you copy a `Take` into a `Sink`.
 ///
 /// # Errors
-/// Returns the first fault that comes before all `left` bytes are skipped; the reader is then right
-/// after it. Returns `UnexpectedEof` if the bytes end too early. After either error the bytes before
-/// it are skipped, and `left` is the number of missing bytes, so the same call continues. Never
-/// returns `Interrupted`.
+/// Returns the first fault that comes before all `left` bytes are skipped; the reader is then right after it. Returns
+/// `UnexpectedEof` if the bytes end too early. After either error the bytes before it are skipped, and `left` is the
+/// number of missing bytes, so the same call continues. Never returns `Interrupted`.
 ///
 /// ```rust
 /// let mut r = Cursor::new(*b"abcde");

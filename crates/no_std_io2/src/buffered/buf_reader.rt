@@ -37,8 +37,8 @@ impl<R: Read, const S: usize> BufReader<R, S> {
     ghost use Rattle.no_std_io2_base.specs.Read.{tells};
     ghost use Rattle.no_std_io2.specs.BufReader.{reader_inner, HasNoBuffer};
 
-    /// Puts an empty buffer of `S` bytes in front of `inner`. `S` is from 1 to 2^63 - 1. Follows
-    /// `std::io::BufReader::with_capacity`.
+    /// Puts an empty buffer of `S` bytes in front of `inner`. `S` is from 1 to 2^63 -
+    /// 1. Follows `std::io::BufReader::with_capacity`.
     pub fn new(inner: R) -> BufReader<R, S>
         requires some_room { 0 < S }
         requires in_memory { S < 2 ^ 63 }
@@ -57,8 +57,8 @@ impl<R, const S: usize> BufReader<R, S> {
     ghost use Rattle.no_std_io2.specs.contracts.buffered.buf_reader.BufReader.{the_row as reader-row};
     ghost use Rattle.no_std_io2.specs.BufReader.{reader_held, reader_behind, reader_inner};
 
-    /// Gets a reference to the inner reader, which is ahead of this one by the held bytes. Follows
-    /// `std::io::BufReader::get_ref`.
+    /// Gets a reference to the inner reader, which is ahead of this one by the held
+    /// bytes. Follows `std::io::BufReader::get_ref`.
     ///
     /// ```rust
     /// let mut r = BufReader::<_, 4>::new(Cursor::new(*b"abcdefgh"));
@@ -72,8 +72,7 @@ impl<R, const S: usize> BufReader<R, S> {
         &self.inner
     }
 
-    /// Gets a mutable reference to the inner reader. The held bytes stay. Follows
-    /// `std::io::BufReader::get_mut`.
+    /// Gets a mutable reference to the inner reader. The held bytes stay. Follows `std::io::BufReader::get_mut`.
     pub fn get_mut(&mut self) -> &mut R
         ensures value { result.now ≡ reader_inner self.old }
         ensures* writes_back { sem 𝓛 (Lends (reader-row R.row S.row) R.row self.entry result
@@ -82,8 +81,7 @@ impl<R, const S: usize> BufReader<R, S> {
         &mut self.inner
     }
 
-    /// Returns the held bytes, at most `S`: they were read and not yet given. Follows
-    /// `std::io::BufReader::buffer`.
+    /// Returns the held bytes, at most `S`: they were read and not yet given. Follows `std::io::BufReader::buffer`.
     pub fn buffer(&self) -> &[u8]
         ensures value { result.now ≡ reader_held self.now }
         ensures bound { length result.now ≤ S }
@@ -91,11 +89,10 @@ impl<R, const S: usize> BufReader<R, S> {
         self.buffer.as_slice()
     }
 
-    /// Returns the bytes of the buffer that this reader has already given, right before the held
-    /// ones. [`seek_relative`](BufReader::seek_relative) can go back over them without a seek of
-    /// the inner reader. An inner read drops them, whatever it returns; so do a `read_to_end` and
-    /// a seek that drops the buffer. Rust's `BufReader` keeps such bytes too, but does not show
-    /// them.
+    /// Returns the bytes of the buffer that this reader has already given, right before the held ones.
+    /// [`seek_relative`](BufReader::seek_relative) can go back over them without a seek of the inner reader. An inner
+    /// read drops them, whatever it returns; so do a `read_to_end` and a seek that drops the buffer. Rust's `BufReader`
+    /// keeps such bytes too, but does not show them.
     pub fn behind(&self) -> &[u8]
         ensures value { result.now ≡ reader_behind self.now }
         ensures bound { length result.now ≤ S }

@@ -103,8 +103,8 @@ impl<W: Write + Drop, const S: usize> BufWriter<W, S> {
         self.core.capacity()
     }
 
-    /// Returns the inner writer and the bytes that were held for it, and sends nothing. Follows
-    /// `std::io::BufWriter::into_parts`.
+    /// Returns the inner writer and the bytes that were held for it, and sends
+    /// nothing. Follows `std::io::BufWriter::into_parts`.
     ///
     /// ```rust
     /// let mut w = BufWriter::<Vec<u8>, 8>::new(Vec::new(rt.alloc()));
@@ -125,12 +125,10 @@ impl<W: Write + Drop, const S: usize> BufWriter<W, S> {
     /// it makes no inner call. Follows `std::io::BufWriter::into_inner`.
     ///
     /// # Errors
-    /// Returns `WriteZero` if an inner write takes no byte, and the inner writer's fault if one fails.
-    /// The error contains this writer, which holds the bytes that were not sent. Never returns
-    /// `Interrupted`.
+    /// Returns `WriteZero` if an inner write takes no byte, and the inner writer's fault if one fails. The error
+    /// contains this writer, which holds the bytes that were not sent. Never returns `Interrupted`.
     ///
-    /// In a `match`, bind the error to a name: the borrow checker accepts `Err(_e)` here, but not
-    /// `Err(_)`.
+    /// In a `match`, bind the error to a name: the borrow checker accepts `Err(_e)` here, but not `Err(_)`.
     pub fn into_inner(self) -> std::result::Result<W, IntoInnerError<BufWriter<W, S>>>
         ensures law { Unwraps W.Write writer_inner writer_buffer self result }
     {

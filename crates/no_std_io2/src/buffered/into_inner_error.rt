@@ -42,8 +42,8 @@ impl<W> IntoInnerError<W> {
         &self.error
     }
 
-    /// Returns the error that stopped the sending, and drops the writer. The drop tries once more to send.
-    /// Follows `std::io::IntoInnerError::into_error`.
+    /// Returns the error that stopped the sending, and drops the writer. The drop tries once more to
+    /// send. Follows `std::io::IntoInnerError::into_error`.
     pub fn into_error(self) -> Error
     where
         W: Drop,

@@ -146,9 +146,8 @@ impl<W: Write + Drop, const S: usize> Write for LineWriter<W, S> {
     /// that this leaves, at most `S` are held, and they either end in a newline or have none.
     ///
     /// # Errors
-    /// Returns `WriteZero` if an inner write of held bytes takes no byte, and the inner writer's error
-    /// if an inner write fails. Nothing of `buf` was accepted then, and bytes that were not sent are
-    /// still held.
+    /// Returns `WriteZero` if an inner write of held bytes takes no byte, and the inner writer's error if an inner
+    /// write fails. Nothing of `buf` was accepted then, and bytes that were not sent are still held.
     fn write(&mut self, buf: &[u8]) -> Result<usize>
         ensures law { WriteOf ⟦<Self as Write>⟧ self.old buf.now result self.new }
 
@@ -167,9 +166,8 @@ impl<W: Write + Drop, const S: usize> Write for LineWriter<W, S> {
     /// Sends the held bytes, then flushes the inner writer.
     ///
     /// # Errors
-    /// Returns `WriteZero` if an inner write of held bytes takes no byte, and the inner writer's error
-    /// if an inner call fails. Bytes that were not sent are still held, and a later flush continues
-    /// with them.
+    /// Returns `WriteZero` if an inner write of held bytes takes no byte, and the inner writer's error if an inner call
+    /// fails. Bytes that were not sent are still held, and a later flush continues with them.
     fn flush(&mut self) -> Result<()>
         ensures law { FlushOf ⟦<Self as Write>⟧ self.old result self.new }
         ensures unheld { OnOk result (line_buffer self.new ≡ []) }

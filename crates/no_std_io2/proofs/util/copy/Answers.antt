@@ -1,5 +1,4 @@
-use Rattle.std.proofs.Common.{Ok, Err, refl}
-use Rattle.std.proofs.lemmas.Result.{err_from_is_err_and}
+use Rattle.std.proofs.{Common.{Ok, Err, refl}, lemmas.Result.{err_from_is_err_and}}
 use Rattle.no_std_io2.proofs.util.copy.Goals as goal
 
 pub returns : goal.returns

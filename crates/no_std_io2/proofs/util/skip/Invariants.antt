@@ -1,6 +1,5 @@
 -- `skip` ends with its reader's turns.
-use Rattle.no_std_io2_base.proofs.Readers.{lends}
-use Rattle.no_std_io2_base.proofs.PortionLemmas.{PortionsTaken}
+use Rattle.no_std_io2_base.proofs.{Readers.{lends}, PortionLemmas.{PortionsTaken}}
 use Rattle.no_std_io2.proofs.util.skip.Given as goal
 
 abbrev pub invariant-pieces : goal.invariant-pieces

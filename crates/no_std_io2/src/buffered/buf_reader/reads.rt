@@ -88,8 +88,8 @@ impl<R: Read, const S: usize> Read for BufReader<R, S> {
         Ok(())
     }
 
-    // Appends the held bytes, and then those that the inner reader's `read_to_end` appends. If nothing is held, this is just that
-    // inner call.
+    // Appends the held bytes, and then those that the inner reader's `read_to_end` appends. If nothing is held, this is
+    // just that inner call.
     fn read_to_end<A: Allocator>(&mut self, buf: &mut Vec<u8, A>) -> Result<usize>
         ensures law { ReadToEndLaw ⟦<Self as Read>⟧ self.old buf.old result buf.new self.new }
 

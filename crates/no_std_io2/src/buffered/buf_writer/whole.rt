@@ -29,8 +29,7 @@ impl<W: Write + Drop, const S: usize> BufWriter<W, S> {
     /// was accepted, and is held. The held bytes are sent first if it does not fit beside them.
     ///
     /// # Errors
-    /// Returns the errors that [`make_room`](BufWriter::make_room) returns. Nothing of the record was then
-    /// accepted.
+    /// Returns the errors that [`make_room`](BufWriter::make_room) returns. Nothing of the record was then accepted.
     ///
     /// ```rust
     /// let mut w = BufWriter::<Vec<u8>, 8>::new(Vec::new(rt.alloc()));

@@ -2,14 +2,14 @@ use Rattle.std.proofs.Common.{◌++◌, ◌∙◌, ap}
 use Rattle.no_std_io2.specs.Events.{bytes}
 use Rattle.no_std_io2.proofs.MovesLemmas.{Moves-steady}
 use Rattle.no_std_io2.specs.Copy.{counted}
-use Rattle.no_std_io2.proofs.CopyLemmas.{took_all, copied_ok, copied_err, copies_steadily, stays_steady, flushed}
+use Rattle.no_std_io2.proofs.CopyLemmas.{took_told, copied_ok, copied_err, copies_steadily, stays_steady, flushed}
 use Rattle.promises.proofs.steady.copy_and_flush.Goals as goal
 
 pub returns : goal.returns
 returns g c = λ some E told none steady.
     let copied = copied_ok c.in_ok-n.ensures in
     let (no_fault, end, count, moves) = copied.ends in
-    let all = took_all copied.takes told (end some) in
+    let all = took_told copied.takes told (end some) in
     let flush = c.in_ok-flush.ensures.law in
     let old = g.W.Write.told c.args.writer.now in (
       count ∙ ap (λ P. counted (bytes P)) all.0,

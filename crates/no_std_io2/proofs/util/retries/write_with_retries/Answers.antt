@@ -1,7 +1,6 @@
 use Rattle.std.proofs.Common.{arith}
-use Rattle.no_std_io2_base.proofs.MovesLemmas.{Sends-then, Moves-quiet}
+use Rattle.no_std_io2_base.proofs.{MovesLemmas.{Sends-then, Moves-quiet}, RetryLemmas.{spent_more, spent_all, tries_again}}
 use Rattle.no_std_io2_base.specs.Retries.{last}
-use Rattle.no_std_io2_base.proofs.RetryLemmas.{spent_more, spent_all, tries_again}
 use Rattle.no_std_io2.proofs.util.retries.write_with_retries.Goals as goal
 
 pub tries-preserved : goal.tries-preserved

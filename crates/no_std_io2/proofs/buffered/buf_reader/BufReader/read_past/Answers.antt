@@ -1,15 +1,11 @@
 -- A read when nothing is held, by its ends: past the buffer, a fill that failed, and out of the filled buffer.
 use Rattle.std.proofs.Common.{◌≡◌, [], Ok, Err, ◌++◌, length, take, drop, arith, refl, ap, ◌∙◌, length-drop, length-take-le}
-use Rattle.std.proofs.Math.Seq.{drop-nil}
-use Rattle.std.proofs.lemmas.List.{nil_from_length}
-use Rattle.std.proofs.lemmas.Result.{err_from_is_err_and}
+use Rattle.std.proofs.{Math.Seq.{drop-nil}, lemmas.{List.{nil_from_length}, Result.{err_from_is_err_and}}}
 use Rattle.no_std_io2_base.specs.Read.{tells}
-use Rattle.no_std_io2_base.proofs.Readers.{reader}
-use Rattle.no_std_io2_base.proofs.TakesLemmas.{read_law, takes_then}
-use Rattle.no_std_io2.specs.Buffer.{buffer_held}
-use Rattle.no_std_io2.specs.BufReader.{reader_held, went_past, was_filled}
-use Rattle.no_std_io2.proofs.BufferedReads.{takes_held, takes_direct, takes_fill, ends_behind, end_read}
-use Rattle.no_std_io2.proofs.BufReaderCalls.{split_held, by_filled}
+use Rattle.no_std_io2_base.proofs.{Readers.{reader}, TakesLemmas.{read_law, takes_then}}
+use Rattle.no_std_io2.specs.{Buffer.{buffer_held}, BufReader.{reader_held, went_past, was_filled}}
+use Rattle.no_std_io2.proofs.{BufferedReads.{takes_held, takes_direct, takes_fill, ends_unheld, end_read}, BufReaderCalls.{split_held}}
+use Rattle.no_std_io2.proofs.BufReaderCalls.{by_filled}
 use Rattle.no_std_io2.proofs.buffered.buf_reader.BufReader.read_past.Goals as goal
 
 -- past the buffer
@@ -67,7 +63,7 @@ returns g c =
             (takes_held g.row.S mid _ (take n shown) _ (split_held n mid shown is.gave is.held) fill.read.bound);
         end = λ zero room.
             let empty : mid ≡ [] = nil_from_length mid (omega (arith, zero, room, is.count, c.give.auto.buf)) in
-            ends_behind g.row.S _ (tells (reader g.R.Stored g.R.Read) c.fill.new.from) (is.held ∙ ap (drop n) empty ∙ drop-nil n)
+            ends_unheld g.row.S _ (tells (reader g.R.Stored g.R.Read) c.fill.new.from) (is.held ∙ ap (drop n) empty ∙ drop-nil n)
             (fill.read.end (ap Ok empty) (omega (arith, c.if-buf.false)));
         call = by_filled n (length shown) mid shown none (omega (arith, c.if-buf.false, c.give.auto.buf)) fill.read
             (omega (arith, is.count, c.give.auto.buf)) is.gave (is.behind ∙ ap (λ l. l ++ take n shown) fill.behind) is.held;

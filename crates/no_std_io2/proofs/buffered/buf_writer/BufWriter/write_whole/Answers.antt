@@ -1,18 +1,11 @@
 -- There is room for the record, which is then held; or no room could be made.
-use Rattle.std.proofs.lemmas.Grind.{common_steps}
-use Rattle.std.proofs.Common.{◌≡◌, ℕ, ◌+◌, ◌<◌, List, [], ◌∷◌, ◌++◌, length, Ok, Err, refl, sym, ap, subst, ◌∙◌, arith, append_assoc}
-use Rattle.std.proofs.Common.{length-append}
-use Rattle.std.proofs.lemmas.Result.{err_from_is_err_and}
-use Rattle.no_std_io2_base.specs.declared.error.Error.{Error}
-use Rattle.no_std_io2_base.specs.Writers.{Writer}
-use Rattle.no_std_io2_base.specs.Errors.{error_kind, IsFault}
-use Rattle.no_std_io2_base.specs.Write.{Moves, AllCalls}
-use Rattle.no_std_io2.specs.declared.buffered.buf_writer.BufWriter.{BufWriter}
-use Rattle.no_std_io2.specs.BufWriter.{writer_inner, writer_buffer, writer_told, TakesStep, WayCalls, Puts}
+use Rattle.std.proofs.{lemmas.Grind.{common_steps}, Common.{◌≡◌, ℕ, ◌+◌, ◌<◌, List, [], ◌∷◌, ◌++◌, length, Ok, Err, refl, sym, ap, subst}}
+use Rattle.std.proofs.{Common.{◌∙◌, arith, append_assoc, length-append}, lemmas.Result.{err_from_is_err_and}}
+use Rattle.no_std_io2_base.specs.{declared.error.Error.{Error}, Writers.{Writer}, Errors.{error_kind, IsFault}, Write.{Moves, AllCalls}}
+use Rattle.no_std_io2.specs.{declared.buffered.buf_writer.BufWriter.{BufWriter}, BufWriter.{writer_inner, writer_buffer, writer_told}}
+use Rattle.no_std_io2.specs.BufWriter.{TakesStep, WayCalls, Puts}
 use Rattle.no_std_io2_base.proofs.MovesLemmas.{Moves-then}
-use Rattle.no_std_io2.proofs.BufWriterLemmas.{Moves-kept}
-use Rattle.no_std_io2.proofs.BufWriterCalls.{puts}
-use Rattle.no_std_io2.proofs.StepLemmas.{then_stops, then_goes_on}
+use Rattle.no_std_io2.proofs.{BufWriterLemmas.{Moves-kept}, BufWriterCalls.{puts}, StepLemmas.{then_stops, then_goes_on}}
 use Rattle.no_std_io2.proofs.buffered.buf_writer.BufWriter.write_whole.Goals as goal
 
 module _ {W : Type 0} {S : ℕ} (I : Writer W) {old : BufWriter W S} {n : ℕ} (head tail : List ℕ) (is : n ≡ length head + length tail) where

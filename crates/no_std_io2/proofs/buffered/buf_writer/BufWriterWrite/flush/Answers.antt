@@ -1,6 +1,5 @@
 use Rattle.no_std_io2.specs.BufWriter.{sender_inner, writer_inner}
-use Rattle.no_std_io2.proofs.BufWriterLemmas.{buffer_none}
-use Rattle.no_std_io2.proofs.BufWriterCalls.{flush_empty, flush_tells, flush_counts}
+use Rattle.no_std_io2.proofs.{BufWriterLemmas.{buffer_none}, BufWriterCalls.{flush_empty, flush_tells, flush_counts}}
 use Rattle.no_std_io2.proofs.buffered.buf_writer.BufWriterWrite.flush.Goals as goal
 
 pub returns : goal.returns

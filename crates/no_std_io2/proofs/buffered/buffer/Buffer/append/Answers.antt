@@ -1,5 +1,4 @@
-use Rattle.std.proofs.lemmas.Grind.{common_steps}
-use Rattle.std.proofs.Common.{arith}
+use Rattle.std.proofs.{lemmas.Grind.{common_steps}, Common.{arith}}
 use Rattle.no_std_io2.proofs.BufferRanges.{range_more}
 use Rattle.no_std_io2.proofs.buffered.buffer.Buffer.append.Goals as goal
 

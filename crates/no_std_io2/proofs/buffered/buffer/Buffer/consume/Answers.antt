@@ -1,5 +1,4 @@
-use Rattle.std.proofs.lemmas.Grind.{common_steps}
-use Rattle.std.proofs.Common.{◌-◌, drop, arith, length-take}
+use Rattle.std.proofs.{lemmas.Grind.{common_steps}, Common.{arith, length-take}}
 use Rattle.no_std_io2.proofs.BufferRanges.{range_rest, front_more}
 use Rattle.no_std_io2.proofs.buffered.buffer.Buffer.consume.Goals as goal
 

@@ -1,7 +1,6 @@
-use Rattle.std.proofs.lemmas.Grind.{common_steps}
-use Rattle.std.proofs.Common.{arith, sym, ap, ◌∙◌, ◌++◌, ◌∷◌, slice_index, []}
-use Rattle.std.proofs.Math.Seq.{take-suc, take-suc-set}
-use Rattle.no_std_io2.specs.Buffer.{buffer_held, buffer_behind}
+use Rattle.std.proofs.{lemmas.Grind.{common_steps}, Common.{arith, sym, ap, ◌∙◌, ◌++◌, slice_index}, Math.Seq.{take-suc}}
+use Rattle.std.proofs.Math.Seq.{take-suc-set}
+use Rattle.no_std_io2.specs.Buffer.{buffer_behind}
 use Rattle.no_std_io2.proofs.buffered.buffer.Buffer.give.Goals as goal
 
 -- the one byte that moves

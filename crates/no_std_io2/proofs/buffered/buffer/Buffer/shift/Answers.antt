@@ -1,6 +1,4 @@
-use Rattle.std.proofs.lemmas.Grind.{common_steps}
-use Rattle.std.proofs.Common.{arith, length-take-le, length-drop}
-use Rattle.std.proofs.lemmas.Int.{to_z-of_z}
+use Rattle.std.proofs.{lemmas.{Grind.{common_steps}, Int.{to_z-of_z}}, Common.{arith, length-take-le, length-drop}}
 use Rattle.no_std_io2.proofs.BufferRanges.{cut_on}
 use Rattle.no_std_io2.proofs.buffered.buffer.Buffer.shift.Goals as goal
 

@@ -1,8 +1,5 @@
-use Rattle.no_std_io2.specs.BufWriter.{sender_inner}
-use Rattle.no_std_io2.specs.LineWriter.{line_inner}
-use Rattle.no_std_io2.proofs.BufWriterLemmas.{buffer_none}
-use Rattle.no_std_io2.proofs.BufWriterCalls.{flush_empty, flush_tells}
-use Rattle.no_std_io2.proofs.LineWriterStates.{flush_state}
+use Rattle.no_std_io2.specs.{BufWriter.{sender_inner}, LineWriter.{line_inner}}
+use Rattle.no_std_io2.proofs.{BufWriterLemmas.{buffer_none}, BufWriterCalls.{flush_empty, flush_tells}, LineWriterStates.{flush_state}}
 use Rattle.no_std_io2.proofs.buffered.line_writer.LineWriterWrite.flush.Goals as goal
 
 pub invariant_of-self : goal.invariant_of-self

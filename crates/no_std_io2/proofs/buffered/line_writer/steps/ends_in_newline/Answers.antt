@@ -1,8 +1,5 @@
-use Rattle.std.proofs.lemmas.Grind.{common_steps}
-use Rattle.std.proofs.Common.{refl, ◌≡◌, ℕ, ◌-◌, ◌==◌, Option, None, Some, List, length, arith, ◌∙◌}
-use Rattle.std.specs.Borrow.{Bor}
-use Rattle.std.specs.Option.{option_eq}
-use Rattle.std.specs.Slice.{IsGetResult}
+use Rattle.std.proofs.{lemmas.Grind.{common_steps}, Common.{refl, ◌≡◌, ℕ, ◌-◌, ◌==◌, Option, None, Some, List, length, arith, ◌∙◌}}
+use Rattle.std.specs.{Borrow.{Bor}, Option.{option_eq}, Slice.{IsGetResult}}
 use Rattle.no_std_io2_base.specs.Pieces.{ends_in, newline}
 use Rattle.no_std_io2_base.proofs.PieceTrims.{is_last, other_last}
 use Rattle.no_std_io2.proofs.buffered.line_writer.steps.ends_in_newline.Goals as goal

@@ -1,5 +1,4 @@
-use Rattle.std.proofs.Common.{◌<◌, length, rules, inr}
-use Rattle.std.proofs.lemmas.Result.{err_from_is_err_and}
+use Rattle.std.proofs.{Common.{◌<◌, length, rules, inr}, lemmas.Result.{err_from_is_err_and}}
 use Rattle.no_std_io2.specs.BufWriter.{sender_buffer}
 use Rattle.no_std_io2.proofs.StepLemmas.{then_stops, then_goes_on}
 use Rattle.no_std_io2.proofs.buffered.line_writer.steps.send_lines.Goals as goal

@@ -1,6 +1,4 @@
-use Rattle.std.proofs.lemmas.Grind.{common_steps}
-use Rattle.std.proofs.Common.{arith, take, drop, refl}
-use Rattle.std.proofs.lemmas.List.{take_min}
+use Rattle.std.proofs.{lemmas.{Grind.{common_steps}, List.{take_min}}, Common.{arith, take, drop, refl}}
 use Rattle.no_std_io2_base.proofs.LineLemmas.{take_lines}
 use Rattle.no_std_io2.proofs.HeldTail.{lines_rest}
 use Rattle.no_std_io2.proofs.buffered.line_writer.steps.tail_end.Goals as goal

@@ -1,5 +1,4 @@
-use Rattle.std.proofs.Common.{arith, inl}
-use Rattle.std.proofs.lemmas.Result.{err_from_is_err_and}
+use Rattle.std.proofs.{Common.{arith, inl}, lemmas.Result.{err_from_is_err_and}}
 use Rattle.no_std_io2_base.proofs.LineLemmas.{lacks_lines}
 use Rattle.no_std_io2.proofs.StepLemmas.{then_stops, then_goes_on}
 use Rattle.no_std_io2.proofs.buffered.line_writer.steps.write.Goals as goal

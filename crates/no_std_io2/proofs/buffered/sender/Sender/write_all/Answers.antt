@@ -1,10 +1,7 @@
 -- The hot paths: there is room, or nothing is held, so nothing has to be sent.
 use Rattle.no_std_io2_base.specs.Write.{AllCalls}
-use Rattle.std.proofs.lemmas.Grind.{common_steps}
-use Rattle.std.proofs.Common.{arith}
-use Rattle.std.proofs.lemmas.List.{nil_from_length}
-use Rattle.no_std_io2.proofs.StepLemmas.{then_goes_on}
-use Rattle.no_std_io2.proofs.BufWriterCalls.{way_kept, puts, buffered_past}
+use Rattle.std.proofs.{lemmas.{Grind.{common_steps}, List.{nil_from_length}}, Common.{arith}}
+use Rattle.no_std_io2.proofs.{StepLemmas.{then_goes_on}, BufWriterCalls.{way_kept, puts, buffered_past}}
 use Rattle.no_std_io2.proofs.buffered.sender.Sender.write_all.Goals as goal
 
 pub returns-then-hold_if_room : goal.returns-then-hold_if_room

@@ -1,10 +1,8 @@
 -- A `write` off the hot path: room is made, and then the bytes go past the buffer or into it.
 use Rattle.no_std_io2.specs.BufWriter.{Only}
-use Rattle.std.proofs.Common.{refl, arith, rules}
-use Rattle.std.proofs.lemmas.Result.{err_from_is_err_and}
+use Rattle.std.proofs.{Common.{refl, arith, rules}, lemmas.Result.{err_from_is_err_and}}
 use Rattle.no_std_io2_base.specs.Write.{Wrote}
-use Rattle.no_std_io2.proofs.StepLemmas.{then_stops, then_goes_on}
-use Rattle.no_std_io2.proofs.BufWriterCalls.{way_none, way_room, puts, passes, one_made}
+use Rattle.no_std_io2.proofs.{StepLemmas.{then_stops, then_goes_on}, BufWriterCalls.{way_none, way_room, puts, passes, one_made}}
 use Rattle.no_std_io2.proofs.buffered.sender.Sender.write_cold.Goals as goal
 
 pub returns-in_err-send_if_no_room : goal.returns-in_err-send_if_no_room

@@ -1,7 +1,6 @@
 use Rattle.std.proofs.Common.{take, refl, sym, take-append-drop, ◌∙◌, ap, ◌++◌}
 use Rattle.no_std_io2.specs.BufReader.{reader_held}
-use Rattle.no_std_io2.proofs.BufferedReads.{takes_held}
-use Rattle.no_std_io2.proofs.BufReaderRoom.{held-le}
+use Rattle.no_std_io2.proofs.{BufferedReads.{takes_held}, BufReaderRoom.{held-le}}
 use Rattle.no_std_io2.proofs.buffered.buf_reader.lends.BufReaderBufRead.consume.Goals as goal
 
 pub returns : goal.returns

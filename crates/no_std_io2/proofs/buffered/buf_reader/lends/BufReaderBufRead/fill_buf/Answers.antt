@@ -1,13 +1,10 @@
 -- Held bytes are lent; or a fill failed; or what it gave is lent.
-use Rattle.std.proofs.Common.{◌≡◌, ◌<◌, [], Ok, Err, refl, sym, ap, ◌∙◌, arith, length}
-use Rattle.std.proofs.lemmas.List.{nil_from_length}
+use Rattle.std.proofs.{Common.{◌≡◌, ◌<◌, [], Ok, Err, refl, sym, ap, ◌∙◌, arith, length}, lemmas.List.{nil_from_length}}
 use Rattle.std.proofs.lemmas.Result.{err_from_is_err_and}
 use Rattle.no_std_io2_base.specs.Read.{tells}
-use Rattle.no_std_io2_base.proofs.Readers.{reader}
-use Rattle.no_std_io2_base.proofs.TakesLemmas.{takes_none, stays_at_end}
-use Rattle.no_std_io2.specs.Buffer.{buffer_held}
-use Rattle.no_std_io2.specs.BufReader.{reader_held, lent_held, lent_read}
-use Rattle.no_std_io2.proofs.BufferedReads.{takes_fill, begins_lent, begins_filled, ends_behind}
+use Rattle.no_std_io2_base.proofs.{Readers.{reader}, TakesLemmas.{takes_none, stays_at_end}}
+use Rattle.no_std_io2.specs.{Buffer.{buffer_held}, BufReader.{reader_held, lent_held, lent_read}}
+use Rattle.no_std_io2.proofs.BufferedReads.{takes_fill, begins_lent, begins_filled, ends_unheld}
 use Rattle.no_std_io2.proofs.buffered.buf_reader.lends.BufReaderBufRead.fill_buf.Goals as goal
 
 pub returns-then-len-gt0 : goal.returns-then-len-gt0
@@ -85,7 +82,7 @@ returns g c =
           end = λ empty.
               let none : c.as_slice-2.result.now ≡ [] = cc in
               let gone = sym is ∙ none in
-              ends_behind g.row.S mid inner gone (fill.read.end (ap Ok gone) r.some_room);
+              ends_unheld g.row.S mid inner gone (fill.read.end (ap Ok gone) r.some_room);
           call = rw is (lent_read none fill.read (fill.behind, refl));
         },
       ),
@@ -95,7 +92,7 @@ returns g c =
           front = begins_filled c.as_slice-2.result.now takes (begins_lent g.row.S inner is);
           end = λ empty.
               let gone = sym is ∙ empty in
-              stays_at_end takes (ends_behind g.row.S mid inner gone
+              stays_at_end takes (ends_unheld g.row.S mid inner gone
               (fill.read.end (ap Ok gone) r.some_room));
         };
         after_borrow = tt;

@@ -1,9 +1,7 @@
 -- A read to the end, by its four ends: nothing held, no room for what is held, an error of the inner reader, or its end.
-use Rattle.std.proofs.lemmas.List.{nil_from_length}
-use Rattle.std.proofs.Common.{◌≡◌, [], Ok, Err, arith, refl, rules}
-use Rattle.std.proofs.lemmas.Result.{err_from_is_err_and}
+use Rattle.std.proofs.{lemmas.{List.{nil_from_length}, Result.{err_from_is_err_and}}, Common.{◌≡◌, [], Ok, Err, arith, refl, rules}}
 use Rattle.no_std_io2.specs.BufReader.{reader_held}
-use Rattle.no_std_io2.proofs.BufReaderToEnd.{moved_all, to_end_alone, to_end_through, to_end_part}
+use Rattle.no_std_io2.proofs.BufReaderToEnd.{moved_all, to_end_alone, held_through, held_part}
 use Rattle.no_std_io2.proofs.buffered.buf_reader.reads.BufReaderRead.read_to_end.Goals as goal
 
 pub returns-then-is_empty : goal.returns-then-is_empty
@@ -17,14 +15,14 @@ pub returns-in_err-append_to : goal.returns-in_err-append_to
 returns-in_err-append_to g c =
     let p = err_from_is_err_and c.from_residual.result c.from_residual.ensures.1 in
     let refused = c.in_err-append_to.ensures in
-    let own = to_end_part refused.refused refused.moved refused.kept refl refused.grows refused.full in
+    let own = held_part refused.refused refused.moved refused.kept refl refused.grows refused.full in
     rw (p.1, p.2) (record { law = own.0; own = own.1 })
 
 pub returns-in_err-rest_to_end : goal.returns-in_err-rest_to_end
 returns-in_err-rest_to_end g c =
     let p = err_from_is_err_and c.from_residual-in_err-rest_to_end.result c.from_residual-in_err-rest_to_end.ensures.1 in
     let done = c.in_ok-append_to.ensures in
-    let own = to_end_through (Err c.in_err-rest_to_end.field-0.0) 0
+    let own = held_through (Err c.in_err-rest_to_end.field-0.0) 0
     (moved_all (reader_held c.args.self.now) _ _ done.moved done.done.0) done.grows
     c.in_err-rest_to_end.ensures.law (done.done.1, done.done.0) tt in
     rw (p.1, p.2) (record { law = own.0; own = own.1 })
@@ -32,7 +30,7 @@ returns-in_err-rest_to_end g c =
 pub returns : goal.returns
 returns g c =
     let done = c.in_ok-append_to.ensures in
-    let own = to_end_through (Ok c.in_ok-rest_to_end.field-0) _
+    let own = held_through (Ok c.in_ok-rest_to_end.field-0) _
     (moved_all (reader_held c.args.self.now) _ _ done.moved done.done.0) done.grows c.in_ok-rest_to_end.ensures.law
     (done.done.1, done.done.0) (omega arith) in
     record { law = own.0; own = own.1 }

@@ -1,5 +1,4 @@
-use Rattle.std.proofs.Common.{refl, ap, ◌≡◌, List, ℕ}
-use Rattle.std.proofs.Props.{props}
+use Rattle.std.proofs.{Common.{refl, ap, ◌≡◌, List, ℕ}, Props.{props}}
 use Rattle.no_std_io2_base.specs.Lines.{IsLineState}
 use Rattle.no_std_io2.proofs.buffered.line_writer.state.LineSender.get_mut.Goals as goal
 
