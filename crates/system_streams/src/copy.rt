@@ -3,12 +3,13 @@ ghost use Rattle.std.specs.Prelude.{◌≡◌, [], Some, IfSome, IfOk, IsOk, IfE
 ghost use Rattle.no_std_io2.specs.Events.{HasNoFault};
 ghost use Rattle.no_std_io2.specs.Takes.{to_come};
 ghost use Rattle.no_std_io2.specs.Read.{tells};
+ghost use Rattle.no_std_io2.specs.BufReader.{BufReaderFits};
 ghost use Rattle.no_std_io2.specs.Faults.{IsFaultOf};
 ghost use Rattle.system_streams.specs.Copies.{CopiesAll, HandsAndFlushes, HandsThrough};
 ghost use Rattle.no_std_io2.specs.BufWriter.{BufWriterFits};
 ghost use Rattle.no_std_io2.specs.LineWriter.{LineWriterFits};
 
-use no_std_io2::io::{BufWriter, LineWriter, Read, Result, Write, copy};
+use no_std_io2::io::{BufReader, BufWriter, LineWriter, Read, Result, Write, copy};
 
 // The size of each buffer, in bytes.
 const ROOM: usize = 64;
@@ -48,15 +49,18 @@ pub fn copy_through<R: Read + Drop, W: Write + Drop>(
     line: bool,
 ) -> Result<(u64, W)>
     // Each buffer has to fit in memory.
+    requires reader_fits { BufReaderFits R.row 64 }
     requires buffer_fits { BufWriterFits W.row 64 }
     requires lines_fit { LineWriterFits W.row 64 }
     ensures all { IfOk result (λ r. CopiesAll (tells R.Read input) (W.told output) r.0 (W.told r.1)) }
     ensures empty { IfOk result (λ r. (W.told r.1).held ≡ []) }
-    // The output got the calls that the chosen buffer makes, and no others.
+    // If the result is `Ok`, the output got the calls that the chosen buffer makes, and no others.
     ensures calls { IfOk result (λ r. HandsThrough W.Write line output r.1) }
     ensures err { IfErr result (IsFaultOf (tells R.Read input) (W.told output)) }
     ensures steady { IfSome (to_come (tells R.Read input)) (λ E. HasNoFault E → (W.told output).mishaps ≡ Some [] → IsOk result) }
 {
+    // Each side has a buffer. The reads of `copy` are as long as this one, so they go past it, and it holds no byte.
+    let input = BufReader::<R, ROOM>::new(input);
     if line {
         let (count, tower) = copy_and_flush(input, LineWriter::<W, ROOM>::new(output))?;
         Ok((count, tower.into_inner()?))

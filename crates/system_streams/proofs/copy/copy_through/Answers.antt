@@ -1,4 +1,4 @@
-use Rattle.std.proofs.Common.{ap, true, false, refl}
+use Rattle.std.proofs.Common.{ap, true, false}
 use Rattle.std.proofs.lemmas.Result.{err_from_is_err_and}
 use Rattle.no_std_io2.specs.BufWriter.{writer_inner, writer_buffer}
 use Rattle.no_std_io2.specs.LineWriter.{line_inner, line_buffer}
@@ -9,36 +9,36 @@ pub returns-in_err-count-clause-err : goal.returns-in_err-count-clause-err
 returns-in_err-count-clause-err g c =
     let p = err_from_is_err_and c.from_residual.result c.from_residual.ensures.1 in
     let same = c.new.ensures.inner in
-    rw (p.1, p.2) (fault_through refl (ap (λ w. (g.W.Write.told w).mishaps) same)
+    rw (p.1, p.2) (fault_through c.new-input.ensures.events (ap (λ w. (g.W.Write.told w).mishaps) same)
     (ap (λ w. (g.W.Write.told w).turns) same) c.in_err-count.ensures.err)
 
 pub returns-in_err-count-clause-steady : goal.returns-in_err-count-clause-steady
 returns-in_err-count-clause-steady g c =
     let same = c.new.ensures.inner in
-    is_steady _ _ (fault_through {new = g.W.Write.told c.args.output} refl (ap (λ w. (g.W.Write.told w).mishaps) same)
+    is_steady _ _ (fault_through {new = g.W.Write.told c.args.output} c.new-input.ensures.events (ap (λ w. (g.W.Write.told w).mishaps) same)
     (ap (λ w. (g.W.Write.told w).turns) same) c.in_err-count.ensures.err)
 
 pub returns-in_ok-into_inner-clause-all : goal.returns-in_ok-into_inner-clause-all
 returns-in_ok-into_inner-clause-all g c =
-    passes_off _ refl (ap g.W.Write.told c.new.ensures.inner) c.new.ensures.empty c.in_ok-count.ensures.all
+    passes_off _ c.new-input.ensures.events (ap g.W.Write.told c.new.ensures.inner) c.new.ensures.empty c.in_ok-count.ensures.all
     c.in_ok-into_inner.ensures.law.ok
 
 pub returns-in_err-count-2-clause-err : goal.returns-in_err-count-2-clause-err
 returns-in_err-count-2-clause-err g c =
     let p = err_from_is_err_and c.from_residual-in_err-count-2.result c.from_residual-in_err-count-2.ensures.1 in
     let same = c.new-else-line.ensures.inner in
-    rw (p.1, p.2) (fault_through refl (ap (λ w. (g.W.Write.told w).mishaps) same)
+    rw (p.1, p.2) (fault_through c.new-input.ensures.events (ap (λ w. (g.W.Write.told w).mishaps) same)
     (ap (λ w. (g.W.Write.told w).turns) same) c.in_err-count-2.ensures.err)
 
 pub returns-in_err-count-2-clause-steady : goal.returns-in_err-count-2-clause-steady
 returns-in_err-count-2-clause-steady g c =
     let same = c.new-else-line.ensures.inner in
-    is_steady _ _ (fault_through {new = g.W.Write.told c.args.output} refl (ap (λ w. (g.W.Write.told w).mishaps) same)
+    is_steady _ _ (fault_through {new = g.W.Write.told c.args.output} c.new-input.ensures.events (ap (λ w. (g.W.Write.told w).mishaps) same)
     (ap (λ w. (g.W.Write.told w).turns) same) c.in_err-count-2.ensures.err)
 
 pub returns-in_ok-into_inner-2-clause-all : goal.returns-in_ok-into_inner-2-clause-all
 returns-in_ok-into_inner-2-clause-all g c =
-    passes_off _ refl (ap g.W.Write.told c.new-else-line.ensures.inner) c.new-else-line.ensures.empty
+    passes_off _ c.new-input.ensures.events (ap g.W.Write.told c.new-else-line.ensures.inner) c.new-else-line.ensures.empty
     c.in_ok-count-2.ensures.all c.in_ok-into_inner-2.ensures.law.ok
 
 pub returns-in_err-into_inner-clause-err : goal.returns-in_err-into_inner-clause-err
