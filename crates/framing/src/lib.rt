@@ -17,4 +17,5 @@ mod reader;
 mod writer;
 
 pub use reader::FrameReader;
+pub use reader::parts::{HEADER, told_len};
 pub use writer::FrameWriter;

@@ -8,7 +8,7 @@ ghost use Rattle.no_std_io2.specs.Write.{Told};
 ghost use Rattle.no_std_io2.specs.BufReader.{reader_held};
 ghost use Rattle.framing.specs.Frames.{frame, HasHeader};
 
-mod parts;
+pub(crate) mod parts;
 
 use no_std_io2::io::{BufRead, BufReader, Read, Result};
 use parts::{HEADER, ended_inside, no_room, told_len};
@@ -224,7 +224,6 @@ impl<R: Read, const S: usize> FrameReader<R, S> {
         if self.len == 0 {
             self.inner.consume(HEADER);
             self.len = len;
-            self.given = 0;
         }
     }
 

@@ -9,7 +9,7 @@ use no_std_io2::io::{Error, ErrorKind};
 /// The number of bytes in which a frame has its length.
 pub const HEADER: usize = 4;
 
-/// Returns the length of a payload, as the first four bytes say.
+/// Returns the length of a payload, as the first four bytes of its frame say.
 pub fn told_len(bytes: &[u8]) -> usize
     requires { 4 ≤ length bytes.now }
     ensures length { HasHeader result bytes.now }

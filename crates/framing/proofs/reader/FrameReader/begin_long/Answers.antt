@@ -1,7 +1,7 @@
-use Rattle.std.proofs.Common.{◌<◌, [], ◌∙◌, sym, subst, arith, length-take}
+use Rattle.std.proofs.Common.{◌≡◌, ◌<◌, ◌++◌, [], ◌∙◌, sym, ap, take, subst, arith, length-take}
 use Rattle.no_std_io2.specs.BufReader.{reader_held}
 use Rattle.no_std_io2.proofs.EventLemmas.{length-events_of}
-use Rattle.framing.specs.{Frames.{HasHeader}, Taking.{seen_bytes}}
+use Rattle.framing.specs.{Frames.{HasHeader}, Taking.{begun, seen_bytes}}
 use Rattle.framing.proofs.SeenLemmas.{seen_between, seen_header, one_length, begins_long}
 use Rattle.framing.proofs.reader.FrameReader.begin_long.Goals as goal
 
@@ -13,7 +13,9 @@ returns-then-self-eq0-clause-seen g c = λ room.
     let r = c.args.self.now in
     let header = subst (HasHeader c.args.len) (seen_between r room c.if-self-eq0.true) (c.requires.header room) in
     let some : 0 < c.args.len = omega (arith, c.requires.long c.if-self-eq0.true, r.header_fits) in
-    begins_long c.args.len (reader_held r.inner) (reader_held c.consume.new.self) room some header c.consume.ensures.law.held
+    let none : r.given ≡ 0 = omega (arith, r.within, c.if-self-eq0.true) in
+    ap (λ n. begun c.args.len (take n room) ++ reader_held c.consume.new.self) none
+    ∙ begins_long c.args.len (reader_held r.inner) (reader_held c.consume.new.self) room some header c.consume.ensures.law.held
     ∙ sym (seen_between r room c.if-self-eq0.true)
 
 pub returns-then-self-eq0-clause-turns_never_rise : goal.returns-then-self-eq0-clause-turns_never_rise
