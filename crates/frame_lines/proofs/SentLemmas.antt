@@ -1,8 +1,47 @@
--- What a log holds after a flush.
+-- A line that was logged, and then sent.
 use Rattle.std.proofs.lemmas.List.{nil_from_length}
-use Rattle.std.proofs.Common.{◌≡◌, ◌++◌, List, [], length, Result, Ok, Err, OnOk, ap, arith, length-append}
+use Rattle.std.proofs.Common.{◌≡◌, ◌≤◌, ◌++◌, List, ℕ, [], length, Option, Result, Ok, Err, OnOk, false, nat_lt, ap, arith, inl, inr, length-append}
+use Rattle.std.proofs.lemmas.Bool.Decides.{nat_tests}
+use Rattle.no_std_io2.specs.declared.io.Error.{Error}
+use Rattle.no_std_io2.specs.Write.{call_mishap, Moves}
+use Rattle.no_std_io2.specs.Writers.{Writer}
+use Rattle.no_std_io2.proofs.MovesLemmas.{Moves-ends}
+use Rattle.line_log.specs.declared.LineLog.{LineLog}
+use Rattle.line_log.specs.Log.{LogsText, IsLogged, line_of, log_held, log_tells}
+use Rattle.frame_lines.specs.Printing.{PrintsLine}
 
 -- if two writers hold nothing after `Ok`, the second holds nothing
-pub second_holds_nothing : {A E X : Type 0} (r : Result A E) (xs ys : List X) → OnOk r (xs ++ ys ≡ []) → OnOk r (ys ≡ [])
-second_holds_nothing (Ok a) xs ys h = nil_from_length ys (omega (arith, ap length h, length-append xs ys))
-second_holds_nothing (Err e) xs ys h = tt
+second_holds_nothing : {X : Type 0} (xs ys : List X) → xs ++ ys ≡ [] → ys ≡ []
+second_holds_nothing xs ys h = nil_from_length ys (omega (arith, ap length h, length-append xs ys))
+
+-- what was accepted, if a line was logged
+logged : {W : Type 0} {I : Writer W} {old mid : LineLog W 16386} (output : Option (List ℕ)) → LogsText I output old (Ok tt) mid
+    → (text : List ℕ) × IsLogged (log_tells I.told old) (line_of text) (log_tells I.told mid) (log_held mid)
+logged output (inl (text, is, inl logs)) = (text, logs.1.ok)
+logged output (inl (text, is, inr refused)) = absurd refused.0
+logged output (inr refused) = absurd refused.0
+
+-- nothing of it is held
+pub line_sent : {W : Type 0} {I : Writer W} {old mid : LineLog W 16386} (output : Option (List ℕ)) → LogsText I output old (Ok tt) mid
+    → false ≡ nat_lt 0 (length (log_held mid)) → PrintsLine I.told old mid
+line_sent {mid = mid} output logs behind =
+    let is = logged output logs in
+    let none : length (log_held mid) ≤ 0 = grind (arith, nat_tests) in
+    elim is.1 [
+      | inl whole ↦ record { text = is.0; moves = whole.1; sent = whole.0 }
+      | inr behind ↦ absurd (omega (arith, behind.0, none))
+    ]
+
+-- or all was sent by a flush
+pub line_flushed : {W : Type 0} {I : Writer W} {old mid : LineLog W 16386} (output : Option (List ℕ)) (new : LineLog W 16386)
+    (r : Result (Unit {0}) Error) → LogsText I output old (Ok tt) mid
+    → Moves (log_tells I.told mid) [] (call_mishap r) (log_tells I.told new)
+    → OnOk r ((log_tells I.told new).held ≡ []) → OnOk r (PrintsLine I.told old new)
+line_flushed output new (Err e) logs moves empty = tt
+line_flushed output new (Ok u) logs moves empty =
+    let is = logged output logs in
+    let sent = second_holds_nothing _ (log_held new) empty in
+    elim is.1 [
+      | inl whole ↦ record { text = is.0; moves = Moves-ends whole.1 moves; sent = sent }
+      | inr behind ↦ record { text = is.0; moves = Moves-ends behind.1.1 moves; sent = sent }
+    ]

@@ -5,8 +5,9 @@
 //! argument. If a line does not go out whole, its rest is tried once more before the next frame is read.
 #![tactic(auto)]
 
-ghost use Rattle.std.specs.Prelude.{◌≡◌, [], OnOk};
-ghost use Rattle.line_log.specs.Log.{log_held, log_tells};
+ghost use Rattle.std.specs.Prelude.{◌≡◌, [], OnOk, replicate};
+ghost use Rattle.line_log.specs.Log.{log_tells};
+ghost use Rattle.frame_lines.specs.Printing.{PrintsLine, PrintsFrames};
 ghost use Rattle.frame_lines.specs.Fits.{FramesFit, LogFits};
 
 use framing::FrameReader;
@@ -42,7 +43,7 @@ fn has_argument<R: Env + Alloc<A = Global>>(rt: &R) -> Result<bool> {
 fn print_line<W: Write + Drop>(lines: &mut LineLog<W, LINE>, payload: &[u8]) -> Result<()>
     requires log { LogFits W.row }
     // After `Ok`, the writer below the log has the whole line.
-    ensures sent { OnOk result (log_held lines.new ≡ []) }
+    ensures { OnOk result (PrintsLine W.told lines.old lines.new) }
 {
     lines.log_text(payload.escape_ascii())?;
     if lines.is_behind() {
@@ -58,6 +59,8 @@ fn print_frames<R: Read + Drop, W: Write + Drop>(
 ) -> Result<()>
     requires frames { FramesFit R.row }
     requires log { LogFits W.row }
+    // One line is printed for each frame, in order.
+    ensures prints { PrintsFrames R.Read W.told frames.old (replicate 4096 0) lines.old result frames.new }
     // After `Ok`, the log and the writer below it have sent all that they held.
     ensures flushed { OnOk result ((log_tells W.told lines.new).held ≡ []) }
 {

@@ -1,0 +1,58 @@
+-- The prover does not find which frames were taken before the last `next`.
+use Rattle.std.proofs.Common.{[], ◌∷◌, ◌++◌, List, ℕ, take, None, Result, Ok, Err, inl, inr}
+use Rattle.std.proofs.lemmas.Result.{err_from_is_err_and}
+use Rattle.no_std_io2.specs.declared.io.Error.{Error}
+use Rattle.no_std_io2.specs.Read.{Reader}
+use Rattle.framing.specs.declared.reader.FrameReader.{FrameReader}
+use Rattle.framing.specs.Taking.{TakesFrame}
+use Rattle.frame_lines.specs.Printing.{nothing, frame, PrintEnds}
+use Rattle.frame_lines.proofs.print_frames.Goals as goal
+
+pub frames-init : goal.frames-init
+frames-init g c = record { payloads = []; prints = nothing }
+
+pub frames-preserved : goal.frames-preserved
+frames-preserved g c = record {
+  payloads = c.frames.invariant.payloads ++ take c.in-Some.len c.next.new.room ∷ [];
+  prints = frame c.in-Some.len c.frames.invariant.prints (rw c.in-Some.is at c.in_ok-len.ensures.takes) c.in_ok-print_line.ensures;
+}
+
+pub returns-in_err-len-clause-prints : goal.returns-in_err-len-clause-prints
+returns-in_err-len-clause-prints g c =
+    let p = err_from_is_err_and c.from_residual.result c.from_residual.ensures.1 in
+    rw (p.1, p.2) (record {
+      payloads = c.frames.invariant.payloads;
+      mid = _;
+      held = _;
+      log = _;
+      prints = c.frames.invariant.prints;
+      ends = (_, inl c.in_err-len.ensures.takes);
+    })
+
+pub returns-in_err-print_line-clause-prints : goal.returns-in_err-print_line-clause-prints
+returns-in_err-print_line-clause-prints g c =
+    let p = err_from_is_err_and c.from_residual-in_err-print_line.result c.from_residual-in_err-print_line.ensures.1 in
+    rw p.1 (record {
+      payloads = c.frames.invariant.payloads;
+      mid = _;
+      held = _;
+      log = _;
+      prints = c.frames.invariant.prints;
+      ends = (_, inr (_, c.in_ok-len.ensures.takes));
+    })
+
+-- how it ended, whatever the flush returned
+ends : {R : Type 0} {I : Reader R} {mid new : FrameReader R 512} {held room : List ℕ} (r : Result (Unit {0}) Error)
+    → TakesFrame I mid held (Ok None) new room → PrintEnds I mid held r new
+ends (Ok u) taken = (_, taken)
+ends (Err e) taken = (_, inr (None, taken))
+
+pub returns-clause-prints : goal.returns-clause-prints
+returns-clause-prints g c = record {
+  payloads = c.frames.invariant.payloads;
+  mid = _;
+  held = _;
+  log = _;
+  prints = c.frames.invariant.prints;
+  ends = ends c.flush.result (rw c.in_default.is at c.in_ok-len.ensures.takes);
+}
