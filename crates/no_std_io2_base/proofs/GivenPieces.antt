@@ -59,8 +59,17 @@ GivenRead d E piece (Err e) after = ((pieces_given d E ≡ []) × (first_fault E
 given_next : (d : ℕ) (E P after : List Event) → E ≡ P ++ after → HasNoFault P → EndsAt d P ⊎ (Lacks d (bytes P) × (after ≡ []))
     → 0 < length (bytes P) → GivesNext d E (bytes P) after
 given_next d E P after split free ends some =
-    grind (arith, common_steps, first_fault-append, bytes_to_fault-append, bytes-append, append_assoc, given-front, before-first,
-    given-last)
+    grind (
+      arith,
+      common_steps,
+      first_fault-append,
+      bytes_to_fault-append,
+      bytes-append,
+      append_assoc,
+      given-front,
+      before-first,
+      given-last,
+    )
 
 -- if they have no byte, they are all
 given_none : (d : ℕ) (E P after : List Event) → E ≡ P ++ after → HasNoFault P → EndsAt d P ⊎ (Lacks d (bytes P) × (after ≡ []))

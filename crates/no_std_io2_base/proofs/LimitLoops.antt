@@ -14,8 +14,8 @@ use Rattle.no_std_io2_base.proofs.LimitLemmas.{cut-within}
 
 -- Each call of a `Take` takes as many bytes of its inner reader as it gives.
 pub limit_each : {T : Type 0} {inner : Reader T}
-    → EachAdds (ReadCallLaw (limit_reader inner)) 
-      (λ old x new. (P : List Event) × (length (bytes P) ≡ length x) × LimitTakes inner old P new)
+    → EachAdds (ReadCallLaw (limit_reader inner))
+    (λ old x new. (P : List Event) × (length (bytes P) ≡ length x) × LimitTakes inner old P new)
 limit_each = record {
   joins = record {
     none = λ t. ([], refl, limit_none t);

@@ -37,5 +37,15 @@ behind_at content was now part rest split moved =
 pub takes_at : (content : List ℕ) (was now : ℕ) (part : List ℕ) → drop was content ≡ part ++ drop now content → now ≡ was + length part
     → Takes (tells_at content was) (events_of part) (tells_at content now)
 takes_at content was now part split moved =
-    grind (arith, common_steps, length-append, tells_at, told_at, events_of-append, keeps_at, length-drop, bytes-events_of,
-    length-events_of)
+    grind (
+      arith,
+      common_steps,
+      length-append,
+      tells_at,
+      told_at,
+      events_of-append,
+      keeps_at,
+      length-drop,
+      bytes-events_of,
+      length-events_of,
+    )

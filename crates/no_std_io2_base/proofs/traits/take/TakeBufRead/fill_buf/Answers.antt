@@ -42,5 +42,18 @@ returns-in_err-available g c =
 
 pub returns : goal.returns
 returns g c =
-    grind (arith, common_steps, some_bytes, take_most, filled_inner, lend_law, filled_law, limit_takes,
-    filled_took, some_within, front_cut, cut_end, none_within)
+    grind (
+      arith,
+      common_steps,
+      some_bytes,
+      take_most,
+      filled_inner,
+      lend_law,
+      filled_law,
+      limit_takes,
+      filled_took,
+      some_within,
+      front_cut,
+      cut_end,
+      none_within,
+    )
