@@ -1,18 +1,18 @@
 -- A look at a header: no byte is lost, and it is the next two bytes.
-use Rattle.std.proofs.Common.{◌≡◌, ℕ, ◌+◌, ◌<◌, ◌≤◌, List, [], ◌∷◌, ◌++◌, length, take, slice_index_or, Bool, true, false, Option, None, Some, Result, Ok, Err}
-use Rattle.std.proofs.Common.{refl, sym, ap, subst, ◌∙◌, arith, inl, inr, ◌⊎◌, IfOk, IfErr, IfSome, IsSomeAnd, append_assoc, append-nil, length-append}
+use Rattle.std.proofs.Common.{◌≡◌, ℕ, ◌+◌, ◌≤◌, List, [], ◌∷◌, ◌++◌, length, take, slice_index_or, Bool, true, false, Option, None, Some, Result, Ok, Err}
+use Rattle.std.proofs.Common.{refl, sym, ap, subst, ◌∙◌, arith, inl, inr, IfSome, IsSomeAnd, append_assoc, append-nil, length-append}
 use Rattle.std.proofs.Common.{if◌then◌else◌, drop}
 use Rattle.std.proofs.Math.Seq.{take-append_seam, drop-append_seam}
 use Rattle.std.proofs.lemmas.Grind.{common_steps}
 use Rattle.no_std_io2.specs.declared.io.Error.{Error}
 use Rattle.no_std_io2.specs.declared.buffered.buf_reader.BufReader.{BufReader}
-use Rattle.no_std_io2.specs.BufReader.{reader_held, reader_behind, reader_inner, behind_held}
-use Rattle.no_std_io2.specs.Errors.{IsFault, IsUnexpectedEnd}
-use Rattle.no_std_io2.specs.Events.{Event, fails, bytes, events_of, bytes_to_fault, first_fault, HasNoFault}
+use Rattle.no_std_io2.specs.BufReader.{reader_held, reader_inner, behind_held}
+use Rattle.no_std_io2.specs.Errors.{IsUnexpectedEnd}
+use Rattle.no_std_io2.specs.Events.{Event, fails, bytes, events_of, bytes_to_fault, first_fault}
 use Rattle.no_std_io2.specs.FillTo.{FillsTo, HasTo}
 use Rattle.no_std_io2.specs.Read.{Reader, tells}
 use Rattle.no_std_io2.specs.Reads.{GathersTo, Took}
-use Rattle.no_std_io2.specs.Takes.{Tells, Takes, AreTaken, to_come, IsAtEnd}
+use Rattle.no_std_io2.specs.Takes.{Tells, Takes, AreTaken, to_come}
 use Rattle.no_std_io2.specs.Write.{IsFront}
 use Rattle.no_std_io2.proofs.BufReaderCalls.{buf_reader}
 use Rattle.no_std_io2.proofs.BufferedReads.{told_behind}

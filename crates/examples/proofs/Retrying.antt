@@ -1,7 +1,6 @@
 -- Texts that are written through a buffer, and writes that are made again after faults.
-use Rattle.std.proofs.Common.{◌≡◌, ℕ, List, [], ◌++◌, length, Result, Ok, Err, true, false, refl, ap, subst, ◌∙◌, arith, length-append}
+use Rattle.std.proofs.Common.{◌≡◌, ℕ, List, [], length, Result, Ok, Err, true, false, refl, ap, subst, arith, length-append}
 use Rattle.std.proofs.lemmas.List.{nil_from_length}
-use Rattle.std.proofs.lemmas.Grind.{common_steps}
 use Rattle.std.specs.Result.{is_ok}
 use Rattle.no_std_io2.specs.declared.io.Error.{Error}
 use Rattle.no_std_io2.specs.declared.buffered.buf_writer.BufWriter.{BufWriter}

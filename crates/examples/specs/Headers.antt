@@ -1,5 +1,6 @@
 -- A look at a header of two bytes, and what was taken of the bytes to come.
-use Rattle.std.specs.Prelude.{◌≡◌, ◌<◌, ◌⊎◌, ℕ, List, [], ◌∷◌, ◌++◌, length, take, Bool, true, false, Option, None, Some, Result, Ok, Err, IfSome, IsSomeAnd}
+use Rattle.std.specs.Prelude.{◌≡◌, ◌<◌, ◌⊎◌, ℕ, List, [], ◌∷◌, ◌++◌, length, take, Option, None, Some, IfSome}
+use Rattle.std.specs.Prelude.{Bool, true, false, Result, Ok, Err, IsSomeAnd}
 use Rattle.no_std_io2.specs.BufReader.{reader_held}
 use Rattle.no_std_io2.specs.Errors.{IsUnexpectedEnd}
 use Rattle.no_std_io2.specs.Events.{Event, bytes, bytes_to_fault, first_fault, HasNoFault}

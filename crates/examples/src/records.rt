@@ -2,7 +2,6 @@
 ghost use Rattle.std.specs.Prelude.{◌≡◌, ◌≢◌, ◌≤◌, ◌+◌, ℕ, List, [], ◌∷◌, ◌++◌, None, Ok, length, take, drop, option_map};
 ghost use Rattle.std.specs.Prelude.{IsSomeAnd, IfOk, IfErr, IfSome, OnOk, OnErr};
 ghost use Rattle.no_std_io2.specs.Errors.{IsOutOfMemory};
-ghost use Rattle.no_std_io2.specs.Events.{bytes};
 ghost use Rattle.no_std_io2.specs.Takes.{to_come, KeepsContent};
 ghost use Rattle.no_std_io2.specs.Read.{tells};
 ghost use Rattle.no_std_io2.specs.BufReader.{reader_held, reader_inner, reader_store, KeepsBuffer};
@@ -37,8 +36,7 @@ pub fn peek_header<R: Read, const S: usize>(r: &mut BufReader<R, S>) -> Result<(
     }
 }
 
-// Returns the payload of the next record, which has `len` bytes and whose header is held. If an allocation fails, the record stays to be
-// read.
+// Returns the payload of the next record, which has `len` bytes and whose header is held. If an allocation fails, the record is kept.
 fn read_payload<R: Read, const S: usize>(
     alloc: Global,
     r: &mut BufReader<R, S>,
@@ -50,7 +48,8 @@ fn read_payload<R: Read, const S: usize>(
         × OnOk result (reader_held r.new ≡ drop len (drop 2 (reader_held r.old)))
         × IfErr result IsOutOfMemory × OnErr result (KeepsBuffer r.old r.new) × (reader_inner r.new ≡ reader_inner r.old) }
     ensures told { IfOk result (λ payload. (length payload.items ≡ len)
-        × LosesFirst (tells ⟦<BufReader<R, S> as Read>⟧ r.old) (take 2 (reader_held r.old) ++ payload.items) (tells ⟦<BufReader<R, S> as Read>⟧ r.new)) }
+        × LosesFirst (tells ⟦<BufReader<R, S> as Read>⟧ r.old) (take 2 (reader_held r.old) ++ payload.items)
+        (tells ⟦<BufReader<R, S> as Read>⟧ r.new)) }
     ensures failed { OnErr result ((x : List ℕ)
         × LosesFirst (tells ⟦<BufReader<R, S> as Read>⟧ r.old) x (tells ⟦<BufReader<R, S> as Read>⟧ r.new)) }
 {

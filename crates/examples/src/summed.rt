@@ -1,5 +1,4 @@
-//! [`Summed`], an adaptor with a state of its own. Its promise holds through the trait's loops and through a
-//! buffer.
+//! [`Summed`], an adaptor with a state of its own. Its promise holds through the trait's loops and through a buffer.
 ghost use Rattle.std.specs.Prelude.{◌≡◌, ℕ, List, ◌++◌, ◌+◌, ◌%◌, ◌^◌, sum, OnOk};
 ghost use Rattle.no_std_io2.specs.BufWriter.{writer_inner, writer_buffer};
 ghost use Rattle.no_std_io2.specs.Read.{tells};
@@ -31,7 +30,7 @@ pub(crate) fn add_all(start: u64, bytes: &[u8]) -> u64
     ensures { result % 2 ^ 64 ≡ (start + sum bytes.now) % 2 ^ 64 }
 {
     let mut total = start;
-    for b in bytes {
+    'bytes: for b in bytes {
         total = total.wrapping_add(*b as u64);
     }
     total
@@ -96,8 +95,7 @@ pub fn read_summed<R: Read>(r: &mut Summed<R>, buf: &mut [u8]) -> Result<()>
     r.read_exact(buf)
 }
 
-/// Reads to the end by the trait's loop. The bytes that it appended are in the sum, also after an
-/// error.
+/// Reads to the end by the trait's loop. The bytes that it appended are in the sum, also after an error.
 pub fn drain_summed<R: Read>(r: &mut Summed<R>, buf: &mut Vec<u8>) -> Result<usize>
     ensures { (x : List ℕ) × (buf.new.items ≡ buf.old.items ++ x) × Sums r.old x r.new }
 {

@@ -1,3 +1,4 @@
+-- The law of a call of an object is named whole; the search does not join its turns of the loop.
 use Rattle.std.proofs.Common.{◌+◌, ◌%◌, ◌^◌, ◌∙◌, ap, arith, sum, refl, ◌++◌}
 use Rattle.std.proofs.lemmas.Result.{err_from_is_err_and}
 use Rattle.no_std_io2.proofs.GivenPieces.{piece_spends}

@@ -1,3 +1,4 @@
+-- The store of a new buffer over a cursor is the file; the search does not open it.
 use Rattle.std.proofs.Common.{◌≡◌, ℕ, ◌<◌, ◌^◌, List, Bor, length, take, drop, ap, subst, ◌∙◌, arith, OnOk}
 use Rattle.no_std_io2.specs.Cursor.{cursor_inner, cursor_position}
 use Rattle.no_std_io2.specs.BufReader.{reader_held, reader_inner}

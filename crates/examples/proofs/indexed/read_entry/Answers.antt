@@ -1,3 +1,4 @@
+-- Three reads are joined by a lemma with the places between them, which the search does not choose.
 use Rattle.std.proofs.Common.{◌≡◌, ◌+◌, ◌*◌, Ok, negsuc, arith, subst}
 use Rattle.std.specs.Prelude.{⊤}
 use Rattle.std.proofs.lemmas.Result.{err_from_is_err_and}

@@ -1,3 +1,4 @@
+-- What a `fill_buf` did is known only when its borrow ends, and each path joins that with the records so far.
 use Rattle.std.proofs.Common.{sym, ◌∙◌}
 use Rattle.std.proofs.lemmas.Result.{err_from_is_err_and}
 use Rattle.no_std_io2.proofs.WriteExits.{is_empty, not_empty}

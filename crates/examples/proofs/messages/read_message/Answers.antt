@@ -1,3 +1,4 @@
+-- The bytes of two reads are joined to one message, and a known message comes back; the search has no lemma for either.
 use Rattle.std.proofs.Common.{◌++◌, length, take, drop, sym, ap, ◌∙◌, subst, arith, true≢false}
 use Rattle.std.proofs.Math.Seq.{take-append_seam}
 use Rattle.std.specs.Int.{w16, to_be_bytes}

@@ -3,5 +3,5 @@ use Rattle.std.proofs.Common.{◌≡◌, ◌+◌, ◌%◌, ◌^◌, take}
 use Rattle.std.specs.List.{sum}
 use Rattle.examples.proofs.summed.add_all.Given as goal
 
-abbrev pub invariant-loop-b : goal.invariant-loop-b
-invariant-loop-b l = l.total % 2 ^ 64 ≡ (l.fn.start + sum (take l.b-index l.bytes)) % 2 ^ 64
+abbrev pub invariant-bytes : goal.invariant-bytes
+invariant-bytes l = l.total % 2 ^ 64 ≡ (l.fn.start + sum (take l.b-index l.bytes)) % 2 ^ 64

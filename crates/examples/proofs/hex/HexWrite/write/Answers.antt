@@ -1,3 +1,4 @@
+-- Whether a half byte was finished decides what was written; the search does not split into these cases.
 use Rattle.std.proofs.Common.{◌≡◌, take, ◌∷◌, [], Some, refl, sym, subst, rules}
 use Rattle.no_std_io2.specs.Write.{Moves}
 use Rattle.no_std_io2.proofs.MovesLemmas.{Moves-then}
