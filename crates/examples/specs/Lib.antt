@@ -1,4 +1,5 @@
 pub mod Checksum
+pub mod Head
 pub mod Headers
 pub mod Hex
 pub mod Inbox

@@ -13,4 +13,4 @@ returns-then-is_ok-clause-calls g c = tried_once c.write_rest.result (sym c.if-i
 pub returns-clause-calls : goal.returns-clause-calls
 returns-clause-calls g c =
     tried_twice _ _ c.write_rest.result c.write_rest-2.result (sym c.if-is_ok.ensures.value)
-        c.write_rest.ensures.law c.write_rest-2.ensures.law
+    c.write_rest.ensures.law c.write_rest-2.ensures.law
