@@ -165,8 +165,11 @@ module _ {R : Type 0} {S : ℕ} (inner : Reader R) (old : BufReader R S) (room :
         fill (Ok r) none small inner_law passes =
             let gone : take size r ≡ [] = sym (ap bytes_given passes.0) ∙ nothing in
             let unread : r ≡ [] = nil_from_length r (omega (arith, ap length gone, length-take size r, into.1)) in
-            end S none (omega (arith, small)) (rw (passes.0, gone, ← unread) inner_law)
-            (passes.1.0 ∙ gone, nil_from_length (reader_held new) (omega (arith, ap length passes.1.1, length-drop size r, ap length unread)))
+            end S none (omega (arith, small)) (rw (passes.0, gone, ← unread) inner_law) (
+              passes.1.0 ∙ gone,
+              nil_from_length (reader_held new)
+                  (omega (arith, ap length passes.1.1, length-drop size r, ap length unread)),
+            )
         fill (Err e) none small inner_law passes = end S none (omega (arith, small)) (rw passes.0 inner_law) passes.1
 
     -- a read was interrupted

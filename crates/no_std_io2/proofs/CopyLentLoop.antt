@@ -27,7 +27,8 @@ pub record LentSoFar {R W : Type 0} (K : Lender R) (I : Writer W) (from : R) (ol
       → HandsLent (lends ++ C) (writes ++ D) reply
 
 -- the writer got no more calls
-no_more : {W : Type 0} (I : Writer W) (old : W) (D : List WriteCall) (now : W) → Made (CallOf I) old D now → Made (CallOf I) old (D ++ []) now
+no_more : {W : Type 0} (I : Writer W) (old : W) (D : List WriteCall) (now : W) → Made (CallOf I) old D now
+    → Made (CallOf I) old (D ++ []) now
 no_more I old D now made = subst (λ l. Made (CallOf I) old l now) (sym (append-nil D)) made
 
 module _ {R W : Type 0} {K : Lender R} {I : Writer W} {from : R} {old : W} where
@@ -63,7 +64,8 @@ module _ {R W : Type 0} {K : Lender R} {I : Writer W} {from : R} {old : W} where
           writes = before.writes;
           asked = made_more (LendCallLaw K) before.lends from before.asked filled;
           made = before.made;
-          goes_on = λ C D reply h. subst (λ l. HandsLent l (before.writes ++ D) reply) (sym (append_assoc before.lends (Filled (Err e) ∷ []) C))
+          goes_on = λ C D reply h. subst (λ l. HandsLent l (before.writes ++ D) reply)
+              (sym (append_assoc before.lends (Filled (Err e) ∷ []) C))
               (before.goes_on (Filled (Err e) ∷ C) D reply (again_lent again h));
         }
 
@@ -155,8 +157,10 @@ module _ {R W : Type 0} {K : Lender R} {I : Writer W} {from : R} {old : W} where
               writes = before.writes ++ calls;
               asked = made_then (LendCallLaw K) before.lends from asks mid next before.asked (after, filled, (next, (fits, dropped), refl));
               made = made_then (CallOf I) before.writes old calls now new before.made made;
-              goes_on = λ C D reply h. subst (λ l. HandsLent l ((before.writes ++ calls) ++ D) reply) (sym (append_assoc before.lends asks C))
-                  (subst (λ l. HandsLent (before.lends ++ Filled (Ok x) ∷ Consumed n ∷ C) l reply) (sym (append_assoc before.writes calls D))
+              goes_on = λ C D reply h. subst (λ l. HandsLent l ((before.writes ++ calls) ++ D) reply)
+                  (sym (append_assoc before.lends asks C))
+                  (subst (λ l. HandsLent (before.lends ++ Filled (Ok x) ∷ Consumed n ∷ C) l reply)
+                  (sym (append_assoc before.writes calls D))
                   (before.goes_on (Filled (Ok x) ∷ Consumed n ∷ C) (calls ++ D) reply
                   (subst (λ m. HandsLent (Filled (Ok x) ∷ Consumed m ∷ C) (calls ++ D) reply) (sym whole) (piece_lent some are h))));
             }

@@ -61,7 +61,8 @@ module _ {R : Type 0} {S : ℕ} (I : Reader R) (old new : BufReader R S) where
   pub call_stays_sound : (call : ReadCall) → ReaderMay I old call new → ReaderIsSound I.store old → ReaderIsSound I.store new
   call_stays_sound (Gave room answer) may = below_sound room answer may
   call_stays_sound (GaveExactly room answer) may =
-      given_sound (take room (reader_held old)) (drop room (reader_held old)) may.1.0 (sym (take-append-drop room (reader_held old))) may.1.1.1
+      given_sound (take room (reader_held old)) (drop room (reader_held old)) may.1.0
+      (sym (take-append-drop room (reader_held old))) may.1.1.1
   call_stays_sound (GaveAll x answer) (inl (refused, same, (left, split, has))) = given_sound x left same split has
   call_stays_sound (GaveAll x answer) (inr (drains, empty)) =
       let took = made_takes I drains.2.calls (reader_inner old) (reader_inner new) drains.2.made in emptied_sound took.0 took.1 empty

@@ -6,8 +6,8 @@ use Rattle.no_std_io2_base.specs.{BufRead.{Lender, LendCallLaw, lender_tells}, W
 use Rattle.no_std_io2_base.specs.Writers.{Writer, CallOf, TakesAll}
 use Rattle.no_std_io2.specs.{Copy.{counted}, declared.util.sides.CopyError.{CopyError, TheVariants.{Read, Write}}}
 
--- C are the calls of the reader, and D those of the writer. Each piece that was lent was passed on by one `write_all`, and then consumed. The
--- last call of the reader lent nothing, or returned a fault; or it lent a piece whose `write_all` failed.
+-- C are the calls of the reader, and D those of the writer. Each piece that was lent was passed on by one `write_all`, and then
+-- consumed. The last call of the reader lent nothing, or returned a fault; or it lent a piece whose `write_all` failed.
 pub data HandsLent : List ReadCall → List WriteCall → Result ℕ CopyError → Type 0 where
   lends_none : {n : ℕ} → HandsLent (Filled (Ok []) ∷ []) [] (Ok n)
   lends_fault : {e : Error} → HandsLent (Filled (Err e) ∷ []) [] (Err (Read e))
@@ -18,8 +18,8 @@ pub data HandsLent : List ReadCall → List WriteCall → Result ℕ CopyError �
   piece_refused : {B : List WriteCall} {x : List ℕ} {e : Error} → 0 < length x → AllCalls B x (Err e)
       → HandsLent (Filled (Ok x) ∷ []) B (Err (Write e))
 
--- A copy that took P from the reader ended: at the reader's end; or at the reader's fault; or at the writer's fault, when the reader had none.
--- The writer accepted all that was taken, and after its own fault also a front of the piece that the reader still holds.
+-- A copy that took P from the reader ended: at the reader's end; or at the reader's fault; or at the writer's fault, when the reader
+-- had none. The writer accepted all that was taken, and after its own fault also a front of the piece that the reader still holds.
 abbrev pub LentEnds : Result ℕ CopyError → List Event → List ℕ → Tells → Told → Told → Type 0
 LentEnds (Ok n) P held end old new = HasNoFault P × IsAtEnd end × (n ≡ counted (bytes P)) × Moves old (bytes P) [] new
 LentEnds (Err (Read e)) P held end old new = EndsInFault P e × Moves old (bytes P) [] new
@@ -37,4 +37,5 @@ pub record LentCopied {R W : Type 0} (K : Lender R) (I : Writer W) (from : R) (o
   -- a writer that takes all still takes all
   pub all : TakesAll I old → TakesAll I new
   -- which calls it made
-  pub calls : (C : List ReadCall) × (D : List WriteCall) × Made (LendCallLaw K) from C from' × Made (CallOf I) old D new × HandsLent C D reply
+  pub calls : (C : List ReadCall) × (D : List WriteCall) × Made (LendCallLaw K) from C from' × Made (CallOf I) old D new
+      × HandsLent C D reply

@@ -20,7 +20,8 @@ returns-in-Err-write_all g c =
 pub pieces-preserved-in-Ok-write_all : goal.pieces-preserved-in-Ok-write_all
 pieces-preserved-in-Ok-write_all g c =
     let filled = filled_law c.in-Ok.is c.fill_buf.ensures.law c.fill_buf.follows.holds-at-none in
-    lent_more c.pieces.invariant filled (not_empty _ _ c.is_empty.ensures c.if-is_empty.false) refl c.consume.ensures.law c.in-Ok-write_all.ensures.law c.saturating_add-copied.ensures
+    lent_more c.pieces.invariant filled (not_empty _ _ c.is_empty.ensures c.if-is_empty.false) refl c.consume.ensures.law
+    c.in-Ok-write_all.ensures.law c.saturating_add-copied.ensures
 
 pub pieces-preserved : goal.pieces-preserved
 pieces-preserved g c =

@@ -29,15 +29,30 @@ returns-in-Err-2 g c =
     let read = c.in-Err.ensures in
     let fills = fills_fault c.reads.invariant (omega arith) c.requires read.read read.behind
     (sym c.is_interrupted.ensures ∙ c.if-is_interrupted.false) in
-    record { fills = fills; store = fills_store c.requires fills; sound = fills_sound c.requires fills; turns = fills_turns c.requires fills }
+    record {
+      fills = fills;
+      store = fills_store c.requires fills;
+      sound = fills_sound c.requires fills;
+      turns = fills_turns c.requires fills;
+    }
 
 pub returns-in-Ok-eq0 : goal.returns-in-Ok-eq0
 returns-in-Ok-eq0 g c =
     let read = c.read_on.ensures in
     let fills = fills_end c.reads.invariant (omega arith) c.requires read.read read.behind c.in-Ok-eq0.is (omega arith) in
-    record { fills = fills; store = fills_store c.requires fills; sound = fills_sound c.requires fills; turns = fills_turns c.requires fills }
+    record {
+      fills = fills;
+      store = fills_store c.requires fills;
+      sound = fills_sound c.requires fills;
+      turns = fills_turns c.requires fills;
+    }
 
 pub returns : goal.returns
 returns g c =
     let fills = fills_enough c.reads.invariant (omega (arith, c.reads-test.false)) in
-    record { fills = fills; store = fills_store c.requires fills; sound = fills_sound c.requires fills; turns = fills_turns c.requires fills }
+    record {
+      fills = fills;
+      store = fills_store c.requires fills;
+      sound = fills_sound c.requires fills;
+      turns = fills_turns c.requires fills;
+    }

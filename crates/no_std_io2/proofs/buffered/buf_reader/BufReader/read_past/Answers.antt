@@ -20,7 +20,8 @@ returns-then-buf g c =
       law = record {
         bound = read.bound;
         takes = takes_direct g.row.S held read.takes none clear.held;
-        end = end_read (tells (reader g.R.Stored g.R.Read) c.read.new.self) g.row.S (buffer_held c.clear.new.self) c.read.new.buf c.read.result clear.held read.end;
+        end = end_read (tells (reader g.R.Stored g.R.Read) c.read.new.self) g.row.S (buffer_held c.clear.new.self) c.read.new.buf
+            c.read.result clear.held read.end;
         call = went_past none (omega (arith, c.read.auto.buf)) (read_law c.read.result read) (clear.behind, clear.held);
       };
       short = λ _. clear.held;
