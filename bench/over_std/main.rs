@@ -135,6 +135,7 @@ impl BufRead for Device {
         self.name(format!("read_until {}", bytes(&[delim])));
         Unnamed(self).read_until(delim, buf)
     }
+    fn read_line(&mut self, buf: &mut String) -> io::Result<usize> { self.name("read_line".into()); Unnamed(self).read_line(buf) }
 }
 // The device by the bodies that the traits have.
 struct Unnamed<'a>(&'a mut Device);
@@ -153,6 +154,7 @@ impl Seek for Device {
     }
     fn rewind(&mut self) -> io::Result<()> { self.name("rewind".into()); self.seek(SeekFrom::Start(0)).map(|_| ()) }
     fn stream_position(&mut self) -> io::Result<u64> { self.name("stream_position".into()); self.seek(SeekFrom::Current(0)) }
+    fn seek_relative(&mut self, n: i64) -> io::Result<()> { self.name(format!("seek_relative {n}")); self.seek(SeekFrom::Current(n)).map(|_| ()) }
 }
 
 fn write_call<W: Write + ?Sized>(w: &mut W, word: &str, rest: &str) -> Option<String> {
@@ -200,6 +202,7 @@ trait Level: Write {
     fn seek_to(&mut self, _: SeekFrom) -> io::Result<u64> { Err(ErrorKind::Unsupported.into()) }
     fn back(&mut self) -> io::Result<()> { Err(ErrorKind::Unsupported.into()) }
     fn at(&mut self) -> io::Result<u64> { Err(ErrorKind::Unsupported.into()) }
+    fn by(&mut self, n: i64) -> io::Result<()> { self.seek_to(SeekFrom::Current(n)).map(|_| ()) }
     fn reads(&mut self, _word: &str, _rest: &str) -> Option<String> { None }
     // A new level with so much room on the one below; or the error, what a refusal prints, and the old one.
     fn end(self: Box<Self>, _room: usize) -> (Option<(Error, String)>, Box<dyn Level>) { unreachable!() }
@@ -208,8 +211,10 @@ impl Seek for Box<dyn Level> {
     fn seek(&mut self, pos: SeekFrom) -> io::Result<u64> { self.seek_to(pos) }
     fn rewind(&mut self) -> io::Result<()> { self.back() }
     fn stream_position(&mut self) -> io::Result<u64> { self.at() }
+    fn seek_relative(&mut self, n: i64) -> io::Result<()> { self.by(n) }
 }
 impl Level for Device {
+    fn by(&mut self, n: i64) -> io::Result<()> { self.seek_relative(n) }
     fn seek_to(&mut self, pos: SeekFrom) -> io::Result<u64> { self.seek(pos) }
     fn back(&mut self) -> io::Result<()> { self.rewind() }
     fn at(&mut self) -> io::Result<u64> { self.stream_position() }
@@ -308,11 +313,18 @@ trait Source: BufRead {
     fn limit(&mut self, _: u64) {}
     fn seeks(&mut self, _word: &str, _rest: &str) -> Option<String> { None }
     fn seek_to(&mut self, _: SeekFrom) -> io::Result<u64> { Err(ErrorKind::Unsupported.into()) }
+    fn by(&mut self, n: i64) -> io::Result<()> { self.seek_to(SeekFrom::Current(n)).map(|_| ()) }
     fn place(&mut self, _: u64) {}
 }
 type Any = Box<dyn Source>;
-impl Seek for Any { fn seek(&mut self, pos: SeekFrom) -> io::Result<u64> { self.seek_to(pos) } }
-impl Source for Device { fn seek_to(&mut self, pos: SeekFrom) -> io::Result<u64> { self.seek(pos) } }
+impl Seek for Any {
+    fn seek(&mut self, pos: SeekFrom) -> io::Result<u64> { self.seek_to(pos) }
+    fn seek_relative(&mut self, n: i64) -> io::Result<()> { self.by(n) }
+}
+impl Source for Device {
+    fn seek_to(&mut self, pos: SeekFrom) -> io::Result<u64> { self.seek(pos) }
+    fn by(&mut self, n: i64) -> io::Result<()> { self.seek_relative(n) }
+}
 impl Source for &'static [u8] { fn shown(&self) -> String { format!(" | {}", bytes(self)) } }
 impl Source for Cursor<Vec<u8>> {
     fn shown(&self) -> String { format!(" | {}", self.position()) }
@@ -348,6 +360,8 @@ impl Source for BufReader<Any> {
     fn shown(&self) -> String { format!(" | {}{}", bytes(self.buffer()), self.get_ref().shown()) }
     fn limit(&mut self, n: u64) { self.get_mut().limit(n) }
     fn seeks(&mut self, word: &str, rest: &str) -> Option<String> { seek_call(self, word, rest) }
+    fn seek_to(&mut self, pos: SeekFrom) -> io::Result<u64> { self.seek(pos) }
+    fn by(&mut self, n: i64) -> io::Result<()> { self.seek_relative(n) }
     fn place(&mut self, place: u64) { self.get_mut().place(place) }
 }
 // A tower of these names: over devices, or over texts on both sides of a plus.
@@ -407,7 +421,7 @@ fn make<'a>(name: &'a str, device: Device, words: &str) -> Option<Box<dyn Stream
             Box::new(Reader { top: source(rest, &device, words)?, shows: |r| r.shown() }),
         ("moved", rest) => Box::new(Reader { top: source(rest, &device, words)?, shows: |r| format!(" | ?{}", r.shown()) }),
         ("answers", rest) => Box::new(Reader { top: source(rest, &device, words)?, shows: |_| String::new() }),
-        ("noted", [.., "dyn", "Read" | "BufRead"] | ["Take"] | ["BufReader", _]) =>
+        ("noted", [.., "dyn", "Read" | "BufRead"] | ["Take"] | ["Chain"] | ["BufReader", _]) =>
             Box::new(Reader { top: source(&names[1..], &device, words)?, shows: |_| String::new() }),
         ("writer" | "seeker" | "noted" | "bench", rest) => {
             let top = Some(level(rest, device.clone(), None)?);

@@ -196,4 +196,10 @@ impl Journal {
         self.begin_call(call);
         self.calls.number(number as u64);
     }
+
+    /// Notes such a call with an offset.
+    pub fn note_offset(&mut self, call: &str, offset: i64) {
+        self.begin_call(call);
+        self.calls.offset(offset);
+    }
 }

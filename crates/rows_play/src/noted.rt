@@ -1,11 +1,10 @@
-// A stream that logs the name of each call that has a default body, such as `write_all`, and passes
-// the call on.
+// A stream that notes the name of each call that has a default body, such as `write_all`, and passes the call on.
 
 ghost use Rattle.no_std_io2.specs.Write.{PartMay};
 
 use super::journal::Journal;
 use no_std_io2::io::{BufRead, Read, Result, Seek, SeekFrom, Stored, Write};
-use std::alloc::Allocator;
+use std::alloc::{Allocator, Global};
 use std::cell::RefCell;
 use std::rc::Rc;
 
@@ -42,6 +41,12 @@ fn note_number(journal: &RefCell<Journal>, call: &str, number: usize) {
     }
 }
 
+fn note_offset(journal: &RefCell<Journal>, call: &str, offset: i64) {
+    if let Ok(mut journal) = journal.try_borrow_mut() {
+        journal.note_offset(call, offset);
+    }
+}
+
 impl<W: Write> Write for Noted<W> {
     ghost told = { λ n. W.told n.inner };
 
@@ -61,6 +66,12 @@ impl<W: Write> Write for Noted<W> {
     fn write_all(&mut self, buf: &[u8]) -> Result<()> {
         note_bytes(&self.journal, "write_all ", buf);
         self.inner.write_all(buf)
+    }
+
+    #[tactic(auto, using(no_std_io2::proofs::Wrappers::passes_on))]
+    fn write_rest(&mut self, rest: &mut &[u8]) -> Result<()> {
+        note_bytes(&self.journal, "write_rest ", rest);
+        self.inner.write_rest(rest)
     }
 }
 
@@ -86,6 +97,12 @@ impl<T: Read> Read for Noted<T> {
     }
 
     #[tactic(auto, using(no_std_io2::proofs::Wrappers::passes_on))]
+    fn read_full(&mut self, buf: &mut [u8], filled: &mut usize) -> Result<()> {
+        note_number(&self.journal, "read_full ", buf.len());
+        self.inner.read_full(buf, filled)
+    }
+
+    #[tactic(auto, using(no_std_io2::proofs::Wrappers::passes_on))]
     fn read_to_end<B: Allocator>(&mut self, buf: &mut Vec<u8, B>) -> Result<usize> {
         note(&self.journal, "read_to_end");
         self.inner.read_to_end(buf)
@@ -107,6 +124,11 @@ impl<T: BufRead> BufRead for Noted<T> {
     fn read_until<B: Allocator>(&mut self, delim: u8, buf: &mut Vec<u8, B>) -> Result<usize> {
         note_bytes(&self.journal, "read_until ", &[delim]);
         self.inner.read_until(delim, buf)
+    }
+
+    fn read_line(&mut self, alloc: Global, buf: &mut String) -> Result<usize> {
+        note(&self.journal, "read_line");
+        self.inner.read_line(alloc, buf)
     }
 }
 
@@ -130,5 +152,12 @@ impl<T: Seek> Seek for Noted<T> {
         self.inner.stream_len()
     }
 
+    fn seek_relative(&mut self, offset: i64) -> Result<()> {
+        note_offset(&self.journal, "seek_relative ", offset);
+        self.inner.seek_relative(offset)
+    }
+
     ghost may = { λ old call new. T.may old.inner call new.inner };
+
+    ghost sound = { λ n. T.sound n.inner };
 }

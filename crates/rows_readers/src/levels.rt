@@ -1,6 +1,7 @@
 // The state of each level of a reader, the outer one first, in a column for each level that has
 // one.
 use crate::devices::Columns;
+use io_bench::Tally;
 use no_std_io2::io::{BufRead, BufReader, Chain, Cursor, Read, Repeat, Take};
 use rows_play::line::Line;
 use rows_play::noted::Noted;
@@ -18,6 +19,8 @@ pub trait Levels {
 impl Levels for Recorder {}
 
 impl Levels for Noted<Recorder> {}
+
+impl Levels for Tally<Noted<Recorder>> {}
 
 impl Levels for Repeat {}
 

@@ -1,6 +1,7 @@
-// References, boxes, objects, a buffer and a limit in front of a device that notes the name of each call.
+// References, boxes, objects, a buffer, a limit, a chain and a tally in front of a device that notes the name of each call.
 use crate::devices::Devices;
-use crate::streams::{play_lending, play_limited, play_reading, play_seeking};
+use crate::streams::{play_chain, play_lending, play_reading, play_seeking};
+use io_bench::Tally;
 use no_std_io2::io::{BufRead, BufReader, Read};
 use rows_play::calls::Call;
 use rows_play::fault::{Fault, Made};
@@ -8,7 +9,7 @@ use rows_play::line::Line;
 use rows_play::noted::Noted;
 use rows_play::player::{Player, Stream};
 use rows_play::reads::make_read;
-use rows_play::recorder::Recorder;
+use rows_play::recorder::{Name, Recorder};
 use std::alloc::Global;
 
 type Device = Noted<Recorder>;
@@ -24,7 +25,12 @@ pub fn lend(name: &str, devices: &Devices<'_>, player: &mut Player<'_, '_>) -> M
             devices: *devices,
         }),
         "BufReader 4" => play_seeking(BufReader::<Device, 4>::new(device), 0, devices, player),
-        "Take" => play_limited(device, 2, devices, player),
+        "Take" => play_seeking(device.take(2), 0, devices, player),
+        "Chain" => {
+            let second = Noted::new(devices.recorder(Name::Second)?, devices.journal.clone()?);
+            play_chain(device, second, devices, player)
+        }
+        "Tally" => play_reading(Tally::new(device), devices, player),
         _ => lend_box(name, device, devices, player),
     }
 }

@@ -92,12 +92,16 @@ fn lend_text(first: Recorder, devices: &Devices<'_>, player: &mut Player<'_, '_>
     play_chain(first, new_text(player.alloc, "456789")?, devices, player)
 }
 
-/// Lends a buffer of 4 bytes, or a limit, that also seeks.
+/// Lends a buffer of 4 bytes, a limit, or a limit over such a buffer, that also seeks.
 pub fn lend_seeker(tower: &str, devices: &Devices<'_>, player: &mut Player<'_, '_>) -> Made<()> {
     let device = devices.first()?;
     match tower {
         "BufReader 4" => play_seeking(BufReader::<Recorder, 4>::new(device), 0, devices, player),
         "Take" => play_seeking(device.take(2), 0, devices, player),
+        "Take BufReader 4" => {
+            let below = BufReader::<Recorder, 4>::new(device);
+            play_seeking(below.take(2), 0, devices, player)
+        }
         _ => Err(Fault::NoStream),
     }
 }

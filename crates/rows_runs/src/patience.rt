@@ -1,4 +1,4 @@
-// A `Patient` over a device of the standard library that notes its calls.
+// A `Patient` over a device of the standard library that notes its calls, and the name of each.
 //
 // A line `new` says the turns, and after a colon the device's results. A row is a call; then its result, for a read the
 // bytes that it gave, and the calls that reached the device.
@@ -6,6 +6,7 @@ use rows_play::calls::{Call, make_call, make_seek, new_journal, show_calls};
 use rows_play::fault::{Fault, Made};
 use rows_play::journal::Journal;
 use rows_play::line::{Line, cut};
+use rows_play::noted::Noted;
 use rows_play::player::{Player, Stream};
 use rows_play::reads::make_read;
 use rows_play::recorder::{Name, Recorder};
@@ -17,7 +18,7 @@ use system_streams::{Patient, ToStd};
 // A `Patient`, and the journal of its device.
 #[derive(Drop)]
 struct Patience {
-    patient: Patient<ToStd<Recorder>>,
+    patient: Patient<ToStd<Noted<Recorder>>>,
     journal: Rc<RefCell<Journal>>,
 }
 
@@ -38,7 +39,8 @@ pub fn lend(words: &str, player: &mut Player<'_, '_>) -> Made<()> {
         return Err(Fault::NoNumber);
     };
     let journal = new_journal(player.alloc, answers)?;
-    let device = Recorder::new(player.alloc, journal.clone()?, Name::Only);
+    let recorder = Recorder::new(player.alloc, journal.clone()?, Name::Only);
+    let device = Noted::new(recorder, journal.clone()?);
     let patient = Patient::new(ToStd::new(device), turns);
     player.play(&mut Patience { patient, journal })
 }

@@ -1,4 +1,5 @@
 // Towers of writers over a device, level by level.
+use io_bench::Tally;
 use no_std_io2::io::{BufWriter, Error, IntoInnerError, LineWriter, Write};
 use rows_play::calls::Call;
 use rows_play::fault::Fault;
@@ -41,6 +42,8 @@ pub trait Tower: Write + Drop {
 impl Tower for Recorder {}
 
 impl Tower for Device {}
+
+impl Tower for Tally<Device> {}
 
 impl Tower for Object {}
 

@@ -9,7 +9,7 @@ returns g c =
     record {
       law = record {
         store = len.store;
-        sound = λ is. is;
+        sound = len.sound;
         calls = (len.calls.0, made_map g.T.Seek.may _ put (λ a b call made. made) len.calls.0 _ _ len.calls.1, len.calls.2);
       };
     }
