@@ -39,7 +39,7 @@ use no_std_io2::io::{BufWriter, Result, Write};
 pub use numbered::Numbered;
 pub use objects::{double_to, doubled, put_twice, take_front, take_pair};
 pub use one_retry::send_with_one_retry;
-pub use readings::{send_reading, write_reading};
+pub use readings::{send_reading, write_reading, write_readings};
 pub use retries::save_with_retries;
 pub use serial::{Port, Serial};
 pub use summed::{Summed, flush_summed, write_summed};

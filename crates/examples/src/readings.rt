@@ -1,5 +1,6 @@
-//! [`write_reading`] and [`send_reading`], which print a reading of an instrument straight to a writer.
+//! [`write_reading`], [`send_reading`] and [`write_readings`], which print readings of an instrument straight to a writer.
 ghost use Rattle.std.specs.Prelude.{◌≡◌, ◌⊎◌, [], IsErrAnd, OnOk};
+ghost use Rattle.std.specs.List.{flat_map};
 ghost use Rattle.no_std_io2.specs.Text.{IsTextError};
 ghost use Rattle.no_std_io2.specs.Write.{MovesFront};
 ghost use Rattle.examples.specs.Readings.{reading};
@@ -28,4 +29,18 @@ pub fn send_reading<W: Write>(w: &mut W, name: &str, value: u32) -> Result<()>
 {
     write!(w, "{name}={value}\n")?;
     w.flush()
+}
+
+/// Writes a line `NAME=VALUE` for each of these values. It allocates nothing.
+///
+/// # Errors
+/// Returns the errors that [`write_reading`] returns; some first bytes of the lines were then accepted.
+pub fn write_readings<W: Write>(w: &mut W, name: &str, values: &[u32]) -> Result<()>
+    ensures lines { MovesFront (W.told w.old) (flat_map (reading name.now) values.now) result (W.told w.new)
+        ⊎ IsErrAnd result IsTextError }
+{
+    'values: for value in values {
+        write_reading(w, name, *value)?;
+    }
+    Ok(())
 }
