@@ -9,11 +9,8 @@ ghost use Rattle.bare.specs.Frames.{Unframes, IsToDrop, Skips};
 use crate::kept::append;
 use crate::queue::{CAPACITY, Queue, bare_take};
 use crate::{DONE, FULL, PARTIAL, REFUSED};
-use framing::FrameWriter;
+use framing::{FrameWriter, HEADER, told_len};
 use no_std_io2::io::Result;
-
-// The number of bytes in which a frame has its length.
-const HEADER: usize = 4;
 
 // The size of a buffer that is longer than each frame for which a queue has room.
 const ROOM: usize = CAPACITY + 1;
@@ -45,16 +42,15 @@ pub extern "C" fn bare_send(kept: &mut Queue, port: &mut Queue, payload: &[u8]) 
     append(w.get_ref(), kept, port)
 }
 
-// Returns the length of the payload, as the first four bytes say, if they are there.
-fn told_len(bytes: &[u8]) -> Option<usize>
+// Returns the length of the payload, if it has come.
+fn next_len(bytes: &[u8]) -> Option<usize>
     ensures some { IfSome result (λ n. (4 ≤ length bytes.now) × (n ≡ told_length bytes.now) × (n < 2 ^ 32)) }
     ensures none { IfNone result (length bytes.now < 4) }
 {
     if bytes.len() < HEADER {
         return None;
     }
-    let header = [bytes[0], bytes[1], bytes[2], bytes[3]];
-    Some(u32::from_le_bytes(header) as usize)
+    Some(told_len(bytes))
 }
 
 /// Gives the payload of the next frame that a port received: it is moved into `room`, and `len` is then its length.
@@ -67,7 +63,7 @@ pub extern "C" fn bare_receive(port: &mut Queue, room: &mut [u8], len: &mut usiz
     ensures { Unframes (waiting port.old) room.old len.old result (waiting port.new) room.new len.new }
 {
     let bytes = port.waiting();
-    let Some(told) = told_len(bytes) else {
+    let Some(told) = next_len(bytes) else {
         return PARTIAL;
     };
     if told > CAPACITY - HEADER {
@@ -92,7 +88,7 @@ fn to_drop(bytes: &[u8], left: usize) -> Option<usize>
     if left > 0 {
         return Some(left);
     }
-    match told_len(bytes) {
+    match next_len(bytes) {
         Some(told) => Some(HEADER + told),
         None => None,
     }
