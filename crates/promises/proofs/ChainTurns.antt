@@ -4,6 +4,7 @@ use Rattle.no_std_io2.specs.{Read.{Reader, ReadCallLaw}, Chain.{InTurn}}
 use Rattle.no_std_io2.proofs.{ReadsAdd.{EachAdds}, ChainLemmas.{chain_reader}}
 
 module _ {T U : Type 0} where
-  -- Each call does. So `exact_adds (chain_each R S)` proves this for a `read_exact`, and the other calls are as for `limit_each`.
+  -- Each call does. So `exact_adds (chain_each R S)` proves this for a `read_exact`, and the other calls are
+  -- as for `limit_each`.
   pub chain_each : (R : Reader T) (S : Reader U) → EachAdds (ReadCallLaw (chain_reader R S)) (λ old x new. InTurn old new)
   chain_each R S = grind (arith, common_steps)

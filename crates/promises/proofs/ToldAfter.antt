@@ -25,7 +25,8 @@ none_left buf (Ok zero) end now is none some = is ∙ subst (λ o. IfSome o (λ 
 none_left buf (Ok (suc n)) end now is none some = absurd (let no : ⊥ = cc in no)
 none_left buf (Err e) end now is none some = absurd (let no : ⊥ = cc in no)
 
--- The held bytes stand in the content right before the position, with `front` before them: so the store is told, at their first byte.
+-- The held bytes stand in the content right before the position, with `front` before them: so the store is told, at
+-- their first byte.
 pub store_below : (held front after : List ℕ) (s : Store) {content : List ℕ} → content ≡ front ++ (held ++ after) → s.content ≡ content
     → s.position ≡ length front + length held → store_before held (Some s) ≡ Some (step_back (length held) s)
 store_below held front after s has same at =

@@ -8,9 +8,8 @@ abbrev pub stopped : {A : Type 0} → Result A Error → ℕ
 stopped (Ok _) = 0
 stopped (Err e) = 1
 
--- A loop made `now - was` reads: at least one if there was something to do; and at most one for each turn that is gone, and one that
--- stopped
--- it.
+-- A loop made `now - was` reads: at least one if there was something to do; and at most one for each turn that is
+-- gone, and one that stopped it.
 pub record CountsLoop {A : Type 0} (wanted turns was : ℕ) (reply : Result A Error) (turns' now : ℕ) : Type 0 where
   pub least : was + min 1 wanted ≤ now
   pub most : now + turns' ≤ was + turns + stopped reply
@@ -20,8 +19,8 @@ abbrev pub at_end : {A : Type 0} → Result A Error → ℕ
 at_end (Ok _) = 1
 at_end (Err e) = 0
 
--- A loop read to the end by `now - was` reads: at least one, unless an allocation failed before it; and at most one for each turn that is
--- gone, and one that met the end.
+-- A loop read to the end by `now - was` reads: at least one, unless an allocation failed before it; and at most one for
+-- each turn that is gone, and one that met the end.
 pub record CountsToEnd {A : Type 0} (was turns : ℕ) (reply : Result A Error) (turns' now : ℕ) : Type 0 where
   pub least : OnOk reply (was < now)
   pub asked : IfErr reply (λ e. IsOutOfMemory e ⊎ (was < now))

@@ -9,8 +9,8 @@ ghost use Rattle.no_std_io2.specs.Take.{LimitTakes, limit_left};
 use no_std_io2::io::{BufRead, Bytes, Chain, Read, Result, Take};
 use std::alloc::{Allocator, Global};
 
-// The limit of a `Take` falls by the bytes that it gives, also before an error, and its reader loses these and no others. At limit 0 it
-// gives nothing, and makes no call.
+// The limit of a `Take` falls by the bytes that it gives, also before an error, and its reader loses these and no
+// others. At limit 0 it gives nothing, and makes no call.
 fn keeps_to_its_limit<R: Read>(t: &mut Take<R>, buf: &mut [u8]) -> Result<()>
     ensures takes { (P : List Event) × OnOk result (bytes P ≡ buf.new) × LimitTakes R.Read t.old P t.new }
     ensures at_limit { limit_left t.old ≡ 0 → OnOk result (buf.new ≡ []) × IfErr result IsUnexpectedEnd }

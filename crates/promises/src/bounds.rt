@@ -13,9 +13,9 @@ ghost use Rattle.promises.specs.Promises.{in_lines};
 use io_bench::{Ask, ReadTotals, Tally, run_reads};
 use no_std_io2::io::{BufRead, BufReader, LineWriter, Read, Result, Write};
 
-/// If a list of reads through a buffer of S bytes takes N bytes of a reader that fills its room, and meets the end Z times, it makes at
-/// most `N / S + 1 + Z` inner reads. Each read of the list is made, once and in order; it gives at least one byte, except at the end; and
-/// none fails.
+/// If a list of reads through a buffer of S bytes takes N bytes of a reader that fills its room, and meets the end Z
+/// times, it makes at most `N / S + 1 + Z` inner reads. Each read of the list is made, once and in order; it gives at
+/// least one byte, except at the end; and none fails.
 pub fn bounds_the_reads_of_a_run<R: Read, const S: usize>(
     r: &mut BufReader<Tally<R>, S>,
     asks: &[Ask],
@@ -33,8 +33,8 @@ pub fn bounds_the_reads_of_a_run<R: Read, const S: usize>(
     run_reads(r, asks, buf)
 }
 
-/// Over a device that takes every write whole, a `write` of a `LineWriter` makes at most 3 inner writes and succeeds. Over every device the
-/// bytes that its result reports are accepted.
+/// Over a device that takes every write whole, a `write` of a `LineWriter` makes at most 3 inner writes and succeeds.
+/// Over every device the bytes that its result reports are accepted.
 pub fn bounds_the_writes_of_a_line_write<W: Write + Drop, const S: usize>(
     w: &mut Box<LineWriter<W, S>>,
     x: &[u8],

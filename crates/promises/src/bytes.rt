@@ -8,8 +8,8 @@ ghost use Rattle.promises.specs.Promises.{EndsIn, bytes_in, in_tower};
 use io_bench::Tally;
 use no_std_io2::io::{BufWriter, LineWriter, Result, Write};
 
-/// A `write` adds exactly the bytes that its result reports, after all accepted bytes, and an error adds none. This holds for every
-/// writer, so for every tower of buffers over every device. The result is that of one call.
+/// A `write` adds exactly the bytes that its result reports, after all accepted bytes, and an error adds none. This
+/// holds for every writer, so for every tower of buffers over every device. The result is that of one call.
 pub fn keeps_every_byte<W: Write>(w: &mut W, x: &[u8]) -> Result<usize>
     ensures bytes { bytes_in (W.told w.new) ≡ bytes_in (W.told w.old) ++ taken result x.now }
     ensures call { CallOf W.Write w.old (Wrote x.now result) w.new }
@@ -25,8 +25,8 @@ pub fn keeps_every_byte_of_a_flush<W: Write>(w: &mut W) -> Result<()>
     w.flush()
 }
 
-/// A `write_all` adds some first bytes of its text, and all of them if it returns `Ok`. Its calls are those of one `write_all`, and
-/// give its result.
+/// A `write_all` adds some first bytes of its text, and all of them if it returns `Ok`. Its calls are those of one
+/// `write_all`, and give its result.
 pub fn keeps_every_byte_of_a_write_all<W: Write>(w: &mut W, x: &[u8]) -> Result<()>
     ensures bytes { (front : List ℕ) × IsFront front x.now × OnOk result (front ≡ x.now)
         × (bytes_in (W.told w.new) ≡ bytes_in (W.told w.old) ++ front) }
@@ -35,8 +35,8 @@ pub fn keeps_every_byte_of_a_write_all<W: Write>(w: &mut W, x: &[u8]) -> Result<
     w.write_all(x)
 }
 
-/// The bytes that the device has are never taken back, and no other byte comes before them. After `Ok` all accepted bytes are out. An
-/// error is that of the last call.
+/// The bytes that the device has are never taken back, and no other byte comes before them. After `Ok` all accepted
+/// bytes are out. An error is that of the last call.
 pub fn keeps_what_is_out<W: Write>(w: &mut W, x: &[u8]) -> Result<()>
     ensures front { IsFront (W.told w.old).out (W.told w.new).out }
     ensures all { OnOk result ((W.told w.new).out ≡ bytes_in (W.told w.old) ++ x.now) }
@@ -46,8 +46,8 @@ pub fn keeps_what_is_out<W: Write>(w: &mut W, x: &[u8]) -> Result<()>
     w.flush()
 }
 
-/// In a tower the bytes of the device, of the inner buffer and of the outer one are all accepted bytes, in order. What is out stays
-/// out, and the mishaps that the tower tells are those of the device.
+/// In a tower the bytes of the device, of the inner buffer and of the outer one are all accepted bytes, in order. What
+/// is out stays out, and the mishaps that the tower tells are those of the device.
 pub fn keeps_every_byte_in_a_tower<W: Write + Drop, const S: usize, const T: usize>(
     w: &mut Box<LineWriter<BufWriter<Tally<W>, S>, T>>,
     x: &[u8],
@@ -58,8 +58,8 @@ pub fn keeps_every_byte_in_a_tower<W: Write + Drop, const S: usize, const T: usi
     w.write(x)
 }
 
-/// After an error of `write_rest` the same call continues: both calls together accept exactly the bytes that are gone from the front
-/// of the slice, once. After `Ok` the slice is empty. An error is that of the last call.
+/// After an error of `write_rest` the same call continues: both calls together accept exactly the bytes that are gone
+/// from the front of the slice, once. After `Ok` the slice is empty. An error is that of the last call.
 pub fn continues_with_the_rest<W: Write>(w: &mut W, rest: &mut &[u8]) -> Result<()>
     ensures bytes { (sent : List ℕ) × (rest.old.now ≡ sent ++ rest.new.now)
         × (bytes_in (W.told w.new) ≡ bytes_in (W.told w.old) ++ sent) }

@@ -11,8 +11,8 @@ ghost use Rattle.promises.specs.Promises.{EndsFlushed, EndsIn, HasNoFlush};
 use io_bench::{Op, Reply, run_writes};
 use no_std_io2::io::{BufWriter, Error, Result, Write};
 
-/// A `write` passes on the error of the call of the device that failed, with its message, and that call is the last: the fault is not
-/// hidden, and nothing is flushed. The bytes that its result reports are in the device or the buffer.
+/// A `write` passes on the error of the call of the device that failed, with its message, and that call is the last:
+/// the fault is not hidden, and nothing is flushed. The bytes that its result reports are in the device or the buffer.
 pub fn stops_at_a_fault_of_a_write<W: Write + Drop, const S: usize>(
     w: &mut BufWriter<W, S>,
     x: &[u8],
@@ -35,7 +35,8 @@ pub fn stops_at_a_fault_of_a_flush<W: Write + Drop, const S: usize>(
     w.flush()
 }
 
-/// A `write` that is shorter than the buffer and fits makes no call of the device, and so cannot fail. Its bytes are held.
+/// A `write` that is shorter than the buffer and fits makes no call of the device, and so cannot fail. Its
+/// bytes are held.
 pub fn makes_no_call_if_it_fits<W: Write + Drop, const S: usize>(
     w: &mut BufWriter<W, S>,
     x: &[u8],
@@ -47,9 +48,9 @@ pub fn makes_no_call_if_it_fits<W: Write + Drop, const S: usize>(
     w.write(x)
 }
 
-/// Over a device that takes every write whole, a run of N bytes and F flushes, closed by `into_inner`, gives the device all bytes, and
-/// makes at most `2 * (N / (S + 1)) + F + 1` writes, by each number that counts the writes of the device, such as that of a `Tally`. It
-/// fails only if there is no room for the replies.
+/// Over a device that takes every write whole, a run of N bytes and F flushes, closed by `into_inner`, gives the device
+/// all bytes, and makes at most `2 * (N / (S + 1)) + F + 1` writes, by each number that counts the writes of the
+/// device, such as that of a `Tally`. It fails only if there is no room for the replies.
 pub fn bounds_the_writes_of_a_run<W: Write + Drop, const S: usize>(
     device: W,
     ops: &[Op<'_>],

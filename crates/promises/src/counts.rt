@@ -1,4 +1,5 @@
-// How many calls the inner stream gets: each number that counts its calls rises by so many. A `Tally` has such a number.
+// How many calls the inner stream gets: each number that counts its calls rises by so many. A `Tally` has
+// such a number.
 ghost use Rattle.std.specs.Prelude.{ℕ, ◌≡◌, ◌+◌, ◌<◌, ◌≤◌, ◌^◌, min, nat_lt, if◌then◌else◌, length, IfOk, IsOkAnd, Ok, OnOk};
 ghost use Rattle.std.specs.Int.{div_ceil};
 ghost use Rattle.no_std_io2.specs.BufReader.{reader_held, reader_inner};
@@ -20,8 +21,8 @@ use no_std_io2::io::{
 };
 use std::alloc::Allocator;
 
-// Over a device that takes all, a `write` takes all. It makes one inner write if held bytes must be sent first, and one more for S bytes
-// or more.
+// Over a device that takes all, a `write` takes all. It makes one inner write if held bytes must be sent first, and
+// one more for S bytes or more.
 fn counts_a_write<W: Write + Drop, const S: usize>(
     w: &mut Box<BufWriter<Tally<W>, S>>,
     x: &[u8],
@@ -102,7 +103,8 @@ fn counts_an_exact_read<R: Read, const S: usize>(
     r.read_exact(buf)
 }
 
-// A `read_exact` of a type without one of its own makes at most one read for each turn that is spent, and one that stops it.
+// A `read_exact` of a type without one of its own makes at most one read for each turn that is spent, and one
+// that stops it.
 fn counts_a_read_exact<R: Read>(t: &mut Tally<R>, buf: &mut [u8]) -> Result<()>
     ensures counts { CountsLoop (length buf.old) (R.turns (tally_inner t.old)) (tally_reads t.old) result
         (R.turns (tally_inner t.new)) (tally_reads t.new) }

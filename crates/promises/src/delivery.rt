@@ -17,8 +17,8 @@ pub fn holds_nothing_after_a_flush<W: Write>(w: &mut W) -> Result<()>
     w.flush()
 }
 
-/// After `flush` returns `Ok` each buffer of a tower is empty, and so is whatever the device itself holds back. No byte is lost, and an
-/// error is a mishap of the device.
+/// After `flush` returns `Ok` each buffer of a tower is empty, and so is whatever the device itself holds back. No byte
+/// is lost, and an error is a mishap of the device.
 pub fn empties_a_tower<W: Write + Drop, const S: usize, const T: usize>(
     tower: &mut LineWriter<BufWriter<W, S>, T>,
 ) -> Result<()>
@@ -30,8 +30,8 @@ pub fn empties_a_tower<W: Write + Drop, const S: usize, const T: usize>(
     tower.flush()
 }
 
-/// `into_inner` returns the device with every accepted byte, or an error with the writer that still holds what was not sent. The error is
-/// a mishap of the device.
+/// `into_inner` returns the device with every accepted byte, or an error with the writer that still holds what was not
+/// sent. The error is a mishap of the device.
 pub fn hands_back_the_device<W: Write + Drop, const S: usize>(
     w: BufWriter<W, S>,
 ) -> std::result::Result<W, IntoInnerError<BufWriter<W, S>>>

@@ -13,7 +13,8 @@ ghost use Rattle.io_bench.specs.Tally.{tally_inner};
 use io_bench::{Faulty, Feed, Op, Reply, Tally, run_writes};
 use no_std_io2::io::{BufWriter, Empty, Read, Result, Sink, Write};
 
-// Over a sink behind a `Faulty`, at most as many calls of a run fail as acts do. If no act is left, each call accepts all its bytes.
+// Over a sink behind a `Faulty`, at most as many calls of a run fail as acts do. If no act is left, each call accepts
+// all its bytes.
 fn fails_as_its_acts_do<const S: usize, const T: usize>(
     w: &mut BufWriter<BufWriter<Tally<Faulty<Sink>>, S>, T>,
     ops: &[Op<'_>],

@@ -1,7 +1,8 @@
-//! README's promises, and what docs/MODEL.md says in its tables, as proved callers. Nothing calls these functions. The contract of each
-//! one says a fact in the words of a user, and its body makes the calls that the fact is about. A contract is as strong as what a caller
-//! can prove from it. Of a call through a box or a tower a caller knows what the ghost members say, and no clause of the call's own; so
-//! these callers fail if a member that they need says less. README names the functions that are public.
+//! README's promises, and what docs/MODEL.md says in its tables, as proved callers. Nothing calls these functions. The
+//! contract of each one says a fact in the words of a user, and its body makes the calls that the fact is about. A
+//! contract is as strong as what a caller can prove from it. Of a call through a box or a tower a caller knows what the
+//! ghost members say, and no clause of the call's own; so these callers fail if a member that they need says less.
+//! README names the functions that are public.
 #![tactic(auto)]
 
 mod adaptors;

@@ -8,8 +8,8 @@ ghost use Rattle.promises.specs.Promises.{in_lines, in_tower};
 
 use no_std_io2::io::{BufWriter, LineWriter, Result, Write};
 
-/// After `write_all` returns `Ok` every complete line has been passed on. Some first bytes of the text were accepted, all of them after
-/// `Ok`, and an error is a mishap of the device.
+/// After `write_all` returns `Ok` every complete line has been passed on. Some first bytes of the text were accepted,
+/// all of them after `Ok`, and an error is a mishap of the device.
 pub fn holds_no_newline<W: Write + Drop, const S: usize>(
     w: &mut LineWriter<W, S>,
     x: &[u8],
@@ -42,8 +42,8 @@ pub fn holds_no_newline_in_a_box<W: Write + Drop, const S: usize>(
     w.as_mut().write_all(x)
 }
 
-/// After a `write`, also a failed one, the buffer of a `LineWriter` has no newline or ends in one. The bytes that the result reports were
-/// accepted, and an error is a mishap of the device.
+/// After a `write`, also a failed one, the buffer of a `LineWriter` has no newline or ends in one. The bytes that the
+/// result reports were accepted, and an error is a mishap of the device.
 pub fn keeps_a_line_state<W: Write + Drop, const S: usize>(
     w: &mut LineWriter<W, S>,
     x: &[u8],

@@ -75,7 +75,8 @@ fn gives_as_many_as_fit<'a, T: AsSlice<u8>>(
     Ok((s.read(buf)?, c.fill_buf()?.len()))
 }
 
-// What is written over a cursor follows the bytes before its position, also if these are too few: zeros are then before it.
+// What is written over a cursor follows the bytes before its position, also if these are too few: zeros are
+// then before it.
 fn writes_over_cursors<'a, A: Allocator, const N: usize>(
     vector: &mut Cursor<Vec<u8, A>>,
     lent: &mut Cursor<&'a mut Vec<u8, A>>,
@@ -97,8 +98,8 @@ fn writes_over_cursors<'a, A: Allocator, const N: usize>(
     keeps_every_byte_of_a_write_all(boxed, x)
 }
 
-// The pieces of some bytes, joined, are the bytes; none is empty; each except possibly the last ends in the delimiter, which is nowhere
-// else. Exactly one list has these properties.
+// The pieces of some bytes, joined, are the bytes; none is empty; each except possibly the last ends in the delimiter,
+// which is nowhere else. Exactly one list has these properties.
 fn has_one_list_of_pieces()
     ensures hold { (d : ℕ) (bs : List ℕ) → ArePieces d bs (pieces d bs) }
     ensures determine { (d : ℕ) (bs : List ℕ) (ps : List (List ℕ)) → ArePieces d bs ps → ps ≡ pieces d bs }

@@ -1,4 +1,5 @@
-// A call of a boxed object, or through a reference to an object, is the same call of the object, and tells what that tells.
+// A call of a boxed object, or through a reference to an object, is the same call of the object, and tells
+// what that tells.
 ghost use Rattle.std.specs.Prelude.{[], ◌≡◌, Ok, Some, length};
 ghost use Rattle.no_std_io2.specs.Read.{Gave, answered, gave};
 ghost use Rattle.no_std_io2.specs.Seek.{Seeks, Sought};

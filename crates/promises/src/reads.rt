@@ -15,8 +15,8 @@ use io_bench::Tally;
 use no_std_io2::io::{BufRead, BufReader, Chain, Read, Result, Seek, SeekFrom, Take};
 use std::alloc::{Allocator, Global};
 
-/// If it is known what a reader is going to give, a `read` gives what comes next, bytes or an error, and nothing else is gone. It gives no
-/// byte only at the end, or into an empty buffer.
+/// If it is known what a reader is going to give, a `read` gives what comes next, bytes or an error, and nothing else
+/// is gone. It gives no byte only at the end, or into an empty buffer.
 pub fn gives_what_comes_next<R: Read>(r: &mut R, buf: &mut [u8]) -> Result<usize>
     ensures { (E : List Event) → to_come (tells R.Read r.old) ≡ Some E
         → (after : List Event) × (to_come (tells R.Read r.new) ≡ Some after) × (E ≡ answered (gave result buf.new) ++ after)
@@ -25,8 +25,9 @@ pub fn gives_what_comes_next<R: Read>(r: &mut R, buf: &mut [u8]) -> Result<usize
     r.read(buf)
 }
 
-/// In a tower the held bytes come first, then the events of the first reader up to the limit, and then those of the second. A `read` takes
-/// what comes next, bytes or an error, and nothing else. It gives no byte only at the end, or into an empty buffer.
+/// In a tower the held bytes come first, then the events of the first reader up to the limit, and then those of the
+/// second. A `read` takes what comes next, bytes or an error, and nothing else. It gives no byte only at the end, or
+/// into an empty buffer.
 pub fn gives_what_comes_next_in_a_tower<R: Read, U: Read, const S: usize>(
     tower: &mut Box<BufReader<Chain<Take<Tally<R>>, U>, S>>,
     buf: &mut [u8],
@@ -40,8 +41,8 @@ pub fn gives_what_comes_next_in_a_tower<R: Read, U: Read, const S: usize>(
     tower.read(buf)
 }
 
-/// `read_until` appends one piece: the bytes up to and including the next delimiter, or all if there is none. After an error it has
-/// appended what it took, and the delimiter is not among these bytes.
+/// `read_until` appends one piece: the bytes up to and including the next delimiter, or all if there is none. After an
+/// error it has appended what it took, and the delimiter is not among these bytes.
 pub fn gives_the_next_piece<R: BufRead>(r: &mut R, delim: u8, buf: &mut Vec<u8>) -> Result<usize>
     ensures { (taken : List Event) × Takes (lender_tells ⟦<R as BufRead>⟧ r.old) taken (lender_tells ⟦<R as BufRead>⟧ r.new)
         × (buf.new.items ≡ buf.old.items ++ bytes taken)
@@ -58,8 +59,8 @@ pub fn goes_to_its_target<S: Seek>(s: &mut S, target: SeekFrom) -> Result<u64>
     s.seek(target)
 }
 
-// After a seek of the inner reader itself, a `BufReader` tells its store where its held bytes agree with the content. So its own next seek
-// goes from the first held byte.
+// After a seek of the inner reader itself, a `BufReader` tells its store where its held bytes agree with the content.
+// So its own next seek goes from the first held byte.
 fn goes_on_after_a_seek_below<R: Read + Seek + Drop, const S: usize>(
     r: &mut BufReader<R, S>,
     place: u64,
@@ -74,7 +75,8 @@ fn goes_on_after_a_seek_below<R: Read + Seek + Drop, const S: usize>(
     r.seek(target)
 }
 
-/// A `seek_relative` inside the buffer of a `BufReader` succeeds and makes no inner call, and the events to come move along.
+/// A `seek_relative` inside the buffer of a `BufReader` succeeds and makes no inner call, and the events to
+/// come move along.
 pub fn moves_inside_its_buffer<R: Read + Seek + Drop, const S: usize>(
     r: &mut BufReader<R, S>,
     offset: i64,

@@ -7,8 +7,8 @@ ghost use Rattle.promises.specs.Promises.{bytes_in};
 use io_bench::{Op, Reply, run_writes};
 use no_std_io2::io::{Result, Write};
 
-/// Whatever the list of calls, each call was made, once and in order, and every writer has accepted exactly what the replies say. The run
-/// fails only if there is no room for the replies; then no call was made.
+/// Whatever the list of calls, each call was made, once and in order, and every writer has accepted exactly what the
+/// replies say. The run fails only if there is no room for the replies; then no call was made.
 pub fn accepts_by_its_replies<W: Write>(
     w: &mut W,
     ops: &[Op<'_>],

@@ -20,7 +20,8 @@ fn writes_to_the_system<D: SystemWrite>(w: &mut Box<Patient<D>>, x: &[u8]) -> Re
     w.write(x)
 }
 
-// Whatever bytes a `read_exact` puts into the buffer, the system gave them, and each of its results except the end spent a turn.
+// Whatever bytes a `read_exact` puts into the buffer, the system gave them, and each of its results except the end
+// spent a turn.
 fn reads_from_the_system<D: SystemRead>(r: &mut Patient<D>, buf: &mut [u8]) -> Result<()>
     ensures { Fills D.known result buf.new r.old r.new }
 {

@@ -11,7 +11,8 @@ use no_std_io2::io::{CopyError, Cursor, Error, ErrorKind, Result, SeekFrom, Writ
 use std::alloc::{AllocError, Allocator};
 use std::hash::Hash;
 
-// Kinds are ordered as they are declared, and a kind gives a hasher its place in that order, from 0. Equal kinds and targets are the same.
+// Kinds are ordered as they are declared, and a kind gives a hasher its place in that order, from 0. Equal kinds and
+// targets are the same.
 fn compares_kinds_and_targets(
     a: ErrorKind,
     b: ErrorKind,

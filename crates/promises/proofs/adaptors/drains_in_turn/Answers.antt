@@ -1,3 +1,4 @@
+-- The prover does not go over the calls of a loop.
 use Rattle.no_std_io2.proofs.ReadsAdd.{to_end_adds}
 use Rattle.promises.proofs.ChainTurns.{chain_each}
 use Rattle.no_std_io2.proofs.Readers.{reader}

@@ -1,3 +1,4 @@
+-- The prover does not go over the calls of a loop.
 use Rattle.no_std_io2.proofs.ReadsAdd.{each_of, piece_adds}
 use Rattle.promises.proofs.ChainTurns.{chain_each}
 use Rattle.promises.proofs.ChainLends.{chain_lender}

@@ -1,3 +1,4 @@
+-- The prover does not count inner calls.
 use Rattle.no_std_io2.specs.Write.{calls_for}
 use Rattle.no_std_io2.specs.BufWriter.{writer_inner, writer_buffer, FlushCalls}
 use Rattle.no_std_io2.proofs.BufWriterCalls.{flush_counts}

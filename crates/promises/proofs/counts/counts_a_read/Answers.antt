@@ -1,3 +1,4 @@
+-- The prover does not find that a `Tally` counts its reads, nor how many bytes a filling reader gives.
 use Rattle.std.proofs.Common.{min, length, ap}
 use Rattle.no_std_io2.specs.BufReader.{reader_held, reader_inner}
 use Rattle.io_bench.proofs.BufReaderCounts.{held_or, read_cost, read_gives, gave_count}

@@ -1,3 +1,4 @@
+-- The prover does not count the reads of a loop.
 use Rattle.std.proofs.Common.{arith}
 use Rattle.no_std_io2.proofs.Readers.{reader}
 use Rattle.no_std_io2.proofs.TakesLemmas.{made_may}

@@ -1,3 +1,4 @@
+-- The prover does not count inner calls.
 use Rattle.no_std_io2.specs.BufWriter.{writer_inner, writer_buffer, writing_calls, WriteCalls}
 use Rattle.no_std_io2.proofs.BufWriterCalls.{write_counts}
 use Rattle.io_bench.proofs.StepCosts.{step_cost}

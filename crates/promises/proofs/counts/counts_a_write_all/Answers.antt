@@ -1,3 +1,4 @@
+-- The prover does not count inner calls, nor find that S > 0 leaves no call for an empty text.
 use Rattle.std.proofs.Common.{ap, ◌∙◌, ◌+◌}
 use Rattle.no_std_io2.specs.BufWriter.{writer_inner, writer_buffer, WriteAllCalls}
 use Rattle.no_std_io2.proofs.BufWriterCalls.{writing_all_calls, write_all_counts}

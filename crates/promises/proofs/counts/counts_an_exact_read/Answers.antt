@@ -1,3 +1,4 @@
+-- The prover does not count the reads of a loop.
 use Rattle.promises.proofs.ExactCounts.{exact_counted}
 use Rattle.promises.proofs.counts.counts_an_exact_read.Goals as goal
 

@@ -1,3 +1,4 @@
+-- The prover does not make the record of a filling reader.
 use Rattle.std.proofs.Common.{refl}
 use Rattle.no_std_io2.specs.Cursor.{cursor_left}
 use Rattle.no_std_io2.specs.ReadMeter.{FillsRoom}

@@ -1,3 +1,4 @@
+-- The prover does not use a meter of the inner writer at the inner states.
 use Rattle.promises.proofs.counts.has_meters.Goals as goal
 
 pub returns-clause-lent : goal.returns-clause-lent

@@ -1,3 +1,4 @@
+-- The prover does not join the events of three readers.
 use Rattle.std.proofs.Common.{◌++◌, Some, ap, ap₂, ◌∙◌}
 use Rattle.no_std_io2.specs.Events.{events_of, bytes, cut}
 use Rattle.no_std_io2.specs.Cursor.{cursor_left}

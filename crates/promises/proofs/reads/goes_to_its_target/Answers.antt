@@ -1,3 +1,4 @@
+-- The prover does not find that a told store is still told.
 use Rattle.std.proofs.Common.{ℕ}
 use Rattle.no_std_io2.specs.Seek.{Seeks}
 use Rattle.promises.proofs.ToldAfter.{store_after}

@@ -1,3 +1,4 @@
+-- The prover does not join what the copy and the flush did, nor find that neither can fail by the writer.
 use Rattle.std.proofs.Common.{◌++◌, ◌∙◌, ap}
 use Rattle.no_std_io2.specs.Events.{bytes}
 use Rattle.no_std_io2.proofs.MovesLemmas.{Moves-steady}

@@ -1,3 +1,4 @@
+-- The prover does not take the law of the reference apart into that of the reader.
 use Rattle.promises.proofs.towers.reads_through.Goals as goal
 
 pub returns : goal.returns

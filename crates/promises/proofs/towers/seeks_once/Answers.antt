@@ -1,3 +1,4 @@
+-- The prover does not find the one inner seek in the call.
 use Rattle.promises.proofs.towers.seeks_once.Goals as goal
 
 pub returns : goal.returns

@@ -1,3 +1,4 @@
+-- The prover does not take the law of the reference apart into that of the stream.
 use Rattle.promises.proofs.towers.seeks_through.Goals as goal
 
 pub returns : goal.returns

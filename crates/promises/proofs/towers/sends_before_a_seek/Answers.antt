@@ -1,3 +1,4 @@
+-- The prover does not find in the call that the bytes were sent.
 use Rattle.promises.proofs.towers.sends_before_a_seek.Goals as goal
 
 pub returns : goal.returns
