@@ -65,15 +65,12 @@ read_ends k all some (one_read t none got kept short) split is = grind (arith, n
 
 -- the only call that was made
 made_one : {X A : Type 0} (may : X → A → X → Type 0) {call : A} {C : List A} (a b : X) → C ≡ call ∷ [] → Made may a C b → may a call b
-made_one may {call} a b is made =
-    let one = subst (λ K. Made may a K b) is made in subst (λ x. may a call x) (sym one.2) one.1
+made_one may {call} a b is made = grind (arith, common_steps)
 
 -- the last of some calls
 made_last : {X A : Type 0} (may : X → A → X → Type 0) (C : List A) {call : A} (a b : X) → Made may a (C ++ call ∷ []) b
     → (mid : X) × Made may a C mid × may mid call b
-made_last may C {call} a b made =
-    let parts = made_split may C a (call ∷ []) b made in
-    (parts.0, parts.1, subst (λ x. may parts.0 call x) (sym parts.2.2) parts.2.1)
+made_last may C {call} a b made = grind (arith, common_steps, made_split)
 
 module _ {R : Type 0} {S : ℕ} (I : Reader R) (fills : FillsRoom I) where
   -- how many bytes are to come from the inner reader
@@ -88,8 +85,7 @@ module _ {R : Type 0} {S : ℕ} (I : Reader R) (fills : FillsRoom I) where
   -- it makes none,
   once_none : (a b : BufReader R S) → 0 < length (reader_held a) → length (reader_held b) ≤ length (reader_held a)
       → reader_inner b ≡ reader_inner a → Once a b
-  once_none a b some fits same =
-      (0, λ cost meter. omega (arith, ap cost same), no_inner_read some fits (ap (λ r. length (fills.left r)) same))
+  once_none a b some fits same = grind (arith, common_steps, no_inner_read)
 
   -- or one, of which some bytes are held
   once_reads : (a b : BufReader R S) (room : ℕ) (answer : Result (List ℕ) Error) → length (reader_held a) ≡ 0 → S ≤ room
@@ -133,8 +129,7 @@ module _ {R : Type 0} {S : ℕ} (I : Reader R) (fills : FillsRoom I) (start : Bu
   -- of the bytes to come these were taken
   taken : (a b : BufReader R S) (P : List Event) → Takes (lender_tells L a) P (lender_tells L b)
       → events_of (all a) ≡ P ++ events_of (all b)
-  taken a b P takes =
-      subst (AreTaken (Some (events_of (all a))) P) (told b) (subst (λ E. AreTaken E P (to_come (lender_tells L b))) (told a) takes.events)
+  taken a b P takes = grind (arith, common_steps, told)
 
   took : (a b : BufReader R S) (x : List ℕ) → Takes (lender_tells L a) (events_of x) (lender_tells L b) → all a ≡ x ++ all b
   took a b x takes = simp (bytes-append, bytes-events_of) at (ap bytes (taken a b (events_of x) takes))

@@ -38,8 +38,7 @@ one_more P ops replies {i} p q h e more = rw (take_more ops i p h, take_more rep
 -- what holds of the calls gone through holds of all, once all are
 pub all_through : (P : List Op → List Reply → Type 0) (ops : List Op) (replies : List Reply) (i : ℕ)
     → length ops ≤ i → length ops ≡ length replies → P (take i ops) (take i replies) → P ops replies
-all_through P ops replies i h e p =
-    subst (λ l. P l replies) (take_all i ops h) (subst (P (take i ops)) (take_all i replies (subst (λ n. n ≤ i) e h)) p)
+all_through P ops replies i h e p = grind (arith, common_steps, take_all)
 
 -- without its first call a run that accepted one list still did
 rest_joined : (op : Op) (reply : Reply) (ops : List Op) (replies : List Reply) (b : List ℕ)

@@ -88,8 +88,7 @@ at_ok = grind (arith, common_steps)
 -- nothing is left after a flush
 flush_empties : {held left : List ℕ} {C : List WriteCall} (reply : Result (Unit {0}) Error) → FlushCalls held C reply left
     → OnOk reply (left ≡ [])
-flush_empties reply calls =
-    then_leaves SendCalls (PastEmpty (Only Flushed)) (λ _. []) (λ _. []) send_leaves (λ held C r left gone. grind (arith, gone.1)) calls
+flush_empties reply calls = grind (arith, common_steps, send_leaves, then_leaves)
 
 module _ {W B : Type 0} (I : Writer W) (cost : W → ℕ) (meter : IsMeter I.may cost) (S : ℕ) (some : 0 < S) (inner : B → W)
     (buffer : B → List ℕ) (fits : (b : B) → length (buffer b) ≤ S) (old : B) where

@@ -1,3 +1,4 @@
+use Rattle.std.proofs.lemmas.Grind.{common_steps}
 use Rattle.std.proofs.Common.{arith, refl, sym}
 use Rattle.std.proofs.lemmas.Slice.Zip.{AllZip-long}
 use Rattle.io_bench.specs.Joined.{IsClear, AreClear}
@@ -16,5 +17,4 @@ pub returns-in_default-clause-no : goal.returns-in_default-clause-no
 returns-in_default-clause-no c e clear = absurd (c.in_default.ensures.none refl (clear_at _ _ _ _ _ c.calls-test.true clear))
 
 pub returns-clause-yes : goal.returns-clause-yes
-returns-clause-yes c e =
-    all_through AreClear _ _ c.calls.i (omega (arith, c.calls-test.false)) (omega (arith, c.if-ops-replies.false)) c.calls.invariant
+returns-clause-yes c e = grind (arith, common_steps, all_through)

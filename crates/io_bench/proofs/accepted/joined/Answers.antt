@@ -1,3 +1,4 @@
+use Rattle.std.proofs.lemmas.Grind.{common_steps}
 use Rattle.std.proofs.Common.{arith, rules, ◌++◌, refl, sym}
 use Rattle.std.proofs.lemmas.Slice.Zip.{AllZip-long}
 use Rattle.std.proofs.lemmas.Result.{err_from_is_err_and}
@@ -34,8 +35,4 @@ pub returns-then-not-are_clear-clause-no_one : goal.returns-then-not-are_clear-c
 returns-then-not-are_clear-clause-no_one c e bytes j = unclear _ _ bytes j (c.are_clear.ensures.no c.if-not-are_clear.true)
 
 pub returns-in_err-extend_from_slice-clause-err : goal.returns-in_err-extend_from_slice-clause-err
-returns-in_err-extend_from_slice-clause-err c =
-    let front = c.in-Some.ensures.some in
-    let (e, is, refused) = err_from_is_err_and c.from_residual.result c.from_residual.ensures.1 in
-    let none = some_accepted c.args.ops.now c.args.replies.now c.calls.i _ _ _ c.calls-test.true front.0 front.1 (search rules) in
-    rw is (refused, c.are_clear.ensures.yes c.if-not-are_clear.false, none)
+returns-in_err-extend_from_slice-clause-err c = grind (arith, common_steps, err_from_is_err_and, some_accepted)

@@ -15,13 +15,7 @@ pub returns-in-Ok : goal.returns-in-Ok
 returns-in-Ok g c = (Ok c.in-Ok.field-0, refl, (_, _, c.read_exact.auto.buf, c.in-Ok.ensures.law))
 
 pub returns-in-UnexpectedEof : goal.returns-in-UnexpectedEof
-returns-in-UnexpectedEof g c =
-    let e = c.in-Err.e in
-    let kind = sym (sym c.kind.ensures ∙ c.in-UnexpectedEof.is) in
-    (Err e, ap (λ kind. end_or_error kind e) kind, (_, _, c.read_exact.auto.buf, c.in-Err.ensures.law))
+returns-in-UnexpectedEof g c = grind (arith, common_steps)
 
 pub returns-in_default : goal.returns-in_default
-returns-in_default g c =
-    let e = c.in-Err.e in
-    let other = λ (is : error_kind e ≡ UnexpectedEof). c.in_default.not-UnexpectedEof (c.kind.ensures ∙ is) in
-    (Err e, other_error _ e other, (_, _, c.read_exact.auto.buf, c.in-Err.ensures.law))
+returns-in_default g c = grind (arith, other_error)

@@ -1,3 +1,4 @@
+use Rattle.std.proofs.lemmas.Grind.{common_steps}
 use Rattle.std.proofs.Common.{◌≡◌, ◌&&◌, nat_eq, length, take, Ok, Err, arith, ap, refl, length-take-le}
 use Rattle.std.proofs.lemmas.Bool.Decides.{nat_tests}
 use Rattle.std.proofs.lemmas.Result.{err_from_is_err_and}
@@ -7,11 +8,7 @@ use Rattle.io_bench.proofs.asks.ask_read.Goals.{then-n-eq0, else-n-eq0}
 use Rattle.io_bench.proofs.asks.ask_read.Goals as goal
 
 pub returns-in_err-n : goal.returns-in_err-n
-returns-in_err-n g c =
-    let e = c.in_err-n.field-0.0 in
-    let p = err_from_is_err_and c.from_residual.result c.from_residual.ensures.1 in
-    let law = read_law (Err e) c.in_err-n.ensures.law in
-    rw (p.1, p.2) (Err e, refl, rw c.read.auto.buf at law)
+returns-in_err-n g c = grind (arith, common_steps, err_from_is_err_and, read_law)
 
 pub returns : goal.returns
 returns g c =
