@@ -10,7 +10,7 @@ use Rattle.std.proofs.lemmas.Bool.{cases_lt}
 use Rattle.std.proofs.lemmas.Bool.Decides.{nat_tests}
 use Rattle.no_std_io2.specs.declared.io.Error.{Error}
 use Rattle.no_std_io2.specs.Events.{Event, fails, events_of, bytes}
-use Rattle.no_std_io2.specs.Takes.{Takes, AreTaken, to_come, IsAtEnd}
+use Rattle.no_std_io2.specs.Takes.{Takes, to_come, IsAtEnd}
 use Rattle.no_std_io2.specs.Read.{Reader, tells, ReadCall, bytes_given, GaveLaw, ReadCallLaw, Gathers, no_read, and_gave, and_again}
 use Rattle.no_std_io2.specs.Read.{ExactCalls}
 use Rattle.no_std_io2.specs.ReadMeter.{FillsRoom, IsReadMeter}

@@ -1,8 +1,7 @@
 -- How many inner reads a `BufReader` makes, and how much it holds then.
 use Rattle.std.proofs.lemmas.Bool.Decides.{nat_tests}
-use Rattle.std.proofs.lemmas.Bool.{cases_lt}
 use Rattle.std.proofs.Common.{◌≡◌, ℕ, ◌+◌, ◌-◌, ◌<◌, ◌≤◌, min, if◌then◌else◌, List, [], Result, Ok, Err, length}
-use Rattle.std.proofs.Common.{refl, sym, ap, subst, ◌∙◌, arith, ⊎_elim, Some, length-append, length-take, length-take-le}
+use Rattle.std.proofs.Common.{refl, sym, ap, subst, ◌∙◌, arith, Some, length-append, length-take, length-take-le}
 use Rattle.std.proofs.Common.{IsOkAnd, IfOk}
 use Rattle.std.specs.Prelude.{nat_lt}
 use Rattle.no_std_io2.specs.declared.io.Error.{Error}

@@ -1,17 +1,16 @@
 -- How the items of a run of `split` or `lines` come to be all pieces, by what one `next` says of the events to come.
 use Rattle.std.proofs.Common.{◌≡◌, ℕ, true, false, Bool, if◌then◌else◌, Option, Some, None, Result, Ok, Err, List, [], ◌∷◌, ◌++◌, map, refl}
-use Rattle.std.proofs.Common.{ap, ◌∙◌, subst, sym, inl, inr, ◌<◌, ◌⊎◌, length, arith, length-append, IfSome}
+use Rattle.std.proofs.Common.{ap, ◌∙◌, subst, sym, inl, inr, ◌<◌, ◌⊎◌, length, arith, length-append, append-nil, append_assoc, IfErr, IfSome}
 use Rattle.std.specs.List.{concat}
 use Rattle.std.proofs.lemmas.Grind.{common_steps}
-use Rattle.std.proofs.lemmas.List.{map-append}
-use Rattle.std.proofs.lemmas.List.Folds.{concat-append}
 use Rattle.no_std_io2.specs.declared.io.Error.{Error}
 use Rattle.no_std_io2.specs.Errors.{error_kind, is_interruption, IsFault, IsOutOfMemory}
 use Rattle.no_std_io2.specs.Events.{Event, byte, fails, bytes, HasNoFault, bytes_to_fault, first_fault}
+use Rattle.std.proofs.lemmas.List.Folds.{concat-append}
 use Rattle.no_std_io2.specs.Takes.{Tells, to_come}
-use Rattle.no_std_io2.specs.Pieces.{pieces, pieces_given, items_left, RefusesLine}
-use Rattle.no_std_io2.specs.BufRead.{Lender, NextPieceLaw}
-use Rattle.no_std_io2.proofs.GivenPieces.{GivesNext, GivesNone, next_turns}
+use Rattle.no_std_io2.specs.Pieces.{pieces_given, RefusesLine}
+use Rattle.no_std_io2.specs.BufRead.{Lender, NextPieceLaw, lender_tells}
+use Rattle.no_std_io2.proofs.GivenPieces.{GivesNext, GivesNone, next_error, next_fault, next_item, next_none}
 use Rattle.io_bench.specs.Appended.{appended}
 use Rattle.io_bench.proofs.AppendedLemmas.{appended-one}
 use Rattle.no_std_io2.proofs.CallsLemmas.{made_more}
@@ -20,7 +19,7 @@ use Rattle.no_std_io2.specs.Pieces.{newline, line_text, without, ends_at, split_
 use Rattle.no_std_io2.specs.Pieces.{lines_is_ended}
 use Rattle.no_std_io2.specs.declared.io.Split.{Split}
 use Rattle.no_std_io2.specs.declared.io.Lines.{Lines}
-use Rattle.io_bench.specs.PieceRuns.{AllPieces, GathersPieces}
+use Rattle.io_bench.specs.PieceRuns.{AllPieces, GathersPieces, RunsNexts}
 
 -- the first pieces were gathered, trimmed, and the others are to come
 pub record GatheredSoFar (trim : List ℕ → List ℕ) (d : ℕ) (E : List Event) (items : List (List ℕ)) (after : List Event) : Type 0 where
@@ -35,48 +34,29 @@ abbrev pub GatheredToldSoFar : (List ℕ → List ℕ) → ℕ → Tells → Lis
 GatheredToldSoFar trim d old items now =
     (E : List Event) → to_come old ≡ Some E → (after : List Event) × (to_come now ≡ Some after) × GatheredSoFar trim d E items after
 
--- what one `next` of a `split` does, as its iterator says it
-abbrev pub split_next : {X T : Type 0} → Lender X → (T → List ℕ) → Split X → Option (Result T Error) → Split X → Type 0
-split_next R view s r t = (split_is_ended s ≡ true → (r ≡ None) × (t ≡ s))
-    × (split_is_ended s ≡ false → (split_is_ended t ≡ ends_at r)
-    × NextPieceLaw R (split_reader s) view (without (split_delim s)) (λ _ _. ⊥) (split_delim s) r (split_reader t))
-    × (split_delim t ≡ split_delim s)
-
--- and one of a `lines`
-abbrev pub lines_next : {X T : Type 0} → Lender X → (T → List ℕ) → Lines X → Option (Result T Error) → Lines X → Type 0
-lines_next R view s r t = (lines_is_ended s ≡ true → (r ≡ None) × (t ≡ s))
-    × (lines_is_ended s ≡ false → (lines_is_ended t ≡ ends_at r)
-    × NextPieceLaw R (lines_reader s) view line_text RefusesLine newline r (lines_reader t))
-
--- each item so far was yielded by one `next`
-abbrev pub Yielded : {S T : Type 0} → (S → Option (Result T Error) → S → Type 0) → S → List T → S → Type 0
-Yielded next old items now = Made (λ s x t. next s (Some (Ok x)) t) old items now
-
--- and so was one more
-pub one_yielded : {S T : Type 0} (next : S → Option (Result T Error) → S → Type 0) (from mid now : S) (old : List T) {items items' : List T}
-    {x : T} {r : Option (Result T Error)} → items ≡ old ++ appended old items → items' ≡ items ++ x ∷ []
-    → Yielded next from (appended old items) mid → next mid r now → r ≡ Some (Ok x) → Yielded next from (appended old items') now
-one_yielded next from mid now old {items} {items'} {x} h pushed made one is =
-    subst (λ l. Yielded next from l now) (sym (appended-one old items items' x h pushed))
-    (made_more (λ s x t. next s (Some (Ok x)) t) (appended old items) from made (subst (λ r. next mid r now) is one))
-
--- the same items were yielded
-pub still_yielded : {S T : Type 0} (next : S → Option (Result T Error) → S → Type 0) (from now : S) (old : List T) {items items' : List T}
-    → items' ≡ items → Yielded next from (appended old items) now → Yielded next from (appended old items') now
-still_yielded next from now old same made = subst (λ l. Yielded next from (appended old l) now) (sym same) made
-
--- at the start no piece was gathered, and all are to come
-pub none_gathered : (trim : List ℕ → List ℕ) (d : ℕ) (t : Tells) → GatheredToldSoFar trim d t [] t
-none_gathered trim d t = λ E is. (E, is, record { before = []; given = refl; fault = refl; bytes = refl; are = refl })
-
 -- what holds of the events if they are told
 pub if_told : (told : Option (List Event)) {P : List Event → Type 0} → ((E : List Event) → told ≡ Some E → P E) → IfSome told P
 if_told None h = tt
 if_told (Some E) h = h E refl
 
--- a `split` that yields an item had not ended before
-pub not_ended : {A X : Type 0} (was : Bool) {r : Option A} {item : A} → (was ≡ true → (r ≡ None) × X) → r ≡ Some item → was ≡ false
-not_ended was ended is = grind (arith, common_steps, ended)
+-- one item more was yielded
+pub one_yielded : {S T : Type 0} (next : S → Option (Result T Error) → S → Type 0) (from mid now : S) (old : List T) {items items' : List T}
+    (x : T) {r : Option (Result T Error)} → items ≡ old ++ appended old items → items' ≡ items ++ x ∷ []
+    → Made (λ s x t. next s (Some (Ok x)) t) from (appended old items) mid → next mid r now → r ≡ Some (Ok x)
+    → Made (λ s x t. next s (Some (Ok x)) t) from (appended old items') now
+one_yielded next from mid now old {items} {items'} x h pushed made one is =
+    subst (λ l. Made (λ s x t. next s (Some (Ok x)) t) from l now) (sym (appended-one old items items' x h pushed))
+    (made_more (λ s x t. next s (Some (Ok x)) t) (appended old items) from made (subst (λ r. next mid r now) is one))
+
+-- the same items were yielded
+pub still_yielded : {S T : Type 0} (next : S → Option (Result T Error) → S → Type 0) (from now : S) (old : List T) {items items' : List T}
+    → items' ≡ items → Made (λ s x t. next s (Some (Ok x)) t) from (appended old items) now
+    → Made (λ s x t. next s (Some (Ok x)) t) from (appended old items') now
+still_yielded next from now old same made = subst (λ l. Made (λ s x t. next s (Some (Ok x)) t) from (appended old l) now) (sym same) made
+
+-- the error of a line that is not UTF-8 is a fault
+refused_fault : (piece : List ℕ) (e : Error) → RefusesLine piece e → IsFault e
+refused_fault piece e refused = ap is_interruption refused.1.0
 
 -- the law of a `next`, by an equal delimiter and an equal result
 pub law_at : {X T : Type 0} {R : Lender X} {old new : X} {view : T → List ℕ} (trim : ℕ → List ℕ → List ℕ)
@@ -84,25 +64,9 @@ pub law_at : {X T : Type 0} {R : Lender X} {old new : X} {view : T → List ℕ}
     → NextPieceLaw R old view (trim d') refuses d' result new → NextPieceLaw R old view (trim d) refuses d r new
 law_at trim same is law = rw (same, is) at law
 
--- each item spends one of those that are left
-pub fewer_left : {X T : Type 0} {R : Lender X} {old new : X} {view : T → List ℕ} {trim : List ℕ → List ℕ}
-    {refuses : List ℕ → Error → Type 0} {d : ℕ} {item : T} (was now : Bool) → was ≡ false → now ≡ false
-    → NextPieceLaw R old view trim refuses d (Some (Ok item)) new → items_left now (R.turns new) < items_left was (R.turns old)
-fewer_left {item = item} was now before after law = rw (before, after) (next_turns (Some (Ok item)) law)
-
--- the error of a line that is not UTF-8 is a fault
-pub refused_fault : (piece : List ℕ) (e : Error) → RefusesLine piece e → IsFault e
-refused_fault piece e refused = ap is_interruption refused.1.0
-
--- what is shown of one item more
-pub shown-one : {T : Type 0} (view : T → List ℕ) (old : List T) {mid new : List T} (x : T) → mid ≡ old ++ appended old mid
-    → new ≡ mid ++ x ∷ [] → map view (appended old new) ≡ map view (appended old mid) ++ view x ∷ []
-shown-one view old {mid} {new} x h is = ap (map view) (appended-one old mid new x h is) ∙ map-append view (appended old mid) (x ∷ [])
-
--- the same is shown of the same items
-pub shown-same : {T : Type 0} (view : T → List ℕ) (old : List T) {mid new : List T} → new ≡ mid
-    → map view (appended old new) ≡ map view (appended old mid)
-shown-same view old is = ap (λ l. map view (appended old l)) is
+-- at the start no piece was gathered, and all are to come
+pub none_gathered : (trim : List ℕ → List ℕ) (d : ℕ) (t : Tells) → GatheredToldSoFar trim d t [] t
+none_gathered trim d t = λ E is. (E, is, record { before = []; given = refl; fault = refl; bytes = refl; are = refl })
 
 -- one item more
 pub one_gathered : (trim : List ℕ → List ℕ) (d : ℕ) {E : List Event} {items shown : List (List ℕ)} {item : List ℕ} {mid : List Event}
@@ -188,3 +152,115 @@ gathered_to A trim refuses full d {mid = mid} same t (inr (inr memory)) =
       short = inr (omega (arith, ap length t.bytes, length-append (concat t.before) (bytes_to_fault mid), memory.1));
       are = same ∙ t.are;
     }))
+
+-- What one `next` of an iterator over a lender does, if it has not ended: it takes the next piece, and after an item it has not ended.
+pub record TakesPieces {S X T : Type 0} (R : Lender X) (reader : S → X) (view : T → List ℕ) (trim : List ℕ → List ℕ)
+    (refuses : List ℕ → Error → Type 0) (d : ℕ) (next : S → Option (Result T Error) → S → Type 0) (live : S → Type 0) : Type 0 where
+  pub law : (s t : S) (r : Option (Result T Error)) → live s → next s r t → NextPieceLaw R (reader s) view trim refuses d r (reader t)
+  pub lives : (s t : S) (x : T) → live s → next s (Some (Ok x)) t → live t
+
+module _ {S X T : Type 0} (R : Lender X) (reader : S → X) (view : T → List ℕ) (trim : List ℕ → List ℕ)
+    (refuses : List ℕ → Error → Type 0) (d : ℕ) (next : S → Option (Result T Error) → S → Type 0) (live : S → Type 0)
+    (takes : TakesPieces R reader view trim refuses d next live) where
+  -- it has not ended after items
+  still_lives : (xs : List T) (s now : S) → live s → Made (λ s x t. next s (Some (Ok x)) t) s xs now → live now
+  still_lives [] s now lives made = subst live (sym made) lives
+  still_lives (x ∷ xs) s now lives made = still_lives xs made.0 now (takes.lives s made.0 x lives made.1) made.2
+
+  -- and they are the next pieces
+  gathers : (xs : List T) (s now : S) (E : List Event) (items : List (List ℕ)) (mid : List Event) → live s
+      → Made (λ s x t. next s (Some (Ok x)) t) s xs now → to_come (lender_tells R (reader s)) ≡ Some mid
+      → GatheredSoFar trim d E items mid
+      → (after : List Event) × (to_come (lender_tells R (reader now)) ≡ Some after) × GatheredSoFar trim d E (items ++ map view xs) after
+  gathers [] s now E items mid lives made told so_far = (
+    mid,
+    ap (λ s. to_come (lender_tells R (reader s))) made ∙ told,
+    subst (λ l. GatheredSoFar trim d E l mid) (sym (append-nil items)) so_far,
+  )
+  gathers (x ∷ xs) s now E items mid lives made told so_far =
+      let (behind, still, (piece, trimmed, gives)) = next_item told (takes.law s made.0 (Some (Ok x)) lives made.1) in
+      let one = one_gathered trim d piece refl so_far trimmed gives in
+      let (after, left, all) =
+      gathers xs made.0 now E (items ++ view x ∷ []) behind (takes.lives s made.0 x lives made.1) made.2 still one in
+      (after, left, subst (λ l. GatheredSoFar trim d E l after) (append_assoc items (view x ∷ []) (map view xs)) all)
+
+  first_pieces : (xs : List T) (s now : S) (E : List Event) → live s → Made (λ s x t. next s (Some (Ok x)) t) s xs now
+      → to_come (lender_tells R (reader s)) ≡ Some E
+      → (after : List Event) × (to_come (lender_tells R (reader now)) ≡ Some after) × GatheredSoFar trim d E (map view xs) after
+  first_pieces xs s now E lives made told =
+      let (mid, still, none) = none_gathered trim d (lender_tells R (reader s)) E told in
+      gathers xs s now E [] mid lives made still none
+
+  -- so a whole run gives all pieces, or those before its error
+  pub run_gathers : (A full : Type 0) (xs : List T) (s now : S) (reply : Result A Error) → live s → RunsNexts next full s xs reply now
+      → IfSome (to_come (lender_tells R (reader s))) (λ E. GathersPieces {A = A} trim refuses full d E reply (map view xs))
+  run_gathers A full xs s now (Ok u) lives (mid, made, last) = if_told _ (λ E told.
+      let (after, left, all) = first_pieces xs s mid E lives made told in
+      all_gathered trim d refl all (next_none left (takes.law mid now None (still_lives xs s mid lives made) last)))
+  run_gathers A full xs s now (Err e) lives (mid, made, inl last) = if_told _ (λ E told.
+      let (after, left, all) = first_pieces xs s mid E lives made told in
+      gathered_to A trim refuses full d refl all
+      (next_error left (takes.law mid now (Some (Err e)) (still_lives xs s mid lives made) last)))
+  run_gathers A full xs s now (Err e) lives (mid, made, inr (memory, is_full, same)) = if_told _ (λ E told.
+      let (after, left, all) = first_pieces xs s mid E lives made told in
+      inr (inr (record {
+        before = all.before;
+        behind = pieces_given d after;
+        given = all.given;
+        refused = memory;
+        short = inl is_full;
+        are = all.are;
+      })))
+
+-- the error of a run is a fault, if those of its iterator are
+pub run_faults : {S T A : Type 0} (next : S → Option (Result T Error) → S → Type 0) (full : Type 0) (xs : List T) (s now : S)
+    (reply : Result A Error) → ((s t : S) (e : Error) → next s (Some (Err e)) t → IsFault e) → RunsNexts next full s xs reply now
+    → IfErr reply IsFault
+run_faults next full xs s now (Ok u) faults run = tt
+run_faults next full xs s now (Err e) faults (mid, made, inl last) = faults mid now e last
+run_faults next full xs s now (Err e) faults (mid, made, inr refused) = ap is_interruption refused.0.0
+
+-- what one `next` of a `split` does, as its iterator says it
+abbrev pub split_next : {X T : Type 0} → Lender X → (T → List ℕ) → Split X → Option (Result T Error) → Split X → Type 0
+split_next R view s r t = (split_is_ended s ≡ true → (r ≡ None) × (t ≡ s))
+    × (split_is_ended s ≡ false → (split_is_ended t ≡ ends_at r)
+    × NextPieceLaw R (split_reader s) view (without (split_delim s)) (λ _ _. ⊥) (split_delim s) r (split_reader t))
+    × (split_delim t ≡ split_delim s)
+
+-- and one of a `lines`
+abbrev pub lines_next : {X T : Type 0} → Lender X → (T → List ℕ) → Lines X → Option (Result T Error) → Lines X → Type 0
+lines_next R view s r t = (lines_is_ended s ≡ true → (r ≡ None) × (t ≡ s))
+    × (lines_is_ended s ≡ false → (lines_is_ended t ≡ ends_at r)
+    × NextPieceLaw R (lines_reader s) view line_text RefusesLine newline r (lines_reader t))
+
+-- an iterator that yields an item had not ended
+not_ended : {A X : Type 0} (was : Bool) {item : A} → (was ≡ true → (Some item ≡ None) × X) → was ≡ false
+not_ended true ended = let none = (ended refl).0 in absurd (let no : ⊥ = cc in no)
+not_ended false ended = refl
+
+-- so each of their errors is a fault
+pub split_faults : {X T : Type 0} (R : Lender X) (view : T → List ℕ) (s t : Split X) (e : Error) → split_next R view s (Some (Err e)) t
+    → IsFault e
+split_faults R view s t e does =
+    next_fault (Some (Err e)) (λ piece f refused. absurd refused) (does.1 (not_ended (split_is_ended s) does.0)).1
+
+pub lines_faults : {X T : Type 0} (R : Lender X) (view : T → List ℕ) (s t : Lines X) (e : Error) → lines_next R view s (Some (Err e)) t
+    → IsFault e
+lines_faults R view s t e does = next_fault (Some (Err e)) refused_fault (does.1 (not_ended (lines_is_ended s) does.0)).1
+
+-- a `split` takes pieces without their delimiter,
+pub split_takes : {X T : Type 0} (R : Lender X) (view : T → List ℕ) (d : ℕ)
+    → TakesPieces R split_reader view (without d) (λ _ _. ⊥) d (split_next R view)
+    (λ s. (split_is_ended s ≡ false) × (split_delim s ≡ d))
+split_takes R view d = record {
+  law = λ s t r lives does. law_at without lives.1 refl (does.1 lives.0).1;
+  lives = λ s t x lives does. ((does.1 lives.0).0, does.2 ∙ lives.1);
+}
+
+-- and a `lines` their text
+pub lines_takes : {X T : Type 0} (R : Lender X) (view : T → List ℕ)
+    → TakesPieces R lines_reader view line_text RefusesLine newline (lines_next R view) (λ s. lines_is_ended s ≡ false)
+lines_takes R view = record {
+  law = λ s t r lives does. (does.1 lives).1;
+  lives = λ s t x lives does. (does.1 lives).0;
+}

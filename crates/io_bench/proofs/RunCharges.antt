@@ -9,7 +9,7 @@ use Rattle.no_std_io2.specs.Write.{WriteCall, Wrote, WroteAll, Flushed, Made, Wr
 use Rattle.no_std_io2.specs.Write.{AllCalls}
 use Rattle.no_std_io2.specs.Meter.{IsMeter}
 use Rattle.no_std_io2.specs.BufWriter.{BufferMay, WriteCalls, WriteAllCalls, FlushCalls, SendCalls, Only, InnerCalls}
-use Rattle.no_std_io2.specs.BufWriter.{writing_calls, buffer_after, PastEmpty}
+use Rattle.no_std_io2.specs.BufWriter.{writing_calls, buffer_after}
 use Rattle.no_std_io2.proofs.CallsLemmas.{made_map, law_may}
 use Rattle.no_std_io2.proofs.BufWriterCalls.{buffered_leaves, writing_all_calls, write_takes, send_leaves}
 use Rattle.no_std_io2.proofs.BufWriterCalls.{send_counts, write_counts, write_all_counts, flush_counts}

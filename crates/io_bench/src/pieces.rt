@@ -1,5 +1,6 @@
 // [`run_split`] and [`run_lines`], which take all items of a `split` and of a `lines`.
 ghost use Rattle.std.specs.Prelude.{◌≡◌, ◌+◌, ◌<◌, ◌++◌, map, false, OnOk, OnErr, IfErr, IfSome};
+ghost use Rattle.std.specs.Iterator.{IsFinite};
 ghost use Rattle.std.specs.Prelude.{vec_items, vec_len, vec_capacity, string_bytes};
 ghost use Rattle.no_std_io2.specs.Errors.{IsFault, IsOutOfMemory};
 ghost use Rattle.no_std_io2.specs.Takes.{to_come};
@@ -23,6 +24,24 @@ fn make_room<T>(items: &mut Vec<T>) -> Result<()>
     Ok(())
 }
 
+// Takes all items of an iterator, up to an error, and appends them.
+fn run_items<T: Drop, I: Iterator<Item = Result<T>>>(iter: &mut I, items: &mut Vec<T>) -> Result<()>
+    requires can { I.can_next iter.old }
+    requires finite { IsFinite (I.remaining iter.old) }
+    ensures appends { items.new.items ≡ items.old.items ++ appended items.old.items items.new.items }
+    ensures calls { RunsNexts I.next_gives (vec_capacity items.new < vec_len items.new + 1) iter.old
+        (appended items.old.items items.new.items) result iter.new }
+{
+    'items: loop {
+        make_room(items)?;
+        match iter.next() {
+            None => return Ok(()),
+            Some(Ok(item)) => items.push_reserved(item),
+            Some(Err(e)) => return Err(e),
+        }
+    }
+}
+
 /// Takes all items of a `split`, and appends them to `items`. It makes no call after the `next` that returned `None` or an
 /// error.
 ///
@@ -38,17 +57,11 @@ pub fn run_split<R: BufRead + Drop>(split: &mut Split<R>, items: &mut Vec<Vec<u8
         (λ E. GathersPieces (without (split_delim split.old)) (λ _ _. ⊥) (vec_capacity items.new < vec_len items.new + 1)
         (split_delim split.old) E result (map vec_items (appended items.old.items items.new.items))) }
     ensures appends { items.new.items ≡ items.old.items ++ appended items.old.items items.new.items }
-    ensures calls { RunsNexts ⟦<Split<R> as Iterator>⟧.next_gives split.old (appended items.old.items items.new.items) result split.new }
+    ensures calls { RunsNexts ⟦<Split<R> as Iterator>⟧.next_gives (vec_capacity items.new < vec_len items.new + 1) split.old
+        (appended items.old.items items.new.items) result split.new }
     ensures never_interrupted { IfErr result IsFault }
 {
-    'items: loop {
-        make_room(items)?;
-        match split.next() {
-            None => return Ok(()),
-            Some(Ok(item)) => items.push_reserved(item),
-            Some(Err(e)) => return Err(e),
-        }
-    }
+    run_items(split, items)
 }
 
 /// Takes all items of a `lines`, and appends them to `items`. It makes no call after the `next` that returned `None` or an
@@ -67,15 +80,9 @@ pub fn run_lines<R: BufRead + Drop>(lines: &mut Lines<R>, items: &mut Vec<String
         (λ E. GathersPieces line_text RefusesLine (vec_capacity items.new < vec_len items.new + 1) newline
         E result (map string_bytes (appended items.old.items items.new.items))) }
     ensures appends { items.new.items ≡ items.old.items ++ appended items.old.items items.new.items }
-    ensures calls { RunsNexts ⟦<Lines<R> as Iterator>⟧.next_gives lines.old (appended items.old.items items.new.items) result lines.new }
+    ensures calls { RunsNexts ⟦<Lines<R> as Iterator>⟧.next_gives (vec_capacity items.new < vec_len items.new + 1) lines.old
+        (appended items.old.items items.new.items) result lines.new }
     ensures never_interrupted { IfErr result IsFault }
 {
-    'items: loop {
-        make_room(items)?;
-        match lines.next() {
-            None => return Ok(()),
-            Some(Ok(item)) => items.push_reserved(item),
-            Some(Err(e)) => return Err(e),
-        }
-    }
+    run_items(lines, items)
 }

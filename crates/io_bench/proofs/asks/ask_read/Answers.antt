@@ -1,5 +1,5 @@
 use Rattle.std.proofs.lemmas.Grind.{common_steps}
-use Rattle.std.proofs.Common.{◌≡◌, ◌&&◌, nat_eq, length, take, Ok, Err, arith, ap, refl, length-take-le}
+use Rattle.std.proofs.Common.{◌≡◌, ◌&&◌, nat_eq, length, take, Ok, arith, ap, length-take-le}
 use Rattle.std.proofs.lemmas.Bool.Decides.{nat_tests}
 use Rattle.std.proofs.lemmas.Result.{err_from_is_err_and}
 use Rattle.no_std_io2.specs.BufReader.{reader_held}

@@ -5,7 +5,7 @@ use Rattle.std.proofs.Math.Seq.{drop-append_seam}
 use Rattle.io_bench.specs.declared.runs.Op.TheVariants.{Write}
 use Rattle.no_std_io2.proofs.MovesLemmas.{Moves-refl}
 use Rattle.io_bench.proofs.RunLemmas.{Ran-more, AllZip-more, EndsFlushed-more, RunCalls-more}
-use Rattle.io_bench.specs.Runs.{IsWhole, failures}
+use Rattle.io_bench.specs.Runs.{IsWhole}
 use Rattle.io_bench.proofs.FailureLemmas.{failures_told, failures_none, fewer_of}
 use Rattle.io_bench.proofs.runs.run_writes.Goals as goal
 
