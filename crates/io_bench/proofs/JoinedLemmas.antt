@@ -48,7 +48,8 @@ rest_joined op reply ops replies b j = (
   λ other r. append_cancel_left j.0.0 other j.0.1 (j.1 (j.0.0 ++ other) (j.0.0, other, j.0.2, r, refl) ∙ j.0.4),
 )
 
--- if some reply does not say what was accepted, different lists fit the replies or none does, except for a failed `write_all` of no bytes
+-- if some reply does not say what was accepted, different lists fit the replies or none does, except for a failed
+-- `write_all` of no bytes
 pub unclear : (ops : List Op) (replies : List Reply) (b : List ℕ)
     → IsJoined ops replies b → (AreClear ops replies → ⊥) → HasIdleFailure ops replies
 unclear (WriteAll x ∷ ops) (Failed e ∷ replies) b j n =

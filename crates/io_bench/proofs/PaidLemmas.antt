@@ -8,8 +8,8 @@ use Rattle.no_std_io2.specs.Write.{calls_for}
 use Rattle.std.proofs.lemmas.Bool.Decides.{nat_tests}
 use Rattle.std.proofs.lemmas.Bool.{cases_lt}
 
--- c writes so far, f flushes, n bytes given, h of them in the buffer: there are p complete pairs of writes that carried more than S bytes
--- each, and either no write is without a partner, or only the last is, which carried at least S bytes
+-- c writes so far, f flushes, n bytes given, h of them in the buffer: there are p complete pairs of writes that carried
+-- more than S bytes each, and either no write is without a partner, or only the last is, which carried at least S bytes
 pub data Paid (S c f n h : ℕ) : Type 0 where
   pairs : (p : ℕ) → c ≤ 2 * p + f → p * (S + 1) + h ≤ n → Paid S c f n h
   open_one : (p : ℕ) → c ≤ 2 * p + 1 + f → p * (S + 1) + S + min h 1 ≤ n → Paid S c f n h

@@ -86,8 +86,8 @@ fault_free [] h = (tt, refl)
 fault_free (byte b ∷ E) h = let rest = fault_free E h in (rest.0, ap (λ l. b ∷ l) rest.1)
 fault_free (fails e ∷ E) h = grind (arith, common_steps, fault_free E)
 
--- if e is the first fault, E is a front without a fault, then e, then the rest; and the bytes before the first fault are those of that
--- front
+-- if e is the first fault, E is a front without a fault, then e, then the rest; and the bytes before the first fault
+-- are those of that front
 fault_first : (E : List Event) (e : Error) → first_fault E ≡ Some e
     → (before : List Event) × (behind : List Event) × (E ≡ before ++ fails e ∷ behind) × HasNoFault before × IsFault e
     × (bytes_to_fault E ≡ bytes before)
@@ -153,7 +153,8 @@ gathered_to A trim refuses full d {mid = mid} same t (inr (inr memory)) =
       are = same ∙ t.are;
     }))
 
--- What one `next` of an iterator over a lender does, if it has not ended: it takes the next piece, and after an item it has not ended.
+-- What one `next` of an iterator over a lender does, if it has not ended: it takes the next piece, and after an item it
+-- has not ended.
 pub record TakesPieces {S X T : Type 0} (R : Lender X) (reader : S → X) (view : T → List ℕ) (trim : List ℕ → List ℕ)
     (refuses : List ℕ → Error → Type 0) (d : ℕ) (next : S → Option (Result T Error) → S → Type 0) (live : S → Type 0) : Type 0 where
   pub law : (s t : S) (r : Option (Result T Error)) → live s → next s r t → NextPieceLaw R (reader s) view trim refuses d r (reader t)

@@ -3,14 +3,14 @@ use Rattle.std.proofs.Common.{◌≡◌, ℕ, zero, suc, ◌+◌, ◌-◌, ◌*�
 use Rattle.std.proofs.lemmas.Nat.{le-div}
 use Rattle.std.proofs.lemmas.Bool.{cases_lt}
 
--- Of N bytes h are held, and e are still to come from the inner reader. It made c reads, and z asks met the end: f reads got at least S
--- bytes each, and either no other read got a byte, or one did, and no byte is to come.
+-- Of N bytes h are held, and e are still to come from the inner reader. It made c reads, and z asks met the end: f
+-- reads got at least S bytes each, and either no other read got a byte, or one did, and no byte is to come.
 pub data ReadsPaid (S N c z h e : ℕ) : Type 0 where
   full : (f : ℕ) → c ≤ f + z → f * S + e ≤ N → ReadsPaid S N c z h e
   last : (f : ℕ) → c ≤ f + 1 + z → f * S + h ≤ N → e ≡ 0 → ReadsPaid S N c z h e
 
--- What one call does to h and e, and how many reads it makes: none if bytes are held; else one, which gets t bytes, fewer than S only if
--- these are all.
+-- What one call does to h and e, and how many reads it makes: none if bytes are held; else one, which gets t bytes,
+-- fewer than S only if these are all.
 pub data OneCall (S h e h' e' : ℕ) : ℕ → Type 0 where
   no_read : 0 < h → h' ≤ h → e' ≡ e → OneCall S h e h' e' 0
   one_read : (t : ℕ) → h ≡ 0 → e ≡ e' + t → h' ≤ t → (t < S → e' ≡ 0) → OneCall S h e h' e' 1

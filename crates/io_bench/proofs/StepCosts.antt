@@ -1,4 +1,5 @@
--- What the calls of a buffered writer cost, by each number that counts the calls of the inner writer, if that takes all.
+-- What the calls of a buffered writer cost, by each number that counts the calls of the inner writer, if
+-- that takes all.
 use Rattle.std.proofs.Common.{◌≡◌, ◌+◌, ℕ, ◌<◌, ◌≤◌, List, Result, Ok, Err, IsOk, IfOk, arith}
 use Rattle.std.proofs.lemmas.Bool.Decides.{nat_tests}
 use Rattle.no_std_io2.specs.Writers.{TakesAll, Writer}

@@ -70,7 +70,8 @@ abbrev pub AllFit : ℕ → List Ask → Type 0
 AllFit room [] = ⊤
 AllFit room (ask ∷ asks) = Fits room ask × AllFit room asks
 
--- the bytes to come from a buffer in front of a filling reader: the held ones, and then those that are left in the reader
+-- the bytes to come from a buffer in front of a filling reader: the held ones, and then those that are left
+-- in the reader
 abbrev pub left_behind : {R : Type 0} {S : ℕ} → (R → List ℕ) → BufReader R S → List ℕ
 left_behind left r = reader_held r ++ left (reader_inner r)
 

@@ -46,7 +46,8 @@ abbrev pub failed_or_gave : Option ErrorKind → List ℕ → Result (List ℕ) 
 failed_or_gave (Some kind) x = Err (error_of kind)
 failed_or_gave None x = Ok x
 
--- the answer of a read into this much room: a failure that comes first, or the bytes before the next failure, as many as it gives
+-- the answer of a read into this much room: a failure that comes first, or the bytes before the next failure, as many
+-- as it gives
 abbrev pub feed_answer : Feed → ℕ → Result (List ℕ) Error
 feed_answer f room =
     if nat_lt 0 room then failed_or_gave (first_failure (feed_left f)) (take (feed_gives f room) (leading_bytes (feed_left f))) else Ok []

@@ -31,8 +31,8 @@ pub record PiecesToRefused (trim : List ℕ → List ℕ) (refuses : List ℕ �
   pub refused : refuses piece e
   pub are : items ≡ map trim before
 
--- an allocation failed, and these are the first pieces, trimmed: the list of items was full, or a new piece had no room for a byte that was
--- to come
+-- an allocation failed, and these are the first pieces, trimmed: the list of items was full, or a new piece had no room
+-- for a byte that was to come
 pub record PiecesToMemory (trim : List ℕ → List ℕ) (full : Type 0) (d : ℕ) (E : List Event) (e : Error) (items : List (List ℕ))
     : Type 0 where
   pub before : List (List ℕ)
@@ -49,8 +49,8 @@ GathersPieces trim refuses full d E (Ok _) items = AllPieces trim d E items
 GathersPieces trim refuses full d E (Err e) items =
     PiecesToFault trim d E e items ⊎ (PiecesToRefused trim refuses d E e items ⊎ PiecesToMemory trim full d E e items)
 
--- Each of these items was yielded by one `next`, in order. The `next` that ended the run was the last call; if an allocation of the run
--- failed, there was none, and the list of items was full.
+-- Each of these items was yielded by one `next`, in order. The `next` that ended the run was the last call; if an
+-- allocation of the run failed, there was none, and the list of items was full.
 abbrev pub RunsNexts : {S T A : Type 0} → (S → Option (Result T Error) → S → Type 0) → Type 0 → S → List T → Result A Error → S → Type 0
 RunsNexts {S} next full old items (Ok _) new = (mid : S) × Made (λ s x t. next s (Some (Ok x)) t) old items mid × next mid None new
 RunsNexts {S} next full old items (Err e) new = (mid : S) × Made (λ s x t. next s (Some (Ok x)) t) old items mid

@@ -50,7 +50,8 @@ pub record RunCalls {W : Type 0} (I : Writer W) (old : W) (ops : List Op) (repli
   pub made : Made (CallOf I) old calls new
   pub joined : JoinsEach OpCalls ops replies calls
 
--- A run through a tower of buffers made these calls of the device below. `tower` relates them to the calls of the tower.
+-- A run through a tower of buffers made these calls of the device below. `tower` relates them to the calls
+-- of the tower.
 pub record RunBelow {W : Type 0} (I : Writer W) (tower : List WriteCall → List WriteCall → Type 0) (old : W) (ops : List Op)
     (replies : List Reply) (new : W) : Type 0 where
   pub calls : List WriteCall

@@ -37,9 +37,8 @@ fn are_clear(ops: &[Op<'_>], replies: &[Reply]) -> bool
     true
 }
 
-/// Returns the bytes that a run of these calls accepted, in order, if the replies determine them.
-/// Then `out` followed by `held` of the writer is what it was before the run, followed by these
-/// bytes.
+/// Returns the bytes that a run of these calls accepted, in order, if the replies determine them. Then `out` followed
+/// by `held` of the writer is what it was before the run, followed by these bytes.
 ///
 /// Returns `None` if the replies do not determine the bytes: if the lists differ in length, if a reply does not
 /// fit its call (such as a `write` that took more bytes than it had), or if a `write_all` failed, which may have
@@ -60,8 +59,7 @@ pub fn joined(alloc: Global, ops: &[Op<'_>], replies: &[Reply]) -> Result<Option
     ensures known { IfOk result (λ answer. IfSome answer (λ bytes. IsJoined ops.now replies.now bytes.items)) }
     ensures clear { IfOk result (λ answer. IfSome answer (λ _. AreClear ops.now replies.now)) }
     ensures open { IfOk result (λ answer. answer ≡ None → AreClear ops.now replies.now → ⊥) }
-    // If the result is `None`, no single list fits the replies, except for a `write_all` of no bytes
-    // that failed.
+    // If the result is `None`, no single list fits the replies, except for a `write_all` of no bytes that failed.
     ensures no_one { IfOk result (λ answer. answer ≡ None → (bytes : List ℕ) → IsJoined ops.now replies.now bytes
         → HasIdleFailure ops.now replies.now) }
     // An allocation can fail only if some byte was accepted.

@@ -67,9 +67,9 @@ impl<W> Faulty<W> {
     }
 }
 
-/// Tells what the inner writer tells. If the inner writer tells its mishaps, those of the acts that are left are added. It
-/// takes all if the inner writer does and no act is left. Each call
-/// makes at most one inner call, the one that its act lets through.
+/// Tells what the inner writer tells. If the inner writer tells its mishaps, those of the acts that are left are added.
+/// It takes all if the inner writer does and no act is left. Each call makes at most one inner call, the one that its
+/// act lets through.
 impl<W: Write> Write for Faulty<W> {
     ghost use Rattle.io_bench.specs.Faulty.{faulty_inner, faulty_told, acts_left, FaultyMay};
 

@@ -1,5 +1,4 @@
-//! Devices that fail on command, and functions that make whole lists of calls, for tests and
-//! proofs.
+//! Devices that fail on command, and functions that make whole lists of calls, for tests and proofs.
 //!
 //! [`run_writes`] makes the calls of a list on any writer, and keeps each reply. Its contract says
 //! what this does to the writer, for every type of writer. [`Sink`], [`Faulty`] and [`Tally`] are

@@ -42,8 +42,8 @@ fn run_items<T: Drop, I: Iterator<Item = Result<T>>>(iter: &mut I, items: &mut V
     }
 }
 
-/// Takes all items of a `split`, and appends them to `items`. It makes no call after the `next` that returned `None` or an
-/// error.
+/// Takes all items of a `split`, and appends them to `items`. It makes no call after the `next` that returned `None`
+/// or an error.
 ///
 /// The items are the pieces of all bytes that were to come, in order and without their delimiter,
 /// for every reader and whatever portions the bytes arrive in.
@@ -64,8 +64,8 @@ pub fn run_split<R: BufRead + Drop>(split: &mut Split<R>, items: &mut Vec<Vec<u8
     run_items(split, items)
 }
 
-/// Takes all items of a `lines`, and appends them to `items`. It makes no call after the `next` that returned `None` or an
-/// error.
+/// Takes all items of a `lines`, and appends them to `items`. It makes no call after the `next` that returned `None`
+/// or an error.
 ///
 /// The items are the lines of all bytes that were to come, in order and without their line ends, for
 /// every reader and whatever portions the bytes arrive in.

@@ -58,10 +58,9 @@ fn make_call<W: Write>(w: &mut W, op: Op<'_>) -> Reply
 /// Makes the calls of `ops` on a writer, in order, and appends one reply for each. A failed call
 /// does not stop it, so a retry is one more call in the list.
 ///
-/// Every writer has then accepted exactly what the replies say: `out` followed by `held` is what it
-/// was before, followed by the accepted bytes. If the last call is a flush that succeeded, nothing
-/// is held. If the writer tells its mishaps to come, at most that many calls failed, with those
-/// kinds.
+/// Every writer has then accepted exactly what the replies say: `out` followed by `held` is what it was before,
+/// followed by the accepted bytes. If the last call is a flush that succeeded, nothing is held. If the writer tells its
+/// mishaps to come, at most that many calls failed, with those kinds.
 ///
 /// # Errors
 /// Returns `OutOfMemory` if there is no room for the replies. Then no call was made, and the writer

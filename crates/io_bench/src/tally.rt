@@ -89,8 +89,9 @@ impl<T> Tally<T> {
     }
 }
 
-/// Tells what the inner writer tells. Its exact count is a meter of its calls. Each call makes the same call of the inner
-/// writer, once, and returns its result. `write_all` and `write_rest` have the trait's bodies, so each of their writes counts.
+/// Tells what the inner writer tells. Its exact count is a meter of its calls. Each call makes the same call of the
+/// inner writer, once, and returns its result. `write_all` and `write_rest` have the trait's bodies, so each of
+/// their writes counts.
 impl<T: Write> Write for Tally<T> {
     ghost use Rattle.io_bench.specs.Tally.{tally_inner, TallyMay};
 

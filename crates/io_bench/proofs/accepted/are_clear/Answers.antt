@@ -1,3 +1,4 @@
+-- The prover does not find what holds of the calls before the one that is tested.
 use Rattle.std.proofs.lemmas.Grind.{common_steps}
 use Rattle.std.proofs.Common.{arith, refl, sym}
 use Rattle.std.proofs.lemmas.Slice.Zip.{AllZip-long}

@@ -1,3 +1,4 @@
+-- The prover does not find that the bytes of one more call follow those of the others.
 use Rattle.std.proofs.lemmas.Grind.{common_steps}
 use Rattle.std.proofs.Common.{arith, ◌++◌, refl, sym}
 use Rattle.std.proofs.lemmas.Slice.Zip.{AllZip-long}

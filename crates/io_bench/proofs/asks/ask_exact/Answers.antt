@@ -1,3 +1,4 @@
+-- The prover does not find how an ask was answered by the law of its call.
 use Rattle.std.proofs.lemmas.Grind.{common_steps}
 use Rattle.std.proofs.Common.{◌≡◌, Ok, Err, arith, refl}
 use Rattle.no_std_io2.specs.declared.io.Error.{Error}

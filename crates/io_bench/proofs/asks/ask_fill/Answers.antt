@@ -1,3 +1,4 @@
+-- The prover does not find how an ask was answered by the law of its call.
 use Rattle.std.proofs.Common.{◌≡◌, min, length, Ok, Err, ap, arith, refl}
 use Rattle.std.proofs.lemmas.Result.{err_from_is_err_and}
 use Rattle.no_std_io2.proofs.PieceLoop.{filled_law}

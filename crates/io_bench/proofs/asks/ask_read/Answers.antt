@@ -1,3 +1,4 @@
+-- The prover does not find how an ask was answered by the law of its call.
 use Rattle.std.proofs.lemmas.Grind.{common_steps}
 use Rattle.std.proofs.Common.{◌≡◌, ◌&&◌, nat_eq, length, take, Ok, arith, ap, length-take-le}
 use Rattle.std.proofs.lemmas.Bool.Decides.{nat_tests}

@@ -1,3 +1,4 @@
+-- The prover does not find that one more ask joins those before it, nor the bound over all of them.
 use Rattle.std.proofs.lemmas.Grind.{common_steps}
 use Rattle.std.proofs.Common.{Bool, true, false, Ok, Err, if◌then◌else◌, ◌≡◌, get_or, take_all, arith, refl, ◌∙◌}
 use Rattle.std.proofs.lemmas.List.{take_more}

@@ -1,4 +1,5 @@
--- The prover does not find the bytes and the bound, which need all calls of the run, nor that the `into_inner` cannot fail.
+-- The prover does not find the bytes and the bound, which need all calls of the run, nor that the
+-- `into_inner` cannot fail.
 use Rattle.std.proofs.Common.{subst, sym}
 use Rattle.no_std_io2.specs.Writers.{TakesAll}
 use Rattle.io_bench.specs.Tally.{tally_writes}

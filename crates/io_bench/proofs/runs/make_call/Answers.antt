@@ -1,3 +1,4 @@
+-- The prover does not find which calls of the writer a call of the run made.
 use Rattle.std.proofs.Common.{[], ◌∷◌, Ok, Err, refl}
 use Rattle.no_std_io2.proofs.MovesLemmas.{Moves-steady}
 use Rattle.no_std_io2.specs.Write.{Wrote, Flushed}

@@ -1,3 +1,4 @@
+-- The prover does not find that one more call and its reply join those before them.
 use Rattle.std.proofs.Common.{take, take_all, drop, ◌≡◌, ◌++◌, ◌∷◌, [], length, rules, arith, refl, ap, ◌∙◌, sym, append-nil, append_assoc}
 use Rattle.io_bench.specs.Appended.{appended}
 use Rattle.std.proofs.lemmas.List.{take_more}

@@ -1,3 +1,4 @@
+-- The prover does not find what an act does to a write.
 use Rattle.std.proofs.lemmas.Grind.{common_steps}
 use Rattle.std.proofs.Common.{arith}
 use Rattle.io_bench.proofs.ActLemmas.{faulty_steady, moves_past, moves_spent, moves_zero, moves_through, taken_of_front, behind}

@@ -1,3 +1,4 @@
+-- The prover does not find which events the bytes so far are.
 use Rattle.std.proofs.Common.{arith, sym, ◌∙◌}
 use Rattle.io_bench.specs.Feed.{feed_left}
 use Rattle.io_bench.proofs.FeedLemmas.{given_next, given_all}

@@ -1,3 +1,4 @@
+-- The prover does not find which events a read takes.
 use Rattle.io_bench.proofs.FeedLemmas.{feed_reads}
 use Rattle.io_bench.proofs.feed.FeedRead.read.Goals as goal
 
