@@ -1,3 +1,4 @@
+-- The account of the tries so far, which the search does not build.
 use Rattle.std.proofs.Common.{arith}
 use Rattle.no_std_io2_base.proofs.{MovesLemmas.{Sends-then, Moves-quiet}, RetryLemmas.{spent_more, spent_all, tries_again}}
 use Rattle.no_std_io2_base.specs.Retries.{last}

@@ -1,3 +1,4 @@
+-- The law and the clause, by lemmas about the inner calls: the search does not apply these to a whole step.
 use Rattle.no_std_io2_base.specs.Writers.{TakesAll}
 use Rattle.no_std_io2.specs.BufWriter.{sender_inner, writer_inner, writer_buffer}
 use Rattle.no_std_io2_base.proofs.CallsLemmas.{own_law}

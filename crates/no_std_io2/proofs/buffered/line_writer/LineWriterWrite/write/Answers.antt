@@ -1,3 +1,4 @@
+-- The line state and the clauses, by lemmas about the inner calls: the search does not apply these to a whole step.
 use Rattle.no_std_io2_base.specs.{Writers.{CallOf}, Write.{Made}}
 use Rattle.std.proofs.Common.{subst}
 use Rattle.no_std_io2.specs.{BufWriter.{sender_inner}, LineWriter.{line_inner}}

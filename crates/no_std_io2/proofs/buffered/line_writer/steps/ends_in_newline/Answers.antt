@@ -1,3 +1,4 @@
+-- A comparison of two options is a test of the last byte.
 use Rattle.std.proofs.{lemmas.Grind.{common_steps}, Common.{refl, ◌≡◌, ℕ, ◌-◌, ◌==◌, Option, None, Some, List, length, arith, ◌∙◌}}
 use Rattle.std.specs.{Borrow.{Bor}, Option.{option_eq}, Slice.{IsGetResult}}
 use Rattle.no_std_io2_base.specs.Pieces.{ends_in, newline}

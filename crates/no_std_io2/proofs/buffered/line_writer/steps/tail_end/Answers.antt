@@ -1,3 +1,4 @@
+-- Where the tail ends in each of the four cases, by the definition of `held_tail`.
 use Rattle.std.proofs.{lemmas.{Grind.{common_steps}, List.{take_min}}, Common.{arith, take, drop, refl}}
 use Rattle.no_std_io2_base.proofs.LineLemmas.{take_lines}
 use Rattle.no_std_io2.proofs.HeldTail.{lines_rest}

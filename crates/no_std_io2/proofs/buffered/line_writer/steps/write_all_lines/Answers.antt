@@ -1,3 +1,4 @@
+-- The lines, and then the rest: the search does not join the two calls.
 use Rattle.std.proofs.{Common.{◌∙◌, inr, subst}, lemmas.{List.{take_rest}, Result.{err_from_is_err_and}}}
 use Rattle.no_std_io2.specs.{BufWriter.{TakesStep, sender_inner, sender_buffer, WriteAllCalls}, LineWriter.{SendLinesCalls}}
 use Rattle.no_std_io2_base.proofs.LineLemmas.{take_lines, drop_lines, contains_lines}

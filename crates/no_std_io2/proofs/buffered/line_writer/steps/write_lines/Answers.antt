@@ -1,3 +1,4 @@
+-- A failed sending, a failed write, no byte taken, and a tail: the search does not join the calls of these ends.
 use Rattle.std.proofs.{lemmas.Grind.{common_steps}, Common.{◌≡◌, ◌+◌, ◌-◌, ◌++◌, Ok, length, arith, ◌∙◌, sym, refl, ap, inr, length-take}}
 use Rattle.std.proofs.{Common.{length-drop, drop}, lemmas.Result.{err_from_is_err_and}}
 use Rattle.std.specs.List.{slice_range}

@@ -1,3 +1,4 @@
+-- What the loan writes back, as a record of all fields.
 use Rattle.std.proofs.{Common.{refl, ap, ◌≡◌, List, ℕ}, Props.{props}}
 use Rattle.no_std_io2_base.specs.Lines.{IsLineState}
 use Rattle.no_std_io2.proofs.buffered.line_writer.state.LineSender.get_mut.Goals as goal
