@@ -3,7 +3,7 @@ use Rattle.std.proofs.Common.{ℕ, List, [], ◌∷◌, ◌++◌, Result, Ok, Er
 use Rattle.no_std_io2.specs.declared.io.Error.{Error}
 use Rattle.no_std_io2.specs.Write.{WriteCall, Wrote, WroteAll, Flushed, AllCalls, Writes, none, took, again, stuck, fault}
 use Rattle.no_std_io2.specs.BufWriter.{stops, goes_on, WayCalls, FlushCalls, WriteCalls, PutCalls, Only}
-use Rattle.promises.specs.Promises.{HasNoFlush, FailedWith, EndsIn, EndsFlushed}
+use Rattle.promises.specs.Promises.{HasNoFlush, FailedWith, EndsIn, EndsInFlush}
 
 -- one more call before the others changes nothing, if there are others
 ends_before : (call : WriteCall) (C : List WriteCall) (e : Error) → EndsIn C e → EndsIn (call ∷ C) e
@@ -21,7 +21,7 @@ ends_after [] D e ends = ends
 ends_after (first ∷ C) D e ends = ends_before first (C ++ D) e (ends_after C D e ends)
 
 -- the last call is that flush
-flushed_last : (C : List WriteCall) → EndsFlushed (C ++ Flushed (Ok tt) ∷ [])
+flushed_last : (C : List WriteCall) → EndsInFlush (C ++ Flushed (Ok tt) ∷ [])
 flushed_last [] = refl
 flushed_last (first ∷ []) = refl
 flushed_last (first ∷ next ∷ C) = flushed_last (next ∷ C)
@@ -68,9 +68,9 @@ flush_ends {reply = Err e} (goes_on {C} sent next) =
 
 -- one that succeeded ends in a flush
 pub flush_flushed : {held left : List ℕ} {C : List WriteCall} {reply : Result (Unit {0}) Error} → FlushCalls held C reply left
-    → OnOk reply (EndsFlushed C)
+    → OnOk reply (EndsInFlush C)
 flush_flushed (stops sent) = tt
-flush_flushed {reply = Ok u} (goes_on {C} sent next) = subst (λ D. EndsFlushed (C ++ D)) (sym next.2) (flushed_last C)
+flush_flushed {reply = Ok u} (goes_on {C} sent next) = subst (λ D. EndsInFlush (C ++ D)) (sym next.2) (flushed_last C)
 flush_flushed {reply = Err e} (goes_on sent next) = tt
 
 -- the way for a write

@@ -2,8 +2,7 @@
 use Rattle.std.proofs.Common.{ℕ, List, Vec, Some, length}
 use Rattle.std.specs.Vec.{vec_len, vec_capacity}
 use Rattle.no_std_io2.specs.Appends.{AppendsMay}
-use Rattle.no_std_io2.specs.Meter.{IsMeter}
-use Rattle.no_std_io2.specs.Write.{Wrote, WroteAll, Flushed, told_out}
+use Rattle.no_std_io2.specs.Write.{told_out}
 use Rattle.no_std_io2.specs.Writers.{Writer}
 use Rattle.no_std_io2.specs.declared.buffered.buf_writer.BufWriter.{BufWriter}
 use Rattle.no_std_io2.specs.declared.buffered.line_writer.LineWriter.{LineWriter}
@@ -16,27 +15,12 @@ use Rattle.no_std_io2.specs.Events.{events_of}
 use Rattle.no_std_io2.specs.Takes.{store_at}
 use Rattle.no_std_io2.specs.Read.{Reader}
 use Rattle.no_std_io2.specs.ReadMeter.{FillsRoom}
-use Rattle.io_bench.specs.declared.tally.Tally.{Tally}
-use Rattle.io_bench.specs.Tally.{tally_inner, tally_writes, TallyMay}
 
 -- a vector
 abbrev pub vector : (Z : Type 0) → Writer (Vec ℕ Z)
 vector Z = record { told = λ v. told_out v.items; takes_all = λ _. ⊥; may = AppendsMay (λ v. v.items) vec_len vec_capacity }
 
--- a `Tally`, a `BufWriter` and a `LineWriter` in front of a writer
-abbrev pub tallied : {W : Type 0} → Writer W → Writer (Tally W)
-tallied I = record {
-  told = λ t. I.told (tally_inner t);
-  takes_all = λ t. I.takes_all (tally_inner t);
-  may = TallyMay I;
-}
-
--- a `Tally` counts its writes
-pub tally_meters : {T : Type 0} (I : Writer T) → IsMeter (TallyMay I) tally_writes
-tally_meters I old new (Wrote x reply) made = made.writes
-tally_meters I old new (Flushed reply) made = made.writes
-tally_meters I old new (WroteAll x reply) made = absurd made
-
+-- a `BufWriter` and a `LineWriter` in front of a writer
 abbrev pub buffered : {W : Type 0} (S : ℕ) → Writer W → Writer (BufWriter W S)
 buffered S I = record {
   told = writer_told I.told;

@@ -78,7 +78,7 @@ EndsIn (call ∷ []) e = FailedWith call e
 EndsIn (call ∷ next ∷ C) e = EndsIn (next ∷ C) e
 
 -- the last of these calls is a flush that succeeded
-abbrev pub EndsFlushed : List WriteCall → Type 0
-EndsFlushed [] = ⊥
-EndsFlushed (call ∷ []) = call ≡ Flushed (Ok tt)
-EndsFlushed (call ∷ next ∷ C) = EndsFlushed (next ∷ C)
+abbrev pub EndsInFlush : List WriteCall → Type 0
+EndsInFlush [] = ⊥
+EndsInFlush (call ∷ []) = call ≡ Flushed (Ok tt)
+EndsInFlush (call ∷ next ∷ C) = EndsInFlush (next ∷ C)

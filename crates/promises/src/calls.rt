@@ -6,7 +6,7 @@ ghost use Rattle.no_std_io2.specs.Write.{Made, Moves, WriteCall, taken, write_mi
 ghost use Rattle.no_std_io2.specs.Writers.{CallOf, TakesAll};
 ghost use Rattle.no_std_io2.specs.Meter.{CostsAtMost};
 ghost use Rattle.io_bench.specs.Closed.{flushes, given_bytes};
-ghost use Rattle.promises.specs.Promises.{EndsFlushed, EndsIn, HasNoFlush};
+ghost use Rattle.promises.specs.Promises.{EndsInFlush, EndsIn, HasNoFlush};
 
 use io_bench::{Op, Reply, run_writes};
 use no_std_io2::io::{BufWriter, Error, Result, Write};
@@ -29,7 +29,7 @@ pub fn stops_at_a_fault_of_a_flush<W: Write + Drop, const S: usize>(
     w: &mut BufWriter<W, S>,
 ) -> Result<()>
     ensures calls { (C : List WriteCall) × Made (CallOf W.Write) (writer_inner w.old) C (writer_inner w.new)
-        × IfErr result (EndsIn C) × OnOk result (EndsFlushed C) }
+        × IfErr result (EndsIn C) × OnOk result (EndsInFlush C) }
     ensures empty { OnOk result (writer_buffer w.new ≡ []) }
 {
     w.flush()

@@ -3,13 +3,13 @@ use Rattle.no_std_io2.specs.BufWriter.{writer_inner, writer_buffer, writing_call
 use Rattle.no_std_io2.proofs.BufWriterCalls.{write_counts}
 use Rattle.io_bench.proofs.StepCosts.{step_cost}
 use Rattle.io_bench.specs.Tally.{tally_writes}
-use Rattle.promises.proofs.Levels.{tallied, tally_meters}
+use Rattle.io_bench.proofs.ClosedLemmas.{tallied_writer, tally_meters}
 use Rattle.promises.proofs.counts.counts_a_write.Goals as goal
 
 pub returns : goal.returns
 returns g c = λ takes.
     let x = c.args.x.now in
-    let I = tallied g.W.Write in (
+    let I = tallied_writer g.W.Write in (
       (c.write.ensures.law.all takes).1,
       (step_cost I tally_writes (tally_meters g.W.Write) (writer_inner {S = g.row.S})
           writer_buffer (WriteCalls g.row.S x) (λ held. writing_calls g.row.S held x) (write_counts I g.row.S x) c.args.w.now.value
