@@ -29,7 +29,7 @@ pub fn stdout<R: Print>(rt: &R) -> Patient<io::Printer<'_, R>>
 /// Opens a file to read it. Follows `std::fs::File::open`.
 ///
 /// # Errors
-/// Returns the system's error if the file cannot be opened.
+/// Returns the system's error if the file cannot be opened. When that is so, no contract says, since that of `std`'s `open` does not.
 ///
 /// ```rust
 /// let mut program = open(rt, "/proc/self/exe")?;
@@ -46,7 +46,7 @@ pub fn open<R: Files, P: AsPath>(rt: &R, path: P) -> io::Result<Patient<R::File>
 /// Makes an empty file to write to. If there is a file of this name, its content is lost. Follows `std::fs::File::create`.
 ///
 /// # Errors
-/// Returns the system's error if the file cannot be made.
+/// Returns the system's error if the file cannot be made. When that is so, no contract says, since that of `std`'s `create` does not.
 pub fn create<R: Files, P: AsPath>(rt: &R, path: P) -> io::Result<Patient<R::File>>
     ensures { IfOk result IsFresh }
 {

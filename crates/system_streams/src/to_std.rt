@@ -25,8 +25,9 @@ use std::io::ErrorKind as StdKind;
 ///
 /// # Errors
 /// A call returns the stream's error, with the kind of the same name and at most the first 80 bytes
-/// of its text. The stream is then in the state that its own call promises. An error among told
-/// events is returned when it comes, and the events after it are still to come.
+/// of its text. That the text stays is tested, since no contract of `std` names the text of an error.
+/// The stream is then in the state that its own call promises. An error among told events is returned
+/// when it comes, and the events after it are still to come.
 ///
 /// ```rust
 /// let mut r = ToStd::new(Patient::new(b"a".as_slice(), 1));

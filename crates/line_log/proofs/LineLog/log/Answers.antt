@@ -1,3 +1,4 @@
+-- The prover does not find the rewriting of a string by its bytes.
 use Rattle.line_log.proofs.LineLog.log.Goals as goal
 
 pub returns : goal.returns

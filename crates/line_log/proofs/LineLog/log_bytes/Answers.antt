@@ -1,3 +1,4 @@
+-- The prover does not find the step of the buffer, whose error is ignored (`log_goes`), nor that a text has no newline.
 use Rattle.std.proofs.Common.{Contains, refl, le_refl, inl, inr, arith}
 use Rattle.std.proofs.lemmas.Grind.{common_steps}
 use Rattle.std.proofs.lemmas.Result.{err_from_is_err_and}

@@ -1,3 +1,4 @@
+-- The prover does not find the rewriting by what `answer` returns.
 use Rattle.line_log.proofs.LineLog.log_text.Goals as goal
 
 pub returns : goal.returns

@@ -1,3 +1,4 @@
+-- The prover does not find the text that was printed (`text_logged`).
 use Rattle.line_log.proofs.TextLemmas.{text_logged}
 use Rattle.line_log.proofs.LineLog.print_line.Goals as goal
 

@@ -1,3 +1,4 @@
+-- The prover does not find that a text without an error was printed whole (`prints_output`).
 use Rattle.std.proofs.Common.{inl, ap, ◌∙◌, not}
 use Rattle.no_std_io2.proofs.TextLemmas.{prints_output}
 use Rattle.line_log.specs.Text.{IsPrinted}

@@ -1,3 +1,4 @@
+-- The prover does not find what the buffers around a copy change: they hold nothing before and after (`passes_off`).
 use Rattle.std.proofs.Common.{ap, true, false}
 use Rattle.std.proofs.lemmas.Result.{err_from_is_err_and}
 use Rattle.no_std_io2.specs.BufWriter.{writer_inner, writer_buffer}

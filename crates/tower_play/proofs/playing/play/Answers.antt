@@ -1,3 +1,4 @@
+-- The prover does not find the run that was shown (`shows_at`), nor how a failed write ended (`write_failed`, `flush_failed`).
 use Rattle.std.proofs.Common.{subst, inl, inr, IfSome}
 use Rattle.std.proofs.lemmas.Result.{err_from_is_err_and}
 use Rattle.no_std_io2.specs.Takes.{to_come}

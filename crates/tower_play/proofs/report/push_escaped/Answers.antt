@@ -1,3 +1,4 @@
+-- The prover does not find the bytes up to the next escape, as two branches have them (`run_on`, `run_ends`).
 use Rattle.std.proofs.Common.{◌+◌, ◌-◌, ◌++◌, take, drop, sym, ap, ◌∙◌, arith}
 use Rattle.std.proofs.lemmas.List.{drop-take}
 use Rattle.tower_play.proofs.Escapes.{run_on, run_ends}

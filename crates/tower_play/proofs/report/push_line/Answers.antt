@@ -1,3 +1,4 @@
+-- The prover does not find the regrouping of four texts.
 use Rattle.std.proofs.Common.{◌++◌, codes, ap, ◌∙◌, append_assoc}
 use Rattle.tower_play.proofs.report.push_line.Goals as goal
 

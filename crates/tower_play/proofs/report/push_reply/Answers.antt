@@ -1,3 +1,4 @@
+-- The prover does not find the printed text of the value, which `push_line` takes as an argument.
 use Rattle.std.proofs.Common.{refl}
 use Rattle.tower_play.proofs.report.push_reply.Goals as goal
 

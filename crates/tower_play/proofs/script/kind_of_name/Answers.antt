@@ -1,3 +1,4 @@
+-- The prover does not look at each kind.
 use Rattle.std.proofs.Common.{arith}
 use Rattle.std.proofs.lemmas.Grind.{common_steps}
 use Rattle.tower_play.proofs.script.kind_of_name.Goals as goal

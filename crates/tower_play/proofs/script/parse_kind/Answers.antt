@@ -1,3 +1,4 @@
+-- The prover does not find that the name of each kind is UTF-8 (`kind_name-IsUtf8`).
 use Rattle.std.proofs.Common.{subst, sym, rules}
 use Rattle.std.specs.Str.{IsUtf8}
 use Rattle.tower_play.proofs.ScriptLemmas.{kind_name-IsUtf8}

@@ -1,3 +1,4 @@
+-- The prover does not find which bytes are meant so far (`goes_by_itself`).
 use Rattle.std.proofs.Common.{◌∙◌, refl, [], ◌∷◌, arith, rules}
 use Rattle.std.proofs.lemmas.Grind.{common_steps}
 use Rattle.tower_play.proofs.Unescaping.{none_yet, ends_escape, begins_escape, goes_by_itself}

@@ -1,3 +1,4 @@
+-- The prover does not find that the held bytes are the frame and what follows it (`take-append_seam`).
 use Rattle.std.proofs.Common.{◌≡◌, ◌≤◌, ◌+◌, ◌-◌, ◌++◌, length, length-append, length-take, length-drop, take, drop, ap, ◌∙◌, arith, sym}
 use Rattle.std.proofs.Math.Seq.{take-append_seam}
 use Rattle.no_std_io2.specs.BufReader.{reader_held}

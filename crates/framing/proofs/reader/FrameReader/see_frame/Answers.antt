@@ -1,3 +1,4 @@
+-- The prover does not find the inner reads of a `read_full` (`rest_sees`), nor those of `fill_to` (`fills_sees`).
 use Rattle.std.proofs.{Common.{◌<◌, Ok, Err, refl, arith}, lemmas.Result.{err_from_is_err_and}}
 use Rattle.no_std_io2.proofs.Readers.{reader}
 use Rattle.framing.proofs.SeenLemmas.{fills_sees, rest_sees}

@@ -1,3 +1,4 @@
+-- The prover does not find that a frame which has begun needs no read (`Reads-none`), nor the reads of `fill_to`.
 use Rattle.std.proofs.Common.{◌≡◌, [], sym, arith, append-nil}
 use Rattle.no_std_io2.proofs.Readers.{reader}
 use Rattle.no_std_io2.proofs.ReadsLemmas.{Reads-none}

@@ -1,3 +1,4 @@
+-- The prover does not find the account of a call, which joins the reads for the header and those for the payload (`sees_both`).
 use Rattle.std.proofs.lemmas.Grind.{common_steps}
 use Rattle.std.proofs.Common.{◌≡◌, ◌≤◌, [], Ok, Err, Some, None, length, drop, refl, sym, ap, ◌∙◌, inl, inr, arith}
 use Rattle.std.proofs.lemmas.Result.{err_from_is_err_and}

@@ -1,3 +1,4 @@
+-- The prover does not find which text is meant (`is_meant`), or that none is (`is_not_meant`).
 use Rattle.std.proofs.Common.{◌≡◌, ◌-◌, ◌++◌, length, length-append, ap, ◌∙◌, arith}
 use Rattle.tower_play.specs.declared.script.Step.TheVariants.{Write as write_step, WriteAll as write_all_step}
 use Rattle.tower_play.specs.Lines.{text_step}

@@ -1,3 +1,4 @@
+-- The prover does not find the calls that are made so far (`ops_go_on`).
 use Rattle.std.proofs.Common.{◌+◌, take, subst, sym, arith}
 use Rattle.std.proofs.lemmas.Grind.{common_steps}
 use Rattle.tower_play.specs.Calls.{AreOps}

@@ -1,3 +1,4 @@
+-- The prover does not find the lines that were read so far (`adds_more`), nor which is the first bad one (`first_here`).
 use Rattle.std.proofs.Common.{◌≡◌, ◌∙◌, ap, sym, subst, refl, true, false, not, [], ◌∷◌, ◌++◌, length-append, Some, Ok, arith}
 use Rattle.std.specs.Prelude.{is_some}
 use Rattle.std.proofs.lemmas.Result.{err_from_is_err_and}
