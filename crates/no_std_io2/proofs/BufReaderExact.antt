@@ -1,18 +1,17 @@
 -- Which inner reads an exact read of a `BufReader` makes, and what is in the buffer then.
-use Rattle.std.proofs.Common.{◌≡◌, ℕ, ◌+◌, ◌-◌, ◌<◌, ◌≤◌, ◌⊎◌, max, min, List, [], ◌∷◌, ◌++◌, Result, Ok, Err, length, take, drop, refl}
-use Rattle.std.proofs.Common.{sym, ap, subst, ◌∙◌, arith, append_assoc, append-nil, length-append, take-append-drop, length-take}
-use Rattle.std.proofs.{Common.{length-take-le, length-drop, inl, inr, ⊎_elim, take_all, le_refl}, lemmas.Bool.{cases_lt}}
-use Rattle.std.proofs.lemmas.List.{nil_from_length}
-use Rattle.no_std_io2_base.specs.{declared.error.Error.{Error}, Errors.{IsInterruption}, Events.{events_of}, Takes.{Takes}, Write.{Made}}
-use Rattle.no_std_io2_base.specs.{Write.{IsFront}, Read.{Reader, ReadCall, Gave, Gathers, no_read, and_gave, and_again, IsRest}}
-use Rattle.no_std_io2_base.specs.Read.{GathersUntil, FillCalls, ExactCalls, tells, FillsOrEnds, ReadCallLaw, GaveLaw, ReadExactLaw}
-use Rattle.no_std_io2_base.specs.Read.{bytes_given}
-use Rattle.no_std_io2_base.proofs.{CallsLemmas.{made_more, made_split}, ReadCalls.{exact_own}, ReadLoop.{ReadsSoFar, reads_none}}
-use Rattle.no_std_io2_base.proofs.{ReadLoop.{reads_more, reads_until}, ReadFullLoop.{FullSoFar}, TakesLemmas.{gives_none, gives_bytes}}
-use Rattle.no_std_io2_base.proofs.TakesLemmas.{gives_whole, bytes_more, bytes_still}
-use Rattle.no_std_io2.specs.{declared.buffered.buf_reader.BufReader.{BufReader}, Buffer.{IsSuffix}, BufReader.{reader_held, reader_behind}}
-use Rattle.no_std_io2.specs.BufReader.{reader_inner, HasNoBuffer, PassesOn, AsksExact, ExactBelow, LeavesExact, GivesHeld, of_held}
-use Rattle.no_std_io2.specs.BufReader.{went_past, was_filled}
+use Rattle.no_std_io2.proofs.Words.{◌≡◌, ℕ, ◌+◌, ◌-◌, ◌<◌, ◌≤◌, ◌⊎◌, min, List, [], ◌∷◌, ◌++◌, Result, Ok, Err, length, take, drop, refl}
+use Rattle.no_std_io2.proofs.Words.{sym, ap, subst, ◌∙◌, arith, append_assoc, append-nil, length-append, take-append-drop, length-take}
+use Rattle.no_std_io2.proofs.Words.{length-take-le, length-drop, inl, inr, ⊎_elim, le_refl, cases_lt, nil_from_length, IsInterruption}
+use Rattle.no_std_io2.proofs.Words.{events_of, Takes, Made, IsFront, Reader, ReadCall, Gave, Gathers, no_read, and_gave, and_again, IsRest}
+use Rattle.no_std_io2.proofs.Words.{GathersUntil, ExactCalls, tells, ReadCallLaw, GaveLaw, bytes_given, IsSuffix, reader_held}
+use Rattle.no_std_io2.proofs.Words.{reader_behind, reader_inner, PassesOn, AsksExact, of_held, went_past, was_filled}
+use Rattle.std.proofs.Common.{max, take_all}
+use Rattle.no_std_io2_base.specs.{declared.error.Error.{Error}, Read.{FillCalls, FillsOrEnds, ReadExactLaw}}
+use Rattle.no_std_io2_base.proofs.{CallsLemmas.{made_more, made_split}, ReadCalls.{exact_own}}
+use Rattle.no_std_io2_base.proofs.{ReadLoop.{ReadsSoFar, reads_none, reads_more, reads_until}, ReadFullLoop.{FullSoFar}}
+use Rattle.no_std_io2_base.proofs.{TakesLemmas.{gives_none, gives_bytes, gives_whole, bytes_more, bytes_still}}
+use Rattle.no_std_io2.specs.{declared.buffered.buf_reader.BufReader.{BufReader}}
+use Rattle.no_std_io2.specs.{BufReader.{HasNoBuffer, ExactBelow, LeavesExact, GivesHeld}}
 use Rattle.no_std_io2.proofs.{BufferedReads.{takes_held}, BufReaderCalls.{buf_reader, by_held}, BufReaderRoom.{held-le}}
 
 -- r was read behind bytes of which none were held: y of it is given, and the others are held

@@ -1,6 +1,7 @@
 -- How much a `BufReader` holds.
-use Rattle.std.proofs.{Common.{◌≡◌, ℕ, ◌-◌, ◌<◌, ◌≤◌, ◌^◌, length, drop, ap, ◌∙◌, arith, length-take}, Math.Bridge.{le_prop}}
-use Rattle.no_std_io2.specs.{declared.buffered.{buffer.Buffer.{Buffer}, buf_reader.BufReader.{BufReader}}, BufReader.{reader_held}}
+use Rattle.no_std_io2.proofs.Words.{◌≡◌, ℕ, ◌-◌, ◌<◌, ◌≤◌, ◌^◌, length, drop, ap, ◌∙◌, arith, length-take, reader_held}
+use Rattle.std.proofs.Math.Bridge.{le_prop}
+use Rattle.no_std_io2.specs.{declared.buffered.buffer.Buffer.{Buffer}, declared.buffered.buf_reader.BufReader.{BufReader}}
 
 -- it has some room
 pub some_room : {R : Type 0} {S : ℕ} (r : BufReader R S) → 0 < S

@@ -1,13 +1,13 @@
 -- A read to the end of a `BufReader`: the held bytes are appended, and then those that the inner reader's `read_to_end` appends.
-use Rattle.std.proofs.{lemmas.Grind.{common_steps}, Common.{◌≡◌, ℕ, ◌+◌, ◌-◌, ◌<◌, ◌≤◌, List, [], ◌++◌, Result, Ok, Err, length, refl, sym}}
-use Rattle.std.proofs.Common.{ap, ◌∙◌, arith, inl, inr, append_assoc, length-append, le_trans, le_refl, Vec, vec_len, vec_capacity, OnOk}
-use Rattle.std.proofs.{Common.{IfOk, append-nil}, lemmas.List.{append_cancel_left, append_cancel_right}}
-use Rattle.no_std_io2_base.specs.{declared.error.Error.{Error}, Errors.{IsOutOfMemory}, Cursor.{HasMoved}, Events.{Event, events_of, bytes}}
-use Rattle.no_std_io2_base.specs.{Takes.{Takes}, Read.{Reader, tells, GaveAll, ReadToEndLaw, DrainsOrStops, least_room, ended}}
-use Rattle.no_std_io2_base.proofs.EventLemmas.{bytes-append, bytes-events_of, HasNoFault-append, HasNoFault-events_of}
+use Rattle.no_std_io2.proofs.Words.{common_steps, ◌≡◌, ℕ, ◌+◌, ◌-◌, ◌<◌, ◌≤◌, List, [], ◌++◌, Result, Ok, Err, length, refl, sym, ap, ◌∙◌}
+use Rattle.no_std_io2.proofs.Words.{arith, inl, inr, append_assoc, length-append, le_refl, Vec, vec_len, OnOk, IfOk, append-nil}
+use Rattle.no_std_io2.proofs.Words.{IsOutOfMemory, Event, events_of, bytes, Takes, Reader, tells, GaveAll, reader_held, reader_behind}
+use Rattle.no_std_io2.proofs.Words.{reader_inner}
+use Rattle.std.proofs.{Common.{le_trans, vec_capacity}, lemmas.List.{append_cancel_left, append_cancel_right}}
+use Rattle.no_std_io2_base.specs.{declared.error.Error.{Error}, Cursor.{HasMoved}, Read.{ReadToEndLaw, DrainsOrStops, least_room, ended}}
+use Rattle.no_std_io2_base.proofs.{EventLemmas.{bytes-append, bytes-events_of, HasNoFault-append, HasNoFault-events_of}}
 use Rattle.no_std_io2_base.proofs.{ReadCalls.{to_end_by}, ReadToEndLoop.{recount}, TakesLemmas.{drains_ended}}
-use Rattle.no_std_io2.specs.{declared.buffered.buf_reader.BufReader.{BufReader}, BufReader.{reader_held, reader_behind, reader_inner}}
-use Rattle.no_std_io2.specs.BufReader.{HasNoBuffer, ReaderMay}
+use Rattle.no_std_io2.specs.{declared.buffered.buf_reader.BufReader.{BufReader}, BufReader.{HasNoBuffer, ReaderMay}}
 use Rattle.no_std_io2.proofs.{BufferedReads.{takes_held, takes_through, ends_unheld}, BufReaderCalls.{buf_reader}, BufReaderRoom.{held-le}}
 
 -- the law, and that it is a call of its own

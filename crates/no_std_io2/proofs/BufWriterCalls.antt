@@ -1,18 +1,18 @@
 -- What the steps of a buffered writer leave, tell and count, and what follows for its calls.
-use Rattle.no_std_io2_base.specs.{Writers.{TakesAll, CallOf, Writer}, declared.error.Error.{Error}, Errors.{IsNoInterruption}, Write.{Told}}
-use Rattle.no_std_io2_base.specs.Write.{Moves, MovesFront, WriteCall, Made, taken, write_mishap, call_mishap, Wrote, Flushed, AllCalls}
-use Rattle.no_std_io2_base.specs.{Write.{calls_for, none as no_write}, Meter.{charges}}
-use Rattle.std.proofs.Common.{rules, [], ◌≡◌, ◌+◌, ℕ, ◌<◌, ◌≤◌, List, ◌∷◌, ◌++◌, length, Result, Ok, Err, OnOk, IsOk, IfOk, refl, sym}
-use Rattle.std.proofs.Common.{subst, ap, ◌∙◌, arith, le_refl, take_all, append-nil, if◌then◌else◌, nat_le, nat_lt, ⊎_elim, inl, inr}
-use Rattle.std.proofs.lemmas.{Grind.{common_steps}, List.{nil_from_length}, Bool.{cases_lt, Decides.{nat_tests}}, Result.{on_ok_weaker}}
+use Rattle.no_std_io2.proofs.Words.{TakesAll, CallOf, Writer, Told, Moves, MovesFront, WriteCall, Made, call_mishap, Wrote, Flushed}
+use Rattle.no_std_io2.proofs.Words.{AllCalls, calls_for, none as no_write, charges, rules, [], ◌≡◌, ◌+◌, ℕ, ◌<◌, ◌≤◌, List, ◌∷◌, ◌++◌}
+use Rattle.no_std_io2.proofs.Words.{length, Result, Ok, Err, OnOk, IsOk, IfOk, refl, sym, subst, ap, ◌∙◌, arith, le_refl, append-nil}
+use Rattle.no_std_io2.proofs.Words.{if◌then◌else◌, nat_lt, ⊎_elim, inl, inr, common_steps, nil_from_length, cases_lt, nat_tests, stops}
+use Rattle.no_std_io2.proofs.Words.{goes_on, with_buffer, TakesStep, sender_inner, sender_buffer, Only, SendCalls, WayCalls, Buffered}
+use Rattle.no_std_io2.proofs.Words.{WriteCalls, WriteAllCalls, FlushCalls, writing_calls, buffer_after}
+use Rattle.no_std_io2_base.specs.{declared.error.Error.{Error}, Errors.{IsNoInterruption}, Write.{taken, write_mishap}}
+use Rattle.std.proofs.{Common.{take_all, nat_le}, lemmas.Result.{on_ok_weaker}}
 use Rattle.no_std_io2_base.proofs.{MovesLemmas.{IsFront-refl, Moves-then, zero_write-whole}, CallsLemmas.{made_split, writes_whole}}
-use Rattle.no_std_io2_base.proofs.{WritesFacts.{writes_fault, writes_sends}, AllFacts.{all_calls, call_steady}, MeterLemmas.{writes_count}}
-use Rattle.no_std_io2_base.proofs.MeterLemmas.{all_count}
-use Rattle.no_std_io2.specs.{declared.buffered.sender.Sender.{Sender}, BufWriter.{stops, goes_on, with_buffer, TakesStep, sender_inner}}
-use Rattle.no_std_io2.specs.BufWriter.{sender_buffer, Only, SendCalls, WayCalls, PutCalls, Buffered, WriteCalls, WriteAllCalls, FlushCalls}
-use Rattle.no_std_io2.specs.BufWriter.{PastEmpty, way_calls, writing_calls, buffer_after, Buffers, BuffersAll}
-use Rattle.no_std_io2.proofs.{BufWriterLemmas.{Moves-kept, Moves-emptied, MovesFront-emptied}, StepLemmas.{no_ok, Stepped, Leaves}}
-use Rattle.no_std_io2.proofs.StepLemmas.{StepTells, Sending, Counts, Counted, then_goes_on, then_leaves, then_tells, then_counts}
+use Rattle.no_std_io2_base.proofs.{WritesFacts.{writes_fault, writes_sends}, AllFacts.{all_calls, call_steady}}
+use Rattle.no_std_io2_base.proofs.{MeterLemmas.{writes_count, all_count}}
+use Rattle.no_std_io2.specs.{declared.buffered.sender.Sender.{Sender}, BufWriter.{PutCalls, PastEmpty, way_calls, Buffers, BuffersAll}}
+use Rattle.no_std_io2.proofs.{BufWriterLemmas.{Moves-kept, Moves-emptied, MovesFront-emptied}}
+use Rattle.no_std_io2.proofs.{StepLemmas.{no_ok, Stepped, Leaves, StepTells, Sending, Counts, Counted, then_goes_on, then_leaves, then_tells, then_counts}}
 
 -- what is left once n more bytes have room,
 abbrev way_left : ℕ → ℕ → List ℕ → List ℕ

@@ -1,10 +1,10 @@
 -- A buffer in front of a writer.
-use Rattle.std.proofs.{lemmas.{Grind.{common_steps}, List.{nil_from_length}}, Common.{◌≡◌, ℕ, ◌-◌, ◌≤◌, length-take, length-append, Result}}
-use Rattle.std.proofs.Common.{Ok, Err, OnOk, [], List, ◌++◌, length, drop, sym, ap, subst, ◌∙◌, arith, append_assoc, append-nil}
-use Rattle.no_std_io2_base.specs.{declared.error.{ErrorKind.{ErrorKind}, Error.{Error}}, Write.{Told, Moves, MovesFront}}
-use Rattle.no_std_io2.specs.{declared.buffered.buf_writer.BufWriter.{BufWriter}, BufWriter.{with_buffer, writer_inner, writer_buffer}}
-use Rattle.no_std_io2.specs.{BufWriter.{writer_told}, declared.buffered.line_writer.LineWriter.{LineWriter}, LineWriter.{line_inner}}
-use Rattle.no_std_io2.specs.{LineWriter.{line_buffer, line_told}, Buffer.{IsSuffix}}
+use Rattle.no_std_io2.proofs.Words.{common_steps, nil_from_length, ◌≡◌, ℕ, ◌-◌, ◌≤◌, length-take, length-append, Result, Ok, Err, OnOk, []}
+use Rattle.no_std_io2.proofs.Words.{List, ◌++◌, length, drop, sym, ap, subst, ◌∙◌, arith, append_assoc, append-nil, Told, Moves, MovesFront}
+use Rattle.no_std_io2.proofs.Words.{with_buffer, writer_inner, writer_buffer, writer_told, line_inner, line_buffer, IsSuffix}
+use Rattle.no_std_io2_base.specs.{declared.error.ErrorKind.{ErrorKind}, declared.error.Error.{Error}}
+use Rattle.no_std_io2.specs.{declared.buffered.buf_writer.BufWriter.{BufWriter}, declared.buffered.line_writer.LineWriter.{LineWriter}}
+use Rattle.no_std_io2.specs.{LineWriter.{line_told}}
 use Rattle.no_std_io2_base.proofs.MovesLemmas.{MovesFront-whole}
 
 -- What the inner writer accepted, x, came from the front of the buffer and of what was given, y.

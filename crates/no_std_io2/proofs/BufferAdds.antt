@@ -1,8 +1,7 @@
 -- What each inner call adds to an inner writer's own state, the calls of a buffer in front of it add together.
-use Rattle.std.proofs.{lemmas.Bool.Decides.{nat_tests}, Common.{arith, ℕ, List, Result, append-nil}}
-use Rattle.no_std_io2_base.specs.{declared.error.Error.{Error}, Write.{WriteCall, CallAdds, RestAdds, Made}}
+use Rattle.no_std_io2.proofs.Words.{nat_tests, arith, ℕ, List, Result, append-nil, WriteCall, Made, FlushCalls}
+use Rattle.no_std_io2_base.specs.{declared.error.Error.{Error}, Write.{CallAdds, RestAdds}}
 use Rattle.no_std_io2_base.proofs.{CallsLemmas.{made_split}, CallsAdd.{Joins, writes_add}, MovesLemmas.{after_ok}}
-use Rattle.no_std_io2.specs.BufWriter.{FlushCalls}
 
 module _ {W : Type 0} {may : W → WriteCall → W → Type 0} {Adds : W → List ℕ → W → Type 0} (joins : Joins Adds)
     (each : (a b : W) (call : WriteCall) → may a call b → CallAdds Adds a call b) where

@@ -1,17 +1,17 @@
 -- What a buffer in front of a reader tells, and what it takes.
-use Rattle.std.proofs.{lemmas.Grind.{common_steps}, Common.{◌≡◌, ℕ, ℤ, pos, negsuc, zero, suc, ◌+◌, ◌-◌, ◌*◌, ◌≤◌, min, Bool, true, false}}
-use Rattle.std.proofs.Common.{true≢false, List, [], ◌++◌, length, take, drop, refl, sym, ap, ap₂, subst, ◌∙◌, arith, append_assoc}
-use Rattle.std.proofs.Common.{append-nil, length-append, take-append-drop, Option, None, Some, IfSome, Result, Ok, Err, IfOk, ◌<◌}
-use Rattle.std.proofs.Math.{Nat.{mul-le-mul_left, mul-suc}, Seq.{drop-append_seam, drop-append-add}}
-use Rattle.std.proofs.lemmas.{List.{drop-drop, drop-append-le}, Bool.{Decides.{Decides-and}, leb-true, le-leb}}
+use Rattle.no_std_io2.proofs.Words.{common_steps, ◌≡◌, ℕ, ℤ, pos, negsuc, zero, suc, ◌+◌, ◌-◌, ◌*◌, ◌≤◌, min, Bool, true, false, true≢false}
+use Rattle.no_std_io2.proofs.Words.{List, [], ◌++◌, length, take, drop, refl, sym, ap, ap₂, subst, ◌∙◌, arith, append_assoc, append-nil}
+use Rattle.no_std_io2.proofs.Words.{length-append, take-append-drop, Option, None, Some, Result, Ok, Err, IfOk, ◌<◌, drop-append_seam}
+use Rattle.no_std_io2.proofs.Words.{Event, events_of, bytes, Store, Tells, Takes, AreTaken, KeepsContent, to_come, IsAtEnd, answered}
+use Rattle.no_std_io2.proofs.Words.{bytes_given, behind_held, step_back, store_if, store_before, IsCutOn}
+use Rattle.std.proofs.{Common.{IfSome}, Math.Nat.{mul-le-mul_left, mul-suc}, Math.Seq.{drop-append-add}}
+use Rattle.std.proofs.{lemmas.List.{drop-drop, drop-append-le}, lemmas.Bool.Decides.{Decides-and}, lemmas.Bool.{leb-true, le-leb}}
 use Rattle.std.specs.{Bool.{Decides}, Prelude.{nat_le, nat_eq}}
 use lib.Pointwise.{pointwise, bytes_decides}
-use Rattle.no_std_io2_base.specs.{declared.error.Error.{Error}, Events.{Event, events_of, bytes, BeginsWith}, Takes.{Store, Tells, Takes}}
-use Rattle.no_std_io2_base.specs.{Takes.{AreTaken, KeepsContent, to_come, events_by, IsAtEnd}, Read.{answered, fault_of, bytes_given}}
-use Rattle.no_std_io2_base.proofs.EventLemmas.{bytes-append, bytes-events_of, length-events_of, events_of-append}
-use Rattle.no_std_io2_base.proofs.TakesLemmas.{takes_none}
-use Rattle.no_std_io2.specs.BufReader.{behind_held, is_before, step_back, store_if, store_before, reader_told, AreBefore, TakesOver}
-use Rattle.no_std_io2.specs.Buffer.{IsInBuffer, IsCutOn}
+use Rattle.no_std_io2_base.specs.{declared.error.Error.{Error}, Events.{BeginsWith}, Takes.{events_by}, Read.{fault_of}}
+use Rattle.no_std_io2_base.proofs.{EventLemmas.{bytes-append, bytes-events_of, length-events_of, events_of-append}}
+use Rattle.no_std_io2_base.proofs.{TakesLemmas.{takes_none}}
+use Rattle.no_std_io2.specs.{BufReader.{is_before, reader_told, AreBefore, TakesOver}, Buffer.{IsInBuffer}}
 
 -- these bytes are those of the content right before its position
 abbrev pub IsBefore : List ℕ → Store → Type 0

@@ -1,15 +1,15 @@
 -- What follows of a copy, if its reader tells its events or its writer its mishaps.
-use Rattle.std.proofs.{lemmas.Grind.{common_steps}, Common.{◌≡◌, Option, None, Some, true, ℕ, List, ◌∷◌, ◌++◌, [], refl, ap}}
-use Rattle.std.proofs.{Common.{subst, arith, Err, append-nil, Ok, Result, length, length-append}, lemmas.List.Sums.{sum_by-cons}}
-use Rattle.std.specs.List.{concat}
-use Rattle.no_std_io2_base.specs.{declared.error.{Error.{Error}, ErrorKind.{ErrorKind}}, Errors.{IsInterruption, IsFault}, Events.{Event}}
-use Rattle.no_std_io2_base.specs.{Events.{byte, fails, HasNoFault, EndsInFault}, Read.{Reader, ReadCall, Gave, ReadCallLaw, Gathers}}
-use Rattle.no_std_io2_base.specs.{Read.{no_read, and_gave, and_again}, Takes.{Tells, Takes, to_come, IsAtEnd}, Write.{Told, Moves}}
-use Rattle.no_std_io2_base.specs.{Write.{HasSpent, Made, WriteCall}, Writers.{Writer, CallOf}}
+use Rattle.no_std_io2.proofs.Words.{common_steps, ◌≡◌, Option, None, Some, true, ℕ, List, ◌∷◌, ◌++◌, [], refl, ap, subst, arith, Err}
+use Rattle.no_std_io2.proofs.Words.{append-nil, Ok, Result, length, length-append, concat, IsInterruption, IsFault, Event, byte, fails}
+use Rattle.no_std_io2.proofs.Words.{HasNoFault, Reader, ReadCall, Gave, ReadCallLaw, Gathers, no_read, and_gave, and_again, Tells, Takes}
+use Rattle.no_std_io2.proofs.Words.{to_come, IsAtEnd, Told, Moves, Made, WriteCall, Writer, CallOf, Copied}
+use Rattle.std.proofs.lemmas.List.Sums.{sum_by-cons}
+use Rattle.no_std_io2_base.specs.{declared.error.Error.{Error}, declared.error.ErrorKind.{ErrorKind}, Events.{EndsInFault}}
+use Rattle.no_std_io2_base.specs.{Write.{HasSpent}}
 use Rattle.no_std_io2_base.proofs.{CallsLemmas.{made_split}, EventLemmas.{HasNoFault-front}, MovesLemmas.{Moves-steady}}
-use Rattle.no_std_io2_base.proofs.TakesLemmas.{left_of}
-use Rattle.no_std_io2.specs.Copy.{CopyEnds, Copied, SidesCopied, side_error, Handed, nothing, piece, refused, HandsOn}
-use Rattle.no_std_io2.specs.declared.util.sides.CopyError.{CopyError, TheVariants.{Read, Write}}
+use Rattle.no_std_io2_base.proofs.{TakesLemmas.{left_of}}
+use Rattle.no_std_io2.specs.{Copy.{CopyEnds, SidesCopied, side_error, Handed, nothing, piece, refused, HandsOn}}
+use Rattle.no_std_io2.specs.{declared.util.sides.CopyError.{CopyError}, declared.util.sides.CopyError.TheVariants.{Read, Write}}
 
 -- events without a fault do not end in one
 pub no_fault_at_end : (P : List Event) (e : Error) → HasNoFault P → EndsInFault P e → ⊥

@@ -1,15 +1,17 @@
 -- A loop that passes on what a reader lends, piece by piece.
-use Rattle.std.proofs.Common.{◌≡◌, ℕ, ◌+◌, ◌-◌, ◌^◌, ◌<◌, ◌≤◌, min, List, [], ◌∷◌, ◌++◌, Result, Ok, Err, length, take, refl, sym, ap}
-use Rattle.std.proofs.Common.{subst, ◌∙◌, arith, append_assoc, append-nil, length-append, take_all}
-use Rattle.no_std_io2_base.specs.{declared.error.Error.{Error}, Errors.{IsInterruption, IsFault}, Events.{Event, fails, events_of, bytes}}
-use Rattle.no_std_io2_base.specs.{Events.{HasNoFault}, Takes.{Takes}, Read.{ReadCall, Filled, Consumed}, BufRead.{Lender, LendCallLaw}}
-use Rattle.no_std_io2_base.specs.{BufRead.{FilledLaw, ConsumeLaw, lender_tells}, Write.{WriteCall, Made, Moves}, Writers.{Writer}}
-use Rattle.no_std_io2_base.specs.Writers.{WriteAllOf, CallOf, TakesAll}
-use Rattle.no_std_io2_base.proofs.{CallsLemmas.{made_more, made_then}, EventLemmas.{bytes-append, bytes-events_of, HasNoFault-append}}
-use Rattle.no_std_io2_base.proofs.{EventLemmas.{HasNoFault-events_of}, MovesLemmas.{Moves-refl, Moves-then}, PieceLemmas.{bytes-fails}}
-use Rattle.no_std_io2_base.proofs.TakesLemmas.{takes_none, takes_then, takes_still}
-use Rattle.no_std_io2.specs.{Copy.{counted}, CopyLent.{HandsLent, LentCopied, lends_none, lends_fault, again_lent, piece_lent}}
-use Rattle.no_std_io2.specs.{CopyLent.{piece_refused}, declared.util.sides.CopyError.{CopyError, TheVariants.{Read, Write}}}
+use Rattle.no_std_io2.proofs.Words.{◌≡◌, ℕ, ◌+◌, ◌-◌, ◌^◌, ◌<◌, ◌≤◌, min, List, [], ◌∷◌, ◌++◌, Result, Ok, Err, length, take, refl, sym, ap}
+use Rattle.no_std_io2.proofs.Words.{subst, ◌∙◌, arith, append_assoc, append-nil, length-append, IsInterruption, IsFault, Event, fails}
+use Rattle.no_std_io2.proofs.Words.{events_of, bytes, HasNoFault, Takes, ReadCall, Filled, Consumed, Lender, LendCallLaw, lender_tells}
+use Rattle.no_std_io2.proofs.Words.{WriteCall, Made, Moves, Writer, CallOf, TakesAll}
+use Rattle.std.proofs.Common.{take_all}
+use Rattle.no_std_io2_base.specs.{declared.error.Error.{Error}, BufRead.{FilledLaw, ConsumeLaw}, Writers.{WriteAllOf}}
+use Rattle.no_std_io2_base.proofs.{CallsLemmas.{made_more, made_then}}
+use Rattle.no_std_io2_base.proofs.{EventLemmas.{bytes-append, bytes-events_of, HasNoFault-append, HasNoFault-events_of}}
+use Rattle.no_std_io2_base.proofs.{MovesLemmas.{Moves-refl, Moves-then}, PieceLemmas.{bytes-fails}}
+use Rattle.no_std_io2_base.proofs.{TakesLemmas.{takes_none, takes_then, takes_still}}
+use Rattle.no_std_io2.specs.{Copy.{counted}}
+use Rattle.no_std_io2.specs.{CopyLent.{HandsLent, LentCopied, lends_none, lends_fault, again_lent, piece_lent, piece_refused}}
+use Rattle.no_std_io2.specs.{declared.util.sides.CopyError.{CopyError}, declared.util.sides.CopyError.TheVariants.{Read, Write}}
 
 -- So far these events were taken, and their bytes passed on; `copied` counts them. Whatever calls follow, they follow these.
 pub record LentSoFar {R W : Type 0} (K : Lender R) (I : Writer W) (from : R) (old : W) (copied : ℕ) (mid : R) (now : W) : Type 0 where

@@ -1,17 +1,17 @@
 -- A loop that passes on what it reads, piece by piece, for any reader and any writer.
-use Rattle.std.proofs.{lemmas.Grind.{common_steps}, Common.{◌≡◌, ℕ, ◌+◌, ◌-◌, ◌^◌, ◌<◌, ◌≤◌, min, List, [], ◌∷◌, ◌++◌, Result, Ok, Err}}
-use Rattle.std.proofs.Common.{length, take, refl, sym, ap, subst, ◌∙◌, arith, append_assoc, append-nil, length-append, length-take-le}
+use Rattle.no_std_io2.proofs.Words.{common_steps, ◌≡◌, ℕ, ◌+◌, ◌-◌, ◌^◌, ◌<◌, ◌≤◌, min, List, [], ◌∷◌, ◌++◌, Result, Ok, Err, length, take}
+use Rattle.no_std_io2.proofs.Words.{refl, sym, ap, subst, ◌∙◌, arith, append_assoc, append-nil, length-append, length-take-le, concat}
+use Rattle.no_std_io2.proofs.Words.{IsInterruption, IsFault, fails, events_of, bytes, Reader, Gave, ReadLaw, GaveLaw, ReadCallLaw}
+use Rattle.no_std_io2.proofs.Words.{WriteCall, Made, AllCalls, Moves, Writer, CallOf, TakesAll}
 use Rattle.std.proofs.lemmas.List.Folds.{concat-append}
-use Rattle.std.specs.List.{concat}
-use Rattle.no_std_io2_base.specs.{declared.error.Error.{Error}, Errors.{IsInterruption, IsFault}, Events.{fails, events_of, bytes}}
-use Rattle.no_std_io2_base.specs.{Read.{Reader, Gave, ReadLaw, GaveLaw, ReadCallLaw}, Write.{WriteCall, Made, AllCalls, Moves}}
-use Rattle.no_std_io2_base.specs.Writers.{Writer, WriteAllOf, CallOf, TakesAll}
-use Rattle.no_std_io2_base.proofs.{CallsLemmas.{made_more, made_then}, EventLemmas.{bytes-append, bytes-events_of, HasNoFault-append}}
-use Rattle.no_std_io2_base.proofs.{EventLemmas.{HasNoFault-events_of}, MovesLemmas.{Moves-refl, Moves-then}, PieceLemmas.{bytes-fails}}
-use Rattle.no_std_io2_base.proofs.{ReadExactExits.{some_bytes}, ReadLoop.{ReadsSoFar, reads_none, reads_more, reads_again}}
-use Rattle.no_std_io2_base.proofs.TakesLemmas.{takes_then, takes_still, takes_turns, read_law, read_spends, nothing_read}
-use Rattle.no_std_io2.specs.Copy.{Handed, nothing, piece, refused, HandsOn, counted, SidesCopied}
-use Rattle.no_std_io2.specs.declared.util.sides.CopyError.TheVariants.{Read, Write}
+use Rattle.no_std_io2_base.specs.{declared.error.Error.{Error}, Writers.{WriteAllOf}}
+use Rattle.no_std_io2_base.proofs.{CallsLemmas.{made_more, made_then}}
+use Rattle.no_std_io2_base.proofs.{EventLemmas.{bytes-append, bytes-events_of, HasNoFault-append, HasNoFault-events_of}}
+use Rattle.no_std_io2_base.proofs.{MovesLemmas.{Moves-refl, Moves-then}, PieceLemmas.{bytes-fails}, ReadExactExits.{some_bytes}}
+use Rattle.no_std_io2_base.proofs.{ReadLoop.{ReadsSoFar, reads_none, reads_more, reads_again}}
+use Rattle.no_std_io2_base.proofs.{TakesLemmas.{takes_then, takes_still, takes_turns, read_law, read_spends, nothing_read}}
+use Rattle.no_std_io2.specs.{Copy.{Handed, nothing, piece, refused, HandsOn, counted, SidesCopied}}
+use Rattle.no_std_io2.specs.{declared.util.sides.CopyError.TheVariants.{Read, Write}}
 
 -- one piece more
 handed_more : {S : ℕ} {xs : List (List ℕ)} {x : List ℕ} {C D : List WriteCall} {so_far : Result (Unit {0}) Error}

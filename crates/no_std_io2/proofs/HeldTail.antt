@@ -1,9 +1,10 @@
 -- The bytes that a line writer holds of those that its inner writer left.
-use Rattle.std.proofs.{lemmas.Grind.{common_steps}, Common.{◌≡◌, ℕ, ◌+◌, ◌-◌, ◌<◌, ◌≤◌, List, ◌++◌, length, take, drop, refl, ap, ◌∙◌}}
-use Rattle.std.proofs.{Common.{arith, length-take, length-drop, length-append, subst, take-append-drop}, lemmas.Bool.Decides.{nat_tests}}
+use Rattle.no_std_io2.proofs.Words.{common_steps, ◌≡◌, ℕ, ◌+◌, ◌-◌, ◌<◌, ◌≤◌, List, ◌++◌, length, take, drop, refl, ap, ◌∙◌, arith}
+use Rattle.no_std_io2.proofs.Words.{length-take, length-drop, length-append, subst, take-append-drop, nat_tests, newline, IsLineState}
+use Rattle.no_std_io2.proofs.Words.{lines_len, lines_of, unfinished_line}
 use Rattle.std.proofs.lemmas.List.{take_min}
 use lib.Seq.{take-add}
-use Rattle.no_std_io2_base.specs.{Pieces.{Lacks, newline, ends_in}, Lines.{IsLineState, lines_len, lines_of, unfinished_line}}
+use Rattle.no_std_io2_base.specs.Pieces.{Lacks, ends_in}
 use Rattle.no_std_io2_base.proofs.LineLemmas.{lines_split, lines_bound, lines_end, lacks_lines, unfinished_lacks, plain_state, state_rest}
 use Rattle.no_std_io2_base.proofs.LineLemmas.{take_lines, drop_lines}
 use Rattle.no_std_io2.specs.LineWriter.{held_tail, lines_or_all}

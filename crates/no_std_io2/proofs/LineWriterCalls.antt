@@ -1,22 +1,22 @@
 -- What the calls of a line writer tell and count, by the calls of its inner writer.
-use Rattle.no_std_io2_base.specs.{Writers.{TakesAll, CallOf, Writer}, declared.error.Error.{Error}, Errors.{IsNoInterruption}, Write.{Told}}
-use Rattle.no_std_io2_base.specs.{Write.{MovesFront, WriteCall, Wrote, Made, calls_for, AllCalls}, Lines.{IsLineState, lines_of, lines_len}}
-use Rattle.no_std_io2_base.specs.{Lines.{unfinished_line}, Meter.{charges}}
-use Rattle.std.proofs.Common.{rules, [], ◌≡◌, ◌+◌, ℕ, ◌<◌, ◌≤◌, ◌==◌, List, ◌++◌, length, take, Result, Ok, Err, OnOk, IsOk, IfOk, refl, ap}
-use Rattle.std.proofs.{Common.{subst, arith, if◌then◌else◌, inl, inr}, lemmas.{Grind.{common_steps}, Bool.Decides.{nat_tests}}}
+use Rattle.no_std_io2.proofs.Words.{TakesAll, CallOf, Writer, Told, MovesFront, WriteCall, Wrote, Made, calls_for, AllCalls, IsLineState}
+use Rattle.no_std_io2.proofs.Words.{lines_of, lines_len, unfinished_line, charges, rules, [], ◌≡◌, ◌+◌, ℕ, ◌<◌, ◌≤◌, ◌==◌, List, ◌++◌}
+use Rattle.no_std_io2.proofs.Words.{length, take, Result, Ok, Err, OnOk, IsOk, IfOk, refl, ap, subst, arith, if◌then◌else◌, inl, inr}
+use Rattle.no_std_io2.proofs.Words.{common_steps, nat_tests, Then, stops, goes_on, with_buffer, Only, SendCalls, WriteCalls, WriteAllCalls}
+use Rattle.no_std_io2.proofs.Words.{buffer_after, writing_calls, SendLinesCalls, LineWriteCalls, LineWriteAllCalls}
+use Rattle.no_std_io2_base.specs.{declared.error.Error.{Error}, Errors.{IsNoInterruption}}
 use lib.Seq.{take-take}
-use Rattle.no_std_io2_base.proofs.MovesLemmas.{Moves-then, MovesFront-ends, MovesFront-whole, MovesFront-join, MovesFront-first}
-use Rattle.no_std_io2_base.proofs.{CallsLemmas.{made_split}, WritesFacts.{writes_fault}, AllFacts.{all_calls}, MeterLemmas.{all_count}}
-use Rattle.no_std_io2_base.proofs.{MeterLemmas.{charges-append}, LineLemmas.{lines_some, lines_none, lines_split, take_lines, lines_bound}}
-use Rattle.no_std_io2.specs.BufWriter.{Then, stops, goes_on, with_buffer, Only, SendCalls, WriteCalls, WriteAllCalls, buffer_after}
-use Rattle.no_std_io2.specs.{BufWriter.{writing_calls}, LineWriter.{SendLineCalls, HoldsTail, LinesCalls, SendLinesCalls, LineWriteCalls}}
-use Rattle.no_std_io2.specs.LineWriter.{LineWriteAllCalls, line_buffer_filled, held_tail}
-use Rattle.no_std_io2.proofs.{BufWriterLemmas.{Moves-buffered, Moves-emptied, MovesFront-emptied}, StepLemmas.{no_ok, StepTells, Sending}}
-use Rattle.no_std_io2.proofs.{StepLemmas.{Counts, Counted, then_leaves, then_tells, then_counts}, BufWriterCalls.{buffered_leaves}}
-use Rattle.no_std_io2.proofs.BufWriterCalls.{send_leaves, one_inner_call, send_tells, kept_tells, write_tells, Writing, write_bound}
-use Rattle.no_std_io2.proofs.BufWriterCalls.{send_counts, idle_counts, write_counts, write_all_tells, write_all_fault, write_all_counts}
-use Rattle.no_std_io2.proofs.{BufWriterCalls.{writing_all_calls}, LineWriterStates.{line_left, line_left-is, send_line_leaves}}
-use Rattle.no_std_io2.proofs.{LineWriterStates.{send_lines_leaves, tail_whole}, HeldTail.{took_tail, tail_fits}}
+use Rattle.no_std_io2_base.proofs.{MovesLemmas.{Moves-then, MovesFront-ends, MovesFront-whole, MovesFront-join, MovesFront-first}}
+use Rattle.no_std_io2_base.proofs.{CallsLemmas.{made_split}, WritesFacts.{writes_fault}, AllFacts.{all_calls}}
+use Rattle.no_std_io2_base.proofs.{MeterLemmas.{all_count, charges-append}}
+use Rattle.no_std_io2_base.proofs.{LineLemmas.{lines_some, lines_none, lines_split, take_lines, lines_bound}}
+use Rattle.no_std_io2.specs.LineWriter.{SendLineCalls, HoldsTail, LinesCalls, line_buffer_filled, held_tail}
+use Rattle.no_std_io2.proofs.{BufWriterLemmas.{Moves-buffered, Moves-emptied, MovesFront-emptied}}
+use Rattle.no_std_io2.proofs.{StepLemmas.{no_ok, StepTells, Sending, Counts, Counted, then_leaves, then_tells, then_counts}}
+use Rattle.no_std_io2.proofs.{BufWriterCalls.{buffered_leaves, send_leaves, one_inner_call, send_tells, kept_tells, write_tells, Writing, write_bound, send_counts}}
+use Rattle.no_std_io2.proofs.{BufWriterCalls.{idle_counts, write_counts, write_all_tells, write_all_fault, write_all_counts, writing_all_calls}}
+use Rattle.no_std_io2.proofs.{LineWriterStates.{line_left, line_left-is, send_line_leaves, send_lines_leaves, tail_whole}}
+use Rattle.no_std_io2.proofs.{HeldTail.{took_tail, tail_fits}}
 
 -- a sent line is one call at most
 abbrev pub line_calls : List ℕ → ℕ

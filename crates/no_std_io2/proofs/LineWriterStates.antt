@@ -1,19 +1,19 @@
 -- What the calls of a line writer leave: line states, and after an `Ok` these.
-use Rattle.no_std_io2_base.specs.{Writers.{CallOf, Writer}, declared.error.Error.{Error}, Write.{WriteCall, Wrote, Writes}}
-use Rattle.no_std_io2_base.specs.{Write.{none as no_write, took, again, stuck, fault, AllCalls}, Pieces.{Lacks, newline}}
-use Rattle.no_std_io2_base.specs.Lines.{IsLineState, lines_of, lines_len, unfinished_line}
-use Rattle.std.proofs.{lemmas.Grind.{common_steps}, Common.{◌≡◌, ◌+◌, ℕ, ◌<◌, ◌≤◌, ◌==◌, ◌∙◌, List, ◌∷◌, ◌++◌, length, take, drop, Result}}
-use Rattle.std.proofs.Common.{[], Ok, OnOk, IsOk, IfOk, refl, sym, ap, subst, arith, if◌then◌else◌, inl, inr, take-append-drop}
-use Rattle.std.proofs.lemmas.{Bool.Decides.{nat_tests}, Result.{on_ok_weaker}}
-use Rattle.no_std_io2_base.proofs.{CallsLemmas.{writes_whole}, LineLemmas.{lines_end, lines_none, lines_some, unfinished_lacks}}
-use Rattle.no_std_io2_base.proofs.LineLemmas.{unfinished_none, unfinished_all, lacks_contains, contains_lines, take_lines, drop_lines}
-use Rattle.no_std_io2_base.proofs.{LineLemmas.{lines_split, plain_state, lacks_rest, state_rest, ends_in-append}, MovesLemmas.{after_ok}}
-use Rattle.no_std_io2_base.proofs.PieceLemmas.{Lacks-append}
-use Rattle.no_std_io2.specs.{Buffer.{IsSuffix}, BufWriter.{Then, stops, goes_on, SendCalls, WayCalls, Buffered, WriteCalls, WriteAllCalls}}
-use Rattle.no_std_io2.specs.{BufWriter.{FlushCalls, buffer_after}, LineWriter.{SendLineCalls, HoldsTail, LinesCalls, SendLinesCalls}}
-use Rattle.no_std_io2.specs.LineWriter.{LineWriteCalls, LineWriteAllCalls, line_buffer_after, IsShortText}
-use Rattle.no_std_io2.proofs.{BufWriterLemmas.{IsSuffix-trans}, StepLemmas.{Stepped, Leaves, then_leaves}, BufWriterCalls.{buffered_leaves}}
-use Rattle.no_std_io2.proofs.{BufWriterCalls.{buffered_fits, send_leaves, write_whole}, HeldTail.{tail_state}}
+use Rattle.no_std_io2.proofs.Words.{CallOf, Writer, WriteCall, Wrote, Writes, none as no_write, took, again, stuck, fault, AllCalls}
+use Rattle.no_std_io2.proofs.Words.{newline, IsLineState, lines_of, lines_len, unfinished_line, common_steps, ◌≡◌, ◌+◌, ℕ, ◌<◌, ◌≤◌, ◌==◌}
+use Rattle.no_std_io2.proofs.Words.{◌∙◌, List, ◌∷◌, ◌++◌, length, take, drop, Result, [], Ok, OnOk, IsOk, IfOk, refl, sym, ap, subst, arith}
+use Rattle.no_std_io2.proofs.Words.{if◌then◌else◌, inl, inr, take-append-drop, nat_tests, IsSuffix, Then, stops, goes_on, SendCalls}
+use Rattle.no_std_io2.proofs.Words.{WayCalls, Buffered, WriteCalls, WriteAllCalls, FlushCalls, buffer_after, SendLinesCalls, LineWriteCalls}
+use Rattle.no_std_io2.proofs.Words.{LineWriteAllCalls}
+use Rattle.no_std_io2_base.specs.{declared.error.Error.{Error}, Pieces.{Lacks}}
+use Rattle.std.proofs.lemmas.Result.{on_ok_weaker}
+use Rattle.no_std_io2_base.proofs.{CallsLemmas.{writes_whole}}
+use Rattle.no_std_io2_base.proofs.{LineLemmas.{lines_end, lines_none, lines_some, unfinished_lacks, unfinished_none, unfinished_all, lacks_contains, contains_lines}}
+use Rattle.no_std_io2_base.proofs.{LineLemmas.{take_lines, drop_lines, lines_split, plain_state, lacks_rest, state_rest, ends_in-append}}
+use Rattle.no_std_io2_base.proofs.{MovesLemmas.{after_ok}, PieceLemmas.{Lacks-append}}
+use Rattle.no_std_io2.specs.LineWriter.{SendLineCalls, HoldsTail, LinesCalls, line_buffer_after, IsShortText}
+use Rattle.no_std_io2.proofs.{BufWriterLemmas.{IsSuffix-trans}, StepLemmas.{Stepped, Leaves, then_leaves}}
+use Rattle.no_std_io2.proofs.{BufWriterCalls.{buffered_leaves, buffered_fits, send_leaves, write_whole}, HeldTail.{tail_state}}
 
 -- what is left of some bytes that were sent is an end of them
 pub writes_end : {text : List ℕ} {C : List WriteCall} {x left : List ℕ} {reply : Result (Unit {0}) Error}

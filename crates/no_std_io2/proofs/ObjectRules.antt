@@ -1,8 +1,7 @@
 -- For `using` on a caller that lends a vector, a queue or a cursor over a vector as a `&mut dyn`.
-use Rattle.std.proofs.Common.{append-nil}
-use Rattle.no_std_io2_base.proofs.ObjectLemmas.{object_given, vec_back, queue_back, cursor_back, position_back}
-use Rattle.no_std_io2_base.proofs.StoreLemmas.{told_at}
-use Rattle.no_std_io2_base.proofs.TakesLemmas.{front_taken, front_gone}
+use Rattle.no_std_io2.proofs.Words.{append-nil}
+use Rattle.no_std_io2_base.proofs.{ObjectLemmas.{object_given, vec_back, queue_back, cursor_back, position_back}, StoreLemmas.{told_at}}
+use Rattle.no_std_io2_base.proofs.{TakesLemmas.{front_taken, front_gone}}
 
 -- as a writer
 pub ruleset lent_writer = (append-nil, object_given, vec_back, queue_back, cursor_back, position_back)

@@ -1,12 +1,11 @@
 -- The calls of a buffered writer that first send the held bytes: its seeks and `into_inner`.
-use Rattle.no_std_io2_base.specs.{Writers.{CallOf, Writer}, declared.error.Error.{Error}, Write.{Moves, WriteCall, Made}, Takes.{Store}}
-use Rattle.no_std_io2_base.specs.{Takes.{KeepsContent}, Seek.{IsPosition}}
-use Rattle.std.proofs.{lemmas.Grind.{common_steps}, Common.{◌≡◌, ℕ, List, length, Result, Ok, Err, IsOk, IfOk, Option, refl, sym, ap}}
-use Rattle.std.proofs.Common.{subst, arith, [], ◌∷◌}
-use Rattle.no_std_io2_base.proofs.{MovesLemmas.{Moves-steady}, CallsLemmas.{writes_whole}, WritesFacts.{writes_fault, writes_left}}
-use Rattle.no_std_io2_base.proofs.WritesFacts.{writes_idle, writes_sends}
-use Rattle.no_std_io2.specs.BufWriter.{SendCalls, TakesStep, SendsFirst, Unwraps, store_unheld, with_buffer, into_inner_error_writer}
-use Rattle.no_std_io2.specs.{BufWriter.{into_inner_error_cause}, declared.buffered.into_inner_error.IntoInnerError.{IntoInnerError}}
+use Rattle.no_std_io2.proofs.Words.{CallOf, Writer, Moves, WriteCall, Made, Store, KeepsContent, common_steps, ◌≡◌, ℕ, List, length, Result}
+use Rattle.no_std_io2.proofs.Words.{Ok, Err, IsOk, IfOk, Option, refl, sym, ap, subst, arith, [], ◌∷◌, SendCalls, TakesStep, with_buffer}
+use Rattle.no_std_io2_base.specs.{declared.error.Error.{Error}, Seek.{IsPosition}}
+use Rattle.no_std_io2_base.proofs.{MovesLemmas.{Moves-steady}, CallsLemmas.{writes_whole}}
+use Rattle.no_std_io2_base.proofs.{WritesFacts.{writes_fault, writes_left, writes_idle, writes_sends}}
+use Rattle.no_std_io2.specs.{BufWriter.{SendsFirst, Unwraps, store_unheld, into_inner_error_writer, into_inner_error_cause}}
+use Rattle.no_std_io2.specs.{declared.buffered.into_inner_error.IntoInnerError.{IntoInnerError}}
 use Rattle.no_std_io2.proofs.{BufWriterCalls.{send_tells, send_counts}, StepLemmas.{no_ok, Stepped}}
 
 -- the told store of a writer with a buffer, if the sending failed: then some bytes were held

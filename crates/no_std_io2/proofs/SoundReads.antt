@@ -1,12 +1,11 @@
 -- A sound `BufReader` stays sound: what its reads do to the bytes behind and the held bytes, over a told store.
-use Rattle.std.proofs.Common.{◌≡◌, ℕ, List, [], ◌∷◌, ◌++◌, Result, Ok, Err, take, drop, refl, sym, ap, ap₂, subst, ◌∙◌, append_assoc}
-use Rattle.std.proofs.Common.{append-nil, inl, inr, take-append-drop}
-use Rattle.no_std_io2_base.specs.{declared.error.Error.{Error}, Events.{Event, bytes}, Takes.{Takes}, Write.{Made}, Read.{Reader, ReadCall}}
-use Rattle.no_std_io2_base.specs.Read.{Gave, GaveExactly, GaveAll, Filled, Consumed, ReadCallLaw, tells, answered, bytes_given}
+use Rattle.no_std_io2.proofs.Words.{◌≡◌, ℕ, List, [], ◌∷◌, ◌++◌, Result, Ok, Err, take, drop, refl, sym, ap, ap₂, subst, ◌∙◌, append_assoc}
+use Rattle.no_std_io2.proofs.Words.{append-nil, inl, inr, take-append-drop, Event, bytes, Takes, Made, Reader, ReadCall, Gave, GaveAll}
+use Rattle.no_std_io2.proofs.Words.{Filled, Consumed, ReadCallLaw, tells, answered, bytes_given, reader_held, reader_behind, reader_inner}
+use Rattle.no_std_io2.proofs.Words.{ReadsBelow, FillsBelow, of_held, went_past, was_filled, lent_held, lent_read}
+use Rattle.no_std_io2_base.specs.{declared.error.Error.{Error}, Read.{GaveExactly}}
 use Rattle.no_std_io2_base.proofs.{EventLemmas.{bytes-events_of}, TakesLemmas.{made_takes}}
-use Rattle.no_std_io2.specs.{declared.buffered.buf_reader.BufReader.{BufReader}, BufReader.{reader_held, reader_behind, reader_inner}}
-use Rattle.no_std_io2.specs.BufReader.{HasBuffer, ReaderIsSound, ReadsBelow, FillsBelow, of_held, went_past}
-use Rattle.no_std_io2.specs.BufReader.{was_filled, lent_held, lent_read, ReaderMay}
+use Rattle.no_std_io2.specs.{declared.buffered.buf_reader.BufReader.{BufReader}, BufReader.{HasBuffer, ReaderIsSound, ReaderMay}}
 use Rattle.no_std_io2.proofs.{BufferedReads.{goes_before}, BufReaderCalls.{buf_reader}}
 
 -- the bytes in the buffer, from the first that lies behind

@@ -1,10 +1,9 @@
 -- Steps of a writer with a buffer, one after another: what holds of the parts holds of `first?; next`.
-use Rattle.no_std_io2_base.specs.{Writers.{TakesAll, CallOf, Writer}, declared.error.Error.{Error}, Errors.{error_kind}, Write.{Told}}
-use Rattle.no_std_io2_base.specs.{Write.{Moves, WriteCall, Made, call_mishap}, Meter.{charges}}
-use Rattle.std.proofs.{lemmas.Grind.{common_steps}, Common.{◌≡◌, ℕ, ◌+◌, List, ◌∷◌, ◌++◌, Result, Ok, Err, OnOk, IsOk, ap, arith, false}}
-use Rattle.std.proofs.Common.{true, []}
+use Rattle.no_std_io2.proofs.Words.{TakesAll, CallOf, Writer, error_kind, Told, Moves, WriteCall, Made, call_mishap, charges, common_steps}
+use Rattle.no_std_io2.proofs.Words.{◌≡◌, ℕ, ◌+◌, List, ◌∷◌, ◌++◌, Result, Ok, Err, OnOk, IsOk, ap, arith, false, true, [], Step, Then}
+use Rattle.no_std_io2.proofs.Words.{stops, goes_on, with_buffer}
+use Rattle.no_std_io2_base.specs.declared.error.Error.{Error}
 use Rattle.no_std_io2_base.proofs.{CallsLemmas.{made_then, made_split}, MeterLemmas.{charges-append}}
-use Rattle.no_std_io2.specs.BufWriter.{Step, Then, stops, goes_on, with_buffer}
 
 -- no error is `Ok`
 pub no_ok : {T : Type 0} → false ≡ true → T

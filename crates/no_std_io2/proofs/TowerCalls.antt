@@ -1,8 +1,6 @@
 -- The calls of a tower are calls of the device below it.
-use Rattle.no_std_io2_base.specs.{Writers.{CallOf, Writer}, Write.{WriteCall, Made}}
-use Rattle.std.proofs.Common.{List, ◌∷◌, ◌++◌, ℕ, refl, ap, []}
+use Rattle.no_std_io2.proofs.Words.{CallOf, Writer, WriteCall, Made, List, ◌∷◌, ◌++◌, ℕ, refl, ap, [], Through}
 use Rattle.no_std_io2_base.proofs.CallsLemmas.{made_then, law_may}
-use Rattle.no_std_io2.specs.Towers.{Through}
 
 -- if each call makes such inner calls, calls one after another do
 pub through : {W B : Type 0} (I : Writer W) (K : Writer B) (inner : B → W) (buffer : B → List ℕ)

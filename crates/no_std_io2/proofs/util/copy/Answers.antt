@@ -1,5 +1,5 @@
 -- Which result of `copy_sided` it was, which the search does not guess.
-use Rattle.std.proofs.{Common.{Ok, Err, refl}, lemmas.Result.{err_from_is_err_and}}
+use Rattle.no_std_io2.proofs.Words.{Ok, Err, refl, err_from_is_err_and}
 use Rattle.no_std_io2.proofs.util.copy.Goals as goal
 
 pub returns : goal.returns

@@ -1,5 +1,5 @@
 -- The bytes that are gone were accepted, and each try except the first has used up a mishap, if mishaps are told.
-use Rattle.std.proofs.Common.{Ok, Result, List, ℕ}
+use Rattle.no_std_io2.proofs.Words.{Ok, Result, List, ℕ}
 use Rattle.no_std_io2_base.specs.{declared.error.Error.{Error}, Write.{Sends}, Retries.{HasSpentTries, RestFlushLaw, Tries}}
 use Rattle.no_std_io2.proofs.util.retries.write_with_retries.Given as goal
 

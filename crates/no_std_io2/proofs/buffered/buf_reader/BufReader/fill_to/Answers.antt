@@ -1,7 +1,7 @@
 -- Reads until enough bytes are held: after each read, and at the three ends.
-use Rattle.std.proofs.Common.{sym, ◌∙◌, arith}
-use Rattle.no_std_io2.proofs.FillToLemmas.{filled_none, filled_more, filled_again, fills_fault, fills_end, fills_enough}
-use Rattle.no_std_io2.proofs.FillToLemmas.{fills_store, fills_sound, fills_turns, spends_more, spends_again}
+use Rattle.no_std_io2.proofs.Words.{sym, ◌∙◌, arith}
+use Rattle.no_std_io2.proofs.FillToLemmas.{filled_none, filled_more, filled_again, fills_fault, fills_end, fills_enough, fills_store}
+use Rattle.no_std_io2.proofs.FillToLemmas.{fills_sound, fills_turns, spends_more, spends_again}
 use Rattle.no_std_io2.proofs.buffered.buf_reader.BufReader.fill_to.Goals as goal
 
 pub reads-init : goal.reads-init

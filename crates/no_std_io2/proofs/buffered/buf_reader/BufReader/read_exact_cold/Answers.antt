@@ -1,9 +1,8 @@
 -- The loop and the ends of an exact read past the held bytes.
-use Rattle.std.proofs.{Common.{Ok, Err, length, refl, sym, ap, ◌∙◌, arith, length-drop, length-take-le}, lemmas.List.{nil_from_length}}
-use Rattle.no_std_io2_base.proofs.{ReadExactLoop.{exact_end, exact_fault, exact_all}, ReadFullLoop.{full_read, full_interruption, full_end}}
-use Rattle.no_std_io2_base.proofs.{ReadFullLoop.{full_fault, full_all, stays}, ReadExactExits.{length_stays, some_part}}
-use Rattle.no_std_io2_base.proofs.TakesLemmas.{read_spends}
-use Rattle.no_std_io2.specs.BufReader.{reader_held}
+use Rattle.no_std_io2.proofs.Words.{Ok, Err, length, refl, sym, ap, ◌∙◌, arith, length-drop, length-take-le, nil_from_length, reader_held}
+use Rattle.no_std_io2_base.proofs.{ReadExactLoop.{exact_end, exact_fault, exact_all}}
+use Rattle.no_std_io2_base.proofs.{ReadFullLoop.{full_read, full_interruption, full_end, full_fault, full_all, stays}}
+use Rattle.no_std_io2_base.proofs.{ReadExactExits.{length_stays, some_part}, TakesLemmas.{read_spends}}
 use Rattle.no_std_io2.proofs.{BufReaderExact.{exact_first, leaves_exact}, BufReaderRoom.{same_buffer}}
 use Rattle.no_std_io2.proofs.buffered.buf_reader.BufReader.read_exact_cold.Goals as goal
 

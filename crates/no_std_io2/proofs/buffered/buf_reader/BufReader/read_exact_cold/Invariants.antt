@@ -1,7 +1,7 @@
 -- An exact read past the held bytes ends with its reader's turns, and holds nothing until it is full.
-use Rattle.std.proofs.Common.{◌≡◌, ◌<◌, [], length}
+use Rattle.no_std_io2.proofs.Words.{◌≡◌, ◌<◌, [], length, reader_held}
 use Rattle.no_std_io2_base.proofs.{ReadFullLoop.{FullSoFar}, Readers.{reader}}
-use Rattle.no_std_io2.specs.BufReader.{reader_held, reader_turns}
+use Rattle.no_std_io2.specs.BufReader.{reader_turns}
 use Rattle.no_std_io2.proofs.BufReaderCalls.{buf_reader}
 use Rattle.no_std_io2.proofs.buffered.buf_reader.BufReader.read_exact_cold.Given as goal
 

@@ -1,11 +1,11 @@
 -- A read when nothing is held, by its ends: past the buffer, a fill that failed, and out of the filled buffer.
-use Rattle.std.proofs.Common.{◌≡◌, [], Ok, Err, ◌++◌, length, take, drop, arith, refl, ap, ◌∙◌, length-drop, length-take-le}
-use Rattle.std.proofs.{Math.Seq.{drop-nil}, lemmas.{List.{nil_from_length}, Result.{err_from_is_err_and}}}
-use Rattle.no_std_io2_base.specs.Read.{tells}
+use Rattle.no_std_io2.proofs.Words.{◌≡◌, [], Ok, Err, ◌++◌, length, take, drop, arith, refl, ap, ◌∙◌, length-drop, length-take-le}
+use Rattle.no_std_io2.proofs.Words.{nil_from_length, err_from_is_err_and, tells, reader_held, went_past, was_filled}
+use Rattle.std.proofs.Math.Seq.{drop-nil}
 use Rattle.no_std_io2_base.proofs.{Readers.{reader}, TakesLemmas.{read_law, takes_then}}
-use Rattle.no_std_io2.specs.{Buffer.{buffer_held}, BufReader.{reader_held, went_past, was_filled}}
-use Rattle.no_std_io2.proofs.{BufferedReads.{takes_held, takes_direct, takes_fill, ends_unheld, end_read}, BufReaderCalls.{split_held}}
-use Rattle.no_std_io2.proofs.BufReaderCalls.{by_filled}
+use Rattle.no_std_io2.specs.Buffer.{buffer_held}
+use Rattle.no_std_io2.proofs.{BufferedReads.{takes_held, takes_direct, takes_fill, ends_unheld, end_read}}
+use Rattle.no_std_io2.proofs.{BufReaderCalls.{split_held, by_filled}}
 use Rattle.no_std_io2.proofs.buffered.buf_reader.BufReader.read_past.Goals as goal
 
 -- past the buffer

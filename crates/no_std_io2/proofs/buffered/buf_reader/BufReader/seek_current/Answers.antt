@@ -1,11 +1,9 @@
 -- A seek from the next byte that needs two inner seeks, or the first of which failed.
-use Rattle.std.proofs.{Common.{◌<◌, ◌^◌, ◌-ℤ◌, ℤ, pos, FitsSigned, arith, refl, subst, inl, inr}, lemmas.Int.{to_z-of_z}}
-use Rattle.std.proofs.lemmas.Result.{err_from_is_err_and}
-use Rattle.std.specs.Int.{w64}
+use Rattle.no_std_io2.proofs.Words.{◌<◌, ◌^◌, ℤ, pos, arith, refl, subst, inl, inr, to_z-of_z, err_from_is_err_and, w64}
+use Rattle.std.proofs.Common.{◌-ℤ◌, FitsSigned}
 use Rattle.no_std_io2_base.specs.declared.traits.seek.SeekFrom.TheVariants.{Current}
 use Rattle.no_std_io2.specs.BufReader.{IsTooFarBack, SeeksOnce}
-use Rattle.no_std_io2.proofs.BufReaderSeeks.{far_unless_fits, seeks_again}
-use Rattle.no_std_io2.proofs.BufReaderSeeks.{seeker}
+use Rattle.no_std_io2.proofs.BufReaderSeeks.{far_unless_fits, seeks_again, seeker}
 use Rattle.no_std_io2.proofs.buffered.buf_reader.BufReader.seek_current.Goals as goal
 
 pub returns-in_ok-seek_back-in-None : goal.returns-in_ok-seek_back-in-None

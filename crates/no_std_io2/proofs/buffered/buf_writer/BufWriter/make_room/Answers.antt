@@ -1,8 +1,8 @@
 -- Room was there, or was made by a sending.
-use Rattle.std.proofs.{Common.{ℕ, ◌+◌, ◌≤◌, List, length, Result, OnOk, arith}, lemmas.Grind.{common_steps}}
-use Rattle.no_std_io2_base.specs.{declared.error.Error.{Error}, Errors.{IsNoInterruption}, Write.{WriteCall}}
+use Rattle.no_std_io2.proofs.Words.{ℕ, ◌+◌, ◌≤◌, List, length, Result, OnOk, arith, common_steps, WriteCall, WayCalls, writer_inner}
+use Rattle.no_std_io2.proofs.Words.{sender_inner}
+use Rattle.no_std_io2_base.specs.{declared.error.Error.{Error}, Errors.{IsNoInterruption}}
 use Rattle.no_std_io2_base.proofs.{CallsLemmas.{writes_whole}, WritesFacts.{writes_fault}}
-use Rattle.no_std_io2.specs.BufWriter.{WayCalls, writer_inner, sender_inner}
 use Rattle.no_std_io2.proofs.BufWriterCalls.{way_tells}
 use Rattle.no_std_io2.proofs.buffered.buf_writer.BufWriter.make_room.Goals as goal
 

@@ -1,9 +1,9 @@
 -- There is room for the record, which is then held; or no room could be made.
-use Rattle.std.proofs.{lemmas.Grind.{common_steps}, Common.{◌≡◌, ℕ, ◌+◌, ◌<◌, List, [], ◌∷◌, ◌++◌, length, Ok, Err, refl, sym, ap, subst}}
-use Rattle.std.proofs.{Common.{◌∙◌, arith, append_assoc, length-append}, lemmas.Result.{err_from_is_err_and}}
-use Rattle.no_std_io2_base.specs.{declared.error.Error.{Error}, Writers.{Writer}, Errors.{error_kind, IsFault}, Write.{Moves, AllCalls}}
-use Rattle.no_std_io2.specs.{declared.buffered.buf_writer.BufWriter.{BufWriter}, BufWriter.{writer_inner, writer_buffer, writer_told}}
-use Rattle.no_std_io2.specs.BufWriter.{TakesStep, WayCalls, Puts}
+use Rattle.no_std_io2.proofs.Words.{common_steps, ◌≡◌, ℕ, ◌+◌, ◌<◌, List, [], ◌∷◌, ◌++◌, length, Ok, Err, refl, sym, ap, subst, ◌∙◌, arith}
+use Rattle.no_std_io2.proofs.Words.{append_assoc, length-append, err_from_is_err_and, Writer, error_kind, IsFault, Moves, AllCalls}
+use Rattle.no_std_io2.proofs.Words.{writer_inner, writer_buffer, writer_told, TakesStep, WayCalls}
+use Rattle.no_std_io2_base.specs.declared.error.Error.{Error}
+use Rattle.no_std_io2.specs.{declared.buffered.buf_writer.BufWriter.{BufWriter}, BufWriter.{Puts}}
 use Rattle.no_std_io2_base.proofs.MovesLemmas.{Moves-then}
 use Rattle.no_std_io2.proofs.{BufWriterLemmas.{Moves-kept}, BufWriterCalls.{puts}, StepLemmas.{then_stops, then_goes_on}}
 use Rattle.no_std_io2.proofs.buffered.buf_writer.BufWriter.write_whole.Goals as goal

@@ -1,5 +1,5 @@
 -- The law, by lemmas about the inner calls: the search does not apply these to a whole step.
-use Rattle.no_std_io2.specs.BufWriter.{sender_inner, writer_inner}
+use Rattle.no_std_io2.proofs.Words.{sender_inner, writer_inner}
 use Rattle.no_std_io2.proofs.{BufWriterLemmas.{buffer_none}, BufWriterCalls.{flush_empty, flush_tells, flush_counts}}
 use Rattle.no_std_io2.proofs.buffered.buf_writer.BufWriterWrite.flush.Goals as goal
 

@@ -1,5 +1,5 @@
 -- The law and the clause, by lemmas about the inner calls: the search does not apply these to a whole step.
-use Rattle.no_std_io2.specs.BufWriter.{sender_inner, writer_inner, writer_buffer}
+use Rattle.no_std_io2.proofs.Words.{sender_inner, writer_inner, writer_buffer}
 use Rattle.no_std_io2.proofs.BufWriterCalls.{write_bound, write_tells, write_counts, write_takes, buffers_of}
 use Rattle.no_std_io2.proofs.buffered.buf_writer.BufWriterWrite.write.Goals as goal
 

@@ -1,6 +1,5 @@
 -- The law and the clause, by lemmas about the inner calls: the search does not apply these to a whole step.
-use Rattle.no_std_io2_base.specs.Writers.{TakesAll}
-use Rattle.no_std_io2.specs.BufWriter.{sender_inner, writer_inner, writer_buffer}
+use Rattle.no_std_io2.proofs.Words.{TakesAll, sender_inner, writer_inner, writer_buffer}
 use Rattle.no_std_io2_base.proofs.CallsLemmas.{own_law}
 use Rattle.no_std_io2.proofs.BufWriterCalls.{write_all_fault, write_all_tells, write_all_counts, buffers_all_of}
 use Rattle.no_std_io2.proofs.buffered.buf_writer.BufWriterWrite.write_all.Goals as goal

@@ -1,5 +1,5 @@
 -- The range of the held bytes ends later, by a lemma about ranges.
-use Rattle.std.proofs.{lemmas.Grind.{common_steps}, Common.{arith}}
+use Rattle.no_std_io2.proofs.Words.{common_steps, arith}
 use Rattle.no_std_io2.proofs.BufferRanges.{range_more}
 use Rattle.no_std_io2.proofs.buffered.buffer.Buffer.append.Goals as goal
 

@@ -1,5 +1,5 @@
 -- The range of the held bytes starts later, by lemmas about ranges.
-use Rattle.std.proofs.{lemmas.Grind.{common_steps}, Common.{arith, length-take}}
+use Rattle.no_std_io2.proofs.Words.{common_steps, arith, length-take}
 use Rattle.no_std_io2.proofs.BufferRanges.{range_rest, front_more}
 use Rattle.no_std_io2.proofs.buffered.buffer.Buffer.consume.Goals as goal
 

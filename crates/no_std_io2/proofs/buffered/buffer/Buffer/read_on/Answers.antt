@@ -1,8 +1,8 @@
 -- The bytes that were read lie behind the held bytes, which are at the front.
-use Rattle.std.proofs.Common.{◌≡◌, ℕ, ◌+◌, ◌-◌, ◌≤◌, List, ◌++◌, Ok, Err, length, take, drop, slice_range, refl, sym, ap, subst, ◌∙◌, arith}
-use Rattle.std.proofs.{Common.{length-take, length-drop, length-take-le}, lemmas.Result.{err_from_is_err_and}}
+use Rattle.no_std_io2.proofs.Words.{◌≡◌, ℕ, ◌+◌, ◌-◌, ◌≤◌, List, ◌++◌, Ok, Err, length, take, drop, refl, sym, ap, subst, ◌∙◌, arith}
+use Rattle.no_std_io2.proofs.Words.{length-take, length-drop, length-take-le, err_from_is_err_and, GaveLaw}
+use Rattle.std.proofs.Common.{slice_range}
 use borrow.Rule.Slice.PartMut.{put_mid}
-use Rattle.no_std_io2_base.specs.Read.{GaveLaw}
 use Rattle.no_std_io2_base.proofs.{ReadParts.{take-put_mid}, Readers.{reader}, TakesLemmas.{read_law}}
 use Rattle.no_std_io2.proofs.buffered.buffer.Buffer.read_on.Goals as goal
 

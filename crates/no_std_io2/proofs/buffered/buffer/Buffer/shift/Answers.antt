@@ -1,5 +1,5 @@
 -- Where the offset, a number of 64 bits, cuts the buffer.
-use Rattle.std.proofs.{lemmas.{Grind.{common_steps}, Int.{to_z-of_z}}, Common.{arith, length-take-le, length-drop}}
+use Rattle.no_std_io2.proofs.Words.{common_steps, to_z-of_z, arith, length-take-le, length-drop}
 use Rattle.no_std_io2.proofs.BufferRanges.{cut_on}
 use Rattle.no_std_io2.proofs.buffered.buffer.Buffer.shift.Goals as goal
 

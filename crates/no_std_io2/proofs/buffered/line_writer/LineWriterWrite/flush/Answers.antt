@@ -1,5 +1,5 @@
 -- The line state and the law, by lemmas about the inner calls: the search does not apply these to a whole step.
-use Rattle.no_std_io2.specs.{BufWriter.{sender_inner}, LineWriter.{line_inner}}
+use Rattle.no_std_io2.proofs.Words.{sender_inner, line_inner}
 use Rattle.no_std_io2.proofs.{BufWriterLemmas.{buffer_none}, BufWriterCalls.{flush_empty, flush_tells}, LineWriterStates.{flush_state}}
 use Rattle.no_std_io2.proofs.buffered.line_writer.LineWriterWrite.flush.Goals as goal
 

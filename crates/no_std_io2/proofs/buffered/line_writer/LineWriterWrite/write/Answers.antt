@@ -1,9 +1,7 @@
 -- The line state and the clauses, by lemmas about the inner calls: the search does not apply these to a whole step.
-use Rattle.no_std_io2_base.specs.{Writers.{CallOf}, Write.{Made}}
-use Rattle.std.proofs.Common.{subst}
-use Rattle.no_std_io2.specs.{BufWriter.{sender_inner}, LineWriter.{line_inner}}
-use Rattle.no_std_io2.proofs.{LineWriterStates.{line_write_state, line_write_short, line_write_fits}, LineWriterCalls.{line_write_bound}}
-use Rattle.no_std_io2.proofs.LineWriterCalls.{line_write_tells, line_write_keeps, line_write_filled}
+use Rattle.no_std_io2.proofs.Words.{CallOf, Made, subst, sender_inner, line_inner}
+use Rattle.no_std_io2.proofs.{LineWriterStates.{line_write_state, line_write_short, line_write_fits}}
+use Rattle.no_std_io2.proofs.{LineWriterCalls.{line_write_bound, line_write_tells, line_write_keeps, line_write_filled}}
 use Rattle.no_std_io2.proofs.buffered.line_writer.LineWriterWrite.write.Goals as goal
 
 pub invariant_of-self : goal.invariant_of-self

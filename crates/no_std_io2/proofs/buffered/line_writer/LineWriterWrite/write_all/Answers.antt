@@ -1,10 +1,8 @@
 -- The line state and the clauses, by lemmas about the inner calls: the search does not apply these to a whole step.
-use Rattle.no_std_io2_base.specs.{Writers.{CallOf}, Write.{Made}}
-use Rattle.std.proofs.Common.{subst}
+use Rattle.no_std_io2.proofs.Words.{CallOf, Made, subst, sender_inner, line_inner}
 use Rattle.no_std_io2_base.proofs.CallsLemmas.{own_law}
-use Rattle.no_std_io2.specs.{BufWriter.{sender_inner}, LineWriter.{line_inner}}
-use Rattle.no_std_io2.proofs.LineWriterStates.{line_write_all_state, line_write_all_fits, line_write_all_leaves}
-use Rattle.no_std_io2.proofs.LineWriterCalls.{line_write_all_tells, line_write_all_keeps}
+use Rattle.no_std_io2.proofs.{LineWriterStates.{line_write_all_state, line_write_all_fits, line_write_all_leaves}}
+use Rattle.no_std_io2.proofs.{LineWriterCalls.{line_write_all_tells, line_write_all_keeps}}
 use Rattle.no_std_io2.proofs.buffered.line_writer.LineWriterWrite.write_all.Goals as goal
 
 pub invariant_of-self : goal.invariant_of-self

@@ -1,4 +1,4 @@
-use Rattle.std.proofs.Common.{◌≡◌, ◌≤◌, ◌-◌, length}
+use Rattle.no_std_io2.proofs.Words.{◌≡◌, ◌≤◌, ◌-◌, length}
 use Rattle.std.specs.List.{AllWithin}
 use Rattle.no_std_io2.proofs.buffered.line_writer.steps.lacks_byte.Given as goal
 

@@ -1,7 +1,6 @@
 -- The newline is the last byte; or there is none in a short text; or it is found, or not: each by what the lines are then.
-use Rattle.std.proofs.{lemmas.Grind.{common_steps}, Common.{◌≡◌, ◌+◌, ◌∷◌, ◌++◌, length, drop, take, arith, ap, sym, ◌∙◌, length-drop}}
-use Rattle.std.proofs.Common.{length-append}
-use Rattle.no_std_io2_base.specs.{Pieces.{newline}, Lines.{lines_len, lines_of, unfinished_line}}
+use Rattle.no_std_io2.proofs.Words.{common_steps, ◌≡◌, ◌+◌, ◌∷◌, ◌++◌, length, drop, take, arith, ap, sym, ◌∙◌, length-drop, length-append}
+use Rattle.no_std_io2.proofs.Words.{newline, lines_len, lines_of, unfinished_line}
 use Rattle.no_std_io2_base.proofs.LineLemmas.{lines_are, lines_none, lines_split, unfinished_none, contains_lacks}
 use Rattle.no_std_io2.proofs.buffered.line_writer.steps.lines_len.Goals as goal
 

@@ -1,6 +1,6 @@
 -- The last byte decides between the two cases of the step: the search does not choose one.
-use Rattle.std.proofs.Common.{ap, sym, refl, ◌∙◌, inl, inr, []}
-use Rattle.no_std_io2_base.specs.Pieces.{ends_in, newline}
+use Rattle.no_std_io2.proofs.Words.{ap, sym, refl, ◌∙◌, inl, inr, [], newline}
+use Rattle.no_std_io2_base.specs.Pieces.{ends_in}
 use Rattle.no_std_io2_base.proofs.LineLemmas.{ends_in-contains, unended_lacks}
 use Rattle.no_std_io2.proofs.buffered.line_writer.steps.send_line.Goals as goal
 

@@ -1,6 +1,5 @@
 -- Through the buffer, and then a sending: the search does not join the two calls.
-use Rattle.std.proofs.{Common.{◌<◌, length, rules, inr}, lemmas.Result.{err_from_is_err_and}}
-use Rattle.no_std_io2.specs.BufWriter.{sender_buffer}
+use Rattle.no_std_io2.proofs.Words.{◌<◌, length, rules, inr, err_from_is_err_and, sender_buffer}
 use Rattle.no_std_io2.proofs.StepLemmas.{then_stops, then_goes_on}
 use Rattle.no_std_io2.proofs.buffered.line_writer.steps.send_lines.Goals as goal
 

@@ -1,4 +1,4 @@
-use Rattle.std.proofs.Common.{◌≡◌, ◌+◌, false}
+use Rattle.no_std_io2.proofs.Words.{◌≡◌, ◌+◌, false}
 use Rattle.std.specs.List.{AllWithin}
 use Rattle.no_std_io2.proofs.buffered.line_writer.steps.stands_in_step.Given as goal
 

@@ -1,5 +1,6 @@
 -- Where the tail ends in each of the four cases, by the definition of `held_tail`.
-use Rattle.std.proofs.{lemmas.{Grind.{common_steps}, List.{take_min}}, Common.{arith, take, drop, refl}}
+use Rattle.no_std_io2.proofs.Words.{common_steps, arith, take, drop, refl}
+use Rattle.std.proofs.lemmas.List.{take_min}
 use Rattle.no_std_io2_base.proofs.LineLemmas.{take_lines}
 use Rattle.no_std_io2.proofs.HeldTail.{lines_rest}
 use Rattle.no_std_io2.proofs.buffered.line_writer.steps.tail_end.Goals as goal

@@ -1,5 +1,5 @@
 -- A text without a newline is the first case of the step: the search does not join its two calls.
-use Rattle.std.proofs.{Common.{arith, inl}, lemmas.Result.{err_from_is_err_and}}
+use Rattle.no_std_io2.proofs.Words.{arith, inl, err_from_is_err_and}
 use Rattle.no_std_io2_base.proofs.LineLemmas.{lacks_lines}
 use Rattle.no_std_io2.proofs.StepLemmas.{then_stops, then_goes_on}
 use Rattle.no_std_io2.proofs.buffered.line_writer.steps.write.Goals as goal

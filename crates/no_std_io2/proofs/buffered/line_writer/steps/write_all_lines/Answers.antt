@@ -1,6 +1,7 @@
 -- The lines, and then the rest: the search does not join the two calls.
-use Rattle.std.proofs.{Common.{◌∙◌, inr, subst}, lemmas.{List.{take_rest}, Result.{err_from_is_err_and}}}
-use Rattle.no_std_io2.specs.{BufWriter.{TakesStep, sender_inner, sender_buffer, WriteAllCalls}, LineWriter.{SendLinesCalls}}
+use Rattle.no_std_io2.proofs.Words.{◌∙◌, inr, subst, err_from_is_err_and, TakesStep, sender_inner, sender_buffer, WriteAllCalls}
+use Rattle.no_std_io2.proofs.Words.{SendLinesCalls}
+use Rattle.std.proofs.lemmas.List.{take_rest}
 use Rattle.no_std_io2_base.proofs.LineLemmas.{take_lines, drop_lines, contains_lines}
 use Rattle.no_std_io2.proofs.StepLemmas.{then_stops, then_goes_on}
 use Rattle.no_std_io2.proofs.buffered.line_writer.steps.write_all_lines.Goals as goal

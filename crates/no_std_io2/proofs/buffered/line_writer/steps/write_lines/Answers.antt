@@ -1,9 +1,9 @@
 -- A failed sending, a failed write, no byte taken, and a tail: the search does not join the calls of these ends.
-use Rattle.std.proofs.{lemmas.Grind.{common_steps}, Common.{◌≡◌, ◌+◌, ◌-◌, ◌++◌, Ok, length, arith, ◌∙◌, sym, refl, ap, inr, length-take}}
-use Rattle.std.proofs.{Common.{length-drop, drop}, lemmas.Result.{err_from_is_err_and}}
+use Rattle.no_std_io2.proofs.Words.{common_steps, ◌≡◌, ◌+◌, ◌-◌, ◌++◌, Ok, length, arith, ◌∙◌, sym, refl, ap, inr, length-take, length-drop}
+use Rattle.no_std_io2.proofs.Words.{drop, err_from_is_err_and, sender_buffer}
 use Rattle.std.specs.List.{slice_range}
 use Rattle.no_std_io2_base.proofs.{CallsLemmas.{writes_whole}, LineLemmas.{contains_lines}}
-use Rattle.no_std_io2.specs.{BufWriter.{sender_buffer}, LineWriter.{held_tail}}
+use Rattle.no_std_io2.specs.LineWriter.{held_tail}
 use Rattle.no_std_io2.proofs.{StepLemmas.{then_stops, then_goes_on}, LineWriterStates.{wrote_lines}}
 use Rattle.no_std_io2.proofs.buffered.line_writer.steps.write_lines.Goals as goal
 

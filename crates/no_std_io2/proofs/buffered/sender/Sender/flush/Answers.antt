@@ -1,6 +1,5 @@
 -- All was sent, and then the inner writer was flushed.
-use Rattle.std.proofs.{Common.{refl, ◌∷◌, []}, lemmas.Result.{err_from_is_err_and}}
-use Rattle.no_std_io2_base.specs.Write.{Flushed}
+use Rattle.no_std_io2.proofs.Words.{refl, ◌∷◌, [], err_from_is_err_and, Flushed}
 use Rattle.no_std_io2_base.proofs.CallsLemmas.{writes_whole}
 use Rattle.no_std_io2.proofs.StepLemmas.{then_stops, then_goes_on}
 use Rattle.no_std_io2.proofs.buffered.sender.Sender.flush.Goals as goal

@@ -1,7 +1,5 @@
 -- If nothing is held, nothing is sent.
-use Rattle.std.proofs.{Common.{Ok, refl, sym, subst, arith, []}, lemmas.List.{nil_from_length}}
-use Rattle.no_std_io2_base.specs.Write.{none as no_write}
-use Rattle.no_std_io2.specs.BufWriter.{sender_buffer, SendCalls}
+use Rattle.no_std_io2.proofs.Words.{Ok, refl, sym, subst, arith, [], nil_from_length, none as no_write, sender_buffer, SendCalls}
 use Rattle.no_std_io2.proofs.buffered.sender.Sender.send.Goals as goal
 
 pub returns-then-len-eq0-clause-calls : goal.returns-then-len-eq0-clause-calls

@@ -1,10 +1,9 @@
 -- Sending: each turn moves a front of what is held from the buffer to what was sent.
-use Rattle.no_std_io2_base.specs.{Writers.{CallOf}, declared.error.{Error.{Error}, ErrorKind.{ErrorKind}}, Write.{Told, Moves, Wrote}}
-use Rattle.no_std_io2_base.specs.Write.{none as no_write, took, again, stuck, fault}
-use Rattle.std.proofs.{lemmas.{Grind.{common_steps}, List.{nil_from_length}}, Common.{◌≡◌, ℕ, ◌+◌, ◌<◌, ◌≤◌, List, ◌∷◌, length, drop}}
-use Rattle.std.proofs.Common.{Result, Ok, Err, refl, sym, ap, subst, ◌∙◌, arith, []}
+use Rattle.no_std_io2.proofs.Words.{CallOf, Told, Moves, Wrote, none as no_write, took, again, stuck, fault, common_steps, nil_from_length}
+use Rattle.no_std_io2.proofs.Words.{◌≡◌, ℕ, ◌+◌, ◌<◌, ◌≤◌, List, ◌∷◌, length, drop, Result, Ok, Err, refl, sym, ap, subst, ◌∙◌, arith, []}
+use Rattle.no_std_io2.proofs.Words.{sender_buffer, SendCalls}
+use Rattle.no_std_io2_base.specs.{declared.error.Error.{Error}, declared.error.ErrorKind.{ErrorKind}}
 use Rattle.no_std_io2_base.proofs.CallsLemmas.{calls_none, calls_more, calls_end}
-use Rattle.no_std_io2.specs.BufWriter.{sender_buffer, SendCalls}
 use Rattle.no_std_io2.proofs.buffered.sender.Sender.send_held.Goals as goal
 
 pub sends-init : goal.sends-init

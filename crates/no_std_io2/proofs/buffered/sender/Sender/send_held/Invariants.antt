@@ -1,8 +1,7 @@
 -- What is gone from the buffer was accepted by the inner writer.
-use Rattle.no_std_io2_base.specs.Writers.{CallOf}
-use Rattle.std.proofs.Common.{◌≡◌, ◌+◌, length, codes}
+use Rattle.no_std_io2.proofs.Words.{CallOf, ◌≡◌, ◌+◌, length, sender_buffer}
+use Rattle.std.proofs.Common.{codes}
 use Rattle.no_std_io2_base.proofs.CallsLemmas.{CallsSoFar}
-use Rattle.no_std_io2.specs.BufWriter.{sender_buffer}
 use Rattle.no_std_io2.proofs.buffered.sender.Sender.send_held.Given as goal
 
 abbrev pub invariant-sends : goal.invariant-sends

@@ -1,7 +1,6 @@
 -- The hot paths: there is room, or nothing is held, so nothing has to be sent.
-use Rattle.std.proofs.{lemmas.{Grind.{common_steps}, List.{nil_from_length}}, Common.{arith, subst}}
-use Rattle.no_std_io2_base.specs.Write.{Wrote}
-use Rattle.no_std_io2.specs.BufWriter.{Only, TakesStep, WriteCalls, sender_inner, sender_buffer}
+use Rattle.no_std_io2.proofs.Words.{common_steps, nil_from_length, arith, subst, Wrote, Only, TakesStep, WriteCalls, sender_inner}
+use Rattle.no_std_io2.proofs.Words.{sender_buffer}
 use Rattle.no_std_io2.proofs.{StepLemmas.{then_goes_on}, BufWriterCalls.{way_kept, puts, buffered_past, one_made}}
 use Rattle.no_std_io2.proofs.buffered.sender.Sender.write.Goals as goal
 

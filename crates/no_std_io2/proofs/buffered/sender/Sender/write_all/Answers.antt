@@ -1,6 +1,5 @@
 -- The hot paths: there is room, or nothing is held, so nothing has to be sent.
-use Rattle.no_std_io2_base.specs.Write.{AllCalls}
-use Rattle.std.proofs.{lemmas.{Grind.{common_steps}, List.{nil_from_length}}, Common.{arith}}
+use Rattle.no_std_io2.proofs.Words.{AllCalls, common_steps, nil_from_length, arith}
 use Rattle.no_std_io2.proofs.{StepLemmas.{then_goes_on}, BufWriterCalls.{way_kept, puts, buffered_past}}
 use Rattle.no_std_io2.proofs.buffered.sender.Sender.write_all.Goals as goal
 

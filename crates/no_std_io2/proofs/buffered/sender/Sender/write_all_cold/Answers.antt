@@ -1,6 +1,5 @@
 -- A `write_all` off the hot path: room is made, and then the bytes go past the buffer or into it.
-use Rattle.no_std_io2_base.specs.Write.{AllCalls}
-use Rattle.std.proofs.{Common.{refl, arith, rules}, lemmas.Result.{err_from_is_err_and}}
+use Rattle.no_std_io2.proofs.Words.{AllCalls, refl, arith, rules, err_from_is_err_and}
 use Rattle.no_std_io2.proofs.{StepLemmas.{then_stops, then_goes_on}, BufWriterCalls.{way_none, way_room, puts, passes}}
 use Rattle.no_std_io2.proofs.buffered.sender.Sender.write_all_cold.Goals as goal
 

@@ -1,7 +1,5 @@
 -- A `write` off the hot path: room is made, and then the bytes go past the buffer or into it.
-use Rattle.no_std_io2.specs.BufWriter.{Only}
-use Rattle.std.proofs.{Common.{refl, arith, rules}, lemmas.Result.{err_from_is_err_and}}
-use Rattle.no_std_io2_base.specs.Write.{Wrote}
+use Rattle.no_std_io2.proofs.Words.{Only, refl, arith, rules, err_from_is_err_and, Wrote}
 use Rattle.no_std_io2.proofs.{StepLemmas.{then_stops, then_goes_on}, BufWriterCalls.{way_none, way_room, puts, passes, one_made}}
 use Rattle.no_std_io2.proofs.buffered.sender.Sender.write_cold.Goals as goal
 

@@ -1,5 +1,5 @@
 -- A read out of what was held, and one past it.
-use Rattle.std.proofs.Common.{arith, refl}
+use Rattle.no_std_io2.proofs.Words.{arith, refl}
 use Rattle.no_std_io2.proofs.BufReaderCalls.{by_held}
 use Rattle.no_std_io2.proofs.buffered.buf_reader.reads.BufReaderRead.read.Goals as goal
 

@@ -1,10 +1,9 @@
 -- These inner seeks are its law.
-use Rattle.std.proofs.{Common.{ℤ, subst, FitsSigned, rules}, lemmas.Int.{to_z-of_z}}
-use Rattle.std.specs.Int.{w64}
+use Rattle.no_std_io2.proofs.Words.{ℤ, subst, rules, to_z-of_z, w64}
+use Rattle.std.proofs.Common.{FitsSigned}
 use Rattle.no_std_io2_base.specs.declared.traits.seek.SeekFrom.TheVariants.{Current}
 use Rattle.no_std_io2.specs.BufReader.{ReaderSeeks}
-use Rattle.no_std_io2.proofs.BufReaderSeeks.{seek_law, seek_elsewhere}
-use Rattle.no_std_io2.proofs.BufReaderSeeks.{seeker}
+use Rattle.no_std_io2.proofs.BufReaderSeeks.{seek_law, seek_elsewhere, seeker}
 use Rattle.no_std_io2.proofs.buffered.buf_reader.seeks.BufReaderSeek.seek.Goals as goal
 
 pub returns-in-Current : goal.returns-in-Current

@@ -1,11 +1,9 @@
 -- Within the buffer the border moves; outside it is a seek.
-use Rattle.std.proofs.{Common.{ℤ, length, refl, subst, Ok, Err}, lemmas.Int.{to_z-of_z}}
-use Rattle.std.specs.Int.{w64}
+use Rattle.no_std_io2.proofs.Words.{ℤ, length, refl, subst, Ok, Err, to_z-of_z, w64, IsCutOn, reader_held, reader_behind}
 use Rattle.no_std_io2_base.specs.declared.traits.seek.SeekFrom.TheVariants.{Current}
-use Rattle.no_std_io2.specs.{Buffer.{IsInBuffer, IsCutOn, buffer_held, buffer_behind}, BufReader.{reader_held, reader_behind, ReaderSeeks}}
-use Rattle.no_std_io2.proofs.{BufReaderRoom.{same_buffer}, BufReaderSeeks.{moves_within, moves_far}}
+use Rattle.no_std_io2.specs.{Buffer.{IsInBuffer, buffer_held, buffer_behind}, BufReader.{ReaderSeeks}}
+use Rattle.no_std_io2.proofs.{BufReaderRoom.{same_buffer}, BufReaderSeeks.{moves_within, moves_far, seeker}}
 use mir.Val.{to_z, of_z}
-use Rattle.no_std_io2.proofs.BufReaderSeeks.{seeker}
 use Rattle.no_std_io2.proofs.buffered.buf_reader.seeks.BufReaderSeek.seek_relative.Goals as goal
 
 pub returns-then-shift : goal.returns-then-shift

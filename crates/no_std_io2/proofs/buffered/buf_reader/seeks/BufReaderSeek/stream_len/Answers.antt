@@ -1,7 +1,6 @@
 -- The inner reader is measured, and nothing else changes.
-use Rattle.std.proofs.Common.{refl}
-use Rattle.no_std_io2.proofs.BufReaderSeeks.{measures}
-use Rattle.no_std_io2.proofs.BufReaderSeeks.{seeker}
+use Rattle.no_std_io2.proofs.Words.{refl}
+use Rattle.no_std_io2.proofs.BufReaderSeeks.{measures, seeker}
 use Rattle.no_std_io2.proofs.buffered.buf_reader.seeks.BufReaderSeek.stream_len.Goals as goal
 
 pub returns : goal.returns

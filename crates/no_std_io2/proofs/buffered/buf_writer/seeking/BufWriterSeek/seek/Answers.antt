@@ -1,9 +1,8 @@
 -- Sending failed, with bytes still held, or nothing is held, and the inner writer was sought.
-use Rattle.std.proofs.lemmas.Result.{err_from_is_err_and}
-use Rattle.no_std_io2.specs.BufWriter.{sender_inner, writer_inner, writer_buffer}
+use Rattle.no_std_io2.proofs.Words.{err_from_is_err_and, sender_inner, writer_inner, writer_buffer}
 use Rattle.no_std_io2_base.proofs.CallsLemmas.{writes_whole}
-use Rattle.no_std_io2.proofs.{StepLemmas.{no_ok}, SentLemmas.{store_refused, store_sought, position_sought, sent_idle, sends_all}}
-use Rattle.no_std_io2.proofs.SentLemmas.{sending_failed, sending_went, failed_left}
+use Rattle.no_std_io2.proofs.{StepLemmas.{no_ok}}
+use Rattle.no_std_io2.proofs.{SentLemmas.{store_refused, store_sought, position_sought, sent_idle, sends_all, sending_failed, sending_went, failed_left}}
 use Rattle.no_std_io2.proofs.buffered.buf_writer.seeking.BufWriterSeek.seek.Goals as goal
 
 pub returns-in_err-send-clause-first : goal.returns-in_err-send-clause-first

@@ -1,6 +1,6 @@
 -- What the loan writes back, as a record of all fields.
-use Rattle.std.proofs.{Common.{refl, ap, ◌≡◌, List, ℕ}, Props.{props}}
-use Rattle.no_std_io2_base.specs.Lines.{IsLineState}
+use Rattle.no_std_io2.proofs.Words.{refl, ap, ◌≡◌, List, ℕ, IsLineState}
+use Rattle.std.proofs.Props.{props}
 use Rattle.no_std_io2.proofs.buffered.line_writer.state.LineSender.get_mut.Goals as goal
 
 -- the ghost field is the same, whichever proof it came from
