@@ -8,7 +8,7 @@ use Rattle.no_std_io2.specs.Writers.{Writer}
 use Rattle.no_std_io2.proofs.MovesLemmas.{Moves-ends}
 use Rattle.line_log.specs.declared.LineLog.{LineLog}
 use Rattle.line_log.specs.Log.{LogsText, IsLogged, line_of, log_held, log_tells}
-use Rattle.frame_lines.specs.Printing.{PrintsLine}
+use Rattle.frame_lines.specs.Printing.{PrintsPayload}
 
 -- if two writers hold nothing after `Ok`, the second holds nothing
 second_holds_nothing : {X : Type 0} (xs ys : List X) → xs ++ ys ≡ [] → ys ≡ []
@@ -23,7 +23,7 @@ logged output (inr refused) = absurd refused.0
 
 -- nothing of it is held
 pub line_sent : {W : Type 0} {I : Writer W} {old mid : LineLog W 16386} (output : Option (List ℕ)) → LogsText I output old (Ok tt) mid
-    → false ≡ nat_lt 0 (length (log_held mid)) → PrintsLine I.told old mid
+    → false ≡ nat_lt 0 (length (log_held mid)) → PrintsPayload I.told old mid
 line_sent {mid = mid} output logs behind =
     let is = logged output logs in
     let none : length (log_held mid) ≤ 0 = grind (arith, nat_tests) in
@@ -36,7 +36,7 @@ line_sent {mid = mid} output logs behind =
 pub line_flushed : {W : Type 0} {I : Writer W} {old mid : LineLog W 16386} (output : Option (List ℕ)) (new : LineLog W 16386)
     (r : Result (Unit {0}) Error) → LogsText I output old (Ok tt) mid
     → Moves (log_tells I.told mid) [] (call_mishap r) (log_tells I.told new)
-    → OnOk r ((log_tells I.told new).held ≡ []) → OnOk r (PrintsLine I.told old new)
+    → OnOk r ((log_tells I.told new).held ≡ []) → OnOk r (PrintsPayload I.told old new)
 line_flushed output new (Err e) logs moves empty = tt
 line_flushed output new (Ok u) logs moves empty =
     let is = logged output logs in

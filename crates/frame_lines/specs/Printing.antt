@@ -10,18 +10,18 @@ use Rattle.line_log.specs.Log.{line_of, log_held, log_tells}
 
 -- One line was accepted, and the writer below the log has all of it. Its text is the one that the standard library prints for the payload, of
 -- which no contract says more.
-pub record PrintsLine {W : Type 0} (told : W → Told) (old new : LineLog W 16386) : Type 0 where
+pub record PrintsPayload {W : Type 0} (told : W → Told) (old new : LineLog W 16386) : Type 0 where
   pub text : List ℕ
   pub moves : Moves (log_tells told old) (line_of text) [] (log_tells told new)
   pub sent : log_held new ≡ []
 
 -- From `from` frames with these payloads were taken, one after another, into a room, and for each one line was printed to `to`.
-pub data Prints {R W : Type 0} (I : Reader R) (told : W → Told) (from : FrameReader R 512) (room : List ℕ) (to : LineLog W 16386)
+pub data PrintsEach {R W : Type 0} (I : Reader R) (told : W → Told) (from : FrameReader R 512) (room : List ℕ) (to : LineLog W 16386)
     : List (List ℕ) → FrameReader R 512 → List ℕ → LineLog W 16386 → Type 0 where
-  nothing : Prints I told from room to [] from room to
+  nothing : PrintsEach I told from room to [] from room to
   frame : {payloads : List (List ℕ)} {mid new : FrameReader R 512} {held room' : List ℕ} {log log' : LineLog W 16386} (n : ℕ)
-      → Prints I told from room to payloads mid held log → TakesFrame I mid held (Ok (Some n)) new room' → PrintsLine told log log'
-      → Prints I told from room to (payloads ++ take n room' ∷ []) new room' log'
+      → PrintsEach I told from room to payloads mid held log → TakesFrame I mid held (Ok (Some n)) new room' → PrintsPayload told log log'
+      → PrintsEach I told from room to (payloads ++ take n room' ∷ []) new room' log'
 
 -- How that ended. After `Ok` the frames ended. Else the next frame was not taken, for this error; or it, or the end, was, and then a line, or
 -- the flush, failed.
@@ -37,5 +37,5 @@ pub record PrintsFrames {R W : Type 0} (I : Reader R) (told : W → Told) (from 
   pub mid : FrameReader R 512
   pub held : List ℕ
   pub log : LineLog W 16386
-  pub prints : Prints I told from room to payloads mid held log
+  pub prints : PrintsEach I told from room to payloads mid held log
   pub ends : PrintEnds I mid held reply new

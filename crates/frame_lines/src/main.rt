@@ -7,7 +7,7 @@
 
 ghost use Rattle.std.specs.Prelude.{◌≡◌, [], OnOk, replicate};
 ghost use Rattle.line_log.specs.Log.{log_tells};
-ghost use Rattle.frame_lines.specs.Printing.{PrintsLine, PrintsFrames};
+ghost use Rattle.frame_lines.specs.Printing.{PrintsPayload, PrintsFrames};
 ghost use Rattle.frame_lines.specs.Fits.{FramesFit, LogFits};
 
 use framing::FrameReader;
@@ -43,7 +43,7 @@ fn has_argument<R: Env + Alloc<A = Global>>(rt: &R) -> Result<bool> {
 fn print_line<W: Write + Drop>(lines: &mut LineLog<W, LINE>, payload: &[u8]) -> Result<()>
     requires log { LogFits W.row }
     // After `Ok`, the writer below the log has the whole line.
-    ensures { OnOk result (PrintsLine W.told lines.old lines.new) }
+    ensures { OnOk result (PrintsPayload W.told lines.old lines.new) }
 {
     lines.log_text(payload.escape_ascii())?;
     if lines.is_behind() {

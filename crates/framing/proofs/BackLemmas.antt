@@ -5,7 +5,7 @@ use Rattle.std.proofs.{Common.{arith, append_assoc, append-nil, length-append, l
 use Rattle.std.proofs.lemmas.List.{take-append-le, Elements.{All-head}}
 use Rattle.std.specs.Int.{w32, to_le_bytes, from_le_bytes}
 use Rattle.no_std_io2.specs.{declared.io.Error.{Error}, Errors.{IsFault}, Events.{Event, fails, bytes, events_of, HasNoFault}}
-use Rattle.no_std_io2.specs.{Events.{first_fault}, Reads.{GathersTo, Took}, Takes.{Takes, AreTaken, to_come, IsAtEnd}, Read.{Reader, tells}}
+use Rattle.no_std_io2.specs.{Events.{first_fault}, Reads.{GathersTo, Took}, Takes.{AreTaken, to_come, IsAtEnd}, Read.{Reader, tells}}
 use Rattle.no_std_io2.specs.{Write.{Told}, BufReader.{behind_held}}
 use Rattle.no_std_io2.proofs.EventLemmas.{bytes-append, bytes-behind, HasNoFault-append, HasNoFault-events_of}
 use Rattle.no_std_io2.proofs.GivenPieces.{first_fault-append}

@@ -4,8 +4,8 @@ use Rattle.std.proofs.Common.{append-nil, inl, inr, ◌⊎◌, Bool, length, len
 use Rattle.std.proofs.lemmas.List.{nil_from_length}
 use Rattle.no_std_io2.specs.declared.io.Error.{Error}
 use Rattle.no_std_io2.specs.Errors.{error_kind}
-use Rattle.no_std_io2.specs.Events.{Event, bytes, HasNoFault, EndsInFault}
-use Rattle.no_std_io2.specs.Takes.{Tells, AreTaken, IsAll, to_come}
+use Rattle.no_std_io2.specs.Events.{Event, bytes, HasNoFault}
+use Rattle.no_std_io2.specs.Takes.{Tells, IsAll, to_come}
 use Rattle.no_std_io2.specs.Read.{Reader, tells, ReadCall}
 use Rattle.no_std_io2.specs.Write.{Told, Moves, WriteCall, Flushed, Made}
 use Rattle.no_std_io2.specs.Writers.{Writer, CallOf, FlushOf}

@@ -59,7 +59,11 @@ pub fn create<R: Files, P: AsPath>(rt: &R, path: P) -> io::Result<Patient<R::Fil
 /// ```rust
 /// Ok(Some(command)) => report(&rt, "tar_list", run(&rt, command)),
 /// ```
-pub fn report<R: Eprint, E: Display + Drop>(rt: &R, program: &str, answer: Result<(), E>) -> ExitCode
+pub fn report<R: Eprint, E: Display + Drop>(
+    rt: &R,
+    program: &str,
+    answer: Result<(), E>,
+) -> ExitCode
     ensures done { OnOk answer (exit_status result ≡ 0) }
     ensures failed { OnErr answer (exit_status result ≡ 1) }
 {

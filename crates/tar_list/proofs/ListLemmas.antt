@@ -5,7 +5,7 @@ use Rattle.no_std_io2.specs.Text.{IsTextError}
 use Rattle.no_std_io2.specs.Write.{Told, Moves, MovesFront}
 use Rattle.no_std_io2.proofs.MovesLemmas.{Moves-then, MovesFront-whole}
 use Rattle.tar_reader.specs.declared.header.Header.{Header}
-use Rattle.tar_list.specs.Listing.{member_line, lines_of, PrintsLine}
+use Rattle.tar_list.specs.Listing.{member_line, member_lines, PrintsMember}
 
 -- a text was printed, and no formatter failed
 pub printed_whole : {a b : Told} (x : List ℕ) {r : Result (Unit {0}) Error} {u : Unit {0}} → r ≡ Ok u
@@ -14,13 +14,13 @@ printed_whole x is (inl printed) = rw is at printed
 printed_whole x is (inr failed) = absurd (rw is at failed)
 
 -- one line more
-lines_more : (headers : List Header) (h : Header) → lines_of (headers ++ h ∷ []) ≡ lines_of headers ++ member_line h
+lines_more : (headers : List Header) (h : Header) → member_lines (headers ++ h ∷ []) ≡ member_lines headers ++ member_line h
 lines_more [] h = append-nil (member_line h)
 lines_more (header ∷ headers) h = ap (λ l. member_line header ++ l) (lines_more headers h)
-    ∙ sym (append_assoc (member_line header) (lines_of headers) (member_line h))
+    ∙ sym (append_assoc (member_line header) (member_lines headers) (member_line h))
 
 -- it was printed whole
 pub prints_more : {a b c : Told} (headers : List Header) (h : Header) {r : Result (Unit {0}) Error} {u : Unit {0}} → r ≡ Ok u
-    → Moves a (lines_of headers) [] b → PrintsLine h b r c → Moves a (lines_of (headers ++ h ∷ [])) [] c
+    → Moves a (member_lines headers) [] b → PrintsMember h b r c → Moves a (member_lines (headers ++ h ∷ [])) [] c
 prints_more headers h is so_far line =
     rw (lines_more headers h) (Moves-then so_far (MovesFront-whole (member_line h) tt (printed_whole (member_line h) is line)))

@@ -22,18 +22,18 @@ abbrev pub member_line : Header → List ℕ
 member_line h = (decimal (member_length h) ++ codes " ") ++ (name_bytes h.name ++ codes "\n")
 
 -- the lines of these members, joined
-abbrev pub lines_of : List Header → List ℕ
-lines_of headers = concat (map member_line headers)
+abbrev pub member_lines : List Header → List ℕ
+member_lines headers = concat (map member_line headers)
 
 -- The line of a member was printed: some front of it was accepted, all of it after `Ok`. Or the error says that a formatter failed.
-abbrev pub PrintsLine : Header → Told → Result (Unit {0}) Error → Told → Type 0
-PrintsLine h old reply new = MovesFront old (member_line h) reply new ⊎ IsErrAnd reply IsTextError
+abbrev pub PrintsMember : Header → Told → Result (Unit {0}) Error → Told → Type 0
+PrintsMember h old reply new = MovesFront old (member_line h) reply new ⊎ IsErrAnd reply IsTextError
 
 -- How a list ended, by the last `next`, after these lines were printed. At the end of the archive the writer was flushed, and holds nothing
 -- after `Ok`. At a header the printing of its line failed. At an error of the archive, that is the error of the list.
 abbrev pub ListEnds : List ℕ → Result (Option Header) Error → Told → Result (Unit {0}) Error → Told → Type 0
 ListEnds lines (Ok None) old reply new = Moves old lines (call_mishap reply) new × OnOk reply (new.held ≡ [])
-ListEnds lines (Ok (Some h)) old reply new = IsErr reply × ((mid : Told) × Moves old lines [] mid × PrintsLine h mid reply new)
+ListEnds lines (Ok (Some h)) old reply new = IsErr reply × ((mid : Told) × Moves old lines [] mid × PrintsMember h mid reply new)
 ListEnds lines (Err e) old reply new = (reply ≡ Err e) × Moves old lines [] new
 
 -- The members of an archive were listed.
@@ -44,7 +44,7 @@ pub record Lists {X : Type 0} (R : Lender X) (old : Archive X) (was : Told) (rep
   -- what the last `next` returned
   pub last : Result (Option Header) Error
   pub comes : ComesTo (λ others. others ≡ headers) (λ h. ⊤) R old last new
-  pub prints : ListEnds (lines_of headers) last was reply told
+  pub prints : ListEnds (member_lines headers) last was reply told
 
 -- The member with this name was found, is no directory, and all its bytes were copied; then the writer was flushed. K are the ghost members of
 -- the reader of a member's bytes.

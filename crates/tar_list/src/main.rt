@@ -8,7 +8,7 @@
 ghost use Rattle.std.specs.Prelude.{◌<◌, length, IfSome, IfNone, OnOk};
 ghost use Rattle.std.specs.Vec.Iter.{into_iter_items};
 ghost use Rattle.tar_list.specs.Words.{Asks};
-ghost use Rattle.tar_list.specs.Listing.{PrintsLine, Lists, CopiesMember};
+ghost use Rattle.tar_list.specs.Listing.{PrintsMember, Lists, CopiesMember};
 
 use no_std_io2::io::{
     BufRead, BufReader, BufWriter, Error, ErrorKind, Read, Result, Take, Write, copy,
@@ -60,7 +60,7 @@ fn parse_words<R: Env + Alloc<A = Global>>(rt: &R) -> Result<Option<Command>> {
 
 // Prints the line of a member: its size and its name.
 fn print_line<W: Write>(header: &Header, out: &mut W) -> Result<()>
-    ensures { PrintsLine header.now (W.told out.old) result (W.told out.new) }
+    ensures { PrintsMember header.now (W.told out.old) result (W.told out.new) }
 {
     write!(out, "{} ", header.member_len())?;
     out.write_all(header.name.as_slice())?;

@@ -2,13 +2,13 @@
 use Rattle.std.proofs.Common.{List, ℕ, replicate}
 use Rattle.no_std_io2.proofs.Readers.{reader}
 use Rattle.framing.specs.Taking.{frame_turns}
-use Rattle.frame_lines.specs.Printing.{Prints}
+use Rattle.frame_lines.specs.Printing.{PrintsEach}
 use Rattle.frame_lines.proofs.print_frames.Given as goal
 
 abbrev pub invariant-frames : goal.invariant-frames
 invariant-frames g l = record {
   payloads : List (List ℕ);
-  prints : Prints (reader g.R.Stored g.R.Read) g.W.Write.told l.initial.frames (replicate 4096 0) l.initial.lines payloads l.frames l.room l.lines;
+  prints : PrintsEach (reader g.R.Stored g.R.Read) g.W.Write.told l.initial.frames (replicate 4096 0) l.initial.lines payloads l.frames l.room l.lines;
 }
 
 abbrev pub decreases-frames : goal.decreases-frames

@@ -7,7 +7,7 @@ use Rattle.no_std_io2.specs.Write.{Moves}
 use Rattle.tar_reader.specs.declared.header.Header.{Header}
 use Rattle.tar_reader.specs.Archives.{archive_inner, left_of_member, gathered, to_pass, archive_turns}
 use Rattle.tar_reader.specs.Members.{Passes, Settles}
-use Rattle.tar_list.specs.Listing.{lines_of}
+use Rattle.tar_list.specs.Listing.{member_lines}
 use Rattle.tar_list.proofs.list.Given as goal
 
 abbrev pub invariant-members : goal.invariant-members
@@ -18,7 +18,7 @@ invariant-members g l = record {
   still : (was : Result (Option Header) Error) → Settles (gathered l.initial.archive) was → l.archive ≡ l.initial.archive;
   passes : Passes (to_pass l.initial.archive) (left_of_member l.initial.archive) (gathered l.initial.archive ++ given) headers
       (to_pass l.archive) (left_of_member l.archive) (gathered l.archive);
-  printed : Moves (g.W.Write.told l.initial.out) (lines_of headers) [] (g.W.Write.told l.out);
+  printed : Moves (g.W.Write.told l.initial.out) (member_lines headers) [] (g.W.Write.told l.out);
 }
 
 abbrev pub decreases-members : goal.decreases-members
