@@ -42,6 +42,7 @@ fn play(alloc: Global, text: &[u8], call: &str) -> Outcome {
         "short lines" => small::by_lines(alloc),
         "joined" => small::by_joined(alloc),
         "run_writes" => small::by_run_writes(alloc),
+        "run_closed" => small::by_run_closed(alloc),
         "run_split" => gathered::by_run_split(alloc),
         "run_lines" => gathered::by_run_lines(alloc),
         _ => {

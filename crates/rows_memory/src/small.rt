@@ -1,7 +1,7 @@
 // Reads of a short text, and runs of writes: calls with many small allocations.
 use crate::outcome::Outcome;
-use io_bench::{Op, Reply, joined, run_writes};
-use no_std_io2::io::{BufRead, BufReader, BufWriter, Cursor, Read, Write};
+use io_bench::{Op, Reply, Tally, joined, run_closed, run_writes};
+use no_std_io2::io::{BufRead, BufReader, BufWriter, Cursor, Read, Sink, Write};
 use std::alloc::Global;
 
 const TEXT: &str = "a line that grows\r\nend";
@@ -105,4 +105,13 @@ pub fn by_run_writes(alloc: Global) -> Outcome {
     }
     ran.if_full(replies.len(), 3)
         .if_right(room == *b"heldab123456789\0")
+}
+
+/// Makes a run of writes on a new buffer over a sink whose writes are counted, and closes it. A refused run makes no call.
+pub fn by_run_closed(alloc: Global) -> Outcome {
+    let mut replies = Vec::new(alloc);
+    match run_closed::<Sink, 8>(Tally::new(Sink::new()), &OPS, &mut replies) {
+        Ok(tally) => Outcome::Whole.if_right(tally.writes() == 2 && replies.len() == 3),
+        Err(e) => Outcome::of_error(&e).if_right(replies.is_empty()),
+    }
 }
