@@ -33,12 +33,40 @@ fn is_display<T: Display>(alloc: Global, value: &T, want: &str) -> Result<bool, 
     Ok(is_told && text.as_str() == want)
 }
 
-// An error that prints its kind's text in place of its own, or ignores a writer's error.
+const TEXTS: [(ErrorKind, &str); 21] = [
+    (ErrorKind::NotFound, "entity not found"),
+    (ErrorKind::PermissionDenied, "permission denied"),
+    (ErrorKind::ConnectionRefused, "connection refused"),
+    (ErrorKind::ConnectionReset, "connection reset"),
+    (ErrorKind::ConnectionAborted, "connection aborted"),
+    (ErrorKind::NotConnected, "not connected"),
+    (ErrorKind::AddrInUse, "address in use"),
+    (ErrorKind::AddrNotAvailable, "address not available"),
+    (ErrorKind::BrokenPipe, "broken pipe"),
+    (ErrorKind::AlreadyExists, "entity already exists"),
+    (ErrorKind::WouldBlock, "operation would block"),
+    (ErrorKind::InvalidInput, "invalid input parameter"),
+    (ErrorKind::InvalidData, "invalid data"),
+    (ErrorKind::TimedOut, "timed out"),
+    (ErrorKind::WriteZero, "write zero"),
+    (ErrorKind::Interrupted, "operation interrupted"),
+    (ErrorKind::Other, "other os error"),
+    (ErrorKind::UnexpectedEof, "unexpected end of file"),
+    (ErrorKind::Unsupported, "unsupported I/O error"),
+    (ErrorKind::OutOfMemory, "out of memory"),
+    (ErrorKind::Uncategorized, "uncategorized"),
+];
+
+// A kind that prints another text, or that fails after it printed; an error that prints its kind's text in place of its own, or that
+// ignores a writer's error.
 #[test]
-fn errors_print_their_texts(rt: HostRuntime) -> Result<(), Fail> {
+fn kinds_and_errors_print_their_texts(rt: HostRuntime) -> Result<(), Fail> {
     let alloc = rt.alloc();
+    'kinds: for (kind, text) in &TEXTS {
+        assert!(rt; is_display(alloc, kind, text)?);
+        assert!(rt; is_display(alloc, &Error::from(*kind), text)?);
+    }
     assert!(rt; is_display(alloc, &Error::new(ErrorKind::TimedOut, "late"), "late")?);
-    assert!(rt; is_display(alloc, &Error::from(ErrorKind::NotFound), "entity not found")?);
     Ok(())
 }
 
