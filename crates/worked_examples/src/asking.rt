@@ -1,5 +1,6 @@
-// `run_reads` on a buffered reader of 4 bytes over a slice whose reads are counted. A row is `run` and the asks; then how many met the
-// end and how many failed, how many inner reads there were since the row before, and how many there may be at most.
+// `run_reads` on a buffered reader of 4 bytes over a slice whose reads are counted. A row is `run` and the asks; then
+// how many met the end and how many failed, how many inner reads there were since the row before, and how many there
+// may be at most.
 ghost use Rattle.io_bench.specs.Asks.{AllFit, Fits};
 
 use crate::shown::Shown;

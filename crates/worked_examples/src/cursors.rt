@@ -11,8 +11,8 @@ use std::alloc::Global;
 
 type Text = Cursor<Vec<u8>>;
 
-// A cursor on a vector. Besides the calls of its traits it has `place N`, which sets the position, and `clone`, which goes on
-// with the clone and prints whether it is equal.
+// A cursor on a vector. Besides the calls of its traits it has `place N`, which sets the position, and `clone`, which
+// goes on with the clone and prints whether it is equal.
 #[derive(Drop)]
 struct OnVector {
     cursor: Text,

@@ -1,5 +1,5 @@
-// The devices of the examples: a vector that fails as its acts say, `take 2, zero, fail BrokenPipe`, and a feed of events,
-// `4: x, Interrupted, y`, in pieces of at most 4 bytes.
+// The devices of the examples: a vector that fails as its acts say, `take 2, zero, fail BrokenPipe`, and a feed of
+// events, `4: x, Interrupted, y`, in pieces of at most 4 bytes.
 use io_bench::{Act, Event, Faulty, Feed};
 use rows_play::fault::{Fault, Made};
 use rows_play::kinds::{kind_of_name, name_of_kind};

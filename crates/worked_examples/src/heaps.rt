@@ -1,4 +1,5 @@
-// Failed allocations: vectors in a heap of limited size, in which a row `fill` allocates all that is left, and `free` frees it.
+// Failed allocations: vectors in a heap of limited size, in which a row `fill` allocates all that is left, and `free`
+// frees it.
 use crate::shown::{Shown, show_bytes, show_number};
 use linked_list_allocator::LocalHeap;
 use no_std_io2::io::{BufWriter, Cursor, Read, Write};

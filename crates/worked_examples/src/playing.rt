@@ -1,5 +1,5 @@
-// `play` of a script of writes on a tower: what it writes to a vector, or its fault. A row is the shape and the script; `feed KIND` is
-// a script whose first read is a fault of this kind.
+// `play` of a script of writes on a tower: what it writes to a vector, or its fault. A row is the shape and the script;
+// `feed KIND` is a script whose first read is a fault of this kind.
 ghost use Rattle.no_std_io2.specs.BufReader.{BufReaderFits};
 
 use io_bench::{Event, Feed};

@@ -1,5 +1,5 @@
-// Each tower of two kinds of buffers over a device that takes one byte in each call, and then fails once, after 0 to 12 calls and in
-// three ways.
+// Each tower of two kinds of buffers over a device that takes one byte in each call, and then fails once, after 0 to 12
+// calls and in three ways.
 //
 // A row is `sweep`; then the number of runs, or the first run that breaks a law.
 use crate::devices::Device;

@@ -1,4 +1,5 @@
--- The prover does not find what holds once the lent bytes are given back: what the call did to the buffer, it did to what it stands in.
+-- The prover does not find what holds once the lent bytes are given back: what the call did to the buffer, it did to
+-- what it stands in.
 use Rattle.std.proofs.Common.{rules, refl, ap}
 use Rattle.worked_examples.proofs.wrapped.HeldBufRead.fill_buf.Goals as goal
 
