@@ -1,19 +1,11 @@
 -- What a copy of a slice moved.
-use Rattle.std.proofs.lemmas.Grind.{common_steps}
-use Rattle.std.proofs.Common.{◌≡◌, ℕ, ◌+◌, ◌<◌, List, [], Some, Result, Ok, Err, length, ap, subst, arith, length-append}
-use Rattle.no_std_io2.specs.declared.io.Error.{Error}
-use Rattle.no_std_io2.specs.declared.io.BufWriter.{BufWriter}
-use Rattle.no_std_io2.specs.declared.util.sides.CopyError.TheVariants.{Read, Write}
-use Rattle.no_std_io2.specs.Events.{events_of, bytes, HasNoFault}
-use Rattle.no_std_io2.specs.Takes.{to_come}
-use Rattle.no_std_io2.specs.Read.{Reader, tells}
-use Rattle.no_std_io2.specs.Write.{Moves}
-use Rattle.no_std_io2.specs.Copy.{Copied}
-use Rattle.no_std_io2.proofs.CopyLemmas.{copied_ok, took_told, no_fault_at_end}
-use Rattle.no_std_io2.proofs.EventLemmas.{bytes-append, bytes-events_of, HasNoFault-events_of, HasNoFault-front}
-use Rattle.no_std_io2.proofs.TakesLemmas.{left_of}
-use Rattle.bare.specs.declared.queue.Queue.{Queue}
-use Rattle.bare.specs.Queue.{capacity}
+use Rattle.no_std_io2.proofs.Words.{common_steps, ◌≡◌, ℕ, ◌+◌, ◌<◌, List, [], Some, Result, Ok, Err, length, ap, subst, arith}
+use Rattle.no_std_io2.proofs.Words.{length-append, events_of, bytes, HasNoFault, to_come, Reader, tells, Moves, Copied}
+use Rattle.no_std_io2.specs.{declared.io.Error.{Error}, declared.io.BufWriter.{BufWriter}}
+use Rattle.no_std_io2.specs.{declared.util.sides.CopyError.TheVariants.{Read, Write}}
+use Rattle.no_std_io2.proofs.{CopyLemmas.{copied_ok, took_told, no_fault_at_end}}
+use Rattle.no_std_io2.proofs.{EventLemmas.{bytes-append, bytes-events_of, HasNoFault-events_of, HasNoFault-front}, TakesLemmas.{left_of}}
+use Rattle.bare.specs.{declared.queue.Queue.{Queue}, Queue.{capacity}}
 use Rattle.bare.proofs.FullLemmas.{buffered, size, size-moves, handed_full}
 
 module _ {R : Type 0} {K : Reader R} {a a' : R} {w w' : BufWriter Queue 32} (from : List ℕ)

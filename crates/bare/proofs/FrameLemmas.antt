@@ -1,15 +1,10 @@
 -- What a writer of frames puts into a queue.
-use Rattle.std.proofs.Common.{◌≡◌, ℕ, ◌+◌, ◌<◌, List, [], length, Result, Ok, Err}
-use Rattle.std.proofs.Common.{inl, inr, arith, length-append}
+use Rattle.no_std_io2.proofs.Words.{◌≡◌, ℕ, ◌+◌, ◌<◌, List, [], length, Result, Ok, Err, inl, inr, arith, length-append, Moves}
 use Rattle.std.specs.Int.{w32, to_le_bytes}
 use Rattle.no_std_io2.specs.declared.io.Error.{Error}
-use Rattle.framing.specs.Frames.{frame}
-use Rattle.framing.specs.Sending.{frame_writer, SendsFrame}
-use Rattle.framing.specs.declared.writer.FrameWriter.{FrameWriter}
-use Rattle.bare.specs.declared.queue.Queue.{Queue}
-use Rattle.bare.specs.Queue.{capacity}
+use Rattle.framing.specs.{Frames.{frame}, Sending.{frame_writer, SendsFrame}, declared.writer.FrameWriter.{FrameWriter}}
+use Rattle.bare.specs.{declared.queue.Queue.{Queue}, Queue.{capacity}}
 use Rattle.bare.proofs.FullLemmas.{queue, buffered, size, size-moves, put}
-use Rattle.no_std_io2.specs.Write.{Moves}
 
 -- a frame was put into a buffer in front of a queue
 module _ {S : ℕ} {w w' : FrameWriter Queue S} (payload : List ℕ) where

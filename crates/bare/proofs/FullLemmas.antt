@@ -1,21 +1,14 @@
 -- If a call through a buffer in front of a queue fails, there are more bytes than a queue has room for.
-use Rattle.std.proofs.Common.{◌≡◌, ℕ, ◌+◌, ◌<◌, List, [], ◌++◌, Result, Ok, Err, length, sym, ap, subst, arith, true≢false}
-use Rattle.std.proofs.Common.{length-append, inl, inr, refl, ◌∙◌}
+use Rattle.no_std_io2.proofs.Words.{◌≡◌, ℕ, ◌+◌, ◌<◌, List, [], ◌++◌, Result, Ok, Err, length, sym, ap, subst, arith, true≢false}
+use Rattle.no_std_io2.proofs.Words.{length-append, inl, inr, refl, ◌∙◌, Told, WriteCall, Made, Moves, Writes, took, again, stuck, fault}
+use Rattle.no_std_io2.proofs.Words.{AllCalls, told_out, Writer, CallOf, writer_inner, writer_buffer, writer_told, BufferMay, InnerCalls}
+use Rattle.no_std_io2.proofs.Words.{Buffered, FlushCalls, SendCalls, Step, TakesStep, stops, goes_on}
 use Rattle.std.specs.Prelude.{MatchResult, OnOk, OnErr}
 use Rattle.std.proofs.lemmas.List.{length-drop}
-use Rattle.no_std_io2.specs.declared.io.Error.{Error}
-use Rattle.no_std_io2.specs.declared.io.BufWriter.{BufWriter}
-use Rattle.no_std_io2.specs.declared.io.ErrorKind.{ErrorKind}
-use Rattle.no_std_io2.specs.Write.{Told, WriteCall, Made, Moves, Writes, took, again, stuck, fault, AllCalls, told_out}
-use Rattle.no_std_io2.specs.Writers.{Writer, CallOf, FlushOf}
-use Rattle.no_std_io2.specs.BufWriter.{writer_inner, writer_buffer, writer_told, BufferMay, InnerCalls, Buffered, FlushCalls, SendCalls}
-use Rattle.no_std_io2.specs.BufWriter.{Step, TakesStep, stops, goes_on}
-use Rattle.no_std_io2.specs.Copy.{Handed, piece, refused}
-use Rattle.no_std_io2.proofs.CallsLemmas.{made_split}
-use Rattle.no_std_io2.proofs.CopyLemmas.{flushed as out_after}
-use Rattle.no_std_io2.proofs.WritesFacts.{writes_left}
-use Rattle.bare.specs.declared.queue.Queue.{Queue}
-use Rattle.bare.specs.Queue.{waiting, capacity, QueueMay}
+use Rattle.no_std_io2.specs.{declared.io.Error.{Error}, declared.io.BufWriter.{BufWriter}, declared.io.ErrorKind.{ErrorKind}}
+use Rattle.no_std_io2.specs.{Writers.{FlushOf}, Copy.{Handed, piece, refused}}
+use Rattle.no_std_io2.proofs.{CallsLemmas.{made_split}, CopyLemmas.{flushed as out_after}, WritesFacts.{writes_left}}
+use Rattle.bare.specs.{declared.queue.Queue.{Queue}, Queue.{waiting, capacity, QueueMay}}
 
 -- a queue as a writer
 abbrev pub queue : Writer Queue

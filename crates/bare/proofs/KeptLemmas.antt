@@ -1,17 +1,12 @@
 -- What a sending leaves.
-use Rattle.std.proofs.lemmas.Grind.{common_steps}
-use Rattle.std.proofs.Common.{◌≡◌, ℕ, ◌+◌, ◌-◌, ◌<◌, ◌⊎◌, List, [], ◌++◌, length, drop, Result, Ok, Err, OnOk, sym, ap, ◌∙◌, subst, inl}
-use Rattle.std.proofs.Common.{inr, arith, refl, append_assoc, length-append, min, take, ◌∷◌}
+use Rattle.no_std_io2.proofs.Words.{common_steps, ◌≡◌, ℕ, ◌+◌, ◌-◌, ◌<◌, ◌⊎◌, List, [], ◌++◌, length, drop, Result, Ok, Err, OnOk, sym, ap}
+use Rattle.no_std_io2.proofs.Words.{◌∙◌, subst, inl, inr, arith, refl, append_assoc, length-append, min, take, ◌∷◌, WriteCall, Made, Writes}
+use Rattle.no_std_io2.proofs.Words.{CallOf}
 use Rattle.std.proofs.lemmas.List.{length-take}
-use Rattle.no_std_io2.specs.declared.io.Error.{Error}
-use Rattle.no_std_io2.specs.Write.{WriteCall, Made, Writes}
-use Rattle.no_std_io2.specs.Writers.{CallOf, WriteRestOf}
+use Rattle.no_std_io2.specs.{declared.io.Error.{Error}, Writers.{WriteRestOf}}
 use Rattle.no_std_io2.proofs.WritesFacts.{writes_left}
-use Rattle.bare.specs.declared.queue.Queue.{Queue}
-use Rattle.bare.specs.Queue.{waiting, capacity}
-use Rattle.bare.specs.Status.{done, kept}
-use Rattle.bare.specs.Kept.{Resumes, resume_status}
-use Rattle.bare.specs.Log.{line}
+use Rattle.bare.specs.{declared.queue.Queue.{Queue}, Queue.{waiting, capacity}, Status.{done, kept}, Kept.{Resumes, resume_status}}
+use Rattle.bare.specs.{Log.{line}}
 use Rattle.bare.proofs.FullLemmas.{queue, blocked}
 
 -- the status says how it ended

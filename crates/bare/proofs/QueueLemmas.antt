@@ -1,9 +1,7 @@
 -- What waits once the first bytes are removed.
-use Rattle.std.proofs.Common.{◌≡◌, ℕ, ◌-◌, ◌≤◌, List, min, length, take, drop, arith}
-use Rattle.std.proofs.lemmas.Grind.{common_steps}
+use Rattle.no_std_io2.proofs.Words.{◌≡◌, ℕ, ◌-◌, ◌≤◌, List, min, length, take, drop, arith, common_steps}
 use Rattle.std.specs.List.{copy_within}
-use Rattle.std.proofs.lemmas.List.{drop-take, length-drop, take_min, drop_min}
-use Rattle.std.proofs.lemmas.List.Edits.{take-paste}
+use Rattle.std.proofs.{lemmas.List.{drop-take, length-drop, take_min, drop_min}, lemmas.List.Edits.{take-paste}}
 
 -- a window that is moved to the front
 moved : (bs : List ℕ) (s e : ℕ) → s ≤ e → e ≤ length bs → take (e - s) (copy_within bs s e 0) ≡ drop s (take e bs)

@@ -1,10 +1,8 @@
 -- The text of one value more.
-use Rattle.std.proofs.Common.{◌≡◌, ℕ, ◌+◌, ◌<◌, List, [], ◌∷◌, ◌++◌, length, take, slice_index, sym, ap, ◌∙◌, arith, zero, suc}
-use Rattle.std.proofs.Common.{append_assoc, Result, Ok, Err, OnOk, IsErrAnd, ◌⊎◌, inl, inr, subst}
-use Rattle.std.proofs.lemmas.Grind.{common_steps}
-use Rattle.no_std_io2.specs.declared.io.Error.{Error}
-use Rattle.no_std_io2.specs.Text.{IsTextError}
-use Rattle.no_std_io2.specs.Write.{Told, Moves, MovesFront, call_mishap}
+use Rattle.no_std_io2.proofs.Words.{◌≡◌, ℕ, ◌+◌, ◌<◌, List, [], ◌∷◌, ◌++◌, length, take, sym, ap, ◌∙◌, arith, zero, suc, append_assoc}
+use Rattle.no_std_io2.proofs.Words.{Result, Ok, Err, OnOk, ◌⊎◌, inl, inr, subst, common_steps, Told, Moves, MovesFront, call_mishap}
+use Rattle.std.proofs.Common.{slice_index, IsErrAnd}
+use Rattle.no_std_io2.specs.{declared.io.Error.{Error}, Text.{IsTextError}}
 use Rattle.no_std_io2.proofs.MovesLemmas.{Moves-then, Moves-ends, MovesFront-whole}
 use Rattle.bare.specs.Report.{texts_from}
 

@@ -1,10 +1,7 @@
 -- What was summed up so far.
-use Rattle.std.proofs.Common.{◌≡◌, ◌+◌, ◌%◌, ◌^◌, ℕ, List, [], ◌++◌, sum, refl, ap, ◌∙◌, arith}
-use Rattle.std.proofs.lemmas.List.Sums.{sum_by-append}
-use Rattle.no_std_io2.specs.Events.{Event, bytes, HasNoFault}
-use Rattle.no_std_io2.specs.Takes.{Tells, Takes}
-use Rattle.no_std_io2.proofs.EventLemmas.{bytes-append, HasNoFault-append}
-use Rattle.no_std_io2.proofs.TakesLemmas.{takes_none, takes_then}
+use Rattle.no_std_io2.proofs.Words.{◌≡◌, ◌+◌, ◌%◌, ◌^◌, ℕ, List, [], ◌++◌, refl, ap, ◌∙◌, arith, Event, bytes, HasNoFault, Tells, Takes}
+use Rattle.std.proofs.{Common.{sum}, lemmas.List.Sums.{sum_by-append}}
+use Rattle.no_std_io2.proofs.{EventLemmas.{bytes-append, HasNoFault-append}, TakesLemmas.{takes_none, takes_then}}
 
 -- events without a fault were taken, and s is the sum of their bytes
 pub record SumsSoFar (old now : Tells) (s : ℕ) : Type 0 where

@@ -1,17 +1,11 @@
 -- An entry of a file with an index, found by two numbers of it.
-use Rattle.std.proofs.Common.{◌≡◌, ℕ, ◌+◌, ◌-◌, ◌*◌, List, length, take, drop, Option, None, Some, Result, Ok, Err, IfSome, IsSomeAnd, OnOk}
-use Rattle.std.specs.Prelude.{⊤}
-use Rattle.std.proofs.Common.{negsuc, refl, ap, subst, ◌∙◌, arith}
-use Rattle.no_std_io2.specs.declared.io.Error.{Error}
-use Rattle.no_std_io2.specs.declared.io.SeekFrom.TheVariants.{Start, End}
-use Rattle.std.proofs.Common.{◌<◌, ◌^◌, [], Bool, true, false}
-use Rattle.no_std_io2.specs.Takes.{Store, store_by, store_at, fits_u64, fits_by}
-use Rattle.no_std_io2.specs.BufReader.{is_before, step_back, store_if, store_before}
-use Rattle.no_std_io2.proofs.StoreLemmas.{fits_at}
-use Rattle.no_std_io2.proofs.BufferedReads.{before_decides, IsBefore}
-use Rattle.no_std_io2.specs.ReadAt.{ReadsAt}
-use Rattle.no_std_io2.specs.Seek.{Seeker}
-use Rattle.no_std_io2.specs.Read.{Reader}
+use Rattle.no_std_io2.proofs.Words.{◌≡◌, ℕ, ◌+◌, ◌-◌, ◌*◌, List, length, take, drop, Option, None, Some, Result, Ok, Err, IsSomeAnd, OnOk}
+use Rattle.no_std_io2.proofs.Words.{⊤, negsuc, refl, ap, subst, ◌∙◌, arith, ◌<◌, ◌^◌, [], Bool, true, false, Store, step_back, store_if}
+use Rattle.no_std_io2.proofs.Words.{store_before, Reader}
+use Rattle.std.proofs.Common.{IfSome}
+use Rattle.no_std_io2.specs.{declared.io.Error.{Error}, declared.io.SeekFrom.TheVariants.{Start, End}}
+use Rattle.no_std_io2.specs.{Takes.{store_by, store_at, fits_u64, fits_by}, BufReader.{is_before}, ReadAt.{ReadsAt}, Seek.{Seeker}}
+use Rattle.no_std_io2.proofs.{StoreLemmas.{fits_at}, BufferedReads.{before_decides, IsBefore}}
 use Rattle.examples.specs.Indexed.{u32_at, IsNumberAt, ReadsNumber, ReadsEntry, no_place, entry_place}
 
 -- the place of the index, the place of the entry, and the entry itself were read, one after another

@@ -1,9 +1,8 @@
 -- What a read of a file in flash takes.
-use Rattle.std.proofs.Common.{◌≡◌, ℕ, ◌+◌, ◌<◌, ◌^◌, Bool, true, false, true≢false, List, [], ◌∷◌, length, take, drop, set, None}
-use Rattle.std.proofs.Common.{slice_index, refl, sym, ap, subst, arith, add-one, length-drop}
-use Rattle.std.proofs.Math.Seq.{drop-cons}
-use Rattle.no_std_io2.specs.Events.{byte, events_of}
-use Rattle.no_std_io2.specs.Takes.{Tells, Takes, AreTaken, events_by, store_by, store_at, fits_u64}
+use Rattle.no_std_io2.proofs.Words.{◌≡◌, ℕ, ◌+◌, ◌<◌, ◌^◌, Bool, true, false, true≢false, List, [], ◌∷◌, length, take, drop, None, refl}
+use Rattle.no_std_io2.proofs.Words.{sym, ap, subst, arith, length-drop, byte, events_of, Tells, Takes, AreTaken}
+use Rattle.std.proofs.{Common.{set, slice_index, add-one}, Math.Seq.{drop-cons}}
+use Rattle.no_std_io2.specs.Takes.{events_by, store_by, store_at, fits_u64}
 use Rattle.no_std_io2.proofs.StoreLemmas.{fits_at, keeps_at}
 
 -- what it tells

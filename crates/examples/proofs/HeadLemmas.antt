@@ -1,16 +1,12 @@
 -- Lines that were passed on so far, and one more.
-use Rattle.std.proofs.Common.{◌≡◌, ℕ, List, [], ◌∷◌, ◌++◌, length, Vec, Option, None, Some, Ok, IfSome, IsSomeAnd}
-use Rattle.std.proofs.Common.{refl, sym, ap, subst, ◌∙◌, arith, append_assoc, append-nil, ap₂, ⊎_elim, ◌⊎◌, ◌<◌}
-use Rattle.std.proofs.lemmas.List.{nil_from_length}
-use Rattle.std.proofs.lemmas.List.Folds.{concat-append}
-use Rattle.std.specs.List.{concat}
-use Rattle.no_std_io2.specs.Events.{Event, bytes, bytes_to_fault, first_fault}
-use Rattle.no_std_io2.specs.Pieces.{newline, pieces_given, pieces_before}
-use Rattle.no_std_io2.specs.Takes.{Tells, to_come}
-use Rattle.no_std_io2.specs.BufRead.{Lender, lender_tells, ReadUntilLaw}
-use Rattle.no_std_io2.specs.Write.{Told, Moves, MovesFront, IsFront}
-use Rattle.no_std_io2.proofs.GivenPieces.{until_given, GivesNext, GivesNone, bytes_to_fault-append, first_fault-append}
-use Rattle.no_std_io2.proofs.MovesLemmas.{Moves-trans, MovesFront-whole}
+use Rattle.no_std_io2.proofs.Words.{◌≡◌, ℕ, List, [], ◌∷◌, ◌++◌, length, Vec, Option, None, Some, Ok, IsSomeAnd, refl, sym, ap, subst, ◌∙◌}
+use Rattle.no_std_io2.proofs.Words.{arith, append_assoc, append-nil, ap₂, ⊎_elim, ◌⊎◌, ◌<◌, nil_from_length, concat, Event, bytes}
+use Rattle.no_std_io2.proofs.Words.{bytes_to_fault, first_fault, newline, Tells, to_come, Lender, lender_tells, Told, Moves, MovesFront}
+use Rattle.no_std_io2.proofs.Words.{IsFront}
+use Rattle.std.proofs.{Common.{IfSome}, lemmas.List.Folds.{concat-append}}
+use Rattle.no_std_io2.specs.{Pieces.{pieces_given, pieces_before}, BufRead.{ReadUntilLaw}}
+use Rattle.no_std_io2.proofs.{GivenPieces.{until_given, GivesNext, GivesNone, bytes_to_fault-append, first_fault-append}}
+use Rattle.no_std_io2.proofs.{MovesLemmas.{Moves-trans, MovesFront-whole}}
 use Rattle.examples.specs.Head.{GivesLines}
 
 -- the lines so far

@@ -1,24 +1,15 @@
 -- A look at a header: no byte is lost, and it is the next two bytes.
-use Rattle.std.proofs.Common.{◌≡◌, ℕ, ◌+◌, ◌≤◌, List, [], ◌∷◌, ◌++◌, length, take, slice_index_or, Bool, true, false, Option, None, Some, Result, Ok, Err}
-use Rattle.std.proofs.Common.{refl, sym, ap, subst, ◌∙◌, arith, inl, inr, IfSome, IsSomeAnd, append_assoc, append-nil, length-append}
-use Rattle.std.proofs.Common.{if◌then◌else◌, drop}
-use Rattle.std.proofs.Math.Seq.{take-append_seam, drop-append_seam}
-use Rattle.std.proofs.lemmas.Grind.{common_steps}
-use Rattle.no_std_io2.specs.declared.io.Error.{Error}
-use Rattle.no_std_io2.specs.declared.buffered.buf_reader.BufReader.{BufReader}
-use Rattle.no_std_io2.specs.BufReader.{reader_held, reader_inner, behind_held}
-use Rattle.no_std_io2.specs.Errors.{IsUnexpectedEnd}
-use Rattle.no_std_io2.specs.Events.{Event, fails, bytes, events_of, bytes_to_fault, first_fault}
-use Rattle.no_std_io2.specs.FillTo.{FillsTo, HasTo}
-use Rattle.no_std_io2.specs.Read.{Reader, tells}
-use Rattle.no_std_io2.specs.Reads.{GathersTo, Took}
-use Rattle.no_std_io2.specs.Takes.{Tells, Takes, AreTaken, to_come}
-use Rattle.no_std_io2.specs.Write.{IsFront}
-use Rattle.no_std_io2.proofs.BufReaderCalls.{buf_reader}
-use Rattle.no_std_io2.proofs.BufferedReads.{told_behind}
-use Rattle.no_std_io2.proofs.EventLemmas.{bytes-append, bytes-behind, bytes-events_of, HasNoFault-append, HasNoFault-events_of}
-use Rattle.no_std_io2.proofs.GivenPieces.{first_fault-append, bytes_to_fault-append}
-use Rattle.no_std_io2.proofs.ReadsLemmas.{Reads-takes}
+use Rattle.no_std_io2.proofs.Words.{◌≡◌, ℕ, ◌+◌, ◌≤◌, List, [], ◌∷◌, ◌++◌, length, take, Bool, true, false, Option, None, Some, Result, Ok}
+use Rattle.no_std_io2.proofs.Words.{Err, refl, sym, ap, subst, ◌∙◌, arith, inl, inr, IsSomeAnd, append_assoc, append-nil, length-append}
+use Rattle.no_std_io2.proofs.Words.{if◌then◌else◌, drop, take-append_seam, drop-append_seam, common_steps, reader_held, reader_inner}
+use Rattle.no_std_io2.proofs.Words.{behind_held, Event, fails, bytes, events_of, bytes_to_fault, first_fault, Reader, tells, Tells, Takes}
+use Rattle.no_std_io2.proofs.Words.{AreTaken, to_come, IsFront}
+use Rattle.std.proofs.Common.{slice_index_or, IfSome}
+use Rattle.no_std_io2.specs.{declared.io.Error.{Error}, declared.buffered.buf_reader.BufReader.{BufReader}, Errors.{IsUnexpectedEnd}}
+use Rattle.no_std_io2.specs.{FillTo.{FillsTo, HasTo}, Reads.{GathersTo, Took}}
+use Rattle.no_std_io2.proofs.{BufReaderCalls.{buf_reader}, BufferedReads.{told_behind}}
+use Rattle.no_std_io2.proofs.{EventLemmas.{bytes-append, bytes-behind, bytes-events_of, HasNoFault-append, HasNoFault-events_of}}
+use Rattle.no_std_io2.proofs.{GivenPieces.{first_fault-append, bytes_to_fault-append}, ReadsLemmas.{Reads-takes}}
 use Rattle.examples.specs.Headers.{LooksAhead, LosesFirst, SeesHeader, PeeksAt}
 
 -- what a buffer in front of a reader tells to come

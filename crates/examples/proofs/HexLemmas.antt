@@ -1,12 +1,10 @@
 -- What a writer in hexadecimal wrote, one call after another.
-use Rattle.std.proofs.Common.{◌≡◌, ℕ, ◌/◌, ◌≤◌, List, [], ◌∷◌, ◌++◌, take, Option, Some, None, Ok, sym, ap, subst, ◌∙◌, arith, append_assoc}
-use Rattle.std.proofs.Common.{append-nil}
-use Rattle.std.proofs.lemmas.Grind.{common_steps}
+use Rattle.no_std_io2.proofs.Words.{◌≡◌, ℕ, ◌/◌, ◌≤◌, List, [], ◌∷◌, ◌++◌, take, Option, Some, None, Ok, sym, ap, subst, ◌∙◌, arith}
+use Rattle.no_std_io2.proofs.Words.{append_assoc, append-nil, common_steps, Told, Moves, WroteAll, Flushed}
 use Rattle.std.specs.Option.{option_to_list}
-use Rattle.no_std_io2.specs.Write.{Told, Moves, CallAdds, WroteAll, Flushed, zero_write}
+use Rattle.no_std_io2.specs.Write.{CallAdds, zero_write}
 use Rattle.no_std_io2.proofs.CallsAdd.{Joins}
-use Rattle.examples.specs.declared.hex.Hex.{Hex}
-use Rattle.examples.specs.Hex.{digit, hex, half, owed, hex_told, written, Encodes}
+use Rattle.examples.specs.{declared.hex.Hex.{Hex}, Hex.{digit, hex, half, owed, hex_told, written, Encodes}}
 
 -- bytes that were written one after another have their digits joined
 pub encodes_join : {W : Type 0} (told : W → Told) → Joins (Encodes told)

@@ -1,13 +1,10 @@
 -- A message that is known to come next.
-use Rattle.std.proofs.Common.{◌≡◌, ◌<◌, ◌^◌, ℕ, List, ◌++◌, length, Some, Result, IsOk, sym, ap, ◌∙◌, append_assoc}
+use Rattle.no_std_io2.proofs.Words.{◌≡◌, ◌<◌, ◌^◌, ℕ, List, ◌++◌, length, Some, Result, IsOk, sym, ap, ◌∙◌, append_assoc, Event, events_of}
+use Rattle.no_std_io2.proofs.Words.{to_come, Reader, tells}
 use Rattle.std.specs.Int.{w16, to_be_bytes, from_be_bytes}
 use Rattle.std.proofs.lemmas.Nat.{from_be_bytes-to_be_bytes_2}
-use Rattle.no_std_io2.specs.declared.io.Error.{Error}
-use Rattle.no_std_io2.specs.Events.{Event, events_of}
-use Rattle.no_std_io2.specs.Takes.{to_come}
-use Rattle.no_std_io2.specs.Read.{Reader, tells, ReadExactLaw}
-use Rattle.no_std_io2.proofs.EventLemmas.{events_of-append}
-use Rattle.no_std_io2.proofs.KnownBytes.{exact_known}
+use Rattle.no_std_io2.specs.{declared.io.Error.{Error}, Read.{ReadExactLaw}}
+use Rattle.no_std_io2.proofs.{EventLemmas.{events_of-append}, KnownBytes.{exact_known}}
 use Rattle.examples.specs.Messages.{message}
 
 -- the two bytes of a length determine it

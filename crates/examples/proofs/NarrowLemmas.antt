@@ -1,7 +1,6 @@
 -- A device of one's own, lent as an object.
-use Rattle.std.proofs.Common.{◌≡◌, append-nil}
-use Rattle.examples.specs.declared.narrow.Narrow.{Narrow}
-use Rattle.examples.specs.contracts.narrow.Narrow.{the_row as narrow}
+use Rattle.no_std_io2.proofs.Words.{◌≡◌, append-nil}
+use Rattle.examples.specs.{declared.narrow.Narrow.{Narrow}, contracts.narrow.Narrow.{the_row as narrow}}
 use Rattle.no_std_io2.proofs.ObjectLemmas.{object_given, row_back}
 
 -- the device that comes back has taken what the device behind the object has taken

@@ -1,15 +1,10 @@
 -- Records that are skipped one after another.
-use Rattle.std.proofs.Common.{◌≡◌, ℕ, ◌<◌, List, [], ◌∷◌, ◌++◌, length, take, get_or, Ok, Err, refl, sym, ap, subst, ◌∙◌, arith}
-use Rattle.std.proofs.Common.{inl, inr, append_assoc}
-use Rattle.no_std_io2.specs.declared.io.Error.{Error}
-use Rattle.no_std_io2.specs.Errors.{IsInterruption, IsFault}
-use Rattle.no_std_io2.specs.Events.{fails, events_of, bytes}
-use Rattle.no_std_io2.specs.Takes.{Takes, TakesBytes}
-use Rattle.no_std_io2.specs.BufRead.{Lender, lender_tells, FilledLaw, ConsumeLaw}
-use Rattle.no_std_io2.specs.Passing.{Skipped}
-use Rattle.no_std_io2.proofs.EventLemmas.{bytes-append, HasNoFault-append}
-use Rattle.no_std_io2.proofs.TakesLemmas.{takes_none, takes_then, takes_still, takes_all, bytes_more, bytes_still, TakesBytes-then}
-use Rattle.no_std_io2.proofs.TakesLemmas.{IsAll-behind, EndsInFault-behind, stays_at_end}
+use Rattle.no_std_io2.proofs.Words.{◌≡◌, ℕ, ◌<◌, List, [], ◌∷◌, ◌++◌, length, take, get_or, Ok, Err, refl, sym, ap, subst, ◌∙◌, arith, inl}
+use Rattle.no_std_io2.proofs.Words.{inr, append_assoc, IsInterruption, IsFault, fails, events_of, bytes, Takes, Lender, lender_tells}
+use Rattle.no_std_io2.specs.{declared.io.Error.{Error}, Takes.{TakesBytes}, BufRead.{FilledLaw, ConsumeLaw}, Passing.{Skipped}}
+use Rattle.no_std_io2.proofs.{EventLemmas.{bytes-append, HasNoFault-append}}
+use Rattle.no_std_io2.proofs.{TakesLemmas.{takes_none, takes_then, takes_still, takes_all, bytes_more, bytes_still, TakesBytes-then, IsAll-behind, EndsInFault-behind}}
+use Rattle.no_std_io2.proofs.{TakesLemmas.{stays_at_end}}
 use Rattle.examples.specs.Lengths.{AreRecords, none, more, IsCutOff, SkipsRecords}
 
 -- whole records were skipped so far

@@ -1,12 +1,8 @@
 -- Texts that are written through a buffer, and writes that are made again after faults.
-use Rattle.std.proofs.Common.{◌≡◌, ℕ, List, [], length, Result, Ok, Err, true, false, refl, ap, subst, arith, length-append}
-use Rattle.std.proofs.lemmas.List.{nil_from_length}
+use Rattle.no_std_io2.proofs.Words.{◌≡◌, ℕ, List, [], length, Result, Ok, Err, true, false, refl, ap, subst, arith, length-append}
+use Rattle.no_std_io2.proofs.Words.{nil_from_length, with_buffer, writer_inner, writer_buffer, writer_told, Told, Moves, MovesFront}
 use Rattle.std.specs.Result.{is_ok}
-use Rattle.no_std_io2.specs.declared.io.Error.{Error}
-use Rattle.no_std_io2.specs.declared.buffered.buf_writer.BufWriter.{BufWriter}
-use Rattle.no_std_io2.specs.BufWriter.{with_buffer, writer_inner, writer_buffer, writer_told}
-use Rattle.no_std_io2.specs.Retries.{Tries, last, again}
-use Rattle.no_std_io2.specs.Write.{Told, Moves, MovesFront}
+use Rattle.no_std_io2.specs.{declared.io.Error.{Error}, declared.buffered.buf_writer.BufWriter.{BufWriter}, Retries.{Tries, last, again}}
 use Rattle.no_std_io2.proofs.BufWriterLemmas.{MovesFront-device}
 
 -- if a buffer in front of a writer holds nothing, neither does the writer

@@ -1,12 +1,10 @@
 -- A sum of no bytes is nothing, and a sum of bytes and then others is that of both.
-use Rattle.std.proofs.Common.{◌≡◌, ℕ, ◌+◌, ◌%◌, ◌^◌, Ok, ap, sym, arith, ◌∙◌}
-use Rattle.std.specs.List.{sum}
+use Rattle.no_std_io2.proofs.Words.{◌≡◌, ℕ, ◌+◌, ◌%◌, ◌^◌, Ok, ap, sym, arith, ◌∙◌, sum, Reader, ReadCall, Gave, GaveAll, Filled}
+use Rattle.no_std_io2.proofs.Words.{ReadCallLaw}
 use Rattle.std.proofs.lemmas.List.Sums.{sum_by-append}
-use Rattle.no_std_io2.specs.Read.{Reader, ReadCall, Gave, GaveExactly, GaveAll, Filled, ReadCallLaw}
-use Rattle.no_std_io2.proofs.CallsAdd.{Joins}
-use Rattle.examples.specs.declared.summed.Summed.{Summed}
-use Rattle.no_std_io2.proofs.ReadsAdd.{EachAdds}
-use Rattle.examples.specs.Summed.{summed_sum, Sums, ReadSums}
+use Rattle.no_std_io2.specs.Read.{GaveExactly}
+use Rattle.no_std_io2.proofs.{CallsAdd.{Joins}, ReadsAdd.{EachAdds}}
+use Rattle.examples.specs.{declared.summed.Summed.{Summed}, Summed.{summed_sum, Sums, ReadSums}}
 
 then : (s a b t u : ℕ) → t % 2 ^ 64 ≡ (s + a) % 2 ^ 64 → u % 2 ^ 64 ≡ (t + b) % 2 ^ 64 → u % 2 ^ 64 ≡ (s + (a + b)) % 2 ^ 64
 then s a b t u first next = omega arith

@@ -1,7 +1,5 @@
 -- One more item is appended.
-use Rattle.std.proofs.lemmas.Grind.{common_steps}
-use Rattle.std.proofs.Common.{arith, []}
-use Rattle.std.proofs.Common.{◌≡◌, List, ◌∷◌, ◌++◌}
+use Rattle.no_std_io2.proofs.Words.{common_steps, arith, [], ◌≡◌, List, ◌∷◌, ◌++◌}
 use Rattle.io_bench.specs.Appended.{appended}
 
 -- an item that is pushed follows those that were appended before

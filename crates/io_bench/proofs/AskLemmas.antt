@@ -1,14 +1,11 @@
 -- Asks in a row.
-use Rattle.std.proofs.Common.{◌≡◌, ℕ, zero, suc, ◌+◌, ◌<◌, Bool, if◌then◌else◌, List, [], ◌∷◌, ◌++◌, length, get_or}
-use Rattle.std.proofs.Common.{Result, is_err, refl, sym, subst, arith}
+use Rattle.no_std_io2.proofs.Words.{◌≡◌, ℕ, zero, suc, ◌+◌, ◌<◌, Bool, if◌then◌else◌, List, [], ◌∷◌, ◌++◌, length, get_or, Result, refl}
+use Rattle.no_std_io2.proofs.Words.{sym, subst, arith, Event, Takes, Lender, as_reader, lender_tells}
+use Rattle.std.proofs.Common.{is_err}
 use Rattle.no_std_io2.specs.declared.io.Error.{Error}
-use Rattle.no_std_io2.specs.Events.{Event}
-use Rattle.no_std_io2.specs.Takes.{Takes}
-use Rattle.no_std_io2.specs.BufRead.{Lender, as_reader, lender_tells}
 use Rattle.no_std_io2.proofs.TakesLemmas.{takes_none, takes_then, made_takes, made_lend}
-use Rattle.io_bench.specs.declared.asks.Ask.{Ask}
-use Rattle.io_bench.specs.declared.asks.Ask.TheVariants.{Read, Exact, Fill}
-use Rattle.io_bench.specs.Asks.{Fits, AllFit, Answered, CameTo, met_end, fill_calls}
+use Rattle.io_bench.specs.{declared.asks.Ask.{Ask}, declared.asks.Ask.TheVariants.{Read, Exact, Fill}}
+use Rattle.io_bench.specs.{Asks.{Fits, AllFit, Answered, CameTo, met_end, fill_calls}}
 
 -- if a buffer has room for each ask of a list, it has room for the one at i
 pub fits_at : (room : ℕ) (asks : List Ask) (i : ℕ) (d : Ask) → i < length asks → AllFit room asks → Fits room (get_or asks i d)

@@ -1,36 +1,22 @@
 -- Asks of a buffer in front of a filling reader: no ask fails, each takes its step, and the inner reads are few.
-use Rattle.std.proofs.Common.{◌≡◌, ℕ, ◌+◌, ◌-◌, ◌/◌, ◌<◌, ◌≤◌, ◌&&◌, min, nat_eq, nat_lt, Bool, true, false, if◌then◌else◌, List, [], ◌∷◌}
-use Rattle.std.proofs.Common.{◌++◌, length, take, drop, Some, IfSome, is_err, add-zero, Result, Ok, Err, refl, sym, ap, ap₂, subst, ◌∙◌}
-use Rattle.std.proofs.Common.{arith, ⊎_elim, inl, inr, append_assoc, append-nil, length-append, length-drop, length-take-le, le_refl}
-use Rattle.std.proofs.Common.{drop_of_length-le, take-append-drop}
-use Rattle.std.proofs.Math.Seq.{drop-append_seam}
-use Rattle.std.proofs.lemmas.Grind.{common_steps}
-use Rattle.std.proofs.lemmas.List.{nil_from_length}
-use Rattle.std.proofs.lemmas.Bool.{cases_lt}
-use Rattle.std.proofs.lemmas.Bool.Decides.{nat_tests}
-use Rattle.no_std_io2.specs.declared.io.Error.{Error}
-use Rattle.no_std_io2.specs.Events.{Event, fails, events_of, bytes}
-use Rattle.no_std_io2.specs.Takes.{Takes, to_come, IsAtEnd}
-use Rattle.no_std_io2.specs.Read.{Reader, tells, ReadCall, bytes_given, GaveLaw, ReadCallLaw, Gathers, no_read, and_gave, and_again}
-use Rattle.no_std_io2.specs.Read.{ExactCalls}
-use Rattle.no_std_io2.specs.ReadMeter.{FillsRoom, IsReadMeter}
-use Rattle.no_std_io2.specs.Write.{Made}
-use Rattle.no_std_io2.proofs.TakesLemmas.{stays_at_end}
-use Rattle.no_std_io2.specs.BufRead.{Lender, as_reader, lender_tells, LendCallLaw, FilledLaw, ConsumeLaw}
-use Rattle.no_std_io2.specs.declared.buffered.buf_reader.BufReader.{BufReader}
-use Rattle.no_std_io2.specs.BufReader.{reader_held, reader_behind, reader_inner, behind_held, PassesOn, ReadsBelow, of_held, went_past}
-use Rattle.no_std_io2.specs.BufReader.{was_filled, FillsBelow, lent_held, lent_read}
-use Rattle.no_std_io2.proofs.EventLemmas.{bytes-append, bytes-events_of, events_of-append}
-use Rattle.no_std_io2.proofs.CallsLemmas.{made_split}
-use Rattle.no_std_io2.proofs.BufReaderRoom.{some_room, held-le}
-use Rattle.no_std_io2.proofs.BufferedReads.{told_behind}
-use Rattle.no_std_io2.proofs.BufReaderCalls.{buf_lender}
-use Rattle.io_bench.proofs.BufReaderCounts.{drawn}
-use Rattle.io_bench.specs.declared.asks.Ask.{Ask}
-use Rattle.io_bench.specs.declared.asks.Ask.TheVariants.{Read, Exact, Fill}
-use Rattle.io_bench.specs.Asks.{read_answer, end_or_error, exact_answer, fill_answer, fill_calls, Answered, met_end, CameTo}
-use Rattle.io_bench.specs.Asks.{left_behind, DropsFront, AskStep, meets_end, Steps}
-use Rattle.io_bench.proofs.ReadsPaid.{ReadsPaid, OneCall, no_read as no_inner_read, one_read, paid_none, paid_held, paid_call, paid_bound}
+use Rattle.no_std_io2.proofs.Words.{◌≡◌, ℕ, ◌+◌, ◌-◌, ◌/◌, ◌<◌, ◌≤◌, min, nat_eq, nat_lt, Bool, true, false, if◌then◌else◌, List, [], ◌∷◌}
+use Rattle.no_std_io2.proofs.Words.{◌++◌, length, take, drop, Some, Result, Ok, Err, refl, sym, ap, ap₂, subst, ◌∙◌, arith, ⊎_elim, inl}
+use Rattle.no_std_io2.proofs.Words.{inr, append_assoc, append-nil, length-append, length-drop, length-take-le, le_refl, take-append-drop}
+use Rattle.no_std_io2.proofs.Words.{drop-append_seam, common_steps, nil_from_length, cases_lt, nat_tests, Event, fails, events_of, bytes}
+use Rattle.no_std_io2.proofs.Words.{Takes, to_come, IsAtEnd, Reader, tells, ReadCall, bytes_given, GaveLaw, ReadCallLaw, Gathers, no_read}
+use Rattle.no_std_io2.proofs.Words.{and_gave, and_again, ExactCalls, FillsRoom, IsReadMeter, Made, Lender, as_reader, lender_tells}
+use Rattle.no_std_io2.proofs.Words.{LendCallLaw, reader_held, reader_behind, reader_inner, behind_held, PassesOn, ReadsBelow, of_held}
+use Rattle.no_std_io2.proofs.Words.{went_past, was_filled, FillsBelow, lent_held, lent_read}
+use Rattle.std.proofs.Common.{◌&&◌, IfSome, is_err, add-zero, drop_of_length-le}
+use Rattle.no_std_io2.specs.{declared.io.Error.{Error}, BufRead.{FilledLaw, ConsumeLaw}, declared.buffered.buf_reader.BufReader.{BufReader}}
+use Rattle.no_std_io2.proofs.{TakesLemmas.{stays_at_end}, EventLemmas.{bytes-append, bytes-events_of, events_of-append}}
+use Rattle.no_std_io2.proofs.{CallsLemmas.{made_split}, BufReaderRoom.{some_room, held-le}, BufferedReads.{told_behind}}
+use Rattle.no_std_io2.proofs.{BufReaderCalls.{buf_lender}}
+use Rattle.io_bench.proofs.{BufReaderCounts.{drawn}}
+use Rattle.io_bench.proofs.{ReadsPaid.{ReadsPaid, OneCall, no_read as no_inner_read, one_read, paid_none, paid_held, paid_call, paid_bound}}
+use Rattle.io_bench.specs.{declared.asks.Ask.{Ask}, declared.asks.Ask.TheVariants.{Read, Exact, Fill}}
+use Rattle.io_bench.specs.{Asks.{read_answer, end_or_error, exact_answer, fill_answer, fill_calls, Answered, met_end, CameTo, left_behind, DropsFront, AskStep}}
+use Rattle.io_bench.specs.{Asks.{meets_end, Steps}}
 
 -- bytes are no error
 none_fails : (x y : List ℕ) (e : Error) → events_of x ≡ fails e ∷ events_of y → ⊥

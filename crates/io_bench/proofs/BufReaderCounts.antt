@@ -1,19 +1,12 @@
 -- How many inner reads a `BufReader` makes, and how much it holds then.
-use Rattle.std.proofs.lemmas.Bool.Decides.{nat_tests}
-use Rattle.std.proofs.Common.{◌≡◌, ℕ, ◌+◌, ◌-◌, ◌<◌, ◌≤◌, min, if◌then◌else◌, List, [], Result, Ok, Err, length}
-use Rattle.std.proofs.Common.{refl, sym, ap, subst, ◌∙◌, arith, Some, length-append, length-take, length-take-le}
-use Rattle.std.proofs.Common.{IsOkAnd, IfOk}
+use Rattle.no_std_io2.proofs.Words.{nat_tests, ◌≡◌, ℕ, ◌+◌, ◌-◌, ◌<◌, ◌≤◌, min, if◌then◌else◌, List, [], Result, Ok, Err, length, refl, sym}
+use Rattle.no_std_io2.proofs.Words.{ap, subst, ◌∙◌, arith, Some, length-append, length-take, length-take-le, IfOk, events_of, AreTaken}
+use Rattle.no_std_io2.proofs.Words.{to_come, Reader, tells, GaveLaw, bytes_given, IsReadMeter, FillsRoom, reader_held, reader_inner}
+use Rattle.no_std_io2.proofs.Words.{PassesOn, ReadsBelow, of_held, went_past, was_filled, FillsBelow, lent_held, lent_read}
+use Rattle.std.proofs.Common.{IsOkAnd}
 use Rattle.std.specs.Prelude.{nat_lt}
-use Rattle.no_std_io2.specs.declared.io.Error.{Error}
-use Rattle.no_std_io2.specs.Events.{events_of}
-use Rattle.no_std_io2.specs.Takes.{AreTaken, to_come}
-use Rattle.no_std_io2.specs.Read.{Reader, tells, GaveLaw}
-use Rattle.no_std_io2.specs.Read.{bytes_given, gave}
-use Rattle.no_std_io2.specs.ReadMeter.{IsReadMeter, FillsRoom}
-use Rattle.no_std_io2.proofs.EventLemmas.{length-events_of}
-use Rattle.no_std_io2.specs.declared.buffered.buf_reader.BufReader.{BufReader}
-use Rattle.no_std_io2.specs.BufReader.{reader_held, reader_inner, PassesOn, ReadsBelow, of_held, went_past, was_filled, FillsBelow, lent_held, lent_read}
-use Rattle.no_std_io2.proofs.BufReaderRoom.{some_room}
+use Rattle.no_std_io2.specs.{declared.io.Error.{Error}, Read.{gave}, declared.buffered.buf_reader.BufReader.{BufReader}}
+use Rattle.no_std_io2.proofs.{EventLemmas.{length-events_of}, BufReaderRoom.{some_room}}
 
 -- a read of a reader that fills its room
 pub record Drawn {R : Type 0} {K : Reader R} (fills : FillsRoom K) (a : R) (room : ℕ) (answer : Result (List ℕ) Error)

@@ -1,21 +1,14 @@
 -- A run through a new buffer that is then closed, over a writer that takes all.
-use Rattle.std.proofs.Common.{◌≡◌, ◌+◌, ◌*◌, ◌/◌, ℕ, ◌<◌, List, [], ◌∷◌, ◌++◌, length, Ok, refl, sym, ap, subst, ◌∙◌, arith}
+use Rattle.no_std_io2.proofs.Words.{◌≡◌, ◌+◌, ◌*◌, ◌/◌, ℕ, ◌<◌, List, [], ◌∷◌, ◌++◌, length, Ok, refl, sym, ap, subst, ◌∙◌, arith, Made}
+use Rattle.no_std_io2.proofs.Words.{Moves, Wrote, WroteAll, Flushed, Writer, TakesAll, IsMeter, BufferMay, InnerCalls, writer_buffer}
+use Rattle.no_std_io2.proofs.Words.{writer_inner, writer_told}
 use Rattle.std.proofs.Common.{take_all}
-use Rattle.no_std_io2.specs.Write.{Made, Moves, Wrote, WroteAll, Flushed}
-use Rattle.no_std_io2.specs.Writers.{Writer, TakesAll}
-use Rattle.no_std_io2.specs.Meter.{CostsAtMost, IsMeter}
-use Rattle.no_std_io2.specs.declared.buffered.buf_writer.BufWriter.{BufWriter}
-use Rattle.no_std_io2.specs.BufWriter.{BufferMay, InnerCalls, Unwraps, writer_buffer, writer_inner, writer_told}
-use Rattle.no_std_io2.proofs.MovesLemmas.{Moves-ends}
-use Rattle.no_std_io2.proofs.BufWriterLemmas.{Moves-device, buffer-le}
-use Rattle.io_bench.specs.declared.runs.Op.{Op}
-use Rattle.io_bench.specs.declared.runs.Op.TheVariants.{Write, WriteAll, Flush}
-use Rattle.io_bench.specs.declared.runs.Reply.{Reply}
-use Rattle.io_bench.specs.declared.runs.Reply.TheVariants.{Took, Done}
-use Rattle.io_bench.specs.Runs.{Accepts, AreWhole, IsWhole, Ran, Run, RunCalls}
-use Rattle.io_bench.specs.declared.tally.Tally.{Tally}
-use Rattle.io_bench.specs.Tally.{TallyMay, tally_inner, tally_writes}
-use Rattle.io_bench.specs.Closed.{flushes, given_bytes, op_bytes}
+use Rattle.no_std_io2.specs.{Meter.{CostsAtMost}, declared.buffered.buf_writer.BufWriter.{BufWriter}, BufWriter.{Unwraps}}
+use Rattle.no_std_io2.proofs.{MovesLemmas.{Moves-ends}, BufWriterLemmas.{Moves-device, buffer-le}}
+use Rattle.io_bench.specs.{declared.runs.Op.{Op}, declared.runs.Op.TheVariants.{Write, WriteAll, Flush}, declared.runs.Reply.{Reply}}
+use Rattle.io_bench.specs.{declared.runs.Reply.TheVariants.{Took, Done}, Runs.{Accepts, AreWhole, IsWhole, Ran, Run, RunCalls}}
+use Rattle.io_bench.specs.{declared.tally.Tally.{Tally}, Tally.{TallyMay, tally_inner, tally_writes}}
+use Rattle.io_bench.specs.{Closed.{flushes, given_bytes, op_bytes}}
 use Rattle.io_bench.proofs.RunCharges.{closed_bound}
 
 -- a whole call accepted all its bytes

@@ -1,13 +1,9 @@
 -- Mishaps that were told are enough for the calls that failed.
-use Rattle.std.proofs.lemmas.Grind.{common_steps}
-use Rattle.std.proofs.Common.{◌≡◌, ℕ, true, if◌then◌else◌, List, [], ◌∷◌, length, Option, Some, refl, arith, count_by}
-use Rattle.std.proofs.lemmas.List.{length-append}
-use Rattle.std.proofs.lemmas.List.Sums.{sum_by-cons}
-use Rattle.no_std_io2.specs.declared.io.ErrorKind.{ErrorKind}
-use Rattle.no_std_io2.specs.Write.{HasSpent}
-use Rattle.io_bench.specs.declared.runs.Op.{Op}
-use Rattle.io_bench.specs.declared.runs.Reply.{Reply}
-use Rattle.io_bench.specs.Runs.{mishap_of, mishaps_of, is_failure, failures, failures_of, IsShorterBy, HasFewer}
+use Rattle.no_std_io2.proofs.Words.{common_steps, ◌≡◌, ℕ, true, if◌then◌else◌, List, [], ◌∷◌, length, Option, Some, refl, arith}
+use Rattle.std.proofs.{Common.{count_by}, lemmas.List.{length-append}, lemmas.List.Sums.{sum_by-cons}}
+use Rattle.no_std_io2.specs.{declared.io.ErrorKind.{ErrorKind}, Write.{HasSpent}}
+use Rattle.io_bench.specs.{declared.runs.Op.{Op}, declared.runs.Reply.{Reply}}
+use Rattle.io_bench.specs.{Runs.{mishap_of, mishaps_of, is_failure, failures, failures_of, IsShorterBy, HasFewer}}
 
 -- if every element is counted, the count is the length
 count_by-all : {X : Type 0} (xs : List X) → count_by (λ _. true) xs ≡ length xs

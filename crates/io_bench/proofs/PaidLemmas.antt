@@ -1,12 +1,7 @@
 -- The count of inner writes: two in a row carry more than S bytes, unless a flush made the first.
-use Rattle.std.proofs.lemmas.Grind.{common_steps}
-use Rattle.std.proofs.Common.{◌≡◌, ℕ, ◌+◌, ◌*◌, ◌/◌, ◌<◌, ◌≤◌, min, List, length, ⊎_elim, refl, arith}
-use Rattle.std.proofs.lemmas.Nat.{le-div}
-use Rattle.std.proofs.lemmas.List.{length-append}
-use Rattle.no_std_io2.specs.BufWriter.{writing_calls, buffer_after}
-use Rattle.no_std_io2.specs.Write.{calls_for}
-use Rattle.std.proofs.lemmas.Bool.Decides.{nat_tests}
-use Rattle.std.proofs.lemmas.Bool.{cases_lt}
+use Rattle.no_std_io2.proofs.Words.{common_steps, ◌≡◌, ℕ, ◌+◌, ◌*◌, ◌/◌, ◌<◌, ◌≤◌, min, List, length, ⊎_elim, refl, arith, writing_calls}
+use Rattle.no_std_io2.proofs.Words.{buffer_after, calls_for, nat_tests, cases_lt}
+use Rattle.std.proofs.{lemmas.Nat.{le-div}, lemmas.List.{length-append}}
 
 -- c writes so far, f flushes, n bytes given, h of them in the buffer: there are p complete pairs of writes that carried
 -- more than S bytes each, and either no write is without a partner, or only the last is, which carried at least S bytes

@@ -1,25 +1,16 @@
 -- How the items of a run of `split` or `lines` come to be all pieces, by what one `next` says of the events to come.
-use Rattle.std.proofs.Common.{◌≡◌, ℕ, true, false, Bool, if◌then◌else◌, Option, Some, None, Result, Ok, Err, List, [], ◌∷◌, ◌++◌, map, refl}
-use Rattle.std.proofs.Common.{ap, ◌∙◌, subst, sym, inl, inr, ◌<◌, ◌⊎◌, length, arith, length-append, append-nil, append_assoc, IfErr, IfSome}
-use Rattle.std.specs.List.{concat}
-use Rattle.std.proofs.lemmas.Grind.{common_steps}
-use Rattle.no_std_io2.specs.declared.io.Error.{Error}
-use Rattle.no_std_io2.specs.Errors.{error_kind, is_interruption, IsFault, IsOutOfMemory}
-use Rattle.no_std_io2.specs.Events.{Event, byte, fails, bytes, HasNoFault, bytes_to_fault, first_fault}
-use Rattle.std.proofs.lemmas.List.Folds.{concat-append}
-use Rattle.no_std_io2.specs.Takes.{Tells, to_come}
-use Rattle.no_std_io2.specs.Pieces.{pieces_given, RefusesLine}
-use Rattle.no_std_io2.specs.BufRead.{Lender, NextPieceLaw, lender_tells}
-use Rattle.no_std_io2.proofs.GivenPieces.{GivesNext, GivesNone, next_error, next_fault, next_item, next_none}
-use Rattle.io_bench.specs.Appended.{appended}
+use Rattle.no_std_io2.proofs.Words.{◌≡◌, ℕ, true, false, Bool, if◌then◌else◌, Option, Some, None, Result, Ok, Err, List, [], ◌∷◌, ◌++◌, map}
+use Rattle.no_std_io2.proofs.Words.{refl, ap, ◌∙◌, subst, sym, inl, inr, ◌<◌, ◌⊎◌, length, arith, length-append, append-nil, append_assoc}
+use Rattle.no_std_io2.proofs.Words.{IfErr, concat, common_steps, error_kind, IsFault, IsOutOfMemory, Event, byte, fails, bytes, HasNoFault}
+use Rattle.no_std_io2.proofs.Words.{bytes_to_fault, first_fault, Tells, to_come, Lender, lender_tells, Made, newline, without, split_reader}
+use Rattle.no_std_io2.proofs.Words.{split_delim}
+use Rattle.std.proofs.{Common.{IfSome}, lemmas.List.Folds.{concat-append}}
+use Rattle.no_std_io2.specs.{declared.io.Error.{Error}, Errors.{is_interruption}}
+use Rattle.no_std_io2.specs.{Pieces.{pieces_given, RefusesLine, line_text, ends_at, split_is_ended, lines_reader, lines_is_ended}}
+use Rattle.no_std_io2.specs.{BufRead.{NextPieceLaw}, declared.io.Split.{Split}, declared.io.Lines.{Lines}}
+use Rattle.no_std_io2.proofs.{GivenPieces.{GivesNext, GivesNone, next_error, next_fault, next_item, next_none}, CallsLemmas.{made_more}}
+use Rattle.io_bench.specs.{Appended.{appended}, PieceRuns.{AllPieces, GathersPieces, RunsNexts}}
 use Rattle.io_bench.proofs.AppendedLemmas.{appended-one}
-use Rattle.no_std_io2.proofs.CallsLemmas.{made_more}
-use Rattle.no_std_io2.specs.Write.{Made}
-use Rattle.no_std_io2.specs.Pieces.{newline, line_text, without, ends_at, split_reader, split_delim, split_is_ended, lines_reader}
-use Rattle.no_std_io2.specs.Pieces.{lines_is_ended}
-use Rattle.no_std_io2.specs.declared.io.Split.{Split}
-use Rattle.no_std_io2.specs.declared.io.Lines.{Lines}
-use Rattle.io_bench.specs.PieceRuns.{AllPieces, GathersPieces, RunsNexts}
 
 -- the first pieces were gathered, trimmed, and the others are to come
 pub record GatheredSoFar (trim : List ℕ → List ℕ) (d : ℕ) (E : List Event) (items : List (List ℕ)) (after : List Event) : Type 0 where

@@ -1,7 +1,6 @@
 -- The count of inner reads: all but one get S bytes at least, or find the end.
-use Rattle.std.proofs.Common.{◌≡◌, ℕ, zero, suc, ◌+◌, ◌-◌, ◌*◌, ◌/◌, ◌<◌, ◌≤◌, ⊎_elim, arith}
+use Rattle.no_std_io2.proofs.Words.{◌≡◌, ℕ, zero, suc, ◌+◌, ◌-◌, ◌*◌, ◌/◌, ◌<◌, ◌≤◌, ⊎_elim, arith, cases_lt}
 use Rattle.std.proofs.lemmas.Nat.{le-div}
-use Rattle.std.proofs.lemmas.Bool.{cases_lt}
 
 -- Of N bytes h are held, and e are still to come from the inner reader. It made c reads, and z asks met the end: f
 -- reads got at least S bytes each, and either no other read got a byte, or one did, and no byte is to come.

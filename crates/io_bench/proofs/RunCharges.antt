@@ -1,28 +1,20 @@
 -- The count of a whole run through a buffer, and its closing, from the calls that it made.
+use Rattle.no_std_io2.proofs.Words.{common_steps, ◌≡◌, ◌+◌, ◌*◌, ◌/◌, ℕ, ◌<◌, ◌≤◌, List, [], ◌∷◌, ◌++◌, length, take, Result, Ok, Err, OnOk}
+use Rattle.no_std_io2.proofs.Words.{IsOk, refl, sym, subst, ap, ap₂, ◌∙◌, arith, inl, inr, length-append, append-nil, le_refl}
+use Rattle.no_std_io2.proofs.Words.{take-append-drop, Writer, TakesAll, CallOf, WriteCall, Wrote, WroteAll, Flushed, Made, Writes, none}
+use Rattle.no_std_io2.proofs.Words.{took, again, calls_for, AllCalls, IsMeter, BufferMay, WriteCalls, WriteAllCalls, FlushCalls, SendCalls}
+use Rattle.no_std_io2.proofs.Words.{Only, InnerCalls, writing_calls, buffer_after}
 use Rattle.std.specs.List.{flat_map}
-use Rattle.std.proofs.lemmas.Grind.{common_steps, flat_map-append}
-use Rattle.std.proofs.Common.{◌≡◌, ◌+◌, ◌*◌, ◌/◌, ℕ, ◌<◌, ◌≤◌, List, [], ◌∷◌, ◌++◌, length, take, Result, Ok, Err, OnOk, IsOk, refl, sym}
-use Rattle.std.proofs.Common.{subst, ap, ap₂, ◌∙◌, arith, inl, inr, length-append, append-nil, take_all, le_refl, take-append-drop}
-use Rattle.no_std_io2.specs.declared.io.Error.{Error}
-use Rattle.no_std_io2.specs.Writers.{Writer, TakesAll, CallOf}
-use Rattle.no_std_io2.specs.Write.{WriteCall, Wrote, WroteAll, Flushed, Made, Writes, none, took, again, calls_for, taken}
-use Rattle.no_std_io2.specs.Write.{AllCalls}
-use Rattle.no_std_io2.specs.Meter.{IsMeter}
-use Rattle.no_std_io2.specs.BufWriter.{BufferMay, WriteCalls, WriteAllCalls, FlushCalls, SendCalls, Only, InnerCalls}
-use Rattle.no_std_io2.specs.BufWriter.{writing_calls, buffer_after}
-use Rattle.no_std_io2.proofs.CallsLemmas.{made_map, law_may}
-use Rattle.no_std_io2.proofs.BufWriterCalls.{buffered_leaves, writing_all_calls, write_takes, send_leaves}
-use Rattle.no_std_io2.proofs.BufWriterCalls.{send_counts, write_counts, write_all_counts, flush_counts}
-use Rattle.no_std_io2.proofs.StepLemmas.{then_leaves}
-use Rattle.io_bench.proofs.StepCosts.{step_cost, writing_all-is}
-use Rattle.no_std_io2.proofs.MeterLemmas.{meter_made}
-use Rattle.io_bench.specs.declared.runs.Op.{Op}
-use Rattle.io_bench.specs.declared.runs.Op.TheVariants.{Write, WriteAll, Flush}
-use Rattle.io_bench.specs.declared.runs.Reply.{Reply}
-use Rattle.io_bench.specs.declared.runs.Reply.TheVariants.{Took, Done}
-use Rattle.io_bench.specs.Runs.{OpCalls, JoinsEach, RunCalls, IsWhole, AreWhole}
-use Rattle.io_bench.specs.Closed.{op_bytes, given_bytes, op_flushes, flushes}
-use Rattle.io_bench.proofs.PaidLemmas.{Paid, Paid-same, Paid-write, Paid-flush, Paid-bound, Paid-start, calls_for-min}
+use Rattle.std.proofs.{lemmas.Grind.{flat_map-append}, Common.{take_all}}
+use Rattle.no_std_io2.specs.{declared.io.Error.{Error}, Write.{taken}}
+use Rattle.no_std_io2.proofs.{CallsLemmas.{made_map, law_may}}
+use Rattle.no_std_io2.proofs.{BufWriterCalls.{buffered_leaves, writing_all_calls, write_takes, send_leaves, send_counts, write_counts, write_all_counts, flush_counts}}
+use Rattle.no_std_io2.proofs.{StepLemmas.{then_leaves}, MeterLemmas.{meter_made}}
+use Rattle.io_bench.proofs.{StepCosts.{step_cost, writing_all-is}}
+use Rattle.io_bench.proofs.{PaidLemmas.{Paid, Paid-same, Paid-write, Paid-flush, Paid-bound, Paid-start, calls_for-min}}
+use Rattle.io_bench.specs.{declared.runs.Op.{Op}, declared.runs.Op.TheVariants.{Write, WriteAll, Flush}, declared.runs.Reply.{Reply}}
+use Rattle.io_bench.specs.{declared.runs.Reply.TheVariants.{Took, Done}, Runs.{OpCalls, JoinsEach, RunCalls, IsWhole, AreWhole}}
+use Rattle.io_bench.specs.{Closed.{op_bytes, given_bytes, op_flushes, flushes}}
 
 -- the bytes that a call took
 abbrev call_bytes : WriteCall → List ℕ

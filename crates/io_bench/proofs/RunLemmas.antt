@@ -1,16 +1,10 @@
 -- A run and one more call.
-use Rattle.no_std_io2.specs.Writers.{CallOf, Writer}
-use Rattle.std.proofs.Common.{◌≡◌, ℕ, List, [], ◌∷◌, ◌++◌, refl, sym, ap, ◌∙◌, append_assoc, append-nil}
+use Rattle.no_std_io2.proofs.Words.{CallOf, Writer, ◌≡◌, ℕ, List, [], ◌∷◌, ◌++◌, refl, sym, ap, ◌∙◌, append_assoc, append-nil, Told}
+use Rattle.no_std_io2.proofs.Words.{WriteCall, Made, Through}
 use Rattle.std.specs.List.{AllZip}
-use Rattle.no_std_io2.specs.Write.{Told, WriteCall, Made}
-use Rattle.no_std_io2.proofs.CallsLemmas.{made_then}
-use Rattle.no_std_io2.specs.Towers.{Through}
-use Rattle.no_std_io2.proofs.TowerCalls.{through}
-use Rattle.no_std_io2.proofs.MovesLemmas.{Moves-trans}
-use Rattle.io_bench.specs.declared.runs.Op.{Op}
-use Rattle.io_bench.specs.declared.runs.Reply.{Reply}
-use Rattle.io_bench.specs.Runs.{Accepts, Run, mishap_of, mishaps_of, IsFlushed, EndsFlushed}
-use Rattle.io_bench.specs.Runs.{CallReplies, Ran, JoinsEach, OpCalls, RunCalls, RunBelow}
+use Rattle.no_std_io2.proofs.{CallsLemmas.{made_then}, TowerCalls.{through}, MovesLemmas.{Moves-trans}}
+use Rattle.io_bench.specs.{declared.runs.Op.{Op}, declared.runs.Reply.{Reply}}
+use Rattle.io_bench.specs.{Runs.{Accepts, Run, mishap_of, mishaps_of, IsFlushed, EndsFlushed, CallReplies, Ran, JoinsEach, OpCalls, RunCalls, RunBelow}}
 
 -- one call more
 pub JoinsEach-more : {A : Type 0} (gives : Op → Reply → List A → Type 0) (ops : List Op) (replies : List Reply) (xs : List A)

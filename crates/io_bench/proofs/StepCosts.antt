@@ -1,16 +1,10 @@
 -- What the calls of a buffered writer cost, by each number that counts the calls of the inner writer, if
 -- that takes all.
-use Rattle.std.proofs.Common.{◌≡◌, ◌+◌, ℕ, ◌<◌, ◌≤◌, List, Result, Ok, Err, IsOk, IfOk, arith}
-use Rattle.std.proofs.lemmas.Bool.Decides.{nat_tests}
-use Rattle.no_std_io2.specs.Writers.{TakesAll, Writer}
-use Rattle.no_std_io2.specs.declared.io.Error.{Error}
-use Rattle.no_std_io2.specs.Write.{calls_for}
-use Rattle.no_std_io2.specs.Meter.{charges, IsMeter, Costs}
-use Rattle.no_std_io2.specs.BufWriter.{Step, TakesStep, UnwrapCalls, writing_calls}
-use Rattle.no_std_io2.specs.declared.buffered.into_inner_error.IntoInnerError.{IntoInnerError}
-use Rattle.no_std_io2.proofs.StepLemmas.{Counts}
-use Rattle.no_std_io2.proofs.BufWriterCalls.{send_counts, writing_all_calls}
-use Rattle.no_std_io2.proofs.MeterLemmas.{meter_made}
+use Rattle.no_std_io2.proofs.Words.{◌≡◌, ◌+◌, ℕ, ◌<◌, ◌≤◌, List, Result, Ok, Err, IsOk, IfOk, arith, nat_tests, TakesAll, Writer, calls_for}
+use Rattle.no_std_io2.proofs.Words.{charges, IsMeter, Step, TakesStep, writing_calls}
+use Rattle.no_std_io2.specs.{declared.io.Error.{Error}, Meter.{Costs}, BufWriter.{UnwrapCalls}}
+use Rattle.no_std_io2.specs.{declared.buffered.into_inner_error.IntoInnerError.{IntoInnerError}}
+use Rattle.no_std_io2.proofs.{StepLemmas.{Counts}, BufWriterCalls.{send_counts, writing_all_calls}, MeterLemmas.{meter_made}}
 
 -- with some room, an empty `write_all` makes no call past the buffer
 pub writing_all-is : (S : ℕ) (x held : List ℕ) → 0 < S → writing_all_calls S x held ≡ writing_calls S held x

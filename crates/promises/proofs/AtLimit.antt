@@ -1,12 +1,11 @@
 -- At limit 0 a `Take` gives nothing, over every reader.
-use Rattle.std.proofs.Common.{◌≡◌, ℕ, ◌<◌, ◌⊎◌, List, [], ◌∷◌, ◌++◌, Result, Ok, Err, OnOk, IfOk, IfErr, IsUtf8, length, refl, sym, ap}
-use Rattle.std.proofs.Common.{subst, ◌∙◌, arith, inl, inr, append-nil, Vec, String, string_bytes, string_len, string_capacity}
-use Rattle.std.proofs.lemmas.Str.{IsUtf8-nil}
-use Rattle.no_std_io2.specs.{declared.io.Error.{Error}, declared.io.Take.{Take}, Errors.{IsUnexpectedEnd}, Events.{Event}}
-use Rattle.no_std_io2.specs.{Events.{bytes, cut}, Read.{Reader, ReadCall, Gave, GaveExactly, GaveAll, Filled, Consumed, ReadCallLaw}}
-use Rattle.no_std_io2.specs.{Read.{ReadExactLaw, FillCalls, gave_whole}, BufRead.{Lender, as_reader, lender_tells, LendCallLaw}}
-use Rattle.no_std_io2.specs.{BufRead.{ReadUntilLaw, ReadLineLaw, line_room}, Pieces.{newline, PieceMade, PieceEnds, AnswersLine}}
-use Rattle.no_std_io2.specs.{Take.{limit_left, LimitTakes}, Write.{Made}}
+use Rattle.no_std_io2.proofs.Words.{◌≡◌, ℕ, ◌<◌, ◌⊎◌, List, [], ◌∷◌, ◌++◌, Result, Ok, Err, OnOk, IfOk, IfErr, length, refl, sym, ap, subst}
+use Rattle.no_std_io2.proofs.Words.{◌∙◌, arith, inl, inr, append-nil, Vec, Event, bytes, Reader, ReadCall, Gave, GaveAll, Filled, Consumed}
+use Rattle.no_std_io2.proofs.Words.{ReadCallLaw, Lender, as_reader, lender_tells, LendCallLaw, newline, Made}
+use Rattle.std.proofs.{Common.{IsUtf8, String, string_bytes, string_len, string_capacity}, lemmas.Str.{IsUtf8-nil}}
+use Rattle.no_std_io2.specs.{declared.io.Error.{Error}, declared.io.Take.{Take}, Errors.{IsUnexpectedEnd}, Events.{cut}}
+use Rattle.no_std_io2.specs.{Read.{GaveExactly, ReadExactLaw, FillCalls, gave_whole}, BufRead.{ReadUntilLaw, ReadLineLaw, line_room}}
+use Rattle.no_std_io2.specs.{Pieces.{PieceMade, PieceEnds, AnswersLine}, Take.{limit_left, LimitTakes}}
 use Rattle.no_std_io2.proofs.{CallsLemmas.{made_split}, ReadsAdd.{each_of, piece_adds}, TakesLemmas.{lend_law, made_lend}}
 use Rattle.no_std_io2.proofs.{LimitLemmas.{limit_reader, limit_lender}, LimitLoops.{limit_each, limit_exact}}
 

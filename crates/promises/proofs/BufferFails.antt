@@ -1,18 +1,13 @@
 -- Which errors a writer with a buffer returns, if each call of its inner writer fails with such errors only.
-use Rattle.std.proofs.lemmas.Grind.{common_steps}
-use Rattle.std.proofs.Common.{◌≡◌, ℕ, ◌<◌, List, ◌∷◌, [], Result, Ok, Err, IfErr, IfOk, length, arith, subst, sym, inl, inr}
-use Rattle.no_std_io2.specs.declared.io.Error.{Error}
-use Rattle.no_std_io2.specs.Write.{WriteCall, Wrote, WroteAll, Flushed, Made, AllCalls}
-use Rattle.no_std_io2.specs.Writers.{Writer}
+use Rattle.no_std_io2.proofs.Words.{common_steps, ◌≡◌, ℕ, ◌<◌, List, ◌∷◌, [], Result, Ok, Err, IfErr, IfOk, length, arith, subst, sym, inl}
+use Rattle.no_std_io2.proofs.Words.{inr, WriteCall, Wrote, WroteAll, Flushed, Made, AllCalls, Writer, Step, Then, stops, goes_on, SendCalls}
+use Rattle.no_std_io2.proofs.Words.{WayCalls, Buffered, WriteCalls, Only, WriteAllCalls, FlushCalls, InnerCalls, BufferMay, lines_of}
+use Rattle.no_std_io2.proofs.Words.{unfinished_line, SendLinesCalls, LineWriteCalls, LineWriteAllCalls}
+use Rattle.no_std_io2.specs.{declared.io.Error.{Error}, BufWriter.{PastEmpty, PutCalls}}
+use Rattle.no_std_io2.specs.{LineWriter.{SendLineCalls, LinesCalls, HoldsTail, LineCalls}}
 use Rattle.promises.specs.Fails.{FailsBy, FailsOnly}
-use Rattle.no_std_io2.proofs.CallsLemmas.{made_split}
+use Rattle.no_std_io2.proofs.{CallsLemmas.{made_split}, LineLemmas.{lines_some}}
 use Rattle.promises.proofs.FailsLemmas.{bare, writes_fail, all_fails}
-use Rattle.no_std_io2.specs.BufWriter.{Step, Then, stops, goes_on, PastEmpty, SendCalls, WayCalls, PutCalls, Buffered, WriteCalls, Only}
-use Rattle.no_std_io2.specs.BufWriter.{WriteAllCalls}
-use Rattle.no_std_io2.specs.BufWriter.{FlushCalls, InnerCalls, BufferMay}
-use Rattle.no_std_io2.specs.Lines.{lines_of, unfinished_line}
-use Rattle.no_std_io2.specs.LineWriter.{SendLineCalls, LinesCalls, HoldsTail, SendLinesCalls, LineWriteCalls, LineWriteAllCalls, LineCalls}
-use Rattle.no_std_io2.proofs.LineLemmas.{lines_some}
 
 module _ {W : Type 0} (I : Writer W) (Q : Error → Type 0) (fails : FailsOnly Q I.may) where
   -- a step has such results, if its calls were made

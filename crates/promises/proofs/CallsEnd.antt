@@ -1,8 +1,8 @@
 -- Which call of a buffer's inner writer is the last.
-use Rattle.std.proofs.Common.{ℕ, List, [], ◌∷◌, ◌++◌, Result, Ok, Err, IfOk, IfErr, OnOk, length, refl, subst, sym, inl, inr}
-use Rattle.no_std_io2.specs.declared.io.Error.{Error}
-use Rattle.no_std_io2.specs.Write.{WriteCall, Wrote, WroteAll, Flushed, AllCalls, Writes, none, took, again, stuck, fault}
-use Rattle.no_std_io2.specs.BufWriter.{stops, goes_on, WayCalls, FlushCalls, WriteCalls, PutCalls, Only}
+use Rattle.no_std_io2.proofs.Words.{ℕ, List, [], ◌∷◌, ◌++◌, Result, Ok, Err, IfOk, IfErr, OnOk, length, refl, subst, sym, inl, inr}
+use Rattle.no_std_io2.proofs.Words.{WriteCall, Wrote, WroteAll, Flushed, AllCalls, Writes, none, took, again, stuck, fault, stops, goes_on}
+use Rattle.no_std_io2.proofs.Words.{WayCalls, FlushCalls, WriteCalls, Only}
+use Rattle.no_std_io2.specs.{declared.io.Error.{Error}, BufWriter.{PutCalls}}
 use Rattle.promises.specs.Promises.{HasNoFlush, FailedWith, EndsIn, EndsInFlush}
 
 -- one more call before the others changes nothing, if there are others

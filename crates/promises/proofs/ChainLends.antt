@@ -1,7 +1,6 @@
 -- What the reader that a `Chain` is at lends, the chain lends.
-use Rattle.std.proofs.Common.{◌+◌, None}
-use Rattle.no_std_io2.specs.{declared.io.Chain.{Chain}, BufRead.{Lender, as_reader}, Chain.{chain_first, chain_second}}
-use Rattle.no_std_io2.specs.Chain.{chain_held, ChainMay}
+use Rattle.no_std_io2.proofs.Words.{◌+◌, None, Lender, as_reader}
+use Rattle.no_std_io2.specs.{declared.io.Chain.{Chain}, Chain.{chain_first, chain_second, chain_held, ChainMay}}
 use Rattle.no_std_io2.proofs.ChainLemmas.{chain_reader}
 
 -- a chain that lends

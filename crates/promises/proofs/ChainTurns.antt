@@ -1,6 +1,6 @@
 -- The calls of a `Chain` use one reader after the other.
-use Rattle.std.proofs.{lemmas.Grind.{common_steps}, Common.{arith}}
-use Rattle.no_std_io2.specs.{Read.{Reader, ReadCallLaw}, Chain.{InTurn}}
+use Rattle.no_std_io2.proofs.Words.{common_steps, arith, Reader, ReadCallLaw}
+use Rattle.no_std_io2.specs.Chain.{InTurn}
 use Rattle.no_std_io2.proofs.{ReadsAdd.{EachAdds}, ChainLemmas.{chain_reader}}
 
 module _ {T U : Type 0} where

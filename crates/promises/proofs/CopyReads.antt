@@ -1,19 +1,10 @@
 -- How many reads a copy makes of a reader that fills its room.
-use Rattle.std.proofs.lemmas.Grind.{common_steps}
-use Rattle.std.proofs.Common.{◌≡◌, ℕ, ◌+◌, ◌<◌, min, List, [], ◌∷◌, length, Result, Ok, Err, Some, sym, ap, subst, ◌∙◌, arith}
-use Rattle.std.proofs.Common.{length-append, OnOk}
+use Rattle.no_std_io2.proofs.Words.{common_steps, ◌≡◌, ℕ, ◌+◌, ◌<◌, min, List, [], ◌∷◌, length, Result, Ok, Err, Some, sym, ap, subst, ◌∙◌}
+use Rattle.no_std_io2.proofs.Words.{arith, length-append, OnOk, events_of, Reader, ReadCall, Gave, GaveLaw, ReadCallLaw, Gathers, no_read}
+use Rattle.no_std_io2.proofs.Words.{and_gave, and_again, IsReadMeter, FillsRoom, Made, Writer, Copied}
 use Rattle.std.specs.Int.{div_ceil}
 use Rattle.no_std_io2.specs.declared.io.Error.{Error}
-use Rattle.no_std_io2.specs.Events.{events_of}
-use Rattle.no_std_io2.specs.Read.{Reader, ReadCall, Gave, GaveLaw, ReadCallLaw, Gathers, no_read, and_gave, and_again}
-use Rattle.no_std_io2.specs.ReadMeter.{IsReadMeter, FillsRoom}
-use Rattle.no_std_io2.specs.Write.{Made}
-use Rattle.no_std_io2.specs.Writers.{Writer}
-use Rattle.no_std_io2.proofs.CallsLemmas.{made_split}
-use Rattle.no_std_io2.proofs.EventLemmas.{length-events_of}
-use Rattle.no_std_io2.specs.Copy.{Copied}
-use Rattle.no_std_io2.proofs.TakesLemmas.{left_of}
-use Rattle.no_std_io2.proofs.CopyLemmas.{copied_ok}
+use Rattle.no_std_io2.proofs.{CallsLemmas.{made_split}, EventLemmas.{length-events_of}, TakesLemmas.{left_of}, CopyLemmas.{copied_ok}}
 
 -- a read into the whole room that gave bytes
 one_read : (room : ℕ) {size : ℕ} (n : ℕ) {left : ℕ} (left' cost : ℕ) {cost' all : ℕ} → 0 < room → size ≡ room

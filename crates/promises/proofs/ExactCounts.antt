@@ -1,15 +1,11 @@
 -- How many inner reads an exact read of a `BufReader` makes over a filling reader, and how much is held then.
-use Rattle.std.proofs.lemmas.Bool.Decides.{nat_tests}
-use Rattle.std.proofs.lemmas.Bool.{cases_lt}
-use Rattle.std.proofs.Common.{◌≡◌, ℕ, ◌+◌, ◌-◌, ◌<◌, ◌≤◌, ◌⊎◌, min, max, List, [], ◌∷◌, ◌++◌, Result, Ok, Err, length}
-use Rattle.std.proofs.Common.{refl, sym, ap, subst, ◌∙◌, arith, inl, inr, ⊎_elim, length-append, length-drop}
-use Rattle.std.proofs.Math.Nat.{le-max_left, le-max_right, max-eq_left, max-eq_right}
-use Rattle.no_std_io2.specs.declared.io.Error.{Error}
-use Rattle.no_std_io2.specs.Write.{Made}
-use Rattle.no_std_io2.specs.Read.{Reader, ReadCall, ReadCallLaw, GaveLaw, Gave, Gathers, no_read, and_gave, and_again, bytes_given}
-use Rattle.no_std_io2.specs.ReadMeter.{IsReadMeter, FillsRoom}
-use Rattle.no_std_io2.specs.declared.buffered.buf_reader.BufReader.{BufReader}
-use Rattle.no_std_io2.specs.BufReader.{reader_held, reader_inner, AsksExact, ExactReads, ExactBelow, LeavesExact}
+use Rattle.no_std_io2.proofs.Words.{nat_tests, cases_lt, ◌≡◌, ℕ, ◌+◌, ◌-◌, ◌<◌, ◌≤◌, ◌⊎◌, min, List, [], ◌∷◌, ◌++◌, Result, Ok, Err, length}
+use Rattle.no_std_io2.proofs.Words.{refl, sym, ap, subst, ◌∙◌, arith, inl, inr, ⊎_elim, length-append, length-drop, Made, Reader, ReadCall}
+use Rattle.no_std_io2.proofs.Words.{ReadCallLaw, GaveLaw, Gave, Gathers, no_read, and_gave, and_again, bytes_given, IsReadMeter, FillsRoom}
+use Rattle.no_std_io2.proofs.Words.{reader_held, reader_inner, AsksExact}
+use Rattle.std.proofs.{Common.{max}, Math.Nat.{le-max_left, le-max_right, max-eq_left, max-eq_right}}
+use Rattle.no_std_io2.specs.{declared.io.Error.{Error}, declared.buffered.buf_reader.BufReader.{BufReader}}
+use Rattle.no_std_io2.specs.{BufReader.{ExactReads, ExactBelow, LeavesExact}}
 use Rattle.no_std_io2.proofs.CallsLemmas.{made_split}
 use Rattle.io_bench.proofs.BufReaderCounts.{drawn}
 use Rattle.promises.specs.Counts.{exact_reads, exact_left}

@@ -1,8 +1,7 @@
 -- Which errors the loops of a writer return, if each of its calls fails with such errors only.
-use Rattle.std.proofs.{lemmas.Grind.{common_steps}, Common.{ℕ, List, Result, IfErr, arith}}
-use Rattle.no_std_io2.specs.{declared.io.Error.{Error}, Errors.{IsOutOfMemory}, Write.{WriteCall, Flushed, Made, AllCalls, Writes}}
-use Rattle.no_std_io2.specs.{Write.{none, took, again, stuck, fault}, Writers.{Writer, CallOf, WriteAllOf, FlushOf}}
-use Rattle.no_std_io2.specs.Appends.{AppendsWhole, AppendsMay}
+use Rattle.no_std_io2.proofs.Words.{common_steps, ℕ, List, Result, IfErr, arith, IsOutOfMemory, WriteCall, Flushed, Made, AllCalls, Writes}
+use Rattle.no_std_io2.proofs.Words.{none, took, again, stuck, fault, Writer, CallOf}
+use Rattle.no_std_io2.specs.{declared.io.Error.{Error}, Writers.{WriteAllOf, FlushOf}, Appends.{AppendsWhole, AppendsMay}}
 use Rattle.promises.specs.Fails.{FailsOnly}
 use Rattle.no_std_io2.proofs.CallsLemmas.{made_map, law_may}
 

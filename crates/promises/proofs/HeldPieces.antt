@@ -1,24 +1,14 @@
 -- A piece at the front of the held bytes, and what lies behind after a piece was taken.
-use Rattle.std.proofs.lemmas.Grind.{common_steps}
-use Rattle.std.proofs.Common.{◌≡◌, ℕ, ◌<◌, Bool, true, List, [], ◌∷◌, ◌++◌, length, take, drop, refl, sym, ap, ap₂, subst, ◌∙◌}
-use Rattle.std.proofs.Common.{arith}
-use Rattle.std.proofs.Common.{Result, Ok, Err, ⊎_elim, inl, inr, append_assoc, append-nil, length-append, length-take-le, take-append-drop}
-use Rattle.std.proofs.Common.{take_all}
-use Rattle.std.proofs.Common.{Vec, String, string_bytes, IfOk}
-use Rattle.no_std_io2.specs.declared.io.Error.{Error}
-use Rattle.no_std_io2.specs.Errors.{IsOutOfMemory}
-use Rattle.no_std_io2.specs.Write.{Made}
-use Rattle.no_std_io2.specs.Events.{bytes}
-use Rattle.no_std_io2.specs.Read.{Reader, ReadCall, Filled, Consumed}
-use Rattle.no_std_io2.specs.BufRead.{LendCallLaw, ReadUntilLaw, ReadLineLaw, lender_tells, line_room}
-use Rattle.no_std_io2.specs.Pieces.{AnswersLine, Lacks, EndsPiece, FindsPiece, newline, PartCalls, no_part, and_part, and_waited}
-use Rattle.no_std_io2.specs.Pieces.{PieceMade, PieceEnds}
-use Rattle.no_std_io2.specs.Pieces.{PieceCalls}
-use Rattle.no_std_io2.proofs.CallsLemmas.{made_split}
-use Rattle.no_std_io2.specs.declared.buffered.buf_reader.BufReader.{BufReader}
-use Rattle.no_std_io2.specs.Buffer.{IsSuffix}
-use Rattle.no_std_io2.specs.BufReader.{reader_held, reader_behind, reader_inner, FillsBelow, lent_held, lent_read, HasBuffer, TakesHeld, TakesHeldLine}
-use Rattle.no_std_io2.proofs.BufReaderCalls.{buf_lender}
+use Rattle.no_std_io2.proofs.Words.{common_steps, ◌≡◌, ℕ, ◌<◌, Bool, true, List, [], ◌∷◌, ◌++◌, length, take, drop, refl, sym, ap, ap₂}
+use Rattle.no_std_io2.proofs.Words.{subst, ◌∙◌, arith, Result, Ok, Err, ⊎_elim, inl, inr, append_assoc, append-nil, length-append}
+use Rattle.no_std_io2.proofs.Words.{length-take-le, take-append-drop, Vec, IfOk, IsOutOfMemory, Made, bytes, Reader, ReadCall, Filled}
+use Rattle.no_std_io2.proofs.Words.{Consumed, LendCallLaw, lender_tells, newline, IsSuffix, reader_held, reader_behind, reader_inner}
+use Rattle.no_std_io2.proofs.Words.{FillsBelow, lent_held, lent_read}
+use Rattle.std.proofs.Common.{take_all, String, string_bytes}
+use Rattle.no_std_io2.specs.{declared.io.Error.{Error}, BufRead.{ReadUntilLaw, ReadLineLaw, line_room}}
+use Rattle.no_std_io2.specs.{Pieces.{AnswersLine, Lacks, EndsPiece, FindsPiece, PartCalls, no_part, and_part, and_waited, PieceMade, PieceEnds, PieceCalls}}
+use Rattle.no_std_io2.specs.{declared.buffered.buf_reader.BufReader.{BufReader}, BufReader.{HasBuffer, TakesHeld, TakesHeldLine}}
+use Rattle.no_std_io2.proofs.{CallsLemmas.{made_split}, BufReaderCalls.{buf_lender}}
 
 -- if d is among the bytes, they do not lack it
 has_end : (d : ℕ) (front rest : List ℕ) → Lacks d (front ++ d ∷ rest) → ⊥

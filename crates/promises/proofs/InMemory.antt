@@ -1,9 +1,6 @@
 -- What a `read_to_end` gave.
-use Rattle.std.proofs.Common.{◌≡◌, ℕ, List, ◌++◌, Vec, Some, Result, Ok, Err, OnOk, ap, ◌∙◌}
-use Rattle.no_std_io2.specs.declared.io.Error.{Error}
-use Rattle.no_std_io2.specs.Events.{Event, bytes}
-use Rattle.no_std_io2.specs.Takes.{to_come}
-use Rattle.no_std_io2.specs.Read.{Reader, tells, ToEndLaw}
+use Rattle.no_std_io2.proofs.Words.{◌≡◌, ℕ, List, ◌++◌, Vec, Some, Result, Ok, Err, OnOk, ap, ◌∙◌, Event, bytes, to_come, Reader, tells}
+use Rattle.no_std_io2.specs.{declared.io.Error.{Error}, Read.{ToEndLaw}}
 use Rattle.no_std_io2.proofs.CopyLemmas.{took_told}
 
 -- a `read_to_end` appends all bytes that were to come

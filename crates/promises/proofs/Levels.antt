@@ -1,20 +1,10 @@
 -- What streams in front of others are, as the laws take them.
-use Rattle.std.proofs.Common.{ℕ, List, Vec, Some, length}
+use Rattle.no_std_io2.proofs.Words.{ℕ, List, Vec, Some, length, told_out, Writer, writer_inner, writer_buffer, writer_told, with_buffer}
+use Rattle.no_std_io2.proofs.Words.{BufferMay, InnerCalls, line_inner, line_buffer, events_of, Reader, FillsRoom}
 use Rattle.std.specs.Vec.{vec_len, vec_capacity}
-use Rattle.no_std_io2.specs.Appends.{AppendsMay}
-use Rattle.no_std_io2.specs.Write.{told_out}
-use Rattle.no_std_io2.specs.Writers.{Writer}
-use Rattle.no_std_io2.specs.declared.buffered.buf_writer.BufWriter.{BufWriter}
-use Rattle.no_std_io2.specs.declared.buffered.line_writer.LineWriter.{LineWriter}
-use Rattle.no_std_io2.specs.BufWriter.{writer_inner, writer_buffer, writer_told, with_buffer, BufferMay, InnerCalls}
-use Rattle.no_std_io2.specs.LineWriter.{line_inner, line_buffer, LineCalls}
-use Rattle.no_std_io2.specs.declared.io.Cursor.{Cursor}
-use Rattle.no_std_io2.specs.Cursor.{cursor_left}
-use Rattle.no_std_io2.specs.InMemory.{GivesLeft}
-use Rattle.no_std_io2.specs.Events.{events_of}
-use Rattle.no_std_io2.specs.Takes.{store_at}
-use Rattle.no_std_io2.specs.Read.{Reader}
-use Rattle.no_std_io2.specs.ReadMeter.{FillsRoom}
+use Rattle.no_std_io2.specs.{Appends.{AppendsMay}, declared.buffered.buf_writer.BufWriter.{BufWriter}}
+use Rattle.no_std_io2.specs.{declared.buffered.line_writer.LineWriter.{LineWriter}, LineWriter.{LineCalls}, declared.io.Cursor.{Cursor}}
+use Rattle.no_std_io2.specs.{Cursor.{cursor_left}, InMemory.{GivesLeft}, Takes.{store_at}}
 
 -- a vector
 abbrev pub vector : (Z : Type 0) → Writer (Vec ℕ Z)

@@ -1,16 +1,11 @@
 -- How many reads a `Tally` counts in the trait's loops.
-use Rattle.std.proofs.lemmas.Grind.{common_steps}
-use Rattle.std.proofs.Common.{◌≡◌, ℕ, ◌+◌, ◌-◌, ◌<◌, ◌≤◌, List, [], ◌∷◌, ◌++◌, Result, Ok, Err, min, length, arith}
-use Rattle.std.proofs.Common.{refl, sym, subst, ◌∙◌, inl, inr}
-use Rattle.no_std_io2.specs.declared.io.Error.{Error}
-use Rattle.no_std_io2.specs.Write.{Made}
-use Rattle.no_std_io2.specs.Read.{Reader, ReadCall, Gave, GaveAll, ended, answered, Gathers, no_read, and_gave, and_again}
-use Rattle.no_std_io2.specs.Read.{GathersUntil, FillCalls, ExactCalls, ToEndCalls}
-use Rattle.no_std_io2.proofs.CallsLemmas.{made_split}
-use Rattle.no_std_io2.proofs.EventLemmas.{length-events_of}
+use Rattle.no_std_io2.proofs.Words.{common_steps, ◌≡◌, ℕ, ◌+◌, ◌-◌, ◌<◌, ◌≤◌, List, [], ◌∷◌, ◌++◌, Result, Ok, Err, min, length, arith}
+use Rattle.no_std_io2.proofs.Words.{refl, sym, subst, ◌∙◌, inl, inr, Made, Reader, ReadCall, Gave, GaveAll, answered, Gathers, no_read}
+use Rattle.no_std_io2.proofs.Words.{and_gave, and_again, GathersUntil, ExactCalls}
+use Rattle.no_std_io2.specs.{declared.io.Error.{Error}, Read.{ended, FillCalls, ToEndCalls}}
+use Rattle.no_std_io2.proofs.{CallsLemmas.{made_split}, EventLemmas.{length-events_of}}
 use Rattle.promises.specs.Loops.{stopped, CountsToEnd}
-use Rattle.io_bench.specs.declared.tally.Tally.{Tally}
-use Rattle.io_bench.specs.Tally.{tally_inner, tally_reads, tally_writes, ReadCounted, ReadsCounted}
+use Rattle.io_bench.specs.{declared.tally.Tally.{Tally}, Tally.{tally_inner, tally_reads, tally_writes, ReadCounted, ReadsCounted}}
 
 -- how many turns a read spends at least: one if it gives bytes or fails
 abbrev turns_spent : Result (List ℕ) Error → ℕ

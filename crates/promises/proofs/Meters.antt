@@ -1,8 +1,6 @@
 -- A `Tally` counts its reads.
-use Rattle.no_std_io2.specs.Read.{Reader}
-use Rattle.no_std_io2.specs.ReadMeter.{IsReadMeter, FillsRoom}
-use Rattle.io_bench.specs.declared.tally.Tally.{Tally}
-use Rattle.io_bench.specs.Tally.{tally_inner, tally_reads, ReadsCounted}
+use Rattle.no_std_io2.proofs.Words.{Reader, IsReadMeter, FillsRoom}
+use Rattle.io_bench.specs.{declared.tally.Tally.{Tally}, Tally.{tally_inner, tally_reads, ReadsCounted}}
 
 -- each read into some room is one more
 pub tally_meters_reads : {T : Type 0} (I : Reader T) → IsReadMeter (ReadsCounted I) tally_reads

@@ -1,5 +1,5 @@
 -- Two lists that are nothing together.
-use Rattle.std.proofs.Common.{◌≡◌, ℕ, List, [], ◌∷◌, ◌++◌, refl, Result, Ok, Err, OnOk}
+use Rattle.no_std_io2.proofs.Words.{◌≡◌, ℕ, List, [], ◌∷◌, ◌++◌, refl, Result, Ok, Err, OnOk}
 use Rattle.no_std_io2.specs.declared.io.Error.{Error}
 
 -- both are empty

@@ -1,12 +1,10 @@
 -- The store after a call, if it was told before; and the events.
-use Rattle.std.proofs.Common.{◌≡◌, ◌+◌, ◌-◌, ◌<◌, ◌++◌, ℕ, zero, suc, List, [], Option, None, Some, Result, Ok, Err, IfOk, IfSome, length, refl, subst, sym, ap, ap₂, ◌∙◌, drop, arith, drop-drop}
-use Rattle.std.proofs.Math.Seq.{drop-append_seam}
-use Rattle.no_std_io2.specs.BufReader.{step_back, store_before, store_if}
+use Rattle.no_std_io2.proofs.Words.{◌≡◌, ◌+◌, ◌-◌, ◌<◌, ◌++◌, ℕ, zero, suc, List, [], Option, None, Some, Result, Ok, Err, IfOk, length}
+use Rattle.no_std_io2.proofs.Words.{refl, subst, sym, ap, ap₂, ◌∙◌, drop, arith, drop-append_seam, step_back, store_before, store_if, Event}
+use Rattle.no_std_io2.proofs.Words.{answered, KeepsContent, Store}
+use Rattle.std.proofs.Common.{IfSome, drop-drop}
 use Rattle.no_std_io2.proofs.BufferedReads.{before_decides}
-use Rattle.no_std_io2.specs.declared.io.Error.{Error}
-use Rattle.no_std_io2.specs.Events.{Event}
-use Rattle.no_std_io2.specs.Read.{answered, gave}
-use Rattle.no_std_io2.specs.Takes.{KeepsContent, Store}
+use Rattle.no_std_io2.specs.{declared.io.Error.{Error}, Read.{gave}}
 
 -- a store that was told still is, with its content
 pub store_after : (Goes : ℕ → ℕ → ℕ → Type 0) {was : Store} (old new : Option Store) → KeepsContent old Goes new → old ≡ Some was

@@ -1,6 +1,5 @@
 -- What the buffer told is carried over to the device; the search tries no lemma of a buffer.
-use Rattle.std.proofs.Common.{◌≡◌, sym, ◌∙◌}
-use Rattle.no_std_io2.specs.BufWriter.{writer_inner, writer_buffer}
+use Rattle.no_std_io2.proofs.Words.{◌≡◌, sym, ◌∙◌, writer_inner, writer_buffer}
 use Rattle.no_std_io2.proofs.MovesLemmas.{MovesFront-flush}
 use Rattle.examples.proofs.Retrying.{both_empty, came_out}
 use Rattle.examples.proofs.save_to.Goals as goal

@@ -1,7 +1,6 @@
 -- If the bytes do not fit, the search does not add up the sizes of the two queues before and after the kept bytes
 -- were sent.
-use Rattle.std.proofs.Common.{◌≤◌, ◌<◌, ◌+◌, length, refl, ap, arith, inr, length-append}
-use Rattle.std.proofs.lemmas.Grind.{common_steps}
+use Rattle.no_std_io2.proofs.Words.{◌≤◌, ◌<◌, ◌+◌, length, refl, ap, arith, inr, length-append, common_steps}
 use Rattle.std.proofs.lemmas.List.{length-take}
 use Rattle.bare.specs.Queue.{waiting}
 use Rattle.bare.proofs.kept.append.Goals as goal

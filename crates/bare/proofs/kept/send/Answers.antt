@@ -1,9 +1,8 @@
 -- The search does not put the bytes that wait in place of the slice that `write_rest` was given.
-use Rattle.std.proofs.Common.{◌-◌, length, drop, ap, subst, ◌∙◌}
+use Rattle.no_std_io2.proofs.Words.{◌-◌, length, drop, ap, subst, ◌∙◌}
 use Rattle.no_std_io2.specs.Writers.{WriteRestOf}
 use Rattle.bare.specs.Queue.{waiting}
-use Rattle.bare.proofs.FullLemmas.{queue}
-use Rattle.bare.proofs.KeptLemmas.{resumed}
+use Rattle.bare.proofs.{FullLemmas.{queue}, KeptLemmas.{resumed}}
 use Rattle.bare.proofs.kept.send.Goals as goal
 
 pub returns : goal.returns

@@ -1,11 +1,7 @@
 -- The search does not see that the two puts are one of the whole line, and the two sendings one sending of all.
-use Rattle.std.proofs.lemmas.Grind.{common_steps}
-use Rattle.std.proofs.Common.{◌≡◌, length, ◌++◌, ap, subst, inl, arith}
-use Rattle.no_std_io2.specs.Pieces.{newline}
+use Rattle.no_std_io2.proofs.Words.{common_steps, ◌≡◌, length, ◌++◌, ap, subst, inl, arith, newline}
 use Rattle.no_std_io2.proofs.LineLemmas.{contains_lacks}
-use Rattle.bare.specs.Queue.{waiting}
-use Rattle.bare.specs.Kept.{Resumes}
-use Rattle.bare.specs.Log.{line}
+use Rattle.bare.specs.{Queue.{waiting}, Kept.{Resumes}, Log.{line}}
 use Rattle.bare.proofs.KeptLemmas.{resumed_more, line_put}
 use Rattle.bare.proofs.log.bare_log.Goals as goal
 

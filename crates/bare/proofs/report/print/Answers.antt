@@ -1,8 +1,7 @@
 -- The search does not join the next text with those that were printed, nor all of them with the flush.
-use Rattle.std.proofs.lemmas.Grind.{common_steps}
-use Rattle.std.proofs.Common.{arith, take_all}
-use Rattle.no_std_io2.proofs.MovesLemmas.{Moves-refl}
-use Rattle.no_std_io2.proofs.TextLemmas.{MovesFront-text}
+use Rattle.no_std_io2.proofs.Words.{common_steps, arith}
+use Rattle.std.proofs.Common.{take_all}
+use Rattle.no_std_io2.proofs.{MovesLemmas.{Moves-refl}, TextLemmas.{MovesFront-text}}
 use Rattle.bare.specs.Report.{reading_line}
 use Rattle.bare.proofs.ReportLemmas.{printed_more, printed_all}
 use Rattle.bare.proofs.report.print.Goals as goal

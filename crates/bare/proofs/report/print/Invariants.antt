@@ -1,6 +1,5 @@
 -- The lines of the readings so far were printed.
-use Rattle.std.proofs.Common.{[], take}
-use Rattle.no_std_io2.specs.Write.{Moves}
+use Rattle.no_std_io2.proofs.Words.{[], take, Moves}
 use Rattle.bare.specs.Report.{report}
 use Rattle.bare.proofs.report.print.Given as goal
 

@@ -1,8 +1,7 @@
 -- The law of a call of an object is named whole; the search does not join its turns of the loop.
-use Rattle.std.proofs.Common.{◌+◌, ◌%◌, ◌^◌, ◌∙◌, ap, arith, sum, refl, ◌++◌}
-use Rattle.std.proofs.lemmas.Result.{err_from_is_err_and}
-use Rattle.no_std_io2.proofs.GivenPieces.{piece_spends}
-use Rattle.no_std_io2.proofs.TakesLemmas.{takes_then, EndsInFault-behind}
+use Rattle.no_std_io2.proofs.Words.{◌+◌, ◌%◌, ◌^◌, ◌∙◌, ap, arith, refl, ◌++◌, err_from_is_err_and}
+use Rattle.std.proofs.Common.{sum}
+use Rattle.no_std_io2.proofs.{GivenPieces.{piece_spends}, TakesLemmas.{takes_then, EndsInFault-behind}}
 use Rattle.examples.proofs.ChecksumLemmas.{sums_none, sums_more}
 use Rattle.examples.proofs.checksum.checksum_of.Goals as goal
 

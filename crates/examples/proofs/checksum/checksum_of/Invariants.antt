@@ -1,5 +1,5 @@
 -- It ends with its reader's turns.
-use Rattle.std.proofs.Common.{◌≡◌, length}
+use Rattle.no_std_io2.proofs.Words.{◌≡◌, length}
 use Rattle.examples.proofs.ChecksumLemmas.{SumsSoFar}
 use Rattle.examples.proofs.checksum.checksum_of.Given as goal
 

@@ -1,10 +1,6 @@
 -- A line more is joined to those so far by lemmas, which the search does not try.
-use Rattle.std.proofs.Common.{◌++◌, [], ◌∷◌, refl, ap, ◌∙◌, arith, length-append}
-use Rattle.std.proofs.lemmas.Result.{err_from_is_err_and}
-use Rattle.no_std_io2.specs.Events.{bytes}
-use Rattle.no_std_io2.specs.BufRead.{lender_tells}
-use Rattle.no_std_io2.proofs.Readers.{lends}
-use Rattle.no_std_io2.proofs.MovesLemmas.{Moves-refl, Moves-trans}
+use Rattle.no_std_io2.proofs.Words.{◌++◌, [], ◌∷◌, refl, ap, ◌∙◌, arith, length-append, err_from_is_err_and, bytes, lender_tells}
+use Rattle.no_std_io2.proofs.{Readers.{lends}, MovesLemmas.{Moves-refl, Moves-trans}}
 use Rattle.examples.proofs.HeadLemmas.{gives_no_line, gives_line, gives_end, stops_inside, moves_line}
 use Rattle.examples.proofs.heads.head.Goals as goal
 

@@ -1,6 +1,5 @@
 -- The lines so far; and the reader's turns or the lines that are wanted still.
-use Rattle.std.proofs.Common.{◌≤◌, ◌-◌}
-use Rattle.no_std_io2.specs.BufRead.{lender_tells}
+use Rattle.no_std_io2.proofs.Words.{◌≤◌, ◌-◌, lender_tells}
 use Rattle.no_std_io2.proofs.Readers.{lends}
 use Rattle.examples.proofs.HeadLemmas.{HeadSoFar}
 use Rattle.examples.proofs.heads.head.Given as goal

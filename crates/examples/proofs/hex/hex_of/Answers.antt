@@ -1,9 +1,8 @@
 -- The vector has what the encoder wrote.
-use Rattle.std.proofs.Common.{◌≡◌, ℕ, [], ◌++◌, Vec, Global, sym, ap, ◌∙◌, append-nil}
+use Rattle.no_std_io2.proofs.Words.{◌≡◌, ℕ, [], ◌++◌, Vec, sym, ap, ◌∙◌, append-nil, Told, told_out}
+use Rattle.std.proofs.Common.{Global}
 use Rattle.examples.specs.Hex.{hex, hex_inner}
-use Rattle.no_std_io2.specs.Write.{Told, told_out}
-use Rattle.no_std_io2.proofs.CallsLemmas.{law_may}
-use Rattle.no_std_io2.proofs.CallsAdd.{all_adds}
+use Rattle.no_std_io2.proofs.{CallsLemmas.{law_may}, CallsAdd.{all_adds}}
 use Rattle.examples.proofs.HexLemmas.{encodes_join, hexed}
 use Rattle.examples.proofs.hex.hex_of.Goals as goal
 

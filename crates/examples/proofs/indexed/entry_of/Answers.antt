@@ -1,7 +1,7 @@
 -- The store of a new buffer over a cursor is the file; the search does not open it.
-use Rattle.std.proofs.Common.{◌≡◌, ℕ, ◌<◌, ◌^◌, List, Bor, length, take, drop, ap, subst, ◌∙◌, arith, OnOk}
+use Rattle.no_std_io2.proofs.Words.{◌≡◌, ℕ, ◌<◌, ◌^◌, List, length, take, drop, ap, subst, ◌∙◌, arith, OnOk, reader_held, reader_inner}
+use Rattle.std.proofs.Common.{Bor}
 use Rattle.no_std_io2.specs.Cursor.{cursor_inner, cursor_position}
-use Rattle.no_std_io2.specs.BufReader.{reader_held, reader_inner}
 use Rattle.examples.specs.Indexed.{entry_place}
 use Rattle.examples.proofs.EntryLemmas.{entry_found}
 use Rattle.examples.proofs.indexed.entry_of.Goals as goal

@@ -1,12 +1,8 @@
 -- The bytes of two reads are joined to one message, and a known message comes back; the search has no lemma for either.
-use Rattle.std.proofs.Common.{◌++◌, length, take, drop, sym, ap, ◌∙◌, subst, arith, true≢false}
-use Rattle.std.proofs.Math.Seq.{take-append_seam}
+use Rattle.no_std_io2.proofs.Words.{◌++◌, length, take, drop, sym, ap, ◌∙◌, subst, arith, true≢false, take-append_seam, tells}
 use Rattle.std.specs.Int.{w16, to_be_bytes}
 use Rattle.no_std_io2.specs.Takes.{TakesBytes}
-use Rattle.no_std_io2.specs.Read.{tells}
-use Rattle.no_std_io2.proofs.Readers.{reader}
-use Rattle.no_std_io2.proofs.KnownBytes.{exact_known}
-use Rattle.no_std_io2.proofs.TakesLemmas.{TakesBytes-then, TakesBytes-fills}
+use Rattle.no_std_io2.proofs.{Readers.{reader}, KnownBytes.{exact_known}, TakesLemmas.{TakesBytes-then, TakesBytes-fills}}
 use Rattle.examples.specs.Messages.{message}
 use Rattle.examples.proofs.MessageLemmas.{prefix_known, same_length}
 use Rattle.examples.proofs.messages.read_message.Goals as goal

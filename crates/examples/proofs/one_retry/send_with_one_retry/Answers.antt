@@ -1,5 +1,5 @@
 -- The tries are constructors of `Tries`, which the search does not build. It finds `sends` too; its answer is the one that PROVING shows.
-use Rattle.std.proofs.Common.{sym}
+use Rattle.no_std_io2.proofs.Words.{sym}
 use Rattle.examples.proofs.Retrying.{tried_once, tried_twice}
 use Rattle.no_std_io2.proofs.MovesLemmas.{Sends-then}
 use Rattle.examples.proofs.one_retry.send_with_one_retry.Goals as goal

@@ -1,6 +1,6 @@
 -- The lines so far were accepted.
-use Rattle.std.proofs.Common.{Ok, take, flat_map}
-use Rattle.no_std_io2.specs.Write.{MovesFront}
+use Rattle.no_std_io2.proofs.Words.{Ok, take, MovesFront}
+use Rattle.std.proofs.Common.{flat_map}
 use Rattle.examples.specs.Readings.{reading}
 use Rattle.examples.proofs.readings.write_readings.Given as goal
 

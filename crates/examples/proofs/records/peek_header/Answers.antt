@@ -1,5 +1,6 @@
 -- What is known of the bytes to come follows from the clause `looks`, by two lemmas.
-use Rattle.std.proofs.Common.{Ok, Err, slice_index_or, rules, ap, ◌∙◌}
+use Rattle.no_std_io2.proofs.Words.{Ok, Err, rules, ap, ◌∙◌}
+use Rattle.std.proofs.Common.{slice_index_or}
 use Rattle.no_std_io2.specs.Errors.{IsUnexpectedEnd}
 use Rattle.no_std_io2.proofs.Readers.{reader}
 use Rattle.examples.proofs.HeaderLemmas.{sees_two, sees_end, sees_fault, look_stays, look_told}

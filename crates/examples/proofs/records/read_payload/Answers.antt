@@ -1,11 +1,7 @@
 -- The payload goes through the borrow of a vector, and the search does not join the two calls.
-use Rattle.std.proofs.Common.{◌≡◌, ◌≤◌, ◌++◌, length, take, drop, sym, ap, ◌∙◌, arith, length-drop, refl, ap₂}
-use Rattle.std.proofs.lemmas.Result.{err_from_is_err_and}
-use Rattle.no_std_io2.specs.Events.{events_of}
-use Rattle.std.proofs.Math.Seq.{take-append_seam}
-use Rattle.no_std_io2.specs.BufReader.{reader_held}
-use Rattle.no_std_io2.proofs.EventLemmas.{bytes-append, bytes-events_of}
-use Rattle.no_std_io2.proofs.TakesLemmas.{takes_then}
+use Rattle.no_std_io2.proofs.Words.{◌≡◌, ◌≤◌, ◌++◌, length, take, drop, sym, ap, ◌∙◌, arith, length-drop, refl, ap₂, err_from_is_err_and}
+use Rattle.no_std_io2.proofs.Words.{events_of, take-append_seam, reader_held}
+use Rattle.no_std_io2.proofs.{EventLemmas.{bytes-append, bytes-events_of}, TakesLemmas.{takes_then}}
 use Rattle.examples.proofs.HeaderLemmas.{takes_loses}
 use Rattle.examples.proofs.records.read_payload.Goals as goal
 

@@ -1,10 +1,6 @@
 -- The search does not join the look and the payload if an error goes through a `?`, or if the record is held.
-use Rattle.std.proofs.Common.{[], ap, ◌∙◌}
-use Rattle.std.proofs.lemmas.Result.{err_from_is_err_and}
-use Rattle.no_std_io2.specs.BufReader.{reader_inner, reader_held, reader_behind}
-use Rattle.no_std_io2.specs.Read.{tells}
-use Rattle.no_std_io2.proofs.BufReaderCalls.{buf_reader}
-use Rattle.no_std_io2.proofs.Readers.{reader}
+use Rattle.no_std_io2.proofs.Words.{[], ap, ◌∙◌, err_from_is_err_and, reader_inner, reader_held, reader_behind, tells}
+use Rattle.no_std_io2.proofs.{BufReaderCalls.{buf_reader}, Readers.{reader}}
 use Rattle.examples.proofs.HeaderLemmas.{record_seen, loses_then}
 use Rattle.examples.proofs.records.read_record.Goals as goal
 

@@ -1,7 +1,6 @@
 -- The sum of the bytes up to an index needs a lemma about sums.
-use Rattle.std.proofs.Common.{◌+◌, ◌%◌, ◌^◌, arith, ap, take_all, ◌∙◌}
-use Rattle.std.specs.List.{sum}
-use Rattle.std.proofs.lemmas.List.Sums.{sum_by_more}
+use Rattle.no_std_io2.proofs.Words.{◌+◌, ◌%◌, ◌^◌, arith, ap, ◌∙◌, sum}
+use Rattle.std.proofs.{Common.{take_all}, lemmas.List.Sums.{sum_by_more}}
 use Rattle.examples.proofs.summed.add_all.Goals as goal
 
 pub bytes-preserved : goal.bytes-preserved

@@ -1,6 +1,5 @@
 -- The sum so far.
-use Rattle.std.proofs.Common.{◌≡◌, ◌+◌, ◌%◌, ◌^◌, take}
-use Rattle.std.specs.List.{sum}
+use Rattle.no_std_io2.proofs.Words.{◌≡◌, ◌+◌, ◌%◌, ◌^◌, take, sum}
 use Rattle.examples.proofs.summed.add_all.Given as goal
 
 abbrev pub invariant-bytes : goal.invariant-bytes

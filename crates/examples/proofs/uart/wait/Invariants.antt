@@ -1,5 +1,5 @@
 -- No byte was put, and so many looks are left.
-use Rattle.std.proofs.Common.{◌≡◌}
+use Rattle.no_std_io2.proofs.Words.{◌≡◌}
 use Rattle.examples.proofs.uart.wait.Given as goal
 
 abbrev pub invariant-looks : goal.invariant-looks

@@ -1,10 +1,8 @@
 -- The prover does not find what holds of the calls before the one that is tested.
-use Rattle.std.proofs.lemmas.Grind.{common_steps}
-use Rattle.std.proofs.Common.{arith, refl, sym}
+use Rattle.no_std_io2.proofs.Words.{common_steps, arith, refl, sym}
 use Rattle.std.proofs.lemmas.Slice.Zip.{AllZip-long}
 use Rattle.io_bench.specs.Joined.{IsClear, AreClear}
-use Rattle.io_bench.proofs.RunLemmas.{AllZip-more}
-use Rattle.io_bench.proofs.JoinedLemmas.{one_more, all_through, clear_at}
+use Rattle.io_bench.proofs.{RunLemmas.{AllZip-more}, JoinedLemmas.{one_more, all_through, clear_at}}
 use Rattle.io_bench.proofs.accepted.are_clear.Goals as goal
 
 pub returns-then-ops-replies-clause-no : goal.returns-then-ops-replies-clause-no

@@ -1,5 +1,5 @@
 -- Each of the calls so far has a reply that says what was accepted.
-use Rattle.std.proofs.Common.{take}
+use Rattle.no_std_io2.proofs.Words.{take}
 use Rattle.io_bench.specs.Joined.{AreClear}
 use Rattle.io_bench.proofs.accepted.are_clear.Given as goal
 

@@ -1,13 +1,10 @@
 -- The prover does not find that the bytes of one more call follow those of the others.
-use Rattle.std.proofs.lemmas.Grind.{common_steps}
-use Rattle.std.proofs.Common.{arith, ◌++◌, refl, sym}
+use Rattle.no_std_io2.proofs.Words.{common_steps, arith, ◌++◌, refl, sym, err_from_is_err_and}
 use Rattle.std.proofs.lemmas.Slice.Zip.{AllZip-long}
-use Rattle.std.proofs.lemmas.Result.{err_from_is_err_and}
 use Rattle.io_bench.specs.Runs.{Accepts, Run}
-use Rattle.io_bench.proofs.RunLemmas.{JoinsEach-more}
-use Rattle.io_bench.proofs.JoinedLemmas.{one_more, all_through, clear_at, unclear, run_once, some_accepted}
+use Rattle.io_bench.proofs.{RunLemmas.{JoinsEach-more}, JoinedLemmas.{one_more, all_through, clear_at, unclear, run_once, some_accepted}}
+use Rattle.io_bench.proofs.{accepted.joined.Goals.{in-Some+in_ok-extend_from_slice, in_default}}
 use Rattle.io_bench.proofs.accepted.joined.Goals as goal
-use Rattle.io_bench.proofs.accepted.joined.Goals.{in-Some+in_ok-extend_from_slice, in_default}
 
 pub bounds-replies-i : goal.bounds-replies-i
 bounds-replies-i c = omega (arith, c.calls-test.true, AllZip-long _ _ _ (c.are_clear.ensures.yes c.if-not-are_clear.false))

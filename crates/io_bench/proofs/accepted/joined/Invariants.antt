@@ -1,5 +1,5 @@
 -- The bytes so far are what the calls so far accepted.
-use Rattle.std.proofs.Common.{take}
+use Rattle.no_std_io2.proofs.Words.{take}
 use Rattle.io_bench.specs.Runs.{Run}
 use Rattle.io_bench.proofs.accepted.joined.Given as goal
 

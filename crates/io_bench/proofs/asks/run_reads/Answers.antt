@@ -1,12 +1,9 @@
 -- The prover does not find that one more ask joins those before it, nor the bound over all of them.
-use Rattle.std.proofs.lemmas.Grind.{common_steps}
-use Rattle.std.proofs.Common.{Bool, true, false, Ok, Err, if◌then◌else◌, ◌≡◌, get_or, take_all, arith, refl, ◌∙◌}
-use Rattle.std.proofs.lemmas.List.{take_more}
+use Rattle.no_std_io2.proofs.Words.{common_steps, Bool, true, false, Ok, Err, if◌then◌else◌, ◌≡◌, get_or, arith, refl, ◌∙◌, take_more}
+use Rattle.std.proofs.Common.{take_all}
 use Rattle.io_bench.specs.declared.asks.Ask.TheVariants.{Read}
-use Rattle.no_std_io2.proofs.Readers.{reader}
-use Rattle.io_bench.proofs.AskLemmas.{fits_at, came_then, came_takes}
-use Rattle.no_std_io2.proofs.BufReaderCalls.{buf_lender}
-use Rattle.io_bench.proofs.AskSteps.{run_went, few_reads}
+use Rattle.no_std_io2.proofs.{Readers.{reader}, BufReaderCalls.{buf_lender}}
+use Rattle.io_bench.proofs.{AskLemmas.{fits_at, came_then, came_takes}, AskSteps.{run_went, few_reads}}
 use mir.Val.{bool_byte}
 use Rattle.io_bench.proofs.asks.run_reads.Goals as goal
 

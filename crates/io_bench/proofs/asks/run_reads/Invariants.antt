@@ -1,8 +1,7 @@
 -- The totals of the asks so far.
-use Rattle.std.proofs.Common.{◌≡◌, ◌≤◌, length, take}
-use Rattle.no_std_io2.proofs.Readers.{reader}
+use Rattle.no_std_io2.proofs.Words.{◌≡◌, ◌≤◌, length, take}
+use Rattle.no_std_io2.proofs.{Readers.{reader}, BufReaderCalls.{buf_lender}}
 use Rattle.io_bench.specs.Asks.{CameTo}
-use Rattle.no_std_io2.proofs.BufReaderCalls.{buf_lender}
 use Rattle.io_bench.proofs.asks.run_reads.Given as goal
 
 abbrev pub invariant-asks : goal.invariant-asks

@@ -1,10 +1,8 @@
 -- The prover does not find the bytes and the bound, which need all calls of the run, nor that the
 -- `into_inner` cannot fail.
-use Rattle.std.proofs.Common.{subst, sym}
-use Rattle.no_std_io2.specs.Writers.{TakesAll}
+use Rattle.no_std_io2.proofs.Words.{subst, sym, TakesAll}
 use Rattle.io_bench.specs.Tally.{tally_writes}
-use Rattle.io_bench.proofs.RunCharges.{run_made}
-use Rattle.io_bench.proofs.ClosedLemmas.{closes, tally_meters, tallied_writer}
+use Rattle.io_bench.proofs.{RunCharges.{run_made}, ClosedLemmas.{closes, tally_meters, tallied_writer}}
 use Rattle.io_bench.proofs.closed.run_closed.Goals as goal
 
 pub returns-in-Ok-clause-bytes : goal.returns-in-Ok-clause-bytes

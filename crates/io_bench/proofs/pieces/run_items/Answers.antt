@@ -1,9 +1,8 @@
 -- The prover does not find that one more item was yielded, nor the state before the `next` that ended the run.
-use Rattle.std.proofs.Common.{◌≡◌, ◌∙◌, ◌<◌, ap, [], ◌∷◌, ◌++◌, Some, Ok, OnSome, inl, inr, refl, subst}
-use Rattle.std.proofs.lemmas.Result.{err_from_is_err_and}
+use Rattle.no_std_io2.proofs.Words.{◌≡◌, ◌∙◌, ◌<◌, ap, [], ◌∷◌, ◌++◌, Some, Ok, inl, inr, refl, subst, err_from_is_err_and}
+use Rattle.std.proofs.Common.{OnSome}
 use Rattle.std.specs.Iterator.{IsFinite, size}
-use Rattle.io_bench.proofs.AppendedLemmas.{appended-more}
-use Rattle.io_bench.proofs.PieceRunLemmas.{one_yielded, still_yielded}
+use Rattle.io_bench.proofs.{AppendedLemmas.{appended-more}, PieceRunLemmas.{one_yielded, still_yielded}}
 use Rattle.io_bench.proofs.pieces.run_items.Goals as goal
 
 pub items-preserved : goal.items-preserved

@@ -1,7 +1,6 @@
 -- `run_items` ends with what its iterator has left, and the items so far were yielded by it.
-use Rattle.std.proofs.Common.{◌≡◌, ◌++◌, Ok, Some}
+use Rattle.no_std_io2.proofs.Words.{◌≡◌, ◌++◌, Ok, Some, Made}
 use Rattle.std.specs.Iterator.{IsFinite, size}
-use Rattle.no_std_io2.specs.Write.{Made}
 use Rattle.io_bench.specs.Appended.{appended}
 use Rattle.io_bench.proofs.pieces.run_items.Given as goal
 

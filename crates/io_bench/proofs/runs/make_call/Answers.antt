@@ -1,7 +1,6 @@
 -- The prover does not find which calls of the writer a call of the run made.
-use Rattle.std.proofs.Common.{[], ◌∷◌, Ok, Err, refl}
+use Rattle.no_std_io2.proofs.Words.{[], ◌∷◌, Ok, Err, refl, Wrote, Flushed}
 use Rattle.no_std_io2.proofs.MovesLemmas.{Moves-steady}
-use Rattle.no_std_io2.specs.Write.{Wrote, Flushed}
 use Rattle.io_bench.proofs.runs.make_call.Goals as goal
 
 pub returns-in-Err-write_all-clause-all : goal.returns-in-Err-write_all-clause-all

@@ -1,13 +1,11 @@
 -- The prover does not find that one more call and its reply join those before them.
-use Rattle.std.proofs.Common.{take, take_all, drop, ◌≡◌, ◌++◌, ◌∷◌, [], length, rules, arith, refl, ap, ◌∙◌, sym, append-nil, append_assoc}
-use Rattle.io_bench.specs.Appended.{appended}
-use Rattle.std.proofs.lemmas.List.{take_more}
-use Rattle.std.proofs.Math.Seq.{drop-append_seam}
-use Rattle.io_bench.specs.declared.runs.Op.TheVariants.{Write}
+use Rattle.no_std_io2.proofs.Words.{take, drop, ◌≡◌, ◌++◌, ◌∷◌, [], length, rules, arith, refl, ap, ◌∙◌, sym, append-nil, append_assoc}
+use Rattle.no_std_io2.proofs.Words.{take_more, drop-append_seam}
+use Rattle.std.proofs.Common.{take_all}
+use Rattle.io_bench.specs.{Appended.{appended}, declared.runs.Op.TheVariants.{Write}, Runs.{IsWhole}}
 use Rattle.no_std_io2.proofs.MovesLemmas.{Moves-refl}
-use Rattle.io_bench.proofs.RunLemmas.{Ran-more, AllZip-more, EndsFlushed-more, RunCalls-more}
-use Rattle.io_bench.specs.Runs.{IsWhole}
-use Rattle.io_bench.proofs.FailureLemmas.{failures_told, failures_none, fewer_of}
+use Rattle.io_bench.proofs.{RunLemmas.{Ran-more, AllZip-more, EndsFlushed-more, RunCalls-more}}
+use Rattle.io_bench.proofs.{FailureLemmas.{failures_told, failures_none, fewer_of}}
 use Rattle.io_bench.proofs.runs.run_writes.Goals as goal
 
 pub calls-init : goal.calls-init

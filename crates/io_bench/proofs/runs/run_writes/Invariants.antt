@@ -1,9 +1,7 @@
 -- The calls so far were a run, and there is room for the replies to the others.
-use Rattle.no_std_io2.specs.Writers.{TakesAll}
-use Rattle.std.proofs.Common.{◌≡◌, ◌+◌, ◌-◌, ◌≤◌, List, [], ◌++◌, length, take, vec_len}
+use Rattle.no_std_io2.proofs.Words.{TakesAll, ◌≡◌, ◌+◌, ◌-◌, ◌≤◌, List, [], ◌++◌, length, take, vec_len}
 use Rattle.std.specs.Vec.{vec_capacity}
-use Rattle.io_bench.specs.declared.runs.Reply.{Reply}
-use Rattle.io_bench.specs.Runs.{Ran, EndsFlushed, AreWhole, RunCalls}
+use Rattle.io_bench.specs.{declared.runs.Reply.{Reply}, Runs.{Ran, EndsFlushed, AreWhole, RunCalls}}
 use Rattle.io_bench.proofs.runs.run_writes.Given as goal
 
 abbrev pub invariant-calls : goal.invariant-calls

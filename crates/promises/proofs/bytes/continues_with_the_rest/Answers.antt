@@ -1,6 +1,5 @@
 -- The prover does not join the calls of two loops.
-use Rattle.std.proofs.Common.{◌++◌}
-use Rattle.no_std_io2.specs.Writers.{CallOf}
+use Rattle.no_std_io2.proofs.Words.{◌++◌, CallOf}
 use Rattle.no_std_io2.proofs.CallsLemmas.{made_then}
 use Rattle.promises.proofs.CallsEnd.{ends_after_both, writes_end}
 use Rattle.promises.proofs.bytes.continues_with_the_rest.Goals as goal

@@ -1,8 +1,5 @@
 -- The prover does not join the calls of the `write_all` and the flush.
-use Rattle.std.proofs.lemmas.Grind.{common_steps}
-use Rattle.std.proofs.Common.{◌++◌, [], ◌∷◌, arith}
-use Rattle.no_std_io2.specs.Write.{Flushed}
-use Rattle.no_std_io2.specs.Writers.{CallOf}
+use Rattle.no_std_io2.proofs.Words.{common_steps, ◌++◌, [], ◌∷◌, arith, Flushed, CallOf}
 use Rattle.no_std_io2.proofs.CallsLemmas.{made_more}
 use Rattle.promises.proofs.CallsEnd.{all_end, flushed_end}
 use Rattle.promises.proofs.bytes.keeps_what_is_out.Goals as goal

@@ -1,8 +1,6 @@
 -- The prover does not find what takes all calls of the run: the bytes and the bound.
-use Rattle.std.proofs.Common.{subst, sym}
-use Rattle.no_std_io2.specs.Writers.{TakesAll}
-use Rattle.io_bench.proofs.RunCharges.{run_made}
-use Rattle.io_bench.proofs.ClosedLemmas.{closes}
+use Rattle.no_std_io2.proofs.Words.{subst, sym, TakesAll}
+use Rattle.io_bench.proofs.{RunCharges.{run_made}, ClosedLemmas.{closes}}
 use Rattle.promises.proofs.calls.bounds_the_writes_of_a_run.Goals as goal
 
 pub returns-in-Ok-clause-bytes : goal.returns-in-Ok-clause-bytes

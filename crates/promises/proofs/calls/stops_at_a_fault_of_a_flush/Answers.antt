@@ -1,7 +1,6 @@
 -- The prover does not find which call is the last, which takes an induction over the calls.
-use Rattle.promises.proofs.CallsEnd.{flush_ends, flush_flushed}
-use Rattle.no_std_io2.specs.BufWriter.{writer_buffer, writer_inner}
-use Rattle.promises.proofs.Nothing.{second}
+use Rattle.no_std_io2.proofs.Words.{writer_buffer, writer_inner}
+use Rattle.promises.proofs.{CallsEnd.{flush_ends, flush_flushed}, Nothing.{second}}
 use Rattle.promises.proofs.calls.stops_at_a_fault_of_a_flush.Goals as goal
 
 pub returns-clause-calls : goal.returns-clause-calls

@@ -1,6 +1,5 @@
 -- The prover does not count inner calls.
-use Rattle.no_std_io2.specs.Write.{calls_for}
-use Rattle.no_std_io2.specs.BufWriter.{writer_inner, writer_buffer, FlushCalls}
+use Rattle.no_std_io2.proofs.Words.{calls_for, writer_inner, writer_buffer, FlushCalls}
 use Rattle.no_std_io2.proofs.BufWriterCalls.{flush_counts}
 use Rattle.io_bench.proofs.StepCosts.{step_cost}
 use Rattle.promises.proofs.counts.counts_a_flush.Goals as goal

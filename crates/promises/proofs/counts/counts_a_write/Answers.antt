@@ -1,9 +1,8 @@
 -- The prover does not count inner calls.
-use Rattle.no_std_io2.specs.BufWriter.{writer_inner, writer_buffer, writing_calls, WriteCalls}
+use Rattle.no_std_io2.proofs.Words.{writer_inner, writer_buffer, writing_calls, WriteCalls}
 use Rattle.no_std_io2.proofs.BufWriterCalls.{write_counts}
-use Rattle.io_bench.proofs.StepCosts.{step_cost}
+use Rattle.io_bench.proofs.{StepCosts.{step_cost}, ClosedLemmas.{tallied_writer, tally_meters}}
 use Rattle.io_bench.specs.Tally.{tally_writes}
-use Rattle.io_bench.proofs.ClosedLemmas.{tallied_writer, tally_meters}
 use Rattle.promises.proofs.counts.counts_a_write.Goals as goal
 
 pub returns : goal.returns

@@ -1,6 +1,5 @@
 -- The prover does not count inner calls, nor find that S > 0 leaves no call for an empty text.
-use Rattle.std.proofs.Common.{ap, ◌∙◌, ◌+◌}
-use Rattle.no_std_io2.specs.BufWriter.{writer_inner, writer_buffer, WriteAllCalls}
+use Rattle.no_std_io2.proofs.Words.{ap, ◌∙◌, ◌+◌, writer_inner, writer_buffer, WriteAllCalls}
 use Rattle.no_std_io2.proofs.BufWriterCalls.{writing_all_calls, write_all_counts}
 use Rattle.io_bench.proofs.StepCosts.{step_cost, writing_all-is}
 use Rattle.promises.proofs.counts.counts_a_write_all.Goals as goal

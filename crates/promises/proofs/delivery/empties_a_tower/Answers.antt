@@ -1,6 +1,5 @@
 -- The prover does not split the bytes that the whole tower holds into those of its levels.
-use Rattle.no_std_io2.specs.BufWriter.{writer_inner, writer_buffer}
-use Rattle.no_std_io2.specs.LineWriter.{line_inner, line_buffer}
+use Rattle.no_std_io2.proofs.Words.{writer_inner, writer_buffer, line_inner, line_buffer}
 use Rattle.promises.proofs.Nothing.{three}
 use Rattle.promises.proofs.delivery.empties_a_tower.Goals as goal
 

@@ -1,8 +1,6 @@
 -- The prover does not compare the held bytes with those of the content.
-use Rattle.std.proofs.Common.{◌≡◌, ℕ, ◌-◌, Ok, Err, ◌∙◌, ap, arith, length, refl, subst}
-use Rattle.no_std_io2.specs.declared.io.SeekFrom.TheVariants.{Start}
-use Rattle.no_std_io2.specs.Seek.{Seeks}
-use Rattle.no_std_io2.specs.BufReader.{reader_held, store_before}
+use Rattle.no_std_io2.proofs.Words.{◌≡◌, ℕ, ◌-◌, Ok, Err, ◌∙◌, ap, arith, length, refl, subst, reader_held, store_before}
+use Rattle.no_std_io2.specs.{declared.io.SeekFrom.TheVariants.{Start}, Seek.{Seeks}}
 use Rattle.promises.proofs.ToldAfter.{store_after, store_below}
 use Rattle.promises.proofs.reads.goes_on_after_a_seek_below.Goals as goal
 

@@ -1,13 +1,7 @@
 -- Within the buffer no inner call is made, and the border moves.
-use Rattle.std.proofs.Common.{ℤ, refl, subst}
-use Rattle.std.proofs.lemmas.Int.{to_z-of_z}
-use Rattle.std.specs.Int.{w64}
-use Rattle.no_std_io2.specs.Read.{tells}
-use Rattle.no_std_io2.proofs.Readers.{reader}
-use Rattle.no_std_io2.specs.BufReader.{reader_held, reader_behind, reader_inner, MovesBelow}
-use Rattle.no_std_io2.proofs.BufferedReads.{steps_over}
-use Rattle.no_std_io2.proofs.BufReaderRoom.{held-le}
-use Rattle.no_std_io2.proofs.BufReaderSeeks.{seeker}
+use Rattle.no_std_io2.proofs.Words.{ℤ, refl, subst, to_z-of_z, w64, tells, reader_held, reader_behind, reader_inner}
+use Rattle.no_std_io2.proofs.{Readers.{reader}, BufferedReads.{steps_over}, BufReaderRoom.{held-le}, BufReaderSeeks.{seeker}}
+use Rattle.no_std_io2.specs.BufReader.{MovesBelow}
 use Rattle.promises.proofs.reads.moves_inside_its_buffer.Goals as goal
 
 pub returns : goal.returns

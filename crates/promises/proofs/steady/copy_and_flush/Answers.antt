@@ -1,9 +1,8 @@
 -- The prover does not join what the copy and the flush did, nor find that neither can fail by the writer.
-use Rattle.std.proofs.Common.{◌++◌, ◌∙◌, ap}
-use Rattle.no_std_io2.specs.Events.{bytes}
-use Rattle.no_std_io2.proofs.MovesLemmas.{Moves-steady}
+use Rattle.no_std_io2.proofs.Words.{◌++◌, ◌∙◌, ap, bytes}
+use Rattle.no_std_io2.proofs.{MovesLemmas.{Moves-steady}}
+use Rattle.no_std_io2.proofs.{CopyLemmas.{took_told, copied_ok, copied_err, copies_steadily, stays_steady, flushed}}
 use Rattle.no_std_io2.specs.Copy.{counted}
-use Rattle.no_std_io2.proofs.CopyLemmas.{took_told, copied_ok, copied_err, copies_steadily, stays_steady, flushed}
 use Rattle.promises.proofs.steady.copy_and_flush.Goals as goal
 
 pub returns : goal.returns

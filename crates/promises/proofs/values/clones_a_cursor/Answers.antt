@@ -1,7 +1,6 @@
 -- A clone of bytes is these bytes.
-use Rattle.std.proofs.Common.{◌≡◌}
-use Rattle.std.proofs.lemmas.Result.{IfOk-weaker}
-use Rattle.std.proofs.lemmas.List.Elements.{same_from_all_zip}
+use Rattle.no_std_io2.proofs.Words.{◌≡◌}
+use Rattle.std.proofs.{lemmas.Result.{IfOk-weaker}, lemmas.List.Elements.{same_from_all_zip}}
 use Rattle.no_std_io2.specs.Cursor.{cursor_inner}
 use Rattle.promises.proofs.values.clones_a_cursor.Goals as goal
 

@@ -1,5 +1,5 @@
 -- The byte that was read is the next one of the store; the other fields of the law are found.
-use Rattle.std.proofs.Common.{rules, arith}
+use Rattle.no_std_io2.proofs.Words.{rules, arith}
 use Rattle.no_std_io2.proofs.WriteExits.{not_empty}
 use Rattle.examples.proofs.FlashLemmas.{flash_takes}
 use Rattle.examples.proofs.flash.FlashFileRead.read.Goals as goal

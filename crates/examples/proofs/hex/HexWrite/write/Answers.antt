@@ -1,6 +1,5 @@
 -- Whether a half byte was finished decides what was written; the search does not split into these cases.
-use Rattle.std.proofs.Common.{◌≡◌, take, ◌∷◌, [], Some, refl, sym, subst, rules}
-use Rattle.no_std_io2.specs.Write.{Moves}
+use Rattle.no_std_io2.proofs.Words.{◌≡◌, take, ◌∷◌, [], Some, refl, sym, subst, rules, Moves}
 use Rattle.no_std_io2.proofs.MovesLemmas.{Moves-then}
 use Rattle.examples.specs.Hex.{hex_told, Encodes}
 use Rattle.examples.proofs.HexLemmas.{encodes_join, writes_half}

@@ -1,5 +1,5 @@
 -- The law, field by field: the form in which the check names the fields that it cannot prove.
-use Rattle.std.proofs.Common.{rules}
+use Rattle.no_std_io2.proofs.Words.{rules}
 use Rattle.examples.proofs.narrow.NarrowWrite.write.Goals as goal
 
 pub returns : goal.returns

@@ -1,5 +1,5 @@
 -- The prover does not find which events the bytes so far are.
-use Rattle.std.proofs.Common.{arith, sym, ◌∙◌}
+use Rattle.no_std_io2.proofs.Words.{arith, sym, ◌∙◌}
 use Rattle.io_bench.specs.Feed.{feed_left}
 use Rattle.io_bench.proofs.FeedLemmas.{given_next, given_all}
 use Rattle.io_bench.proofs.feed.Feed.give.Goals as goal

@@ -1,5 +1,5 @@
 -- The first n leading bytes were given, and the events after them are left.
-use Rattle.std.proofs.Common.{◌≡◌, ◌-◌, ◌≤◌, length, take, drop}
+use Rattle.no_std_io2.proofs.Words.{◌≡◌, ◌-◌, ◌≤◌, length, take, drop}
 use Rattle.io_bench.specs.Feed.{feed_left, feed_piece, leading_bytes}
 use Rattle.io_bench.proofs.feed.Feed.give.Given as goal
 
