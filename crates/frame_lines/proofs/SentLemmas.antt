@@ -1,13 +1,9 @@
 -- A line that was logged, and then sent.
-use Rattle.std.proofs.lemmas.List.{nil_from_length}
-use Rattle.std.proofs.Common.{◌≡◌, ◌≤◌, ◌++◌, List, ℕ, [], length, Option, Result, Ok, Err, OnOk, false, nat_lt, ap, arith, inl, inr, length-append}
-use Rattle.std.proofs.lemmas.Bool.Decides.{nat_tests}
+use Rattle.no_std_io2.proofs.Words.{nil_from_length, ◌≡◌, ◌≤◌, ◌++◌, List, ℕ, [], length, Option, Result, Ok, Err, OnOk, false, nat_lt, ap}
+use Rattle.no_std_io2.proofs.Words.{arith, inl, inr, length-append, nat_tests, call_mishap, Moves, Writer}
 use Rattle.no_std_io2.specs.declared.io.Error.{Error}
-use Rattle.no_std_io2.specs.Write.{call_mishap, Moves}
-use Rattle.no_std_io2.specs.Writers.{Writer}
 use Rattle.no_std_io2.proofs.MovesLemmas.{Moves-ends}
-use Rattle.line_log.specs.declared.LineLog.{LineLog}
-use Rattle.line_log.specs.Log.{LogsText, IsLogged, line_of, log_held, log_tells}
+use Rattle.line_log.specs.{declared.LineLog.{LineLog}, Log.{LogsText, IsLogged, line_of, log_held, log_tells}}
 use Rattle.frame_lines.specs.Printing.{PrintsPayload}
 
 -- if two writers hold nothing after `Ok`, the second holds nothing

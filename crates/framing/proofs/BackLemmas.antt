@@ -1,18 +1,17 @@
 -- Over the bytes of frames, those frames are what is given.
-use Rattle.std.proofs.Common.{◌≡◌, ℕ, ◌+◌, ◌<◌, ◌≤◌, ◌^◌, List, [], ◌∷◌, ◌++◌, length, take, drop, All, Option, Some, None}
-use Rattle.std.proofs.Common.{if◌then◌else◌, Bool, false, Result, Ok, Err, IsSomeAnd, refl, sym, ap, subst, ◌∙◌, inl, inr}
-use Rattle.std.proofs.{Common.{arith, append_assoc, append-nil, length-append, length-take}, Math.Seq.{take-append_seam, drop-append_seam}}
-use Rattle.std.proofs.lemmas.List.{take-append-le, Elements.{All-head}}
+use Rattle.no_std_io2.proofs.Words.{◌≡◌, ℕ, ◌+◌, ◌<◌, ◌≤◌, ◌^◌, List, [], ◌∷◌, ◌++◌, length, take, drop, Option, Some, None, if◌then◌else◌}
+use Rattle.no_std_io2.proofs.Words.{Bool, false, Result, Ok, Err, IsSomeAnd, refl, sym, ap, subst, ◌∙◌, inl, inr, arith, append_assoc}
+use Rattle.no_std_io2.proofs.Words.{append-nil, length-append, length-take, take-append_seam, drop-append_seam, take-append-le, IsFault}
+use Rattle.no_std_io2.proofs.Words.{Event, fails, bytes, events_of, HasNoFault, first_fault, AreTaken, to_come, IsAtEnd, Reader, tells}
+use Rattle.no_std_io2.proofs.Words.{Told, behind_held}
+use Rattle.std.proofs.{Common.{All}, lemmas.List.Elements.{All-head}}
 use Rattle.std.specs.Int.{w32, to_le_bytes, from_le_bytes}
-use Rattle.no_std_io2.specs.{declared.io.Error.{Error}, Errors.{IsFault}, Events.{Event, fails, bytes, events_of, HasNoFault}}
-use Rattle.no_std_io2.specs.{Events.{first_fault}, Reads.{GathersTo, Took}, Takes.{AreTaken, to_come, IsAtEnd}, Read.{Reader, tells}}
-use Rattle.no_std_io2.specs.{Write.{Told}, BufReader.{behind_held}}
-use Rattle.no_std_io2.proofs.EventLemmas.{bytes-append, bytes-behind, HasNoFault-append, HasNoFault-events_of}
-use Rattle.no_std_io2.proofs.GivenPieces.{first_fault-append}
-use Rattle.framing.specs.{Frames.{frame, frames, told_length, IsPart}, Taking.{seen_bytes, reads_from, frame_to_come, given_frame}}
-use Rattle.framing.specs.{Taking.{EndsFrame, TakesFrame}, Back.{AreToCome, GivesBack, WentOut}}
-use Rattle.framing.specs.declared.reader.FrameReader.{FrameReader}
-use Rattle.no_std_io2.proofs.ReadsLemmas.{Reads-takes}
+use Rattle.no_std_io2.specs.{declared.io.Error.{Error}, Reads.{GathersTo, Took}}
+use Rattle.no_std_io2.proofs.{EventLemmas.{bytes-append, bytes-behind, HasNoFault-append, HasNoFault-events_of}}
+use Rattle.no_std_io2.proofs.{GivenPieces.{first_fault-append}, ReadsLemmas.{Reads-takes}}
+use Rattle.framing.specs.{Frames.{frame, frames, told_length, IsPart}}
+use Rattle.framing.specs.{Taking.{seen_bytes, reads_from, frame_to_come, given_frame, EndsFrame, TakesFrame}}
+use Rattle.framing.specs.{Back.{AreToCome, GivesBack, WentOut}, declared.reader.FrameReader.{FrameReader}}
 use Rattle.framing.proofs.SeenLemmas.{told_header, some_room}
 
 -- the first bytes of a frame say the length of its payload

@@ -1,11 +1,11 @@
 -- Frames are sent one after another.
-use Rattle.std.proofs.Common.{◌==◌, ◌<◌, ◌-◌, Bool, true, false, true≢false, length, take, drop, get_or, take_all, arith, Bor, eqb-true}
-use Rattle.std.proofs.Common.{◌≡◌, ℕ, List, [], ◌∷◌, ◌++◌, Ok, map, refl, sym, ap, subst, ◌∙◌, append_assoc, append-nil, inl, inr}
-use Rattle.std.proofs.lemmas.List.{nil_from_length}
-use Rattle.no_std_io2.specs.{Writers.{Writer}, Write.{Moves}}
+use Rattle.no_std_io2.proofs.Words.{◌==◌, ◌<◌, ◌-◌, Bool, true, false, true≢false, length, take, drop, get_or, arith, ◌≡◌, ℕ, List, [], ◌∷◌}
+use Rattle.no_std_io2.proofs.Words.{◌++◌, Ok, map, refl, sym, ap, subst, ◌∙◌, append_assoc, append-nil, inl, inr, nil_from_length, Writer}
+use Rattle.no_std_io2.proofs.Words.{Moves}
+use Rattle.std.proofs.Common.{take_all, Bor, eqb-true}
 use Rattle.no_std_io2.proofs.MovesLemmas.{Moves-refl, Moves-trans}
-use Rattle.framing.specs.{declared.writer.FrameWriter.{FrameWriter}, Frames.{frame, frames}, Sending.{writer_tells, PutsEach, SendsFrame}}
-use Rattle.framing.specs.Sending.{SentSoFar}
+use Rattle.framing.specs.{declared.writer.FrameWriter.{FrameWriter}, Frames.{frame, frames}}
+use Rattle.framing.specs.{Sending.{writer_tells, PutsEach, SendsFrame, SentSoFar}}
 
 -- one frame more
 frames_more : (ps : List (List ℕ)) (p : List ℕ) → frames (ps ++ p ∷ []) ≡ frames ps ++ frame p

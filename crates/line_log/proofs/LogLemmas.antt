@@ -1,17 +1,9 @@
 -- A line is put into a buffer, and then all is sent.
-use Rattle.std.proofs.Common.{Some}
-use Rattle.std.proofs.lemmas.List.{nil_from_length}
-use Rattle.std.proofs.Common.{◌≡◌, ℕ, ◌+◌, ◌≤◌, List, [], length, Result, Ok, Err, OnOk}
-use Rattle.std.proofs.Common.{refl, arith, inl, inr}
-use Rattle.no_std_io2.specs.declared.io.Error.{Error}
-use Rattle.no_std_io2.specs.Writers.{Writer}
-use Rattle.no_std_io2.specs.declared.io.BufWriter.{BufWriter}
-use Rattle.no_std_io2.specs.Errors.{error_kind}
-use Rattle.no_std_io2.specs.Write.{Moves, WriteCall, call_mishap, none as no_write}
-use Rattle.no_std_io2.specs.BufWriter.{writer_inner, writer_buffer, writer_told, TakesStep, WayCalls, SendCalls, Puts}
-use Rattle.no_std_io2.proofs.MovesLemmas.{Moves-ends, Moves-steady}
-use Rattle.no_std_io2.proofs.StepLemmas.{then_stops, then_goes_on}
-use Rattle.no_std_io2.proofs.WritesFacts.{writes_left}
+use Rattle.no_std_io2.proofs.Words.{Some, nil_from_length, ◌≡◌, ℕ, ◌+◌, ◌≤◌, List, [], length, Result, Ok, Err, OnOk, refl, arith, inl, inr}
+use Rattle.no_std_io2.proofs.Words.{Writer, error_kind, Moves, WriteCall, call_mishap, none as no_write, writer_inner, writer_buffer}
+use Rattle.no_std_io2.proofs.Words.{writer_told, TakesStep, WayCalls, SendCalls}
+use Rattle.no_std_io2.specs.{declared.io.Error.{Error}, declared.io.BufWriter.{BufWriter}, BufWriter.{Puts}}
+use Rattle.no_std_io2.proofs.{MovesLemmas.{Moves-ends, Moves-steady}, StepLemmas.{then_stops, then_goes_on}, WritesFacts.{writes_left}}
 use Rattle.line_log.specs.Log.{Logs, IsLogged}
 
 -- to make room for a whole buffer is to send

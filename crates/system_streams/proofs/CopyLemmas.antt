@@ -1,27 +1,15 @@
 -- A copy, piece by piece.
-use Rattle.std.proofs.Common.{◌≡◌, ℕ, ◌<◌, List, [], ◌∷◌, ◌++◌, ap, ◌∙◌, subst, arith, Ok, Err, Result, Some, None, Option, IfSome}
-use Rattle.std.proofs.Common.{append-nil, inl, inr, ◌⊎◌, Bool, length, length-append}
-use Rattle.std.proofs.lemmas.List.{nil_from_length}
-use Rattle.no_std_io2.specs.declared.io.Error.{Error}
-use Rattle.no_std_io2.specs.Errors.{error_kind}
-use Rattle.no_std_io2.specs.Events.{Event, bytes, HasNoFault}
-use Rattle.no_std_io2.specs.Takes.{Tells, IsAll, to_come}
-use Rattle.no_std_io2.specs.Read.{Reader, tells, ReadCall}
-use Rattle.no_std_io2.specs.Write.{Told, Moves, WriteCall, Flushed, Made}
-use Rattle.no_std_io2.specs.Writers.{Writer, CallOf, FlushOf}
-use Rattle.no_std_io2.specs.BufWriter.{with_buffer}
-use Rattle.no_std_io2.specs.Copy.{Copied, SidesCopied, side_error, HandsOn}
-use Rattle.no_std_io2.specs.declared.io.CopyError.{CopyError}
-use Rattle.no_std_io2.specs.declared.io.CopyError.TheVariants.{Read, Write}
-use Rattle.no_std_io2.specs.Towers.{Through}
-use Rattle.no_std_io2.specs.Faults.{HasFirstFault, TellsMishap, MayFail, IsFaultOf}
-use Rattle.no_std_io2.proofs.TakesLemmas.{takes_all}
-use Rattle.no_std_io2.proofs.MovesLemmas.{Moves-then, Moves-ends}
-use Rattle.no_std_io2.proofs.BufWriterLemmas.{Moves-bare}
-use Rattle.no_std_io2.proofs.CallsLemmas.{made_more}
-use Rattle.no_std_io2.proofs.CopyLemmas.{copied_ok, copied_err}
-use Rattle.no_std_io2.proofs.TowerCalls.{through}
-use Rattle.no_std_io2.proofs.FaultLemmas.{first_fault_taken, may_fail, no_failure}
+use Rattle.no_std_io2.proofs.Words.{◌≡◌, ℕ, ◌<◌, List, [], ◌∷◌, ◌++◌, ap, ◌∙◌, subst, arith, Ok, Err, Result, Some, None, Option}
+use Rattle.no_std_io2.proofs.Words.{append-nil, inl, inr, ◌⊎◌, Bool, length, length-append, nil_from_length, error_kind, Event, bytes}
+use Rattle.no_std_io2.proofs.Words.{HasNoFault, Tells, to_come, Reader, tells, ReadCall, Told, Moves, WriteCall, Flushed, Made, Writer}
+use Rattle.no_std_io2.proofs.Words.{CallOf, with_buffer, Copied, Through}
+use Rattle.std.proofs.Common.{IfSome}
+use Rattle.no_std_io2.specs.{declared.io.Error.{Error}, Takes.{IsAll}, Writers.{FlushOf}, Copy.{SidesCopied, side_error, HandsOn}}
+use Rattle.no_std_io2.specs.{declared.io.CopyError.{CopyError}, declared.io.CopyError.TheVariants.{Read, Write}}
+use Rattle.no_std_io2.specs.{Faults.{HasFirstFault, TellsMishap, MayFail, IsFaultOf}}
+use Rattle.no_std_io2.proofs.{TakesLemmas.{takes_all}, MovesLemmas.{Moves-then, Moves-ends}, BufWriterLemmas.{Moves-bare}}
+use Rattle.no_std_io2.proofs.{CallsLemmas.{made_more}, CopyLemmas.{copied_ok, copied_err}, TowerCalls.{through}}
+use Rattle.no_std_io2.proofs.{FaultLemmas.{first_fault_taken, may_fail, no_failure}}
 use Rattle.system_streams.specs.Copies.{CopiesAll, HandsAndFlushes, HandsThrough, BufferCalls}
 
 -- a copy, and then a flush

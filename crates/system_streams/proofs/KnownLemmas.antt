@@ -1,15 +1,11 @@
 -- What one read takes of the events, as a reader of the system's says it.
-use Rattle.std.proofs.Common.{◌≡◌, ℕ, List, [], ◌∷◌, take, Option, None, Some, Ok, Err, Result, sym, ap, subst, ◌∙◌}
-use Rattle.std.specs.Prelude.{option_map}
-use Rattle.std.specs.Option.{IfSome}
-use Rattle.std.specs.Io.KnownBytes.{Consumes, Keeps, ReadConsumes, IsAtEnd as IsKnownEnd}
-use Rattle.std.specs.declared.io.Error as Std
+use Rattle.no_std_io2.proofs.Words.{◌≡◌, ℕ, List, [], ◌∷◌, take, Option, None, Some, Ok, Err, Result, sym, ap, subst, ◌∙◌, Event, fails}
+use Rattle.no_std_io2.proofs.Words.{events_of, bytes, AreTaken, Reader, tells, ReadLaw}
+use Rattle.std.specs.{Prelude.{option_map}, Option.{IfSome}, Io.KnownBytes.{Consumes, Keeps, ReadConsumes, IsAtEnd as IsKnownEnd}}
 use Rattle.no_std_io2.specs.declared.io.Error.{Error}
-use Rattle.no_std_io2.specs.Events.{Event, fails, events_of, bytes}
-use Rattle.no_std_io2.specs.Takes.{AreTaken}
-use Rattle.no_std_io2.specs.Read.{Reader, tells, ReadLaw}
 use Rattle.no_std_io2.proofs.EventLemmas.{bytes-append, bytes-events_of}
 use Rattle.system_streams.specs.ToStd.{SameAnswer, bytes_to_come}
+use Rattle.std.specs.declared.io.Error as Std
 
 -- the bytes of events that are gone are gone from the bytes
 gone : (E F : Option (List Event)) (P : List Event) → AreTaken E P F → Consumes (option_map bytes E) (option_map bytes F) (bytes P)

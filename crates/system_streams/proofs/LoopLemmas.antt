@@ -1,26 +1,17 @@
 -- What the reads of a patient give.
-use Rattle.std.proofs.Common.{◌≡◌, ℕ, zero, suc, ◌+◌, ◌<◌, ◌≤◌, List, [], ◌∷◌, ◌++◌, Option, None, Some, Result, Ok, Err, length, take}
-use Rattle.std.proofs.Common.{refl, sym, ap, subst, ◌∙◌, arith, inl, inr, ◌⊎◌, le_refl, append-nil, length-append, IfOk}
-use Rattle.std.specs.Prelude.{min, ⊤}
-use Rattle.std.proofs.KnownBytes.{Consumes-nil, Consumes-trans}
-use Rattle.std.proofs.lemmas.List.{take_all}
+use Rattle.no_std_io2.proofs.Words.{◌≡◌, ℕ, zero, suc, ◌+◌, ◌<◌, ◌≤◌, List, [], ◌∷◌, ◌++◌, Option, None, Some, Result, Ok, Err, length}
+use Rattle.no_std_io2.proofs.Words.{take, refl, sym, ap, subst, ◌∙◌, arith, inl, inr, ◌⊎◌, le_refl, append-nil, length-append, IfOk, ⊤}
+use Rattle.no_std_io2.proofs.Words.{IsFault, Reader, ReadLaw, ReadCall, Gave, bytes_given, answered, GaveLaw, ReadCallLaw, GathersUntil}
+use Rattle.no_std_io2.proofs.Words.{IsRest, ExactCalls, Made, IsFront}
+use Rattle.std.specs.{Prelude.{min}, Result.{IsErrAnd}, Io.KnownBytes.{Consumes, Keeps, ReadConsumes}}
+use Rattle.std.proofs.{KnownBytes.{Consumes-nil, Consumes-trans}, lemmas.List.{take_all}}
 use lib.Seq.{take-append_seam}
-use Rattle.std.specs.Result.{IsErrAnd}
-use Rattle.std.specs.Io.KnownBytes.{Consumes, Keeps, ReadConsumes}
+use Rattle.no_std_io2.specs.{declared.io.Error.{Error}, Errors.{is_interruption}, Read.{gave, ExactMade}}
+use Rattle.no_std_io2.proofs.{CallsLemmas.{made_split}, EventLemmas.{length-events_of}, ReadsAdd.{EachAdds, gathers_add}}
+use Rattle.system_streams.specs.{declared.patient.Patient.{Patient}, declared.system.SystemRead.{Ghosts as Source}}
+use Rattle.system_streams.specs.{Patient.{patient_device, patient_turns, patient_taken, patient_error, PatientReads, AsksOnce, AsksDevice, Remembers, Fills}}
+use Rattle.system_streams.specs.{Turns.{AnswersRead, GivesOn, EndsReads, IsOutOfTurns, IsPlainInterruption, IsDeviceFault}}
 use Rattle.std.specs.declared.io.Error as Std
-use Rattle.no_std_io2.specs.declared.io.Error.{Error}
-use Rattle.no_std_io2.specs.Errors.{is_interruption, IsFault}
-use Rattle.no_std_io2.specs.Read.{Reader, ReadLaw, ReadCall, Gave, gave, bytes_given, answered, GaveLaw, ReadCallLaw}
-use Rattle.no_std_io2.specs.Read.{GathersUntil, IsRest, ExactCalls, ExactMade}
-use Rattle.no_std_io2.specs.Write.{Made, IsFront}
-use Rattle.no_std_io2.proofs.CallsLemmas.{made_split}
-use Rattle.no_std_io2.proofs.EventLemmas.{length-events_of}
-use Rattle.no_std_io2.proofs.ReadsAdd.{EachAdds, gathers_add}
-use Rattle.system_streams.specs.declared.patient.Patient.{Patient}
-use Rattle.system_streams.specs.declared.system.SystemRead.{Ghosts as Source}
-use Rattle.system_streams.specs.Patient.{patient_device, patient_turns, patient_taken, patient_error, PatientReads, AsksOnce, AsksDevice}
-use Rattle.system_streams.specs.Patient.{Remembers, Fills}
-use Rattle.system_streams.specs.Turns.{AnswersRead, GivesOn, EndsReads, IsOutOfTurns, IsPlainInterruption, IsDeviceFault}
 
 -- what a patient reader tells
 abbrev pub patient_reader : {D : Type 0} → Source D → Reader (Patient D)

@@ -1,8 +1,8 @@
 -- The lines of members, one after another.
-use Rattle.std.proofs.Common.{◌≡◌, ◌⊎◌, List, ℕ, [], ◌∷◌, ◌++◌, Result, Ok, sym, ap, ◌∙◌, append-nil, append_assoc, inl, inr, IsErrAnd}
-use Rattle.no_std_io2.specs.declared.io.Error.{Error}
-use Rattle.no_std_io2.specs.Text.{IsTextError}
-use Rattle.no_std_io2.specs.Write.{Told, Moves, MovesFront}
+use Rattle.no_std_io2.proofs.Words.{◌≡◌, ◌⊎◌, List, ℕ, [], ◌∷◌, ◌++◌, Result, Ok, sym, ap, ◌∙◌, append-nil, append_assoc, inl, inr, Told}
+use Rattle.no_std_io2.proofs.Words.{Moves, MovesFront}
+use Rattle.std.proofs.Common.{IsErrAnd}
+use Rattle.no_std_io2.specs.{declared.io.Error.{Error}, Text.{IsTextError}}
 use Rattle.no_std_io2.proofs.MovesLemmas.{Moves-then, MovesFront-whole}
 use Rattle.tar_reader.specs.declared.header.Header.{Header}
 use Rattle.tar_list.specs.Listing.{member_line, member_lines, PrintsMember}

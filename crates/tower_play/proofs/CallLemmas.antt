@@ -1,9 +1,7 @@
 -- The calls of a script, one after another.
-use Rattle.std.proofs.Common.{ℕ, ◌+◌, ◌<◌, List, [], ◌∷◌, ◌++◌, length, get_or, take, refl, subst, sym}
-use Rattle.std.proofs.lemmas.List.{take_more}
+use Rattle.no_std_io2.proofs.Words.{ℕ, ◌+◌, ◌<◌, List, [], ◌∷◌, ◌++◌, length, get_or, take, refl, subst, sym, take_more}
 use Rattle.io_bench.specs.declared.runs.Op.{Op}
-use Rattle.tower_play.specs.declared.script.Step.{Step}
-use Rattle.tower_play.specs.Calls.{IsNext, AreOps}
+use Rattle.tower_play.specs.{declared.script.Step.{Step}, Calls.{IsNext, AreOps}}
 
 -- one call more
 ops_more : (steps : List Step) (texts : List ℕ) (ops : List Op) (rest : List ℕ) (step : Step) (op : Op) (next : List ℕ)

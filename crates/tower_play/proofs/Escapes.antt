@@ -1,7 +1,7 @@
 -- A text that is shown run by run.
-use Rattle.std.proofs.Common.{◌≡◌, ℕ, ◌+◌, ◌≤◌, ◌<◌, List, [], ◌∷◌, ◌++◌, length, take, drop, get_or, arith, append-nil}
-use Rattle.std.proofs.lemmas.List.{take_more}
-use Rattle.std.proofs.lemmas.Grind.{common_steps, flat_map-append}
+use Rattle.no_std_io2.proofs.Words.{◌≡◌, ℕ, ◌+◌, ◌≤◌, ◌<◌, List, [], ◌∷◌, ◌++◌, length, take, drop, get_or, arith, append-nil, take_more}
+use Rattle.no_std_io2.proofs.Words.{common_steps}
+use Rattle.std.proofs.lemmas.Grind.{flat_map-append}
 use Rattle.tower_play.specs.Script.{escaped, escaped_byte}
 
 -- one byte more is shown

@@ -1,10 +1,8 @@
 -- The text after the letter of a line that makes a call.
-use Rattle.std.proofs.Common.{◌≡◌, ℕ, List, ◌∷◌, get_or, subst, ap, arith}
+use Rattle.no_std_io2.proofs.Words.{◌≡◌, ℕ, List, ◌∷◌, get_or, subst, ap, arith}
 use Rattle.io_bench.specs.declared.faulty.Act.TheVariants.{Take, Zero, Fail}
-use Rattle.tower_play.specs.declared.script.Line.{Line}
-use Rattle.tower_play.specs.declared.script.Line.TheVariants.{Empty, Act, Write, WriteAll, Flush, Bad}
-use Rattle.tower_play.specs.Script.{IsTextArgument}
-use Rattle.tower_play.specs.Lines.{Says, IsNoBad, IsGood}
+use Rattle.tower_play.specs.{declared.script.Line.{Line}, declared.script.Line.TheVariants.{Empty, Act, Write, WriteAll, Flush, Bad}}
+use Rattle.tower_play.specs.{Script.{IsTextArgument}, Lines.{Says, IsNoBad, IsGood}}
 
 -- of a `w`
 said_write : (rest : List ℕ) (said : Line) → Says (119 ∷ rest) said → IsNoBad said

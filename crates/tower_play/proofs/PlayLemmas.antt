@@ -1,25 +1,13 @@
 -- What a play writes.
-use Rattle.no_std_io2.specs.Writers.{CallOf}
-use Rattle.std.proofs.Common.{◌≡◌, ℕ, List, [], ◌∷◌, ◌++◌, subst, ap, refl, append_assoc, Ok, Err, Result, IfOk, ◌∙◌}
-use Rattle.no_std_io2.specs.declared.io.Error.{Error}
-use Rattle.no_std_io2.specs.Errors.{error_kind}
-use Rattle.no_std_io2.specs.Write.{Told, Moves, MovesFront}
-use Rattle.no_std_io2.proofs.MovesLemmas.{Moves-ends}
-use Rattle.no_std_io2.specs.Faults.{MayFail}
-use Rattle.no_std_io2.proofs.FaultLemmas.{may_fail}
-use Rattle.no_std_io2.specs.Writers.{Writer}
-use Rattle.no_std_io2.specs.Write.{WriteCall, Made}
-use Rattle.no_std_io2.specs.BufWriter.{InnerCalls, with_buffer}
-use Rattle.no_std_io2.specs.Towers.{Through}
-use Rattle.io_bench.specs.declared.faulty.Act.{Act}
-use Rattle.io_bench.specs.declared.faulty.Faulty.{Faulty}
-use Rattle.io_bench.specs.declared.runs.Op.{Op}
-use Rattle.io_bench.specs.Faulty.{acts_left}
-use Rattle.io_bench.specs.Runs.{Ran}
+use Rattle.no_std_io2.proofs.Words.{CallOf, ◌≡◌, ℕ, List, [], ◌∷◌, ◌++◌, subst, ap, refl, append_assoc, Ok, Err, Result, IfOk, ◌∙◌}
+use Rattle.no_std_io2.proofs.Words.{error_kind, Told, Moves, MovesFront, Writer, WriteCall, Made, InnerCalls, with_buffer, Through}
+use Rattle.no_std_io2.specs.{declared.io.Error.{Error}, Faults.{MayFail}}
+use Rattle.no_std_io2.proofs.{MovesLemmas.{Moves-ends}, FaultLemmas.{may_fail}}
+use Rattle.io_bench.specs.{declared.faulty.Act.{Act}, declared.faulty.Faulty.{Faulty}, declared.runs.Op.{Op}, Faulty.{acts_left}}
+use Rattle.io_bench.specs.{Runs.{Ran}}
 use Rattle.io_bench.proofs.RunLemmas.{below_none, below_more}
-use Rattle.tower_play.specs.declared.playing.Shape.{Shape}
-use Rattle.tower_play.specs.Report.{printed_report}
-use Rattle.tower_play.specs.Play.{WritesText, Shows, ShowsRun, TowerCalls, TwoLevels, fresh_told}
+use Rattle.tower_play.specs.{declared.playing.Shape.{Shape}, Report.{printed_report}}
+use Rattle.tower_play.specs.{Play.{WritesText, Shows, ShowsRun, TowerCalls, TwoLevels, fresh_told}}
 
 -- what follows from a fact of the value of an `Ok`
 pub ifok_map : {A E : Type 0} {P Q : A → Type 0} (r : Result A E) → ((a : A) → P a → Q a) → IfOk r P → IfOk r Q

@@ -1,21 +1,13 @@
 -- How the lines that were read so far make a script.
-use Rattle.std.proofs.Common.{◌≡◌, ℕ, ◌+◌, ◌-◌, ◌^◌, List, [], ◌∷◌, ◌++◌}
-use Rattle.std.proofs.Common.{false, Option, None, Some, refl, sym, subst, ap, ◌∙◌, arith, ◌<◌, length, length-append, append_assoc}
-use Rattle.std.proofs.Common.{Err, inl, inr, ◌⊎◌}
-use Rattle.std.proofs.lemmas.Grind.{common_steps}
-use Rattle.std.specs.Prelude.{min, is_some}
-use Rattle.std.specs.Option.{IfSome}
-use Rattle.no_std_io2.specs.declared.io.Error.{Error}
-use Rattle.no_std_io2.specs.Errors.{IsOutOfMemory}
-use Rattle.no_std_io2.specs.Events.{Event, fails, bytes_to_fault, first_fault}
-use Rattle.no_std_io2.specs.Takes.{Tells}
-use Rattle.no_std_io2.specs.Pieces.{without, pieces_given}
+use Rattle.no_std_io2.proofs.Words.{◌≡◌, ℕ, ◌+◌, ◌-◌, ◌^◌, List, [], ◌∷◌, ◌++◌, false, Option, None, Some, refl, sym, subst, ap, ◌∙◌, arith}
+use Rattle.no_std_io2.proofs.Words.{◌<◌, length, length-append, append_assoc, Err, inl, inr, ◌⊎◌, common_steps, is_some, IsOutOfMemory}
+use Rattle.no_std_io2.proofs.Words.{Event, fails, bytes_to_fault, first_fault, Tells, without}
+use Rattle.std.specs.{Prelude.{min}, Option.{IfSome}}
+use Rattle.no_std_io2.specs.{declared.io.Error.{Error}, Pieces.{pieces_given}, Faults.{HasFirstFault}}
 use Rattle.no_std_io2.proofs.GivenPieces.{GivesNext}
 use Rattle.io_bench.specs.PieceRuns.{GathersPieces}
 use Rattle.io_bench.proofs.PieceRunLemmas.{GatheredSoFar, GatheredToldSoFar, gathered_to}
-use Rattle.no_std_io2.specs.Faults.{HasFirstFault}
-use Rattle.tower_play.specs.declared.script.Script.{Script}
-use Rattle.tower_play.specs.Reading.{Adds, AddsAll, IsFreshScript, IsBadLine, IsFirstBad}
+use Rattle.tower_play.specs.{declared.script.Script.{Script}, Reading.{Adds, AddsAll, IsFreshScript, IsBadLine, IsFirstBad}}
 
 -- so many lines were read, and made the script, unless one of them was bad: then its number is known
 pub record ReadSoFar (d : ℕ) (old : Tells) (number : ℕ) (bad : Option ℕ) (script : Script) (now : Tells) : Type 0 where

@@ -1,9 +1,6 @@
 -- What the lines of a script are made of.
-use Rattle.std.proofs.Common.{◌≡◌, ℕ, zero, suc, true, nat_lt, List, [], ◌∷◌, arith}
-use Rattle.std.proofs.lemmas.Grind.{common_steps}
-use Rattle.std.proofs.lemmas.Bool.Decides.{nat_tests}
-use Rattle.std.specs.List.{list_all}
-use Rattle.std.specs.Str.{IsUtf8, IsAscii}
+use Rattle.no_std_io2.proofs.Words.{◌≡◌, ℕ, zero, suc, true, nat_lt, List, [], ◌∷◌, arith, common_steps, nat_tests}
+use Rattle.std.specs.{List.{list_all}, Str.{IsUtf8, IsAscii}}
 use Rattle.std.proofs.lemmas.Str.{IsUtf8-from_ascii}
 use Rattle.no_std_io2.specs.declared.io.ErrorKind.{ErrorKind}
 use Rattle.tower_play.specs.Script.{kind_name}

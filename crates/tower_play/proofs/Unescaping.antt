@@ -1,7 +1,6 @@
 -- The bytes that an escaped text stands for, byte by byte.
-use Rattle.std.proofs.Common.{◌≡◌, ◌≢◌, ℕ, ◌+◌, ◌<◌, Bool, true, false, List, [], ◌∷◌, ◌++◌, length, get_or, drop}
-use Rattle.std.proofs.Common.{Option, Some, None, refl, sym, arith, append-nil}
-use Rattle.std.proofs.lemmas.Grind.{common_steps}
+use Rattle.no_std_io2.proofs.Words.{◌≡◌, ◌≢◌, ℕ, ◌+◌, ◌<◌, Bool, true, false, List, [], ◌∷◌, ◌++◌, length, get_or, drop, Option, Some, None}
+use Rattle.no_std_io2.proofs.Words.{refl, sym, arith, append-nil, common_steps}
 use Rattle.tower_play.specs.Script.{before, unescaped, IsAppended}
 
 -- the text that is left, after a backslash that was read

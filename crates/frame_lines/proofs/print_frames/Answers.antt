@@ -1,10 +1,7 @@
 -- The prover does not find which frames were taken before the last `next`.
-use Rattle.std.proofs.Common.{[], ◌∷◌, ◌++◌, List, ℕ, take, None, Result, Ok, Err, inl, inr}
-use Rattle.std.proofs.lemmas.Result.{err_from_is_err_and}
+use Rattle.no_std_io2.proofs.Words.{[], ◌∷◌, ◌++◌, List, ℕ, take, None, Result, Ok, Err, inl, inr, err_from_is_err_and, Reader}
 use Rattle.no_std_io2.specs.declared.io.Error.{Error}
-use Rattle.no_std_io2.specs.Read.{Reader}
-use Rattle.framing.specs.declared.reader.FrameReader.{FrameReader}
-use Rattle.framing.specs.Taking.{TakesFrame}
+use Rattle.framing.specs.{declared.reader.FrameReader.{FrameReader}, Taking.{TakesFrame}}
 use Rattle.frame_lines.specs.Printing.{nothing, frame, PrintEnds}
 use Rattle.frame_lines.proofs.print_frames.Goals as goal
 

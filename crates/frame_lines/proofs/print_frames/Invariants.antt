@@ -1,5 +1,6 @@
 -- Frames were taken, and a line was printed for each.
-use Rattle.std.proofs.Common.{List, ℕ, replicate}
+use Rattle.no_std_io2.proofs.Words.{List, ℕ}
+use Rattle.std.proofs.Common.{replicate}
 use Rattle.no_std_io2.proofs.Readers.{reader}
 use Rattle.framing.specs.Taking.{frame_turns}
 use Rattle.frame_lines.specs.Printing.{PrintsEach}

@@ -1,5 +1,5 @@
 -- The prover does not find the text, which no argument names.
-use Rattle.std.proofs.Common.{None}
+use Rattle.no_std_io2.proofs.Words.{None}
 use Rattle.frame_lines.proofs.SentLemmas.{line_sent, line_flushed}
 use Rattle.frame_lines.proofs.print_line.Goals as goal
 

@@ -1,9 +1,7 @@
 -- The prover does not find that a list with no more items has the words that were taken.
-use Rattle.std.proofs.Common.{◌≡◌, ℕ, zero, suc, ◌<◌, true, false, Bool, List, [], ◌∷◌, ◌++◌, length, Option, Some, None}
-use Rattle.std.proofs.Common.{refl, sym, ap, ◌∙◌, arith}
-use Rattle.std.specs.Prelude.{is_some}
-use Rattle.std.specs.Option.{option_to_list}
-use Rattle.std.specs.Vec.Iter.{into_iter_items, into_iter_len}
+use Rattle.no_std_io2.proofs.Words.{◌≡◌, ℕ, zero, suc, ◌<◌, true, false, Bool, List, [], ◌∷◌, ◌++◌, length, Option, Some, None, refl, sym}
+use Rattle.no_std_io2.proofs.Words.{ap, ◌∙◌, arith, is_some}
+use Rattle.std.specs.{Option.{option_to_list}, Vec.Iter.{into_iter_items, into_iter_len}}
 use Rattle.iotower.proofs.two_words.Goals as goal
 
 -- if there is no more word, nothing is left

@@ -1,6 +1,5 @@
 -- The prover does not find the state in the middle, when the member was found and its bytes were not yet copied.
-use Rattle.std.proofs.Common.{◌≡◌, Result, Ok, Err, OnOk, refl, arith}
-use Rattle.std.proofs.lemmas.Grind.{common_steps}
+use Rattle.no_std_io2.proofs.Words.{◌≡◌, Result, Ok, Err, OnOk, refl, arith, common_steps}
 use Rattle.no_std_io2.specs.declared.io.Error.{Error}
 use Rattle.tar_list.proofs.copy_member.Goals as goal
 

@@ -1,8 +1,6 @@
 -- The prover does not find the members that were passed over: each end is a `comes_to` of the last `next`.
-use Rattle.std.proofs.Common.{[], ◌∷◌, ◌++◌, Some, None, Ok, Err, refl}
-use Rattle.std.proofs.lemmas.Result.{err_from_is_err_and}
-use Rattle.no_std_io2.proofs.FetchesLemmas.{fetches_none}
-use Rattle.no_std_io2.proofs.MovesLemmas.{Moves-refl, Moves-ends}
+use Rattle.no_std_io2.proofs.Words.{[], ◌∷◌, ◌++◌, Some, None, Ok, Err, refl, err_from_is_err_and}
+use Rattle.no_std_io2.proofs.{FetchesLemmas.{fetches_none}, MovesLemmas.{Moves-refl, Moves-ends}}
 use Rattle.tar_reader.proofs.MemberLemmas.{passes_none, comes_to, skips_member}
 use Rattle.tar_list.proofs.ListLemmas.{prints_more}
 use Rattle.tar_list.proofs.list.Goals as goal

@@ -1,12 +1,9 @@
 -- Members were passed over, and their lines were printed.
-use Rattle.std.proofs.Common.{List, ℕ, ◌≡◌, ◌++◌, [], Option, true, Ok, Result}
+use Rattle.no_std_io2.proofs.Words.{List, ℕ, ◌≡◌, ◌++◌, [], Option, true, Ok, Result, Fetches, Moves}
 use Rattle.no_std_io2.proofs.Readers.{lends}
 use Rattle.no_std_io2.specs.declared.io.Error.{Error}
-use Rattle.no_std_io2.specs.Reads.{Fetches}
-use Rattle.no_std_io2.specs.Write.{Moves}
-use Rattle.tar_reader.specs.declared.header.Header.{Header}
-use Rattle.tar_reader.specs.Archives.{archive_inner, left_of_member, gathered, to_pass, archive_turns}
-use Rattle.tar_reader.specs.Members.{Passes, Settles}
+use Rattle.tar_reader.specs.{declared.header.Header.{Header}, Archives.{archive_inner, left_of_member, gathered, to_pass, archive_turns}}
+use Rattle.tar_reader.specs.{Members.{Passes, Settles}}
 use Rattle.tar_list.specs.Listing.{member_lines}
 use Rattle.tar_list.proofs.list.Given as goal
 

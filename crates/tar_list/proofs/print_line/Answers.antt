@@ -1,8 +1,6 @@
 -- The prover does not find how the calls join: `MovesFront-join`, and if the second fails, `MovesFront-second`.
-use Rattle.std.proofs.Common.{inl}
-use Rattle.std.proofs.lemmas.Result.{err_from_is_err_and}
-use Rattle.no_std_io2.proofs.MovesLemmas.{MovesFront-join, MovesFront-second}
-use Rattle.no_std_io2.proofs.TextLemmas.{MovesFront-text}
+use Rattle.no_std_io2.proofs.Words.{inl, err_from_is_err_and}
+use Rattle.no_std_io2.proofs.{MovesLemmas.{MovesFront-join, MovesFront-second}, TextLemmas.{MovesFront-text}}
 use Rattle.tar_list.proofs.ListLemmas.{printed_whole}
 use Rattle.tar_list.proofs.print_line.Goals as goal
 

@@ -1,8 +1,6 @@
 -- The prover does not find the step of the buffer, whose error is ignored (`log_goes`), nor that a text has no newline.
-use Rattle.std.proofs.Common.{Contains, refl, le_refl, inl, inr, arith}
-use Rattle.std.proofs.lemmas.Grind.{common_steps}
-use Rattle.std.proofs.lemmas.Result.{err_from_is_err_and}
-use Rattle.no_std_io2.specs.Pieces.{newline}
+use Rattle.no_std_io2.proofs.Words.{refl, le_refl, inl, inr, arith, common_steps, err_from_is_err_and, newline}
+use Rattle.std.proofs.Common.{Contains}
 use Rattle.no_std_io2.proofs.LineLemmas.{contains_lacks}
 use Rattle.line_log.proofs.LogLemmas.{log_stops, log_goes}
 use Rattle.line_log.proofs.LineLog.log_bytes.Goals as goal

@@ -1,5 +1,6 @@
 -- The prover does not find that a text without an error was printed whole (`prints_output`).
-use Rattle.std.proofs.Common.{inl, ap, ◌∙◌, not}
+use Rattle.no_std_io2.proofs.Words.{inl, ap, ◌∙◌}
+use Rattle.std.proofs.Common.{not}
 use Rattle.no_std_io2.proofs.TextLemmas.{prints_output}
 use Rattle.line_log.specs.Text.{IsPrinted}
 use Rattle.line_log.proofs.TextLemmas.{true_or}

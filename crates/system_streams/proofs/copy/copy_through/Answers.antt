@@ -1,8 +1,5 @@
 -- The prover does not find what the buffers around a copy change: they hold nothing before and after (`passes_off`).
-use Rattle.std.proofs.Common.{ap, true, false}
-use Rattle.std.proofs.lemmas.Result.{err_from_is_err_and}
-use Rattle.no_std_io2.specs.BufWriter.{writer_inner, writer_buffer}
-use Rattle.no_std_io2.specs.LineWriter.{line_inner, line_buffer}
+use Rattle.no_std_io2.proofs.Words.{ap, true, false, err_from_is_err_and, writer_inner, writer_buffer, line_inner, line_buffer}
 use Rattle.system_streams.proofs.CopyLemmas.{passes_off, fault_through, is_steady, none_held, comes_apart, handed_through}
 use Rattle.system_streams.proofs.copy.copy_through.Goals as goal
 

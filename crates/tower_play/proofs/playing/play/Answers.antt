@@ -1,12 +1,8 @@
 -- The prover does not find the run that was shown (`shows_at`), nor how a failed write ended (`write_failed`, `flush_failed`).
-use Rattle.std.proofs.Common.{subst, inl, inr, IfSome}
-use Rattle.std.proofs.lemmas.Result.{err_from_is_err_and}
-use Rattle.no_std_io2.specs.Takes.{to_come}
-use Rattle.no_std_io2.specs.Read.{tells}
-use Rattle.no_std_io2.specs.Pieces.{newline}
+use Rattle.no_std_io2.proofs.Words.{subst, inl, inr, err_from_is_err_and, to_come, tells, newline}
+use Rattle.std.proofs.Common.{IfSome}
 use Rattle.no_std_io2.proofs.Readers.{reader}
-use Rattle.tower_play.specs.Play.{IsPlay}
-use Rattle.tower_play.specs.Reading.{IsRead}
+use Rattle.tower_play.specs.{Play.{IsPlay}, Reading.{IsRead}}
 use Rattle.tower_play.proofs.PlayLemmas.{shows_at, writes_text, write_failed, flush_failed}
 use Rattle.tower_play.proofs.playing.play.Goals as goal
 

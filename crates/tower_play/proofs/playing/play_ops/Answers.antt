@@ -1,8 +1,7 @@
 -- Each tower holds nothing at first, over a device that has taken nothing.
-use Rattle.std.proofs.Common.{[], refl, ap, sym, subst, ◌∙◌}
-use Rattle.no_std_io2.specs.Write.{told_out}
-use Rattle.no_std_io2.specs.BufWriter.{InnerCalls, writer_inner, writer_buffer}
-use Rattle.no_std_io2.specs.LineWriter.{LineCalls, line_inner, line_buffer}
+use Rattle.no_std_io2.proofs.Words.{[], refl, ap, sym, subst, ◌∙◌, told_out, InnerCalls, writer_inner, writer_buffer, line_inner}
+use Rattle.no_std_io2.proofs.Words.{line_buffer}
+use Rattle.no_std_io2.specs.LineWriter.{LineCalls}
 use Rattle.io_bench.specs.Faulty.{acts_left, with_acts}
 use Rattle.tower_play.specs.Play.{TowerCalls}
 use Rattle.tower_play.proofs.PlayLemmas.{ifok_map, one_level, two_levels}

@@ -1,4 +1,4 @@
-use Rattle.std.proofs.Common.{◌≡◌, ◌≤◌, ◌++◌, take, drop}
+use Rattle.no_std_io2.proofs.Words.{◌≡◌, ◌≤◌, ◌++◌, take, drop}
 use Rattle.tower_play.specs.Script.{escaped}
 use Rattle.tower_play.proofs.report.push_escaped.Given as goal
 

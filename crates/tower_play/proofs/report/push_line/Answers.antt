@@ -1,5 +1,6 @@
 -- The prover does not find the regrouping of four texts.
-use Rattle.std.proofs.Common.{◌++◌, codes, ap, ◌∙◌, append_assoc}
+use Rattle.no_std_io2.proofs.Words.{◌++◌, ap, ◌∙◌, append_assoc}
+use Rattle.std.proofs.Common.{codes}
 use Rattle.tower_play.proofs.report.push_line.Goals as goal
 
 pub returns : goal.returns

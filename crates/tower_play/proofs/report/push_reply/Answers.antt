@@ -1,5 +1,5 @@
 -- The prover does not find the printed text of the value, which `push_line` takes as an argument.
-use Rattle.std.proofs.Common.{refl}
+use Rattle.no_std_io2.proofs.Words.{refl}
 use Rattle.tower_play.proofs.report.push_reply.Goals as goal
 
 pub returns-in-Took : goal.returns-in-Took

@@ -1,4 +1,4 @@
-use Rattle.std.proofs.Common.{◌≡◌, take}
+use Rattle.no_std_io2.proofs.Words.{◌≡◌, take}
 use Rattle.std.specs.List.{flat_map}
 use Rattle.tower_play.specs.Report.{reply_line}
 use Rattle.tower_play.proofs.report.report_of.Given as goal

@@ -1,6 +1,5 @@
 -- The prover does not look at each kind.
-use Rattle.std.proofs.Common.{arith}
-use Rattle.std.proofs.lemmas.Grind.{common_steps}
+use Rattle.no_std_io2.proofs.Words.{arith, common_steps}
 use Rattle.tower_play.proofs.script.kind_of_name.Goals as goal
 
 pub returns-in_default-clause-none : goal.returns-in_default-clause-none

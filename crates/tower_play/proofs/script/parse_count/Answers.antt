@@ -1,10 +1,7 @@
 -- The prover does not find the value of one digit more (`digits_value_more`).
-use Rattle.std.proofs.Common.{◌≡◌, ◌+◌, ◌-◌, ◌*◌, ◌<◌, length, get_or, take, arith, rules, take_all}
-use Rattle.std.proofs.lemmas.Bool.Decides.{nat_tests}
-use Rattle.std.specs.Char.{digit_value}
-use Rattle.std.specs.Str.Parse.{digits_value}
-use Rattle.std.proofs.lemmas.Int.Digits.{digits_more, digits_value_more, digits_value-lt}
-use Rattle.std.proofs.lemmas.Str.Parse.{digit_at}
+use Rattle.no_std_io2.proofs.Words.{◌≡◌, ◌+◌, ◌-◌, ◌*◌, ◌<◌, length, get_or, take, arith, rules, nat_tests}
+use Rattle.std.proofs.{Common.{take_all}, lemmas.Int.Digits.{digits_more, digits_value_more, digits_value-lt}, lemmas.Str.Parse.{digit_at}}
+use Rattle.std.specs.{Char.{digit_value}, Str.Parse.{digits_value}}
 use Rattle.tower_play.proofs.script.parse_count.Goals as goal
 
 pub returns-then-not-is_ascii_digit-clause-none : goal.returns-then-not-is_ascii_digit-clause-none

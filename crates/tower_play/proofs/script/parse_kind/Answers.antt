@@ -1,5 +1,5 @@
 -- The prover does not find that the name of each kind is UTF-8 (`kind_name-IsUtf8`).
-use Rattle.std.proofs.Common.{subst, sym, rules}
+use Rattle.no_std_io2.proofs.Words.{subst, sym, rules}
 use Rattle.std.specs.Str.{IsUtf8}
 use Rattle.tower_play.proofs.ScriptLemmas.{kind_name-IsUtf8}
 use Rattle.tower_play.proofs.script.parse_kind.Goals as goal

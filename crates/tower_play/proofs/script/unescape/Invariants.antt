@@ -1,4 +1,5 @@
-use Rattle.std.proofs.Common.{◌≡◌, ◌+◌, ◌≤◌, drop, vec_len, vec_capacity}
+use Rattle.no_std_io2.proofs.Words.{◌≡◌, ◌+◌, ◌≤◌, drop, vec_len}
+use Rattle.std.proofs.Common.{vec_capacity}
 use Rattle.tower_play.proofs.Unescaping.{Halfway, waiting}
 use Rattle.tower_play.proofs.script.unescape.Given as goal
 

@@ -1,7 +1,6 @@
 -- The prover does not find that the held bytes are the frame and what follows it (`take-append_seam`).
-use Rattle.std.proofs.Common.{◌≡◌, ◌≤◌, ◌+◌, ◌-◌, ◌++◌, length, length-append, length-take, length-drop, take, drop, ap, ◌∙◌, arith, sym}
-use Rattle.std.proofs.Math.Seq.{take-append_seam}
-use Rattle.no_std_io2.specs.BufReader.{reader_held}
+use Rattle.no_std_io2.proofs.Words.{◌≡◌, ◌≤◌, ◌+◌, ◌-◌, ◌++◌, length, length-append, length-take, length-drop, take, drop, ap, ◌∙◌, arith}
+use Rattle.no_std_io2.proofs.Words.{sym, take-append_seam, reader_held}
 use Rattle.framing.specs.Frames.{frame}
 use Rattle.framing.proofs.SeenLemmas.{begun_none, seen_between, short_given}
 use Rattle.framing.proofs.reader.FrameReader.give.Goals as goal

@@ -1,5 +1,5 @@
 -- The prover does not find that a held frame needs no read (`sees_none`), nor which frame comes back (`gives_back`, `round`).
-use Rattle.std.proofs.Common.{Some, Ok, refl}
+use Rattle.no_std_io2.proofs.Words.{Some, Ok, refl}
 use Rattle.framing.proofs.{TakingLemmas.{sees_none, takes}, BackLemmas.{gives_back, round}}
 use Rattle.framing.proofs.reader.FrameReader.next.Goals as goal
 

@@ -1,5 +1,5 @@
 -- The prover does not find the inner reads of a `read_full` (`rest_sees`), nor those of `fill_to` (`fills_sees`).
-use Rattle.std.proofs.{Common.{◌<◌, Ok, Err, refl, arith}, lemmas.Result.{err_from_is_err_and}}
+use Rattle.no_std_io2.proofs.Words.{◌<◌, Ok, Err, refl, arith, err_from_is_err_and}
 use Rattle.no_std_io2.proofs.Readers.{reader}
 use Rattle.framing.proofs.SeenLemmas.{fills_sees, rest_sees}
 use Rattle.framing.proofs.reader.FrameReader.see_frame.Goals as goal

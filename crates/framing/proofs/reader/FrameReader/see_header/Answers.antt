@@ -1,8 +1,7 @@
 -- The prover does not find that a frame which has begun needs no read (`Reads-none`), nor the reads of `fill_to`.
-use Rattle.std.proofs.Common.{◌≡◌, [], sym, arith, append-nil}
-use Rattle.no_std_io2.proofs.Readers.{reader}
-use Rattle.no_std_io2.proofs.ReadsLemmas.{Reads-none}
-use Rattle.framing.proofs.{SeenLemmas.{seen_header, fills_sees}}
+use Rattle.no_std_io2.proofs.Words.{◌≡◌, [], sym, arith, append-nil}
+use Rattle.no_std_io2.proofs.{Readers.{reader}, ReadsLemmas.{Reads-none}}
+use Rattle.framing.proofs.SeenLemmas.{seen_header, fills_sees}
 use Rattle.framing.proofs.reader.FrameReader.see_header.Goals as goal
 
 pub returns-then-self-gt0-clause-sees : goal.returns-then-self-gt0-clause-sees

@@ -1,11 +1,10 @@
 -- The prover does not find the account of a call, which joins the reads for the header and those for the payload (`sees_both`).
-use Rattle.std.proofs.lemmas.Grind.{common_steps}
-use Rattle.std.proofs.Common.{◌≡◌, ◌≤◌, [], Ok, Err, Some, None, length, drop, refl, sym, ap, ◌∙◌, inl, inr, arith}
-use Rattle.std.proofs.lemmas.Result.{err_from_is_err_and}
+use Rattle.no_std_io2.proofs.Words.{common_steps, ◌≡◌, ◌≤◌, [], Ok, Err, Some, None, length, drop, refl, sym, ap, ◌∙◌, inl, inr, arith}
+use Rattle.no_std_io2.proofs.Words.{err_from_is_err_and}
 use Rattle.no_std_io2.proofs.WriteExits.{not_empty, is_empty}
 use Rattle.framing.specs.Taking.{seen_bytes}
-use Rattle.framing.proofs.SeenLemmas.{seen_between, not_inside}
-use Rattle.framing.proofs.TakingLemmas.{sees_header, sees_both, takes, takes_seen, header_after, part_of}
+use Rattle.framing.proofs.{SeenLemmas.{seen_between, not_inside}}
+use Rattle.framing.proofs.{TakingLemmas.{sees_header, sees_both, takes, takes_seen, header_after, part_of}}
 use Rattle.framing.proofs.reader.FrameReader.take_next.Goals as goal
 
 pub returns-in_err-see_header-clause-takes : goal.returns-in_err-see_header-clause-takes

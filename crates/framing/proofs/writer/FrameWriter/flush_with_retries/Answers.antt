@@ -1,5 +1,5 @@
 -- The prover does not find that nothing is left of an empty rest.
-use Rattle.std.proofs.{Common.{◌≡◌, [], length, ap, arith, length-append}, lemmas.List.{nil_from_length}}
+use Rattle.no_std_io2.proofs.Words.{◌≡◌, [], length, ap, arith, length-append, nil_from_length}
 use Rattle.framing.proofs.writer.FrameWriter.flush_with_retries.Goals as goal
 
 pub returns-clause-calls : goal.returns-clause-calls

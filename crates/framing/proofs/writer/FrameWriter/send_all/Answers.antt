@@ -1,5 +1,5 @@
 -- The prover does not find which payloads were sent before the last call (`sent_more`).
-use Rattle.std.proofs.{Common.{map, ap, refl}, lemmas.Result.{err_from_is_err_and}}
+use Rattle.no_std_io2.proofs.Words.{map, ap, refl, err_from_is_err_and}
 use Rattle.framing.proofs.SendingLemmas.{sent_none, sent_more, some_there, none_there, first_there}
 use Rattle.framing.proofs.writer.FrameWriter.send_all.Goals as goal
 

@@ -1,5 +1,5 @@
 -- The payloads that are gone were sent.
-use Rattle.std.proofs.Common.{map, length}
+use Rattle.no_std_io2.proofs.Words.{map, length}
 use Rattle.framing.specs.Sending.{SentSoFar}
 use Rattle.framing.proofs.writer.FrameWriter.send_all.Given as goal
 

@@ -1,5 +1,5 @@
 -- The bytes that are told are those among the events.
-use Rattle.std.proofs.Common.{Ok, Err, refl}
+use Rattle.no_std_io2.proofs.Words.{Ok, Err, refl}
 use Rattle.system_streams.proofs.KnownLemmas.{consumes_bytes}
 use Rattle.system_streams.proofs.to_std.ToStdRead.read.Goals as goal
 

@@ -1,11 +1,9 @@
 -- The prover does not find which text is meant (`is_meant`), or that none is (`is_not_meant`).
-use Rattle.std.proofs.Common.{◌≡◌, ◌-◌, ◌++◌, length, length-append, ap, ◌∙◌, arith}
-use Rattle.tower_play.specs.declared.script.Step.TheVariants.{Write as write_step, WriteAll as write_all_step}
-use Rattle.tower_play.specs.Lines.{text_step}
-use Rattle.tower_play.specs.Script.{unescaped}
-use Rattle.tower_play.proofs.Unescaping.{is_meant, is_not_meant}
+use Rattle.no_std_io2.proofs.Words.{◌≡◌, ◌-◌, ◌++◌, length, length-append, ap, ◌∙◌, arith}
+use Rattle.tower_play.specs.{declared.script.Step.TheVariants.{Write as write_step, WriteAll as write_all_step}, Lines.{text_step}}
+use Rattle.tower_play.specs.{Script.{unescaped}}
+use Rattle.tower_play.proofs.{Unescaping.{is_meant, is_not_meant}, script.Calls.add_text.Goals.{then-is_whole, else-is_whole}}
 use Rattle.tower_play.proofs.script.Calls.add_text.Goals as goal
-use Rattle.tower_play.proofs.script.Calls.add_text.Goals.{then-is_whole, else-is_whole}
 
 pub returns-then-not-unescape-clause-bad : goal.returns-then-not-unescape-clause-bad
 returns-then-not-unescape-clause-bad c = λ _.

@@ -1,6 +1,5 @@
 -- The prover does not find the calls that are made so far (`ops_go_on`).
-use Rattle.std.proofs.Common.{◌+◌, take, subst, sym, arith}
-use Rattle.std.proofs.lemmas.Grind.{common_steps}
+use Rattle.no_std_io2.proofs.Words.{◌+◌, take, subst, sym, arith, common_steps}
 use Rattle.tower_play.specs.Calls.{AreOps}
 use Rattle.tower_play.proofs.CallLemmas.{ops_go_on}
 use Rattle.tower_play.proofs.script.Calls.ops.Goals as goal

@@ -1,4 +1,5 @@
-use Rattle.std.proofs.Common.{◌≡◌, take, vec_len, vec_capacity}
+use Rattle.no_std_io2.proofs.Words.{◌≡◌, take, vec_len}
+use Rattle.std.proofs.Common.{vec_capacity}
 use Rattle.tower_play.specs.Calls.{AreOps}
 use Rattle.tower_play.proofs.script.Calls.ops.Given as goal
 

@@ -1,19 +1,16 @@
 -- The prover does not find the lines that were read so far (`adds_more`), nor which is the first bad one (`first_here`).
-use Rattle.std.proofs.Common.{◌≡◌, ◌∙◌, ap, sym, subst, refl, true, false, not, [], ◌∷◌, ◌++◌, length-append, Some, Ok, arith}
-use Rattle.std.specs.Prelude.{is_some}
-use Rattle.std.proofs.lemmas.Result.{err_from_is_err_and}
+use Rattle.no_std_io2.proofs.Words.{◌≡◌, ◌∙◌, ap, sym, subst, refl, true, false, [], ◌∷◌, ◌++◌, length-append, Some, Ok, arith, is_some}
+use Rattle.no_std_io2.proofs.Words.{err_from_is_err_and, tells, without, split_reader, split_delim}
+use Rattle.std.proofs.Common.{not}
 use Rattle.std.specs.Option.{IfSome}
-use Rattle.no_std_io2.specs.Read.{tells}
-use Rattle.no_std_io2.specs.Pieces.{without, split_reader, split_delim, ends_at}
-use Rattle.no_std_io2.proofs.Readers.{reader}
-use Rattle.no_std_io2.proofs.GivenPieces.{next_item, next_none, next_error}
+use Rattle.no_std_io2.specs.Pieces.{ends_at}
+use Rattle.no_std_io2.proofs.{Readers.{reader}, GivenPieces.{next_item, next_none, next_error}}
 use Rattle.io_bench.proofs.PieceRunLemmas.{none_gathered, one_gathered, all_gathered, law_at, if_told}
 use Rattle.tower_play.specs.Reading.{Adds, AddsAll, IsBadLine, IsFirstBad}
-use Rattle.tower_play.proofs.ReadLemmas.{adds_more, first_more, first_here, stopped, if_stopped, is_none}
+use Rattle.tower_play.proofs.{ReadLemmas.{adds_more, first_more, first_here, stopped, if_stopped, is_none}}
+use Rattle.tower_play.proofs.{script.Script.read.Goals.{then-is_none+in_ok-add_line+then-not-branch, else-is_none}}
+use Rattle.tower_play.proofs.{script.Script.read.Goals.{else-is_none-via-then-is_none+in_ok-add_line+else-not-branch, else-is_none-via-else-is_none}}
 use Rattle.tower_play.proofs.script.Script.read.Goals as goal
-use Rattle.tower_play.proofs.script.Script.read.Goals.{then-is_none+in_ok-add_line+then-not-branch, else-is_none}
-use Rattle.tower_play.proofs.script.Script.read.Goals.{else-is_none-via-then-is_none+in_ok-add_line+else-not-branch}
-use Rattle.tower_play.proofs.script.Script.read.Goals.{else-is_none-via-else-is_none}
 
 pub lines-init : goal.lines-init
 lines-init g c =

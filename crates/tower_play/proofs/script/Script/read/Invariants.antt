@@ -1,8 +1,7 @@
 -- A bad line has a number of a line so far; if no line is bad, the lines so far made the script.
-use Rattle.std.proofs.Common.{◌≡◌, ◌<◌, false}
+use Rattle.no_std_io2.proofs.Words.{◌≡◌, ◌<◌, false, tells, split_reader, split_delim}
 use Rattle.std.specs.Option.{IfSome}
-use Rattle.no_std_io2.specs.Read.{tells}
-use Rattle.no_std_io2.specs.Pieces.{split_reader, split_delim, split_is_ended}
+use Rattle.no_std_io2.specs.Pieces.{split_is_ended}
 use Rattle.no_std_io2.proofs.Readers.{reader}
 use Rattle.tower_play.proofs.ReadLemmas.{ReadSoFar}
 use Rattle.tower_play.proofs.script.Script.read.Given as goal
