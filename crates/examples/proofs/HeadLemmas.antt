@@ -38,9 +38,11 @@ forget (Some E) (Some F) Says says = says
 module _ {X A : Type 0} {B : Lender X} {a : Tells} {mid new : X} {buf buf' : Vec ℕ A} {n : ℕ} {told told' : Told}
     {i : ℕ} (so_far : HeadSoFar a (lender_tells B mid) told told' i) (law : ReadUntilLaw B mid newline buf (Ok n) buf' new) where
   -- what the read says of the lines to come
-  given : (Says : List Event → List Event → Type 0) → ((E F after : List Event) → pieces_given newline E ≡ so_far.lines ++ pieces_given newline F
+  given : (Says : List Event → List Event → Type 0) → ((E F after : List Event)
+      → pieces_given newline E ≡ so_far.lines ++ pieces_given newline F
       → bytes_to_fault E ≡ concat so_far.lines ++ (bytes law.taken ++ bytes_to_fault after) → first_fault F ≡ first_fault after
-      → bytes_to_fault F ≡ bytes law.taken ++ bytes_to_fault after → ((0 < length (bytes law.taken)) × GivesNext newline F (bytes law.taken) after)
+      → bytes_to_fault F ≡ bytes law.taken ++ bytes_to_fault after
+      → ((0 < length (bytes law.taken)) × GivesNext newline F (bytes law.taken) after)
       ⊎ ((length (bytes law.taken) ≡ 0) × GivesNone newline F) → Says E after)
       → IfSome (to_come a) (λ E. IsSomeAnd (to_come (lender_tells B new)) (Says E))
   given Says says = by (to_come a) (to_come (lender_tells B mid)) refl so_far.gives
@@ -60,7 +62,8 @@ module _ {X A : Type 0} {B : Lender X} {a : Tells} {mid new : X} {buf buf' : Vec
   pub gives_line : (n ≡ 0 → ⊥) → GivesLines a (so_far.lines ++ bytes law.taken ∷ []) (lender_tells B new)
   gives_line some = given _ (λ E F after pieces whole fault left read. (
     ⊎_elim
-        (λ next. pieces ∙ ap (λ l. so_far.lines ++ l) next.1.pieces ∙ sym (append_assoc so_far.lines (bytes law.taken ∷ []) (pieces_given newline after)))
+        (λ next. pieces ∙ ap (λ l. so_far.lines ++ l) next.1.pieces ∙ sym
+        (append_assoc so_far.lines (bytes law.taken ∷ []) (pieces_given newline after)))
         (λ none. absurd (some (law.ends.1 ∙ none.0))) read,
     whole ∙ sym (append_assoc (concat so_far.lines) (bytes law.taken) (bytes_to_fault after))
         ∙ ap (λ l. l ++ bytes_to_fault after) (sym (joined so_far.lines (bytes law.taken))),

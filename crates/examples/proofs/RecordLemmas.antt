@@ -3,7 +3,8 @@ use Rattle.no_std_io2.proofs.Words.{◌≡◌, ℕ, ◌<◌, List, [], ◌∷◌
 use Rattle.no_std_io2.proofs.Words.{inr, append_assoc, IsInterruption, IsFault, fails, events_of, bytes, Takes, Lender, lender_tells}
 use Rattle.no_std_io2.specs.{declared.io.Error.{Error}, Takes.{TakesBytes}, BufRead.{FilledLaw, ConsumeLaw}, Passing.{Skipped}}
 use Rattle.no_std_io2.proofs.{EventLemmas.{bytes-append, HasNoFault-append}}
-use Rattle.no_std_io2.proofs.{TakesLemmas.{takes_none, takes_then, takes_still, takes_all, bytes_more, bytes_still, TakesBytes-then, IsAll-behind, EndsInFault-behind}}
+use Rattle.no_std_io2.proofs.TakesLemmas.{takes_none, takes_then, takes_still, takes_all, bytes_more, bytes_still, TakesBytes-then}
+use Rattle.no_std_io2.proofs.TakesLemmas.{IsAll-behind, EndsInFault-behind}
 use Rattle.no_std_io2.proofs.{TakesLemmas.{stays_at_end}}
 use Rattle.examples.specs.Lengths.{AreRecords, none, more, IsCutOff, SkipsRecords}
 

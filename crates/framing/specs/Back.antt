@@ -19,8 +19,8 @@ GivesBack limit sent before (Ok None) room after = (sent ≡ []) × AreToCome []
 GivesBack limit sent before (Err e) room after =
     AreToCome sent after × (IfSome before (λ E. first_fault E ≡ Some e) ⊎ RefusesFirst limit sent e)
 
--- A writer that held nothing accepted the frames of `sent`, whatever happened meanwhile. Then it held nothing, and these bytes had gone
--- out.
+-- A writer that held nothing accepted the frames of `sent`, whatever happened meanwhile. Then it held nothing, and these bytes had
+-- gone out.
 pub record WentOut (old : Told) (sent : List (List ℕ)) (new : Told) (bs : List ℕ) : Type 0 where
   pub happened : List ErrorKind
   pub moves : Moves old (frames sent) happened new

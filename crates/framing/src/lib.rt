@@ -1,5 +1,5 @@
-//! Frames over byte streams: payloads with their length in front, over any `Write` and any `Read`. Nothing is
-//! allocated.
+//! Frames over byte streams: payloads with their length in front, over any `Write` and any `Read`. Nothing
+//! is allocated.
 //!
 //! A frame is the length of its payload, as a little-endian `u32`, followed by the payload.
 //! [`FrameWriter`] sends each frame whole or not at all. [`FrameReader`] reads them back in order, and a fault

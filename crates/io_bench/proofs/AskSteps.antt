@@ -15,7 +15,8 @@ use Rattle.no_std_io2.proofs.{BufReaderCalls.{buf_lender}}
 use Rattle.io_bench.proofs.{BufReaderCounts.{drawn}}
 use Rattle.io_bench.proofs.{ReadsPaid.{ReadsPaid, OneCall, no_read as no_inner_read, one_read, paid_none, paid_held, paid_call, paid_bound}}
 use Rattle.io_bench.specs.{declared.asks.Ask.{Ask}, declared.asks.Ask.TheVariants.{Read, Exact, Fill}}
-use Rattle.io_bench.specs.{Asks.{read_answer, end_or_error, exact_answer, fill_answer, fill_calls, Answered, met_end, CameTo, left_behind, DropsFront, AskStep}}
+use Rattle.io_bench.specs.Asks.{read_answer, end_or_error, exact_answer, fill_answer, fill_calls, Answered, met_end, CameTo, left_behind}
+use Rattle.io_bench.specs.Asks.{DropsFront, AskStep}
 use Rattle.io_bench.specs.{Asks.{meets_end, Steps}}
 
 -- bytes are no error
@@ -252,7 +253,8 @@ module _ {R : Type 0} {S : ℕ} (I : Reader R) (fills : FillsRoom I) (start : Bu
       let many = length-take-le n lent (omega arith) in (
         is ∙ ap Ok met,
         drops most (take n lent) (all a) (all b) gave (omega (arith, many)) (λ none some.
-            let over = ended a (stays_at_end filled.takes (filled.end (ap Ok (nil_from_length lent (omega (arith, many, ap length none)))))) in
+            let over = ended a (stays_at_end filled.takes (filled.end
+            (ap Ok (nil_from_length lent (omega (arith, many, ap length none)))))) in
             nil_from_length (all b) (omega (arith, ap length gave, length-append (take n lent) (all b), ap length over))),
         kept_paid _ mid b (omega (arith, ap length law.held, length-drop n (reader_held mid))) law.call.0
             (once_paid z _ a mid (omega arith) (λ none. grind (arith, nat_tests, none))

@@ -43,7 +43,8 @@ module _ {W : Type 0} (I : Writer W) {S : ℕ} (some : 0 < S) (w : W) (ops : Lis
         (subst (λ l. Moves (writer_told I.told start) l [] (I.told t)) (whole_run ops replies ran.accepted whole ran.run)
         (Moves-ends ran.moves ends.ok));
     bound = λ cost meter takes.
-        let bound = closed_bound I cost meter S some writer_inner writer_buffer buffer-le start last t ops replies run.calls run.joined whole
+        let bound = closed_bound I cost meter S some writer_inner writer_buffer buffer-le start last t ops replies run.calls
+        run.joined whole
         made empty (subst (TakesAll I) (sym is) all) ends.calls in
         omega (arith, bound, ap cost is);
   }

@@ -8,7 +8,8 @@ use Rattle.std.specs.List.{flat_map}
 use Rattle.std.proofs.{lemmas.Grind.{flat_map-append}, Common.{take_all}}
 use Rattle.no_std_io2.specs.{declared.io.Error.{Error}, Write.{taken}}
 use Rattle.no_std_io2.proofs.{CallsLemmas.{made_map, law_may}}
-use Rattle.no_std_io2.proofs.{BufWriterCalls.{buffered_leaves, writing_all_calls, write_takes, send_leaves, send_counts, write_counts, write_all_counts, flush_counts}}
+use Rattle.no_std_io2.proofs.BufWriterCalls.{buffered_leaves, writing_all_calls, write_takes, send_leaves, send_counts, write_counts}
+use Rattle.no_std_io2.proofs.BufWriterCalls.{write_all_counts, flush_counts}
 use Rattle.no_std_io2.proofs.{StepLemmas.{then_leaves}, MeterLemmas.{meter_made}}
 use Rattle.io_bench.proofs.{StepCosts.{step_cost, writing_all-is}}
 use Rattle.io_bench.proofs.{PaidLemmas.{Paid, Paid-same, Paid-write, Paid-flush, Paid-bound, Paid-start, calls_for-min}}

@@ -4,7 +4,8 @@ use Rattle.no_std_io2.proofs.Words.{WriteCall, Made, Through}
 use Rattle.std.specs.List.{AllZip}
 use Rattle.no_std_io2.proofs.{CallsLemmas.{made_then}, TowerCalls.{through}, MovesLemmas.{Moves-trans}}
 use Rattle.io_bench.specs.{declared.runs.Op.{Op}, declared.runs.Reply.{Reply}}
-use Rattle.io_bench.specs.{Runs.{Accepts, Run, mishap_of, mishaps_of, IsFlushed, EndsFlushed, CallReplies, Ran, JoinsEach, OpCalls, RunCalls, RunBelow}}
+use Rattle.io_bench.specs.Runs.{Accepts, Run, mishap_of, mishaps_of, IsFlushed, EndsFlushed, CallReplies, Ran, JoinsEach, OpCalls, RunCalls}
+use Rattle.io_bench.specs.Runs.{RunBelow}
 
 -- one call more
 pub JoinsEach-more : {A : Type 0} (gives : Op → Reply → List A → Type 0) (ops : List Op) (replies : List Reply) (xs : List A)

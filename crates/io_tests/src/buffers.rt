@@ -2,7 +2,7 @@
 use examples::Narrow;
 use no_std_io2::io::{
     BufRead, BufReader, BufWriter, CopyError, Cursor, ErrorKind, LineWriter, Read, Seek, SeekFrom,
-    Write, copy, copy_sided, copy_with, read_exact_at, skip, write_with_retries,
+    Write, copy, copy_lent, copy_sided, copy_with, read_exact_at, skip, write_with_retries,
 };
 use std::test::Fail;
 
@@ -124,6 +124,11 @@ fn sides(rt: HostRuntime) -> Result<(), Fail> {
     copy_with(&mut Cursor::new(*b"abc"), &mut device, &mut room)?;
     copy_with(&mut Cursor::new(*b"de"), &mut device, &mut room)?;
     assert!(rt; device.as_slice() == b"abcde".as_slice());
+
+    let mut from = Cursor::new(*b"abcde");
+    let mut to = Vec::<u8>::new(rt.alloc());
+    assert!(rt; copy_lent(&mut from, &mut to)? == 5);
+    assert!(rt; to.as_slice() == b"abcde".as_slice());
     Ok(())
 }
 

@@ -1,5 +1,5 @@
-// What the `Debug` of each type that std also has prints, and of a tally, on one line and on several, as Rust's derived ones
-// do.
+// What the `Debug` of each type that std also has prints, and of a tally, on one line and on several, as Rust's derived
+// ones do.
 use crate::printing::Narrow;
 use io_bench::{Act, Faulty, Sink, Tally};
 use no_std_io2::io::{
@@ -64,8 +64,8 @@ fn streams_in_memory_print_their_fields(rt: HostRuntime) -> Result<(), Fail> {
     Ok(())
 }
 
-// A reader that prints its capacity in place of the number of held bytes, or that number cut to a
-// byte.
+// A reader that prints its capacity in place of the number of held bytes, or that number cut to
+// a byte.
 #[test]
 fn a_buffered_reader_prints_how_much_it_holds(rt: HostRuntime) -> Result<(), Fail> {
     let alloc = rt.alloc();

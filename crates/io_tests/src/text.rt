@@ -90,8 +90,8 @@ fn a_text_is_printed_to_each_writer(rt: HostRuntime) -> Result<(), Fail> {
     Ok(())
 }
 
-// An error that is ignored, made anew or returned without its text, and a piece that is written after
-// it.
+// An error that is ignored, made anew or returned without its text, and a piece that is written
+// after it.
 #[test]
 fn a_device_that_fails_at_a_piece_has_the_front_before_it(rt: HostRuntime) -> Result<(), Fail> {
     let whole = b"t=  21, (1, -2)\n".as_slice();

@@ -12,7 +12,8 @@ use Rattle.no_std_io2_base.proofs.{WritesFacts.{writes_fault, writes_sends}, All
 use Rattle.no_std_io2_base.proofs.{MeterLemmas.{writes_count, all_count}}
 use Rattle.no_std_io2.specs.{declared.buffered.sender.Sender.{Sender}, BufWriter.{PutCalls, PastEmpty, way_calls, Buffers, BuffersAll}}
 use Rattle.no_std_io2.proofs.{BufWriterLemmas.{Moves-kept, Moves-emptied, MovesFront-emptied}}
-use Rattle.no_std_io2.proofs.{StepLemmas.{no_ok, Stepped, Leaves, StepTells, Sending, Counts, Counted, then_goes_on, then_leaves, then_tells, then_counts}}
+use Rattle.no_std_io2.proofs.StepLemmas.{no_ok, Stepped, Leaves, StepTells, Sending, Counts, Counted, then_goes_on, then_leaves, then_tells}
+use Rattle.no_std_io2.proofs.StepLemmas.{then_counts}
 
 -- what is left once n more bytes have room,
 abbrev way_left : ℕ → ℕ → List ℕ → List ℕ

@@ -13,8 +13,10 @@ use Rattle.no_std_io2_base.proofs.{LineLemmas.{lines_some, lines_none, lines_spl
 use Rattle.no_std_io2.specs.LineWriter.{SendLineCalls, HoldsTail, LinesCalls, line_buffer_filled, held_tail}
 use Rattle.no_std_io2.proofs.{BufWriterLemmas.{Moves-buffered, Moves-emptied, MovesFront-emptied}}
 use Rattle.no_std_io2.proofs.{StepLemmas.{no_ok, StepTells, Sending, Counts, Counted, then_leaves, then_tells, then_counts}}
-use Rattle.no_std_io2.proofs.{BufWriterCalls.{buffered_leaves, send_leaves, one_inner_call, send_tells, kept_tells, write_tells, Writing, write_bound, send_counts}}
-use Rattle.no_std_io2.proofs.{BufWriterCalls.{idle_counts, write_counts, write_all_tells, write_all_fault, write_all_counts, writing_all_calls}}
+use Rattle.no_std_io2.proofs.BufWriterCalls.{buffered_leaves, send_leaves, one_inner_call, send_tells, kept_tells, write_tells, Writing}
+use Rattle.no_std_io2.proofs.BufWriterCalls.{write_bound, send_counts}
+use Rattle.no_std_io2.proofs.BufWriterCalls.{idle_counts, write_counts, write_all_tells, write_all_fault, write_all_counts}
+use Rattle.no_std_io2.proofs.BufWriterCalls.{writing_all_calls}
 use Rattle.no_std_io2.proofs.{LineWriterStates.{line_left, line_left-is, send_line_leaves, send_lines_leaves, tail_whole}}
 use Rattle.no_std_io2.proofs.{HeldTail.{took_tail, tail_fits}}
 

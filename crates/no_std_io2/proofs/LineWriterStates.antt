@@ -8,7 +8,8 @@ use Rattle.no_std_io2.proofs.Words.{LineWriteAllCalls}
 use Rattle.no_std_io2_base.specs.{declared.error.Error.{Error}, Pieces.{Lacks}}
 use Rattle.std.proofs.lemmas.Result.{on_ok_weaker}
 use Rattle.no_std_io2_base.proofs.{CallsLemmas.{writes_whole}}
-use Rattle.no_std_io2_base.proofs.{LineLemmas.{lines_end, lines_none, lines_some, unfinished_lacks, unfinished_none, unfinished_all, lacks_contains, contains_lines}}
+use Rattle.no_std_io2_base.proofs.LineLemmas.{lines_end, lines_none, lines_some, unfinished_lacks, unfinished_none, unfinished_all}
+use Rattle.no_std_io2_base.proofs.LineLemmas.{lacks_contains, contains_lines}
 use Rattle.no_std_io2_base.proofs.{LineLemmas.{take_lines, drop_lines, lines_split, plain_state, lacks_rest, state_rest, ends_in-append}}
 use Rattle.no_std_io2_base.proofs.{MovesLemmas.{after_ok}, PieceLemmas.{Lacks-append}}
 use Rattle.no_std_io2.specs.LineWriter.{SendLineCalls, HoldsTail, LinesCalls, line_buffer_after, IsShortText}

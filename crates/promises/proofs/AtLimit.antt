@@ -77,7 +77,8 @@ module _ {T : Type 0} (inner : Lender T) where
       nothing (b ∷ x) none = absurd (omega (arith, none))
   piece_at_limit {old} {new} (Err e) m low = absurd (elim m.are.2 [
     | inl fault ↦
-        let is = lends_nothing m.are.0 old new (Err e) (subst (λ K. Made (LendCallLaw (limit_lender inner)) old K new) fault.1 m.made) low in
+        let is = lends_nothing m.are.0 old new (Err e) (subst (λ K. Made (LendCallLaw (limit_lender inner)) old K new) fault.1
+        m.made) low in
         let no : ⊥ = cc in no
     | inr refused ↦
         let lent = refused.2 in

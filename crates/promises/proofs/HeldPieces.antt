@@ -6,7 +6,8 @@ use Rattle.no_std_io2.proofs.Words.{Consumed, LendCallLaw, lender_tells, newline
 use Rattle.no_std_io2.proofs.Words.{FillsBelow, lent_held, lent_read}
 use Rattle.std.proofs.Common.{take_all, String, string_bytes}
 use Rattle.no_std_io2.specs.{declared.io.Error.{Error}, BufRead.{ReadUntilLaw, ReadLineLaw, line_room}}
-use Rattle.no_std_io2.specs.{Pieces.{AnswersLine, Lacks, EndsPiece, FindsPiece, PartCalls, no_part, and_part, and_waited, PieceMade, PieceEnds, PieceCalls}}
+use Rattle.no_std_io2.specs.Pieces.{AnswersLine, Lacks, EndsPiece, FindsPiece, PartCalls, no_part, and_part, and_waited, PieceMade}
+use Rattle.no_std_io2.specs.Pieces.{PieceEnds, PieceCalls}
 use Rattle.no_std_io2.specs.{declared.buffered.buf_reader.BufReader.{BufReader}, BufReader.{HasBuffer, TakesHeld, TakesHeldLine}}
 use Rattle.no_std_io2.proofs.{CallsLemmas.{made_split}, BufReaderCalls.{buf_lender}}
 

@@ -1,5 +1,5 @@
 // At most how many calls the device gets, by each number that counts its calls. A `Tally` has such a number.
-ghost use Rattle.std.specs.Prelude.{ℕ, ◌≡◌, ◌+◌, ◌-◌, ◌/◌, ◌≤◌, IsOk, length};
+ghost use Rattle.std.specs.Prelude.{◌≡◌, ◌+◌, ◌-◌, ◌/◌, ◌≤◌, IsOk, length};
 ghost use Rattle.no_std_io2.specs.LineWriter.{line_inner};
 ghost use Rattle.no_std_io2.specs.Meter.{CostsAtMost};
 ghost use Rattle.no_std_io2.specs.BufReader.{reader_inner};

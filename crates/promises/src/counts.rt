@@ -1,6 +1,6 @@
 // How many calls the inner stream gets: each number that counts its calls rises by so many. A `Tally` has
 // such a number.
-ghost use Rattle.std.specs.Prelude.{ℕ, ◌≡◌, ◌+◌, ◌<◌, ◌≤◌, ◌^◌, min, nat_lt, if◌then◌else◌, length, IfOk, IsOkAnd, Ok, OnOk};
+ghost use Rattle.std.specs.Prelude.{ℕ, ◌≡◌, ◌+◌, ◌<◌, ◌^◌, min, nat_lt, if◌then◌else◌, length, IfOk, IsOkAnd, Ok, OnOk};
 ghost use Rattle.std.specs.Int.{div_ceil};
 ghost use Rattle.no_std_io2.specs.BufReader.{reader_held, reader_inner};
 ghost use Rattle.no_std_io2.specs.BufWriter.{writer_buffer, writer_inner, writing_calls};

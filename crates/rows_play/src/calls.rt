@@ -1,5 +1,5 @@
-// The call of a row, the calls that several kinds of streams have, and what a device's journal shows after
-// them.
+// The call of a row, the calls that several kinds of streams have, and what a device's journal shows
+// after them.
 use super::fault::{Fault, Made};
 use super::journal::Journal;
 use super::line::{Line, cut, unescape};

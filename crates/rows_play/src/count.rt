@@ -67,8 +67,8 @@ pub fn lines_of(text: &str) -> u64 {
     lines
 }
 
-/// Prints what is wrong with a line, and counts it. A failed allocation is `OutOfMemory`, and ends the
-/// run.
+/// Prints what is wrong with a line, and counts it. A failed allocation is `OutOfMemory`, and ends
+/// the run.
 pub fn tell_fault<R: Print>(
     rt: &R,
     fault: Fault,

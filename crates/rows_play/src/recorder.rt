@@ -28,8 +28,8 @@ pub struct Recorder {
     turns: usize,
 }
 
-// Which of several readers it is. A boxed object cannot contain a string of the program, so this stands for a
-// name.
+// Which of several readers it is. A boxed object cannot contain a string of the program, so this stands for
+// a name.
 #[derive(Clone, Copy, PartialEq, Eq)]
 pub enum Name {
     Only,

@@ -18,8 +18,8 @@ pub enum Columns {
     Calls,
     // What each level holds or has left to give, and these calls.
     Levels,
-    // The state of each level of a stream in memory, including the bytes behind of a buffer and the position of a
-    // cursor.
+    // The state of each level of a stream in memory, including the bytes behind of a buffer and the position of
+    // a cursor.
     Memory,
 }
 

@@ -1,5 +1,5 @@
-// The state of each level of a reader, the outer one first, in a column for each level that has
-// one.
+// The state of each level of a reader, the outer one first, in a column for each level that
+// has one.
 use crate::devices::Columns;
 use io_bench::Tally;
 use no_std_io2::io::{BufRead, BufReader, Chain, Cursor, Read, Repeat, Take};

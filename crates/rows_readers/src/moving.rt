@@ -1,5 +1,5 @@
-// A buffered reader over a recorder, which is sought, and from which records are read, played by rows of
-// calls.
+// A buffered reader over a recorder, which is sought, and from which records are read, played by rows
+// of calls.
 //
 // The columns after a call are its result, for a read the bytes that it gave, the bytes behind, the held bytes, and the calls
 // that reached the device.

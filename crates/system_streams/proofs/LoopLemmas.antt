@@ -9,7 +9,8 @@ use lib.Seq.{take-append_seam}
 use Rattle.no_std_io2.specs.{declared.io.Error.{Error}, Errors.{is_interruption}, Read.{gave, ExactMade}}
 use Rattle.no_std_io2.proofs.{CallsLemmas.{made_split}, EventLemmas.{length-events_of}, ReadsAdd.{EachAdds, gathers_add}}
 use Rattle.system_streams.specs.{declared.patient.Patient.{Patient}, declared.system.SystemRead.{Ghosts as Source}}
-use Rattle.system_streams.specs.{Patient.{patient_device, patient_turns, patient_taken, patient_error, PatientReads, AsksOnce, AsksDevice, Remembers, Fills}}
+use Rattle.system_streams.specs.Patient.{patient_device, patient_turns, patient_taken, patient_error, PatientReads, AsksOnce, AsksDevice}
+use Rattle.system_streams.specs.Patient.{Remembers, Fills}
 use Rattle.system_streams.specs.{Turns.{AnswersRead, GivesOn, EndsReads, IsOutOfTurns, IsPlainInterruption, IsDeviceFault}}
 use Rattle.std.specs.declared.io.Error as Std
 

@@ -1,5 +1,5 @@
-// [`Patient`], a reader or writer of the system with a number of turns that bounds every loop over
-// it.
+// [`Patient`], a reader or writer of the system with a number of turns that bounds every loop
+// over it.
 ghost use Rattle.std.specs.Prelude.{◌≡◌, ◌≢◌, true, false, ◌+◌, ◌<◌, ◌⊎◌, [], None, Some, length, option_copied, IfSome};
 ghost use Rattle.std.specs.IoError.{error_kind as std_error_kind};
 ghost use Rattle.no_std_io2.specs.Read.{ReadLaw};
@@ -94,7 +94,8 @@ impl<D> Patient<D> {
     /// assert!(rt; folder.reason(fault).kind() == io::ErrorKind::IsADirectory);
     /// ```
     pub fn reason(&self, fault: Error) -> io::Error
-        ensures system { IsDeviceFault fault → IfSome (patient_error self.now) (λ e. std_error_kind e ≢ SystemKind.Interrupted → result ≡ e) }
+        ensures system { IsDeviceFault fault
+            → IfSome (patient_error self.now) (λ e. std_error_kind e ≢ SystemKind.Interrupted → result ≡ e) }
         ensures other { (IsDeviceFault fault → ⊥) → std_error_kind result ≡ std_kind (error_kind fault) }
         ensures none { patient_error self.now ≡ None → std_error_kind result ≡ std_kind (error_kind fault) }
         ensures later { IfSome (patient_error self.now) (λ e. std_error_kind e ≡ SystemKind.Interrupted
@@ -106,8 +107,8 @@ impl<D> Patient<D> {
         }
     }
 
-    // The error that a writer returns in place of its device's error. An interruption spends a
-    // turn.
+    // The error that a writer returns in place of its device's error. An interruption spends
+    // a turn.
     fn refuse(&mut self, reason: io::Error) -> Error
         ensures taken { patient_taken self.new ≡ patient_taken self.old }
         ensures device { patient_device self.new ≡ patient_device self.old }

@@ -47,8 +47,8 @@ pub fn push_shown<A: Allocator, D: Display>(text: &mut Vec<u8, A>, value: &D) ->
     }
 }
 
-/// Makes these calls of a writer in order, and returns their replies. If an allocation fails, no call was
-/// made.
+/// Makes these calls of a writer in order, and returns their replies. If an allocation fails, no call
+/// was made.
 pub fn replies_of<W: no_std_io2::io::Write>(
     alloc: Global,
     w: &mut W,

@@ -147,8 +147,8 @@ pub fn play<R: Read + Drop, W: Write + Drop>(
         (W.told output) (W.told w)) }
     // A reported bad line is the first one of the input.
     ensures first { IfErr result (IfLine (λ n. IfSome (to_come (tells R.Read input)) (λ E. IsBadAt newline E n))) }
-    // Any other error is the first fault of the input, a failed allocation, or an error of the
-    // output.
+    // Any other error is the first fault of the input, a failed allocation, or an error of
+    // the output.
     ensures other { IfErr result (IfIo (λ e. IsFaultOf (tells R.Read input) (W.told output) e ⊎ IsOutOfMemory e)) }
 {
     let reader = BufReader::<R, INPUT_ROOM>::new(input);

@@ -1,6 +1,6 @@
 // `run_closed` over a sink whose writes are counted, and over one that notes their lengths. A row is `run` and the
-// calls; then their replies, how many inner writes there were and of how many bytes each, and how many there may be at
-// most.
+// calls; then their replies, how many inner writes there were and of how many bytes each, and how many there may be
+// at most.
 ghost use Rattle.std.specs.Prelude.{⊤};
 
 use crate::writing::{ops_of, parse_calls, show_replies};

@@ -6,7 +6,12 @@ use Rattle.examples.proofs.heads.head.Goals as goal
 
 pub lines-init : goal.lines-init
 lines-init g c = record {
-  lines = record { lines = []; count = refl; gives = gives_no_line (lender_tells (lends g.B.Stored g.B.Read g.B.BufRead) c.args.r.now); moves = Moves-refl _ };
+  lines = record {
+    lines = [];
+    count = refl;
+    gives = gives_no_line (lender_tells (lends g.B.Stored g.B.Read g.B.BufRead) c.args.r.now);
+    moves = Moves-refl _;
+  };
   within = omega arith;
 }
 

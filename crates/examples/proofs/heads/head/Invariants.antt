@@ -6,7 +6,8 @@ use Rattle.examples.proofs.heads.head.Given as goal
 
 abbrev pub invariant-lines : goal.invariant-lines
 invariant-lines g l = record {
-  lines : HeadSoFar (lender_tells (lends g.B.Stored g.B.Read g.B.BufRead) l.initial.r) (lender_tells (lends g.B.Stored g.B.Read g.B.BufRead) l.r)
+  lines : HeadSoFar (lender_tells (lends g.B.Stored g.B.Read g.B.BufRead) l.initial.r)
+      (lender_tells (lends g.B.Stored g.B.Read g.B.BufRead) l.r)
       (g.W.Write.told l.initial.w) (g.W.Write.told l.w) l.count;
   within : l.count ≤ l.wanted;
 }

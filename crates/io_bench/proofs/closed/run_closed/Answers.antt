@@ -11,7 +11,8 @@ returns-in-Ok-clause-bytes g c =
     let start = c.new-buffered.ensures in
     let all = subst (TakesAll (tallied_writer g.W.Write)) (sym start.inner) c.requires.all in
     (closes (tallied_writer g.W.Write) c.requires.some c.args.w c.args.ops.now _ c.in-Ok.tally c.new-buffered.result
-    c.run_writes.new.w start.inner start.empty c.requires.all run.ran (run.all all).1 run.calls (run_made run.calls) c.in-Ok.ensures.law).bytes
+    c.run_writes.new.w start.inner start.empty c.requires.all run.ran (run.all all).1 run.calls
+    (run_made run.calls) c.in-Ok.ensures.law).bytes
 
 pub returns-in-Ok-clause-all : goal.returns-in-Ok-clause-all
 returns-in-Ok-clause-all g c =
@@ -24,7 +25,8 @@ returns-in-Ok-clause-bound g c =
     let start = c.new-buffered.ensures in
     let all = subst (TakesAll (tallied_writer g.W.Write)) (sym start.inner) c.requires.all in
     (closes (tallied_writer g.W.Write) c.requires.some c.args.w c.args.ops.now _ c.in-Ok.tally c.new-buffered.result
-    c.run_writes.new.w start.inner start.empty c.requires.all run.ran (run.all all).1 run.calls (run_made run.calls) c.in-Ok.ensures.law).bound
+    c.run_writes.new.w start.inner start.empty c.requires.all run.ran (run.all all).1 run.calls
+    (run_made run.calls) c.in-Ok.ensures.law).bound
     tally_writes (tally_meters g.W.Write) c.requires.all
 
 pub returns-in-Err-clause-kind : goal.returns-in-Err-clause-kind

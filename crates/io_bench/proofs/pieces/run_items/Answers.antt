@@ -13,7 +13,8 @@ items-preserved g c =
     let is : c.next.result ≡ Some (Ok item) = c.in-Some-Ok.is ∙ ap Some c.in-Some-Ok.field-0-is in
     let pushed = c.push_reserved.ensures.items ∙ ap (λ l. l ++ item ∷ []) c.make_room.ensures.items in
     let now = c.next.new.self in
-    let goes = subst (λ r. OnSome r (I.can_next now × IsFinite (I.remaining now) × (size (I.remaining now) < size (I.remaining c.items.iter))))
+    let goes = subst (λ r. OnSome r (I.can_next now × IsFinite (I.remaining now)
+    × (size (I.remaining now) < size (I.remaining c.items.iter))))
     is (c.next.ensures.goes.on before.finite) in
     record {
       can = goes.0;

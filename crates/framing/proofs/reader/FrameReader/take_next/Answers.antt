@@ -63,7 +63,8 @@ returns-clause-takes g c =
     let rest = rw c.if-not-branch-2.false at c.in_ok-see_frame.ensures.sees in
     let fits : len ≤ length room = omega (arith, c.if-len-room.false) in
     takes c.args.self.now c.give_seen.new.self room c.give_seen.new.room (Ok (Some len))
-    (seen_bytes c.see_frame.new.self c.see_frame.new.room) (rw c.give_seen.ensures.inner (sees_both _ _ len header (c.next_len-len.ensures.header room) fits rest))
+    (seen_bytes c.see_frame.new.self c.see_frame.new.room) (rw c.give_seen.ensures.inner
+    (sees_both _ _ len header (c.next_len-len.ensures.header room) fits rest))
     c.give_seen.ensures.gives
     (c.give_seen.ensures.behind ∙ elim c.in_ok-see_frame.ensures.room [ inl same ↦ ap (drop len) same | inr long ↦ long.2 ])
     (refl, fits, c.next_len-len.ensures.small)

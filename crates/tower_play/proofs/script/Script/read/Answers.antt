@@ -9,7 +9,8 @@ use Rattle.io_bench.proofs.PieceRunLemmas.{none_gathered, one_gathered, all_gath
 use Rattle.tower_play.specs.Reading.{Adds, AddsAll, IsBadLine, IsFirstBad}
 use Rattle.tower_play.proofs.{ReadLemmas.{adds_more, first_more, first_here, stopped, if_stopped, is_none}}
 use Rattle.tower_play.proofs.{script.Script.read.Goals.{then-is_none+in_ok-add_line+then-not-branch, else-is_none}}
-use Rattle.tower_play.proofs.{script.Script.read.Goals.{else-is_none-via-then-is_none+in_ok-add_line+else-not-branch, else-is_none-via-else-is_none}}
+use Rattle.tower_play.proofs.script.Script.read.Goals.{else-is_none-via-then-is_none+in_ok-add_line+else-not-branch}
+use Rattle.tower_play.proofs.script.Script.read.Goals.{else-is_none-via-else-is_none}
 use Rattle.tower_play.proofs.script.Script.read.Goals as goal
 
 pub lines-init : goal.lines-init

@@ -2,7 +2,8 @@
 use Rattle.no_std_io2.proofs.Words.{err_from_is_err_and, sender_inner, writer_inner, writer_buffer}
 use Rattle.no_std_io2_base.proofs.CallsLemmas.{writes_whole}
 use Rattle.no_std_io2.proofs.{StepLemmas.{no_ok}}
-use Rattle.no_std_io2.proofs.{SentLemmas.{store_refused, store_sought, position_sought, sent_idle, sends_all, sending_failed, sending_went, failed_left}}
+use Rattle.no_std_io2.proofs.SentLemmas.{store_refused, store_sought, position_sought, sent_idle, sends_all, sending_failed, sending_went}
+use Rattle.no_std_io2.proofs.SentLemmas.{failed_left}
 use Rattle.no_std_io2.proofs.buffered.buf_writer.seeking.BufWriterSeek.seek.Goals as goal
 
 pub returns-in_err-send-clause-first : goal.returns-in_err-send-clause-first
