@@ -1,7 +1,9 @@
 // What `write!` prints to each writer, and what it does if a device or the text's own `fmt` fails.
 ghost use Rattle.no_std_io2.specs.Write.{told_out};
 
-use no_std_io2::io::{Cursor, Error, ErrorKind, LineWriter, Result as IoResult, Write};
+use no_std_io2::io::{
+    Cursor, Error, ErrorKind, LineWriter, Result as IoResult, Write, print_to_object,
+};
 use std::fmt;
 use std::test::Fail;
 
@@ -87,6 +89,14 @@ fn a_text_is_printed_to_each_writer(rt: HostRuntime) -> Result<(), Fail> {
     let mut lent: &mut dyn Write = &mut bytes;
     writeln!(&mut lent, "{}", 10)?;
     assert!(rt; bytes.as_slice() == b"10\n".as_slice());
+
+    // A text that fits to the last byte is printed whole, and a longer one not at all.
+    print_to_object::<_, 4>(&mut bytes, format_args!("{}", 1234))?;
+    match print_to_object::<_, 4>(&mut bytes, format_args!("{}", 12345)) {
+        Ok(()) => return Err(Fail::new("printed")),
+        Err(e) => assert!(rt; e.kind() == ErrorKind::WriteZero),
+    }
+    assert!(rt; bytes.as_slice() == b"10\n1234".as_slice());
     Ok(())
 }
 
