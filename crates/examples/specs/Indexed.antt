@@ -1,6 +1,15 @@
 -- The numbers in a file with an index.
 use Rattle.std.specs.Prelude.{◌≡◌, ℕ, ◌+◌, ◌-◌, ◌*◌, negsuc, List, length, take, drop, replicate, Result, Ok, Err}
 use Rattle.std.specs.Int.{w32, from_le_bytes}
+use Rattle.std.specs.Prelude.{IfSome}
+use Rattle.std.specs.declared.io.Error as Std
+use Rattle.std.specs.declared.io.ErrorKind.TheVariants as std
+use Rattle.std.specs.IoError.{error_kind as std_error_kind}
+use Rattle.no_std_io2.specs.Errors.{error_kind}
+use Rattle.system_streams.specs.declared.patient.Patient.{Patient}
+use Rattle.system_streams.specs.Patient.{patient_error}
+use Rattle.system_streams.specs.ToStd.{std_kind}
+use Rattle.system_streams.specs.Turns.{IsDeviceFault}
 use Rattle.no_std_io2.specs.Read.{Reader}
 use Rattle.no_std_io2.specs.ReadAt.{ReadAtLaw}
 use Rattle.no_std_io2.specs.Seek.{IsTarget, Seeker}
@@ -35,3 +44,9 @@ pub data ReadsEntry {X : Type 0} (S : Seeker X) (R : Reader X) (i : ℕ) (old : 
   found : {index place : ℕ} {reply : Result (Unit {0}) Error} {entry' : List ℕ} {mid late new : X}
       → ReadsNumber S R old (End (negsuc 3)) (Ok index) mid → ReadsNumber S R mid (Start (index + 4 * i)) (Ok place) late
       → ReadAtLaw S R late (Start place) entry reply entry' new → ReadsEntry S R i old entry reply entry' new
+
+-- The system's error for this fault: the last one of the device, if the fault is the device's. Else one of the kind of
+-- the same name.
+pub record TellsReason {D : Type 0} (fault : Error) (file : Patient D) (e : Std.Error) : Type 0 where
+  pub device : IsDeviceFault fault → IfSome (patient_error file) (λ was. (std_error_kind was ≡ std.Interrupted → ⊥) → e ≡ was)
+  pub own : (IsDeviceFault fault → ⊥) → std_error_kind e ≡ std_kind (error_kind fault)

@@ -1,14 +1,16 @@
 //! Reads an entry of a file with an index. The last four bytes of the file are the place of the index. The index has the place of
 //! each entry, in four bytes each. All numbers are little-endian.
-ghost use Rattle.std.specs.Prelude.{◌≡◌, length, take, drop, Ok, IfOk, OnOk, IfSome, IsSomeAnd};
+ghost use Rattle.std.specs.Prelude.{◌≡◌, length, take, drop, Ok, Err, IfOk, IfErr, OnOk, IfSome, IsSomeAnd};
 ghost use Rattle.examples.specs.Indexed.{IsNumberAt, ReadsEntry, ReadsNumber, entry_place};
+ghost use Rattle.no_std_io2.specs.declared.io.Error.{Error};
 ghost use Rattle.system_streams.specs.Patient.{IsFresh};
+ghost use Rattle.examples.specs.Indexed.{TellsReason};
 ghost use Rattle.system_streams.specs.declared.patient.Patient.{Patient};
 
 use no_std_io2::io::{BufReader, Cursor, Read, Result, Seek, SeekFrom, read_exact_at};
 use std::io;
 use std::rt::Files;
-use system_streams::{Patient, open};
+use system_streams::{Patient, SystemRead, SystemSeek, open};
 
 // Returns the number at a place.
 fn read_u32_at<R: Read + Seek>(r: &mut R, at: SeekFrom) -> Result<u32>
@@ -48,6 +50,24 @@ pub fn entry_of(file: &[u8], i: u32, entry: &mut [u8]) -> Result<()>
     read_entry(&mut r, i, entry)
 }
 
+// Fills `entry` from an open file.
+fn entry_from<D: SystemRead + SystemSeek>(
+    file: &mut Patient<D>,
+    i: u32,
+    entry: &mut [u8],
+) -> io::Result<()>
+    ensures ok { OnOk result (ReadsEntry ⟦<Patient<D> as Seek>⟧ ⟦<Patient<D> as Read>⟧ i file.old entry.old (Ok tt) entry.new file.new) }
+    // After an error it returns the system's reason, or the error's own kind.
+    ensures reason { IfErr result (λ e. (fault : Error)
+        × ReadsEntry ⟦<Patient<D> as Seek>⟧ ⟦<Patient<D> as Read>⟧ i file.old entry.old (Err fault) entry.new file.new
+        × TellsReason fault file.new e) }
+{
+    match read_entry(file, i, entry) {
+        Ok(()) => Ok(()),
+        Err(e) => Err(file.reason(e)),
+    }
+}
+
 /// Fills `entry` with the first bytes of entry number `i` of the file with this name.
 ///
 /// # Errors
@@ -64,8 +84,6 @@ pub fn entry_of_file<R: Files>(rt: &R, name: &str, i: u32, entry: &mut [u8]) -> 
         × ReadsEntry ⟦<Patient<R::File> as Seek>⟧ ⟦<Patient<R::File> as Read>⟧ i opened entry.old (Ok tt) entry.new after) }
 {
     let mut file = open(rt, name)?;
-    match read_entry(&mut file, i, entry) {
-        Ok(()) => Ok(()),
-        Err(e) => Err(file.reason(e)),
-    }
+    entry_from(&mut file, i, entry)?;
+    Ok(())
 }

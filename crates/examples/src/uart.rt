@@ -1,5 +1,6 @@
 //! [`Uart`], a port that waits until its hardware is ready.
-ghost use Rattle.std.specs.Prelude.{◌≡◌, ◌∷◌, [], ◌++◌, ℕ, List};
+ghost use Rattle.std.specs.Prelude.{◌≡◌, ◌∷◌, [], ◌++◌, ℕ, List, Bool, true};
+ghost use Rattle.std.specs.Bool.{OnTrue};
 
 use crate::serial::Port;
 
@@ -9,12 +10,17 @@ pub trait Registers {
     // The bytes that were put, in order.
     ghost sent: { Self → List ℕ };
 
+    // Whether it has room for a byte, as far as is known.
+    ghost ready: { Self → Bool };
+
     /// Returns whether the chip has room for a byte.
     fn is_ready(&mut self) -> bool
-        ensures { sent self.new ≡ sent self.old };
+        ensures ready { ready self.new ≡ result }
+        ensures sent { sent self.new ≡ sent self.old };
 
     /// Puts a byte into the chip.
     fn put(&mut self, byte: u8)
+        requires { ready self.old ≡ true }
         ensures { sent self.new ≡ sent self.old ++ byte ∷ [] };
 }
 
@@ -30,7 +36,8 @@ pub struct Uart<R> {
 // Waits until the chip is ready, and returns whether it is. The loop is a function of its own: what it does to the registers is then a
 // clause, and all else of the port is as before.
 fn wait<R: Registers>(registers: &mut R, looks: u32) -> bool
-    ensures { R.sent registers.new ≡ R.sent registers.old }
+    ensures ready { OnTrue result (R.ready registers.new ≡ true) }
+    ensures sent { R.sent registers.new ≡ R.sent registers.old }
 {
     let mut left = looks;
     'looks: while left > 0 {

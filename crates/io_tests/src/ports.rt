@@ -1,4 +1,6 @@
 // The devices of `examples` in front of ports, over hardware that keeps what it gets.
+ghost use Rattle.std.specs.Prelude.{◌&&◌, ◌==◌, ◌%◌, nat_lt};
+
 use examples::{Inbox, Port, Registers, Serial, Source, Uart};
 use no_std_io2::ghost_bytes::GhostBytes;
 use no_std_io2::io::{ErrorKind, Read, Write};
@@ -15,6 +17,8 @@ struct Chip {
 
 impl Registers for Chip {
     ghost sent = { λ c. c.sent.bytes };
+
+    ghost ready = { λ c. nat_lt c.len 3 && ((c.looks % 2) == 0) };
 
     fn is_ready(&mut self) -> bool {
         self.looks = self.looks.saturating_add(1);

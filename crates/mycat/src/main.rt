@@ -6,6 +6,8 @@
 //! more, the program stops without a message. The status is 0 if nothing failed, and else 1.
 #![tactic(auto)]
 
+ghost use Rattle.std.specs.Prelude.{◌≢◌, [], ◌∷◌, IfOk, drop, map, codes, string_bytes};
+ghost use Rattle.std.specs.Vec.Iter.{into_iter_items};
 ghost use Rattle.std.specs.Prelude.{◌≡◌};
 ghost use Rattle.std.specs.Bool.{OnTrue, OnFalse};
 ghost use Rattle.std.specs.Process.{exit_status};
@@ -88,15 +90,23 @@ fn print_files<R: Files + Input + Print + Eprint>(rt: &R, names: &[String]) -> b
 }
 
 // Returns the arguments after the program's name, and `-` if there are none.
-fn names<R: Env + Alloc<A = Global>>(rt: &R) -> io::Result<Vec<String>> {
-    let mut names = Vec::new(rt.alloc());
-    'words: for word in env::args(rt)?.skip(1) {
+fn named(alloc: Global, mut words: env::Args) -> io::Result<Vec<String>>
+    ensures given { IfOk result (λ names. drop 1 (into_iter_items words) ≢ [] → names.items ≡ drop 1 (into_iter_items words)) }
+    ensures none { IfOk result (λ names. drop 1 (into_iter_items words) ≡ [] → map string_bytes names.items ≡ codes "-" ∷ []) }
+{
+    let _program = words.next();
+    let mut names = Vec::new(alloc);
+    'words: while let Some(word) = words.next() {
         names.push(word)?;
     }
     if names.is_empty() {
-        names.push(String::from_str(rt.alloc(), "-")?)?;
+        names.push(String::from_str(alloc, "-")?)?;
     }
     Ok(names)
+}
+
+fn names<R: Env + Alloc<A = Global>>(rt: &R) -> io::Result<Vec<String>> {
+    named(rt.alloc(), env::args(rt)?)
 }
 
 fn main(rt: HostRuntime) -> ExitCode {
