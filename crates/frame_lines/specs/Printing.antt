@@ -8,9 +8,8 @@ use Rattle.framing.specs.Taking.{TakesFrame}
 use Rattle.line_log.specs.declared.LineLog.{LineLog}
 use Rattle.line_log.specs.Log.{line_of, log_held, log_tells}
 
--- One line was accepted, and the writer below the log has all of it. Its text is the one that the standard library prints for the
--- payload, of
--- which no contract says more.
+-- One line was accepted, and the writer below the log has all of it. Its text is the one that the standard library
+-- prints for the payload, of which no contract says more.
 pub record PrintsPayload {W : Type 0} (told : W → Told) (old new : LineLog W 16386) : Type 0 where
   pub text : List ℕ
   pub moves : Moves (log_tells told old) (line_of text) [] (log_tells told new)
@@ -24,9 +23,8 @@ pub data PrintsEach {R W : Type 0} (I : Reader R) (told : W → Told) (from : Fr
       → PrintsEach I told from room to payloads mid held log → TakesFrame I mid held (Ok (Some n)) new room' → PrintsPayload told log log'
       → PrintsEach I told from room to (payloads ++ take n room' ∷ []) new room' log'
 
--- How that ended. After `Ok` the frames ended. Else the next frame was not taken, for this error; or it, or the end, was, and then a
--- line, or
--- the flush, failed.
+-- How that ended. After `Ok` the frames ended. Else the next frame was not taken, for this error; or it, or the end,
+-- was, and then a line, or the flush, failed.
 abbrev pub PrintEnds : {R : Type 0} → Reader R → FrameReader R 512 → List ℕ → Result (Unit {0}) Error → FrameReader R 512 → Type 0
 PrintEnds I mid held (Ok u) new = (room : List ℕ) × TakesFrame I mid held (Ok None) new room
 PrintEnds I mid held (Err e) new = (room : List ℕ) × (TakesFrame I mid held (Err e) new room

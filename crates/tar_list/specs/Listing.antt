@@ -47,9 +47,8 @@ pub record Lists {X : Type 0} (R : Lender X) (old : Archive X) (was : Told) (rep
   pub comes : ComesTo (λ others. others ≡ headers) (λ h. ⊤) R old last new
   pub prints : ListEnds (member_lines headers) last was reply told
 
--- The member with this name was found, is no directory, and all its bytes were copied; then the writer was flushed. K are the ghost
--- members of
--- the reader of a member's bytes.
+-- The member with this name was found, is no directory, and all its bytes were copied; then the writer was flushed. K
+-- are the ghost members of the reader of a member's bytes.
 pub record CopiesMember {X W : Type 0} (R : Lender X) (K : Reader (Take X)) (I : Writer W) (name : List ℕ) (old : Archive X) (was : W)
     (new : Archive X) (now : W) : Type 0 where
   pub header : Header
