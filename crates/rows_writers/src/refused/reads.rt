@@ -1,10 +1,9 @@
 // `read_to_end` and `read_until` into a vector in a heap.
 //
-// A row is a call, the heap's size, the vector's capacity and length, and how many bytes are to come; then the result, the vector's
-// length, how many bytes of the heap are in use, and how
-// many bytes are left. A row `within` is a heap's size, a call and how many bytes are to come; then the smallest heap that has
-// room for all of it, which must not be larger. In each smaller heap the call fails, and the vector followed by what is left
-// is all that was to come.
+// A row is a call, the heap's size, the vector's capacity and length, and how many bytes are to come; then the result,
+// the vector's length, how many bytes of the heap are in use, and how many bytes are left. A row `within` is a heap's
+// size, a call and how many bytes are to come; then the smallest heap that has room for all of it, which must not be
+// larger. In each smaller heap the call fails, and the vector followed by what is left is all that was to come.
 use super::heaps::{cut_number, number, vector_of};
 use super::readers::read_form;
 use linked_list_allocator::LocalHeap;

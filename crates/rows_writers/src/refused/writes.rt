@@ -1,9 +1,9 @@
 // Writers over a vector in a heap.
 //
-// A line `new` says the heap's size, the vector's capacity and its first bytes. A row is a call; then its result, the vector's
-// bytes, the held bytes, the position or the back half of a queue, and how many bytes of the heap are in use. Besides the calls of a
-// writer there are
-// `fill`, which allocates all of the heap that is left, and `free`, which frees that.
+// A line `new` says the heap's size, the vector's capacity and its first bytes. A row is a call; then its result, the
+// vector's bytes, the held bytes, the position or the back half of a queue, and how many bytes of the heap are in use.
+// Besides the calls of a writer there are `fill`, which allocates all of the heap that is left, and `free`, which
+// frees that.
 use super::heaps::{HeapVec, cut_number, vector_of};
 use crate::writing::make_any_call;
 use linked_list_allocator::LocalHeap;
