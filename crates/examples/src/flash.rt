@@ -2,7 +2,7 @@
 ghost use Rattle.std.specs.Prelude.{◌≡◌, ◌<◌, ℕ, List, length, drop, slice_index};
 ghost use Rattle.no_std_io2.specs.Takes.{store_at};
 
-use no_std_io2::io::{Error, ErrorKind, Read, Result, Seek, SeekFrom, Stored};
+use no_std_io2::io::{Read, Result, Seek, SeekFrom, Stored};
 
 /// A flash memory that is only read. It never fails.
 pub trait Flash {
@@ -47,16 +47,7 @@ impl<F: Flash> Read for FlashFile<F> {
 
 impl<F: Flash> Seek for FlashFile<F> {
     fn seek(&mut self, pos: SeekFrom) -> Result<u64> {
-        let target = match pos {
-            SeekFrom::Start(place) => Some(place),
-            SeekFrom::End(offset) => self.flash.size().checked_add_signed(offset),
-            SeekFrom::Current(offset) => self.place.checked_add_signed(offset),
-        };
-        let Some(place) = target else {
-            let text = "invalid seek to a negative or overflowing position";
-            return Err(Error::new(ErrorKind::InvalidInput, text));
-        };
-        self.place = place;
-        Ok(place)
+        self.place = pos.target(self.flash.size(), self.place)?;
+        Ok(self.place)
     }
 }

@@ -238,6 +238,11 @@ fn seek(rt: HostRuntime) -> Result<(), Fail> {
     assert!(rt; r.seek(SeekFrom::End(-1))? == 4);
     assert!(rt; r.seek(SeekFrom::Current(-5)).is_err()); // before the start: it stays at 4
 
+    assert!(rt; SeekFrom::Start(9).target(5, 2)? == 9); // past the end
+    assert!(rt; SeekFrom::End(-1).target(5, 2)? == 4);
+    assert!(rt; SeekFrom::Current(1).target(5, 2)? == 3);
+    assert!(rt; SeekFrom::Current(-3).target(5, 2).is_err());
+
     let mut r = Cursor::new(*b"abcde");
     r.seek(SeekFrom::Start(3))?;
     assert!(rt; r.stream_position()? == 3);

@@ -56,19 +56,14 @@ writes_whole (fault some is) = tt
 pub law_may : {W : Type 0} (I : Writer W) (old new : W) (call : WriteCall) → CallOf I old call new → I.may old call new
 law_may x1 old new x4 law = grind (arith, common_steps)
 
--- the `write_all` of a type that has a body of its own for it is one call
-pub all_own : {W : Type 0} {may : W → WriteCall → W → Type 0} {a : W} (b : W) (x : List ℕ) (reply : Result (Unit {0}) Error)
-    → may a (WroteAll x reply) b → (C : List WriteCall) × Made may a C b × AllCalls C x reply
-all_own b x reply own = (WroteAll x reply ∷ [], (b, own, refl), inl refl)
-
--- and its law is that of the call
+-- the `write_all` of a type that has a body of its own for it is one call, with that call's law
 pub own_law : {W : Type 0} {told : W → Told} {takes_all : W → Type 0} {may : W → WriteCall → W → Type 0} {a b : W} {x : List ℕ}
     {reply : Result (Unit {0}) Error} → CallLaw told takes_all may a (WroteAll x reply) b → WriteAllLaw told takes_all may a x reply b
 own_law {b = b} {x} {reply} own = record {
   never_interrupted = own.1;
   moves = own.2;
   all = own.3;
-  calls = all_own b x reply own;
+  calls = (WroteAll x reply ∷ [], (b, own, refl), inl refl);
 }
 
 -- So far the calls C were made to write `start`: with those that write `left` they write all of it.

@@ -9,7 +9,6 @@ use Rattle.no_std_io2_base.specs.{declared.error.ErrorKind.TheVariants.{WriteZer
 use Rattle.no_std_io2_base.specs.{Errors.{IsNoInterruption, IsOutOfMemory}, Write.{Told, Moves, MovesFront, told_out, taken, write_mishap}}
 use Rattle.no_std_io2_base.specs.{Write.{zero_write}, Cursor.{bytes_before, put_at, fitting, IsRefusal, PutsWhole, PutsAll, PutsFitting}}
 use Rattle.no_std_io2_base.specs.{Cursor.{PutsAllFitting}, Appends.{AppendsWhole}}
-use Rattle.no_std_io2_base.proofs.CallsLemmas.{all_own}
 
 -- n bytes further on
 pub left_after : (all : List ℕ) (place n : ℕ) → drop (place + n) all ≡ drop n (drop place all)
@@ -67,7 +66,7 @@ all_accepted : {a b : Told} {x : List ℕ} → Moves a x [] b → MovesFront a x
 all_accepted {x = x} moves = record { accepted = x; front = ([], sym (append-nil x)); whole = refl; moves = moves }
 
 -- a refusal is no interruption
-pub refused_fault : (place : ℕ) (x : List ℕ) (e : Error) → IsRefusal place x e → IsFault e
+refused_fault : (place : ℕ) (x : List ℕ) (e : Error) → IsRefusal place x e → IsFault e
 refused_fault place x e x4 = grind (arith, common_steps)
 
 -- x that was put goes out
@@ -142,22 +141,14 @@ all_goes_out : (bs : List ℕ) (place : ℕ) (x bs' : List ℕ) (place' : ℕ) �
 all_goes_out bs place x3 bs' place' h = grind (arith, common_steps, put_goes_out)
 
 -- so it keeps the law of writers
-pub puts_all_moves : (bs : List ℕ) (place : ℕ) (x : List ℕ) (reply : Result (Unit {0}) Error) (bs' : List ℕ) (place' : ℕ)
+pub puts_all : (bs : List ℕ) (place : ℕ) (x : List ℕ) (reply : Result (Unit {0}) Error) (bs' : List ℕ) (place' : ℕ)
     → PutsAll bs place x reply bs' place'
-    → MovesFront (told_out (bytes_before place bs)) x reply (told_out (bytes_before place' bs'))
-puts_all_moves bs place x (Ok tt) bs' place' h =
-    all_accepted (appends_moves (all_goes_out bs place x bs' place' h) refl)
-puts_all_moves bs place x (Err e) bs' place' h =
-    record { accepted = []; front = (x, refl); whole = tt; moves = puts_moves bs place x (Err e) bs' place' h }
-
--- and its error is no interruption
-pub puts_all_fault : (bs : List ℕ) (place : ℕ) (x : List ℕ) (reply : Result (Unit {0}) Error) (bs' : List ℕ) (place' : ℕ)
-    → PutsAll bs place x reply bs' place'
-    → IsNoInterruption reply
-puts_all_fault bs place x x4 bs' place' h = grind (arith, common_steps)
-
--- what a `write_all` of a cursor on a vector follows from
-pub ruleset put_all_laws = (puts_all_moves, puts_all_fault, all_own)
+    → IsNoInterruption reply × MovesFront (told_out (bytes_before place bs)) x reply (told_out (bytes_before place' bs'))
+puts_all bs place x (Ok u) bs' place' h = (tt, all_accepted (appends_moves (all_goes_out bs place x bs' place' h) refl))
+puts_all bs place x (Err e) bs' place' h = (
+  refused_fault place x e h.1,
+  record { accepted = []; front = (x, refl); whole = tt; moves = puts_moves bs place x (Err e) bs' place' h },
+)
 
 -- what an append did, in one word
 pub appends_whole : {A : Type 0} (old new x : List ℕ) (len capacity : ℕ) (reply : Result A Error) → OnOk reply (new ≡ old ++ x)

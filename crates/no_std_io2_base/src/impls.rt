@@ -1,13 +1,13 @@
 //! The traits for slices, vectors and queues, and for types that forward to another stream:
 //! references, boxes and trait objects. This module has no public names.
-mod boxed;
+mod boxes;
 mod copying;
-mod lending_objects;
-mod lent;
-mod lent_objects;
-mod objects;
+mod dyn_boxes;
+mod dyn_buf_read_boxes;
+mod dyn_read_to_end;
+mod dyn_references;
+mod mut_references;
 mod queues;
-mod read_object;
 mod slices;
 mod vectors;
 

@@ -93,7 +93,7 @@ impl<T: AsSlice<u8>> BufRead for Cursor<T> {
         requires { amount ≤ length (cursor_left T.slice self.old) }
         ensures law { ConsumeLaw ⟦<Self as BufRead>⟧ self.old amount self.new }
 
-        // It moves the position by `n`.
+        // It moves the position by `amount`.
         ensures position { cursor_position self.new ≡ cursor_position self.old + amount }
         ensures inner { cursor_inner self.new ≡ cursor_inner self.old }
     {

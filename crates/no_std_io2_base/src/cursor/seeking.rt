@@ -3,8 +3,7 @@ ghost use Rattle.no_std_io2_base.specs.Cursor.{cursor_position, cursor_inner};
 ghost use Rattle.no_std_io2_base.specs.Seek.{Seeks, SeekLaw, StreamPositionLaw, RewindLaw, StreamLenLaw};
 
 use super::{AsSlice, Cursor};
-use crate::error::{Result, invalid_seek};
-use crate::traits::seek::target;
+use crate::error::Result;
 use crate::traits::{Seek, SeekFrom};
 
 impl<T: AsSlice<u8>> Seek for Cursor<T> {
@@ -15,13 +14,9 @@ impl<T: AsSlice<u8>> Seek for Cursor<T> {
         ensures seeks { Seeks (length (T.slice (cursor_inner self.old))) (cursor_position self.old) pos result (cursor_position self.new) }
         ensures inner { cursor_inner self.new ≡ cursor_inner self.old }
     {
-        match target(pos, self.inner.as_slice().len() as u64, self.pos) {
-            Some(at) => {
-                self.pos = at;
-                Ok(at)
-            }
-            None => Err(invalid_seek()),
-        }
+        let at = pos.target(self.inner.as_slice().len() as u64, self.pos)?;
+        self.pos = at;
+        Ok(at)
     }
 
     fn stream_position(&mut self) -> Result<u64>

@@ -98,7 +98,6 @@ impl<A: Allocator> Write for Cursor<Vec<u8, A>> {
     }
 
     #[inline(always)]
-    #[tactic(auto, using(crate::proofs::CursorLemmas::put_all_laws))]
     fn write_all(&mut self, buf: &[u8]) -> Result<()>
         ensures law { WriteAllOf ⟦<Self as Write>⟧ self.old buf.now result self.new }
 
@@ -139,7 +138,6 @@ impl<A: Allocator> Write for Cursor<&mut Vec<u8, A>> {
     }
 
     #[inline(always)]
-    #[tactic(auto, using(crate::proofs::CursorLemmas::put_all_laws))]
     fn write_all(&mut self, buf: &[u8]) -> Result<()>
         ensures law { WriteAllOf ⟦<Self as Write>⟧ self.old buf.now result self.new }
 

@@ -1,8 +1,9 @@
-ghost use Rattle.std.specs.Prelude.{ℕ, IfSome, IfNone};
+ghost use Rattle.std.specs.Prelude.{ℕ, IfOk, IfErr};
+ghost use Rattle.no_std_io2_base.specs.Errors.{IsInvalidSeek};
 ghost use Rattle.no_std_io2_base.specs.Seek.{IsTarget};
 
 use super::stored::Stored;
-use crate::error::Result;
+use crate::error::{Result, invalid_seek};
 
 /// The target of a seek: a number of bytes from the start, from the end or from the current
 /// position. Follows Rust's `std::io::SeekFrom`.
@@ -23,21 +24,34 @@ pub enum SeekFrom {
     Current(i64),
 }
 
-// Returns the target of a seek in a content of `len` bytes from `position`, if there is such a place.
-pub(crate) fn target(pos: SeekFrom, len: u64, position: u64) -> Option<u64>
-    ensures is { IfSome result (IsTarget len position pos) }
-    ensures none { IfNone result ((n : ℕ) → IsTarget len position pos n → ⊥) }
-{
-    let (base, offset) = match pos {
-        SeekFrom::Start(at) => (at, 0),
-        SeekFrom::End(offset) => (len, offset),
-        SeekFrom::Current(offset) => (position, offset),
-    };
-    let distance = offset.unsigned_abs();
-    if offset < 0 {
-        base.checked_sub(distance)
-    } else {
-        base.checked_add(distance)
+impl SeekFrom {
+    /// Returns the position that a seek of a content of `len` bytes leads to, counted from the
+    /// start, if the position is now `position`. A device that has a content can so write its
+    /// `seek` in three lines. Rust's `std::io` has no such call.
+    ///
+    /// # Errors
+    /// Returns `InvalidInput`, `invalid seek to a negative or overflowing position`, if it would be
+    /// below 0 or above `u64::MAX`.
+    ///
+    /// ```rust
+    /// assert!(rt; SeekFrom::Start(9).target(5, 2)? == 9); // past the end
+    /// assert!(rt; SeekFrom::End(-1).target(5, 2)? == 4);
+    /// assert!(rt; SeekFrom::Current(1).target(5, 2)? == 3);
+    /// assert!(rt; SeekFrom::Current(-3).target(5, 2).is_err());
+    /// ```
+    pub fn target(self, len: u64, position: u64) -> Result<u64>
+        ensures is { IfOk result (IsTarget len position self) }
+        ensures none { IfErr result (λ e. ((n : ℕ) → IsTarget len position self n → ⊥) × IsInvalidSeek e) }
+    {
+        let (base, offset) = match self {
+            SeekFrom::Start(at) => (at, 0),
+            SeekFrom::End(offset) => (len, offset),
+            SeekFrom::Current(offset) => (position, offset),
+        };
+        match base.checked_add_signed(offset) {
+            Some(at) => Ok(at),
+            None => Err(invalid_seek()),
+        }
     }
 }
 

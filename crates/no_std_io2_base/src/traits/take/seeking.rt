@@ -1,14 +1,14 @@
 // How a `Take` seeks.
 ghost use Rattle.std.specs.Int.{w64};
-ghost use Rattle.std.specs.Prelude.{FitsSigned, ◌≡◌, ◌≢◌, ◌<◌, ◌≤◌, ◌^◌, ℕ, Ok, IfSome, IfNone};
+ghost use Rattle.std.specs.Prelude.{FitsSigned, ◌≡◌, ◌≢◌, ◌<◌, ◌≤◌, ◌^◌, ℕ, Ok, IfOk, IfErr};
 ghost use Rattle.no_std_io2_base.specs.Seek.{IsAtOffset, SeekLaw, StreamLenLaw, StreamPositionLaw, SeekRelativeLaw, Sought, Measured};
 ghost use Rattle.no_std_io2_base.specs.Seek.{Moved};
+ghost use Rattle.no_std_io2_base.specs.Errors.{IsInvalidSeek};
 ghost use Rattle.no_std_io2_base.specs.Take.{limit_set, limit_position};
 ghost use Rattle.no_std_io2_base.specs.LimitSeeks.{IsWithin, IsStep, LimitSteps, LimitGoes, LimitMaySeek};
 
 use super::Take;
 use crate::error::{Result, invalid_seek};
-use crate::traits::seek::target;
 use crate::traits::{Seek, SeekFrom};
 
 // Returns the offset of one step towards a position, and where the step leads.
@@ -36,14 +36,15 @@ impl<T> Take<T> {
     }
 
     // Returns the target of a seek, if it is within this `Take`.
-    fn target_within(&self, pos: SeekFrom) -> Option<u64>
-        ensures is { IfSome result (IsWithin self.now pos) }
-        ensures none { IfNone result ((n : ℕ) → IsWithin self.now pos n → ⊥) }
+    fn target_within(&self, pos: SeekFrom) -> Result<u64>
+        ensures is { IfOk result (IsWithin self.now pos) }
+        ensures none { IfErr result (λ e. ((n : ℕ) → IsWithin self.now pos n → ⊥) × IsInvalidSeek e) }
     {
-        match target(pos, self.len, self.position()) {
-            Some(at) if at <= self.len => Some(at),
-            _ => None,
+        let at = pos.target(self.len, self.position())?;
+        if at > self.len {
+            return Err(invalid_seek());
         }
+        Ok(at)
     }
 }
 
@@ -100,10 +101,8 @@ impl<T: Seek> Seek for Take<T> {
         // It goes to its target by steps of the inner stream, or is refused.
         ensures own { LimitMaySeek T.Seek self.old (Sought pos result) self.new }
     {
-        match self.target_within(pos) {
-            Some(at) => self.go_to(at),
-            None => Err(invalid_seek()),
-        }
+        let at = self.target_within(pos)?;
+        self.go_to(at)
     }
 
     fn stream_position(&mut self) -> Result<u64>
@@ -130,9 +129,7 @@ impl<T: Seek> Seek for Take<T> {
         // It is a call of its own.
         ensures own { LimitMaySeek T.Seek self.old (Moved offset result) self.new }
     {
-        match self.target_within(SeekFrom::Current(offset)) {
-            Some(at) => self.step(offset, at),
-            None => Err(invalid_seek()),
-        }
+        let at = self.target_within(SeekFrom::Current(offset))?;
+        self.step(offset, at)
     }
 }

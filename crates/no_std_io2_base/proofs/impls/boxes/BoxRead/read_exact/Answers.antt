@@ -1,0 +1,11 @@
+-- What the call did to the value in the box, it did to the box.
+use Rattle.std.proofs.Common.{refl}
+use Rattle.no_std_io2_base.proofs.Forwards.{exact_through}
+use Rattle.no_std_io2_base.proofs.impls.boxes.BoxRead.read_exact.Goals as goal
+
+pub returns : goal.returns
+returns g c =
+    record {
+      law = exact_through (λ v. record c.args.self.now { value = v }) (record { told = λ x. refl; may = λ x y call may. may })
+          (rw c.as_mut.ensures.value at c.read_exact.ensures.law);
+    }
