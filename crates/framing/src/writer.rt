@@ -1,13 +1,12 @@
 //! [`FrameWriter`], which sends each frame whole or not at all.
-ghost use Rattle.std.specs.Prelude.{◌≡◌, [], map, OnOk, IsOk};
+ghost use Rattle.std.specs.Prelude.{◌≡◌, [], map};
 ghost use Rattle.no_std_io2.specs.BufWriter.{writer_inner, writer_buffer, Unwraps};
-ghost use Rattle.no_std_io2.specs.Retries.{HasAtMost, RestFlushLaw, Tries};
+ghost use Rattle.no_std_io2.specs.FlushTries.{FlushTries};
 ghost use Rattle.no_std_io2.specs.Writers.{FlushOf};
-ghost use Rattle.no_std_io2.specs.Write.{Moves, call_mishap};
-ghost use Rattle.framing.specs.Sending.{writes_to, frames_held, frame_writer, writer_tells, SaysTooLong, SendsFrame, SendsFrames};
+ghost use Rattle.framing.specs.Sending.{writes_to, frames_held, frame_writer, SaysTooLong, SendsFrame, SendsFrames};
 
 use no_std_io2::io::{
-    BufWriter, Error, ErrorKind, IntoInnerError, Result, Write, write_with_retries,
+    BufWriter, Error, ErrorKind, IntoInnerError, Result, Write, flush_with_retries,
 };
 
 /// A writer of frames, with a buffer of `S` bytes in front of any writer. A frame has to be shorter than the
@@ -106,14 +105,9 @@ impl<W: Write + Drop, const S: usize> FrameWriter<W, S> {
     /// assert!(rt; w.get_ref().len() == 11);
     /// ```
     pub fn flush_with_retries(&mut self, retries: u32) -> Result<()>
-        ensures moves { Moves (writer_tells W.told self.old) [] (call_mishap result) (writer_tells W.told self.new) }
-        ensures flushed { OnOk result ((writer_tells W.told self.new).held ≡ []) }
-        ensures enough { HasAtMost retries (writer_tells W.told self.old).mishaps → IsOk result }
-        ensures calls { Tries (RestFlushLaw ⟦<BufWriter<W, S> as Write>⟧) retries (frame_writer self.old) [] result
-            (frame_writer self.new) [] }
+        ensures { FlushTries ⟦<BufWriter<W, S> as Write>⟧ retries (frame_writer self.old) result (frame_writer self.new) }
     {
-        let mut none = b"".as_slice();
-        write_with_retries(&mut self.inner, &mut none, retries)
+        flush_with_retries(&mut self.inner, retries)
     }
 
     /// Sends the held bytes and returns the writer below, which is not flushed. If nothing is held, it makes no call.

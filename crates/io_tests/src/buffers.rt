@@ -2,7 +2,8 @@
 use examples::Narrow;
 use no_std_io2::io::{
     BufRead, BufReader, BufWriter, CopyError, Cursor, ErrorKind, LineWriter, Read, Seek, SeekFrom,
-    Write, copy, copy_lent, copy_sided, copy_with, read_exact_at, skip, write_with_retries,
+    Write, copy, copy_lent, copy_sided, copy_with, flush_with_retries, read_exact_at, skip,
+    write_with_retries,
 };
 use std::test::Fail;
 
@@ -162,6 +163,11 @@ fn retries(rt: HostRuntime) -> Result<(), Fail> {
     let mut rest = b"abc".as_slice();
     write_with_retries(&mut w, &mut rest, 3)?; // tries again after each of the first three faults
     assert!(rt; w.get_ref().as_slice() == b"abc".as_slice());
+
+    let mut w = BufWriter::<Vec<u8>, 64>::new(Vec::new(rt.alloc()));
+    w.write_all(b"abc")?;
+    flush_with_retries(&mut w, 3)?; // tries again after each of the first three faults
+    assert!(rt; w.buffer().is_empty());
     Ok(())
 }
 

@@ -8,18 +8,17 @@
 //! ```
 #![tactic(auto)]
 
-ghost use Rattle.std.specs.Prelude.{◌≡◌, ◌<◌, ◌^◌, [], nat_lt, length, OnOk, IsOk};
+ghost use Rattle.std.specs.Prelude.{◌≡◌, ◌<◌, ◌^◌, [], nat_lt, length};
 ghost use Rattle.no_std_io2.specs.BufWriter.{writer_inner, writer_buffer, Unwraps};
-ghost use Rattle.no_std_io2.specs.Retries.{HasAtMost, RestFlushLaw, Tries};
+ghost use Rattle.no_std_io2.specs.FlushTries.{FlushTries};
 ghost use Rattle.no_std_io2.specs.Writers.{FlushOf};
-ghost use Rattle.no_std_io2.specs.Write.{Moves, call_mishap};
-ghost use Rattle.line_log.specs.Log.{LogsLine, LogsText, log_writer, log_inner, log_held, log_tells};
+ghost use Rattle.line_log.specs.Log.{LogsLine, LogsText, log_writer, log_inner, log_held};
 
 mod printed;
 mod text;
 
 use no_std_io2::io::{
-    Answers, BufWriter, Error, ErrorKind, IntoInnerError, Result, Write, write_with_retries,
+    Answers, BufWriter, Error, ErrorKind, IntoInnerError, Result, Write, flush_with_retries,
 };
 use std::fmt::Display;
 use text::{print_text, too_long};
@@ -149,14 +148,9 @@ impl<W: Write + Drop, const S: usize> LineLog<W, S> {
     /// # Errors
     /// Returns the fault of the last try if that try fails too.
     pub fn flush_with_retries(&mut self, retries: u32) -> Result<()>
-        ensures moves { Moves (log_tells W.told self.old) [] (call_mishap result) (log_tells W.told self.new) }
-        ensures flushed { OnOk result ((log_tells W.told self.new).held ≡ []) }
-        ensures enough { HasAtMost retries (log_tells W.told self.old).mishaps → IsOk result }
-        ensures calls { Tries (RestFlushLaw ⟦<BufWriter<W, S> as Write>⟧) retries (log_writer self.old) [] result
-            (log_writer self.new) [] }
+        ensures { FlushTries ⟦<BufWriter<W, S> as Write>⟧ retries (log_writer self.old) result (log_writer self.new) }
     {
-        let mut none = b"".as_slice();
-        write_with_retries(&mut self.inner, &mut none, retries)
+        flush_with_retries(&mut self.inner, retries)
     }
 
     /// Sends the held bytes and returns the writer below, which is not flushed. If nothing is held, it makes no call.

@@ -1,6 +1,6 @@
 //! Functions over streams: [`copy`] and [`copy_lent`] copy a reader to a writer, [`skip`] skips bytes, [`read_exact_at`]
-//! reads at a place, and [`write_with_retries`] writes again after a fault. [`empty`], [`repeat`] and
-//! [`sink`] make streams without a device.
+//! reads at a place, and [`write_with_retries`] and [`flush_with_retries`] try again after a fault. [`empty`],
+//! [`repeat`] and [`sink`] make streams without a device.
 ghost use Rattle.std.specs.Prelude.{◌<◌, ◌^◌};
 ghost use Rattle.no_std_io2.specs.Copy.{Copied};
 ghost use Rattle.no_std_io2_base.specs.Passing.{Skipped};
@@ -20,7 +20,7 @@ pub use no_std_io2_base::makers::{empty, repeat, sink};
 pub use no_std_io2_base::repeats::Repeat;
 pub use no_std_io2_base::sinks::Sink;
 pub use read_at::read_exact_at;
-pub use retries::write_with_retries;
+pub use retries::{flush_with_retries, write_with_retries};
 pub use sides::{CopyError, copy_sided, copy_with};
 
 /// Copies all remaining bytes of `reader` to `writer`, through a buffer of `S` bytes on the stack. It returns their

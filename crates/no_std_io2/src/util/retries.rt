@@ -1,7 +1,8 @@
-//! [`write_with_retries`], a write and a flush that are made again after a fault.
+//! [`write_with_retries`] and [`flush_with_retries`], a write and a flush that are made again after a fault.
 ghost use Rattle.std.specs.Prelude.{◌≡◌, [], OnOk, IsOk};
 ghost use Rattle.no_std_io2_base.specs.Write.{Sends};
 ghost use Rattle.no_std_io2_base.specs.Retries.{HasAtMost, RestFlushLaw, Tries};
+ghost use Rattle.no_std_io2.specs.FlushTries.{FlushTries};
 
 use no_std_io2_base::error::Result;
 use no_std_io2_base::traits::Write;
@@ -47,4 +48,23 @@ pub fn write_with_retries<W: Write>(writer: &mut W, rest: &mut &[u8], retries: u
             Err(_fault) => left -= 1,
         }
     }
+}
+
+/// Flushes, and tries again after each of the first `retries` faults. If the writer tells that at most `retries`
+/// mishaps are to come, the call succeeds. Rust's std has no such function.
+///
+/// # Errors
+/// Returns the fault of the last try if that try fails too. The same call continues.
+///
+/// ```rust
+/// let mut w = BufWriter::<Vec<u8>, 64>::new(Vec::new(rt.alloc()));
+/// w.write_all(b"abc")?;
+/// flush_with_retries(&mut w, 3)?; // tries again after each of the first three faults
+/// assert!(rt; w.buffer().is_empty());
+/// ```
+pub fn flush_with_retries<W: Write>(writer: &mut W, retries: u32) -> Result<()>
+    ensures { FlushTries W.Write retries writer.old result writer.new }
+{
+    let mut none = b"".as_slice();
+    write_with_retries(writer, &mut none, retries)
 }
