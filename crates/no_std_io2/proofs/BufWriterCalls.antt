@@ -1,5 +1,5 @@
 -- What the steps of a buffered writer leave, tell and count, and what follows for its calls.
-use Rattle.no_std_io2.proofs.Words.{TakesAll, CallOf, Writer, Told, Moves, MovesFront, WriteCall, Made, call_mishap, Wrote, Flushed}
+use Rattle.no_std_io2.proofs.Words.{Stepped, TakesAll, CallOf, Writer, Told, Moves, MovesFront, WriteCall, Made, call_mishap, Wrote, Flushed}
 use Rattle.no_std_io2.proofs.Words.{AllCalls, calls_for, none as no_write, charges, rules, [], ◌≡◌, ◌+◌, ℕ, ◌<◌, ◌≤◌, List, ◌∷◌, ◌++◌}
 use Rattle.no_std_io2.proofs.Words.{length, Result, Ok, Err, OnOk, IsOk, IfOk, refl, sym, subst, ap, ◌∙◌, arith, le_refl, append-nil}
 use Rattle.no_std_io2.proofs.Words.{if◌then◌else◌, nat_lt, ⊎_elim, inl, inr, common_steps, nil_from_length, cases_lt, nat_tests, stops}
@@ -12,7 +12,7 @@ use Rattle.no_std_io2_base.proofs.{WritesFacts.{writes_fault, writes_sends}, All
 use Rattle.no_std_io2_base.proofs.{MeterLemmas.{writes_count, all_count}}
 use Rattle.no_std_io2.specs.{declared.buffered.sender.Sender.{Sender}, BufWriter.{PutCalls, PastEmpty, way_calls, Buffers, BuffersAll}}
 use Rattle.no_std_io2.proofs.{BufWriterLemmas.{Moves-kept, Moves-emptied, MovesFront-emptied}}
-use Rattle.no_std_io2.proofs.StepLemmas.{no_ok, Stepped, Leaves, StepTells, Sending, Counts, Counted, then_goes_on, then_leaves, then_tells}
+use Rattle.no_std_io2.proofs.StepLemmas.{no_ok, Leaves, StepTells, Sending, Counts, Counted, then_goes_on, then_leaves, then_tells}
 use Rattle.no_std_io2.proofs.StepLemmas.{then_counts}
 
 -- what is left once n more bytes have room,
@@ -143,7 +143,7 @@ module _ {W : Type 0} (I : Writer W) where
       → n ≡ 0 → Made (CallOf I) a C b → TakesAll I a → Counted I reply C n b
   idle_counts = grind (arith, common_steps)
 
-  way_counts : (S n : ℕ) → Counts I (WayCalls S n) (λ held. way_calls S held n)
+  pub way_counts : (S n : ℕ) → Counts I (WayCalls S n) (λ held. way_calls S held n)
   way_counts S n = grind (arith, common_steps, idle_counts, send_counts)
 
   module _ {A : Type 0} (S : ℕ) (x : List ℕ) (v : A) (past : List WriteCall → Result A Error → Type 0) where

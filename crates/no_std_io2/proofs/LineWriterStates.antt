@@ -1,5 +1,5 @@
 -- What the calls of a line writer leave: line states, and after an `Ok` these.
-use Rattle.no_std_io2.proofs.Words.{CallOf, Writer, WriteCall, Wrote, Writes, none as no_write, took, again, stuck, fault, AllCalls}
+use Rattle.no_std_io2.proofs.Words.{Stepped, CallOf, Writer, WriteCall, Wrote, Writes, none as no_write, took, again, stuck, fault, AllCalls}
 use Rattle.no_std_io2.proofs.Words.{newline, IsLineState, lines_of, lines_len, unfinished_line, common_steps, ◌≡◌, ◌+◌, ℕ, ◌<◌, ◌≤◌, ◌==◌}
 use Rattle.no_std_io2.proofs.Words.{◌∙◌, List, ◌∷◌, ◌++◌, length, take, drop, Result, [], Ok, OnOk, IsOk, IfOk, refl, sym, ap, subst, arith}
 use Rattle.no_std_io2.proofs.Words.{if◌then◌else◌, inl, inr, take-append-drop, nat_tests, IsSuffix, Then, stops, goes_on, SendCalls}
@@ -13,7 +13,7 @@ use Rattle.no_std_io2_base.proofs.LineLemmas.{lacks_contains, contains_lines}
 use Rattle.no_std_io2_base.proofs.{LineLemmas.{take_lines, drop_lines, lines_split, plain_state, lacks_rest, state_rest, ends_in-append}}
 use Rattle.no_std_io2_base.proofs.{MovesLemmas.{after_ok}, PieceLemmas.{Lacks-append}}
 use Rattle.no_std_io2.specs.LineWriter.{SendLineCalls, HoldsTail, LinesCalls, line_buffer_after, IsShortText}
-use Rattle.no_std_io2.proofs.{BufWriterLemmas.{IsSuffix-trans}, StepLemmas.{Stepped, Leaves, then_leaves}}
+use Rattle.no_std_io2.proofs.{BufWriterLemmas.{IsSuffix-trans}, StepLemmas.{Leaves, then_leaves}}
 use Rattle.no_std_io2.proofs.{BufWriterCalls.{buffered_leaves, buffered_fits, send_leaves, write_whole}, HeldTail.{tail_state}}
 
 -- what is left of some bytes that were sent is an end of them

@@ -1,12 +1,13 @@
 -- The calls of a buffered writer that first send the held bytes: its seeks and `into_inner`.
-use Rattle.no_std_io2.proofs.Words.{CallOf, Writer, Moves, WriteCall, Made, Store, KeepsContent, common_steps, ◌≡◌, ℕ, List, length, Result}
+use Rattle.no_std_io2.proofs.Words.{Stepped, CallOf, Writer, Moves, WriteCall, Made, Store, KeepsContent, common_steps, ◌≡◌, ℕ, List, length, Result}
 use Rattle.no_std_io2.proofs.Words.{Ok, Err, IsOk, IfOk, Option, refl, sym, ap, subst, arith, [], ◌∷◌, SendCalls, TakesStep, with_buffer}
-use Rattle.no_std_io2_base.specs.{declared.error.Error.{Error}, Seek.{IsPosition}}
+use Rattle.no_std_io2_base.specs.{declared.error.Error.{Error}, Seek.{IsPosition, Seeker}}
+use Rattle.no_std_io2_base.specs.declared.traits.seek.SeekFrom.{SeekFrom}
 use Rattle.no_std_io2_base.proofs.{MovesLemmas.{Moves-steady}, CallsLemmas.{writes_whole}}
 use Rattle.no_std_io2_base.proofs.{WritesFacts.{writes_fault, writes_left, writes_idle, writes_sends}}
-use Rattle.no_std_io2.specs.{BufWriter.{SendsFirst, Unwraps, store_unheld, into_inner_error_writer, into_inner_error_cause}}
+use Rattle.no_std_io2.specs.{BufWriter.{SeeksSent, failed, Unwraps, store_unheld, into_inner_error_writer, into_inner_error_cause}}
 use Rattle.no_std_io2.specs.{declared.buffered.into_inner_error.IntoInnerError.{IntoInnerError}}
-use Rattle.no_std_io2.proofs.{BufWriterCalls.{send_tells, send_counts}, StepLemmas.{no_ok, Stepped}}
+use Rattle.no_std_io2.proofs.{BufWriterCalls.{send_tells, send_counts}, StepLemmas.{no_ok}}
 
 -- the told store of a writer with a buffer, if the sending failed: then some bytes were held
 pub store_refused : (Goes : ℕ → ℕ → ℕ → Type 0) (held : List ℕ) (s s' : Option Store) → (held ≡ [] → ⊥)
@@ -33,24 +34,16 @@ module _ {W : Type 0} {I : Writer W} {a b : W} {held left : List ℕ} where
   pub sent_idle : {reply : Result (Unit {0}) Error} → Stepped I SendCalls a held reply left b → held ≡ [] → (b ≡ a) × IsOk reply
   sent_idle calls none = let idle = writes_idle calls.2 none in (subst (λ K. Made (CallOf I) a K b) idle.0 calls.1, idle.1)
 
-  -- some bytes are left at an error
-  pub failed_left : {T : Type 0} {e : Error} → Stepped I SendCalls a held (Err e) left b → left ≡ [] → T
-  failed_left calls none = absurd (omega (arith, writes_left calls.2, ap length none))
-
   -- all was sent
   pub sends_all : Stepped I SendCalls a held (Ok tt) left b → Moves (with_buffer (I.told a) held) [] [] (I.told b)
       × ((C : List WriteCall) × Made (CallOf I) a C b × SendCalls held C (Ok tt) [])
   sends_all calls = grind (arith, common_steps, writes_whole, writes_sends)
 
 module _ {W B : Type 0} {I : Writer W} {inner : B → W} {buffer : B → List ℕ} {old : B} where
-  -- a call that sends first: the sending failed
-  pub sending_failed : {A : Type 0} {new : B} {e : Error} → TakesStep I inner buffer SendCalls old (Err e) new
-      → SendsFirst {A = A} I inner buffer old (Err e) new
-  sending_failed = grind (arith, common_steps, send_tells)
-
-  -- or all was sent, whatever came then
-  pub sending_went : {A : Type 0} {new : B} (r : Result A Error) → buffer new ≡ [] → SendsFirst I inner buffer old r new
-  sending_went r none = grind (arith, common_steps)
+  -- the sending before a seek failed
+  pub seek_failed : {K : Seeker W} {to : SeekFrom} {new : B} {e : Error} → TakesStep I inner buffer SendCalls old (Err e) new
+      → SeeksSent I K inner buffer old to (Err e) new
+  seek_failed calls = failed calls (send_tells I _ _ _ _ calls.2 _ _ calls.1) (writes_left calls.2)
 
   -- `into_inner`: all was sent, and the inner writer comes back
   pub unwraps_ok : {w : W} {left : List ℕ}

@@ -1,5 +1,5 @@
 -- Steps of a writer with a buffer, one after another: what holds of the parts holds of `first?; next`.
-use Rattle.no_std_io2.proofs.Words.{TakesAll, CallOf, Writer, error_kind, Told, Moves, WriteCall, Made, call_mishap, charges, common_steps}
+use Rattle.no_std_io2.proofs.Words.{Stepped, TakesAll, CallOf, Writer, error_kind, Told, Moves, WriteCall, Made, call_mishap, charges, common_steps}
 use Rattle.no_std_io2.proofs.Words.{◌≡◌, ℕ, ◌+◌, List, ◌∷◌, ◌++◌, Result, Ok, Err, OnOk, IsOk, ap, arith, false, true, [], Step, Then}
 use Rattle.no_std_io2.proofs.Words.{stops, goes_on, with_buffer}
 use Rattle.no_std_io2_base.specs.declared.error.Error.{Error}
@@ -8,10 +8,6 @@ use Rattle.no_std_io2_base.proofs.{CallsLemmas.{made_then, made_split}, MeterLem
 -- no error is `Ok`
 pub no_ok : {T : Type 0} → false ≡ true → T
 no_ok h = absurd (let no : ⊥ = cc in no)
-
--- the calls of one step, from a to b
-abbrev pub Stepped : {W A : Type 0} → Writer W → Step A → W → List ℕ → Result A Error → List ℕ → W → Type 0
-Stepped I step a held reply left b = (C : List WriteCall) × Made (CallOf I) a C b × step held C reply left
 
 module _ {W A : Type 0} {I : Writer W} (first : Step (Unit {0})) (next : Step A) where
   -- the first step failed, and its error is the result

@@ -18,8 +18,8 @@ pub use Rattle.std.specs.Prelude.{is_some, ⊤}
 pub use Rattle.no_std_io2.specs.BufReader.{AsksExact, FillsBelow, PassesOn, ReadsBelow, behind_held, lent_held, lent_read, of_held}
 pub use Rattle.no_std_io2.specs.BufReader.{reader_behind, reader_held, reader_inner, step_back, store_before, store_if, was_filled}
 pub use Rattle.no_std_io2.specs.BufReader.{went_past}
-pub use Rattle.no_std_io2.specs.BufWriter.{BufferMay, Buffered, FlushCalls, InnerCalls, Only, SendCalls, Step, TakesStep, Then, WayCalls}
-pub use Rattle.no_std_io2.specs.BufWriter.{WriteAllCalls, WriteCalls, buffer_after, goes_on, sender_buffer, sender_inner, stops}
+pub use Rattle.no_std_io2.specs.BufWriter.{BufferMay, Buffered, FlushCalls, InnerCalls, Only, SendCalls, Step, Stepped, TakesStep, Then}
+pub use Rattle.no_std_io2.specs.BufWriter.{WayCalls, WriteAllCalls, WriteCalls, buffer_after, goes_on, sender_buffer, sender_inner, stops}
 pub use Rattle.no_std_io2.specs.BufWriter.{with_buffer, writer_buffer, writer_inner, writer_told, writing_calls}
 pub use Rattle.no_std_io2.specs.Buffer.{IsCutOn, IsSuffix}
 pub use Rattle.no_std_io2.specs.Copy.{Copied}

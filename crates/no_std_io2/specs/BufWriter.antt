@@ -111,10 +111,13 @@ WriteAllCalls S x = Buffered S x tt (λ C. AllCalls C x)
 abbrev pub FlushCalls : Step (Unit {0})
 FlushCalls = Then SendCalls (PastEmpty (Only Flushed))
 
--- A writer B with a buffer in front of its inner writer took this step, and each inner call kept its law.
+-- This step was taken by inner calls that kept their laws. They led from the inner writer `old` to `new`.
+abbrev pub Stepped : {W A : Type 0} → Writer W → Step A → W → List ℕ → Result A Error → List ℕ → W → Type 0
+Stepped I step old held reply left new = (C : List WriteCall) × Made (CallOf I) old C new × step held C reply left
+
+-- a writer B with a buffer in front of its inner writer took it
 abbrev pub TakesStep : {W B A : Type 0} → Writer W → (B → W) → (B → List ℕ) → Step A → B → Result A Error → B → Type 0
-TakesStep I inner buffer step old reply new =
-    (C : List WriteCall) × Made (CallOf I) (inner old) C (inner new) × step (buffer old) C reply (buffer new)
+TakesStep I inner buffer step old reply new = Stepped I step (inner old) (buffer old) reply (buffer new) (inner new)
 
 -- the inner calls of a call of a writer with a buffer of S bytes
 abbrev pub InnerCalls : ℕ → List ℕ → WriteCall → List WriteCall → List ℕ → Type 0
@@ -170,7 +173,7 @@ pub record Puts {W B : Type 0} (I : Writer W) (inner : B → W) (buffer : B → 
 
 -- the inner calls of `into_inner()`: the held bytes were sent, and the result is the inner writer, or the error with the buffered writer
 abbrev pub UnwrapCalls : {W B : Type 0} → Writer W → (B → W) → (B → List ℕ) → B → Result W (IntoInnerError B) → Type 0
-UnwrapCalls I inner buffer old (Ok w) = (C : List WriteCall) × Made (CallOf I) (inner old) C w × SendCalls (buffer old) C (Ok tt) []
+UnwrapCalls I inner buffer old (Ok w) = Stepped I SendCalls (inner old) (buffer old) (Ok tt) [] w
 UnwrapCalls I inner buffer old (Err e) =
     TakesStep I inner buffer SendCalls old (Err (into_inner_error_cause e)) (into_inner_error_writer e)
 
@@ -193,34 +196,23 @@ pub record Unwraps {W B : Type 0} (I : Writer W) (inner : B → W) (buffer : B �
   -- an inner writer that takes all still does
   pub all : TakesAll I (inner old) → IsOkAnd reply (TakesAll I)
 
--- A call of a writer B with a buffer first sent the held bytes: all of them, or as many as went out before a fault,
--- which is then the result.
-pub record SendsFirst {W B A : Type 0} (I : Writer W) (inner : B → W) (buffer : B → List ℕ) (old : B) (reply : Result A Error) (new : B)
-    : Type 0 where
-  pub empty : OnOk reply (buffer new ≡ [])
-  -- if bytes are still held, only the calls of the sending were made, and the error is that of the sending
-  pub stopped : IfErr reply (λ e. 0 < length (buffer new) → TakesStep I inner buffer SendCalls old (Err e) new)
-  -- no byte is lost
-  pub refused : IfErr reply (λ e. 0 < length (buffer new)
-      → Moves (with_buffer (I.told (inner old)) (buffer old)) [] (error_kind e ∷ []) (with_buffer (I.told (inner new)) (buffer new)))
+-- A seek of a writer B with a buffer sent the held bytes: all of them, and then one inner seek was made; or as many as went out before a
+-- fault, which is then the result.
+pub data SeeksSent {W B : Type 0} (I : Writer W) (K : Seeker W) (inner : B → W) (buffer : B → List ℕ) (old : B) (to : SeekFrom)
+    : Result ℕ Error → B → Type 0
+  where
+    -- nothing is held, no byte is lost, and the result is that of the inner seek. `sent` is the inner writer after the sending
+    went : {reply : Result ℕ Error} {new : B} (sent : W) → Stepped I SendCalls (inner old) (buffer old) (Ok tt) [] sent
+        → Moves (with_buffer (I.told (inner old)) (buffer old)) [] [] (I.told sent) → SeekLaw K sent to reply (inner new)
+        → buffer new ≡ [] → SeeksSent I K inner buffer old to reply new
+    -- some bytes are still held, no byte is lost, and no seek was made
+    failed : {e : Error} {new : B} → TakesStep I inner buffer SendCalls old (Err e) new
+        → Moves (with_buffer (I.told (inner old)) (buffer old)) [] (error_kind e ∷ []) (with_buffer (I.told (inner new)) (buffer new))
+        → 0 < length (buffer new) → SeeksSent I K inner buffer old to (Err e) new
 
--- All held bytes were sent, and then one inner seek was made.
-pub record SeeksAfterSending {W : Type 0} (I : Writer W) (K : Seeker W) (old : W) (held : List ℕ) (to : SeekFrom) (new : W)
-    (reply : Result ℕ Error) : Type 0 where
-  -- the state of the inner writer after the sending
-  pub sent : W
-  -- no byte is lost
-  pub moves : Moves (with_buffer (I.told old) held) [] [] (I.told sent)
-  -- these were the calls of the sending
-  pub calls : (C : List WriteCall) × Made (CallOf I) old C sent × SendCalls held C (Ok tt) []
-  -- one seek of the inner writer, whose result is returned
-  pub sought : SeekLaw K sent to reply new
-
--- What a call of `Seek` may do to a buffered writer: a seek sends first; if all held bytes were sent, one inner seek was made. It has no
--- other body of its own.
+-- What a call of `Seek` may do to a buffered writer: a seek. It has no other body of its own.
 abbrev pub WriterMaySeek : {W : Type 0} {S : ℕ} → Writer W → Seeker W → BufWriter W S → SeekCall → BufWriter W S → Type 0
-WriterMaySeek I K old (Sought to reply) new = SendsFirst I writer_inner writer_buffer old reply new
-    × (writer_buffer new ≡ [] → SeeksAfterSending I K (writer_inner old) (writer_buffer old) to (writer_inner new) reply)
+WriterMaySeek I K old (Sought to reply) new = SeeksSent I K writer_inner writer_buffer old to reply new
 WriterMaySeek I K old _ new = ⊥
 
 -- a `BufWriter<W, S>` fits in memory

@@ -1,6 +1,5 @@
-ghost use Rattle.std.specs.Prelude.{◌≡◌, []};
 ghost use Rattle.no_std_io2_base.specs.Seek.{SeekLaw};
-ghost use Rattle.no_std_io2.specs.BufWriter.{writer_inner, writer_buffer, store_unheld, SendsFirst, SeeksAfterSending, WriterMaySeek};
+ghost use Rattle.no_std_io2.specs.BufWriter.{writer_inner, writer_buffer, store_unheld, SeeksSent, WriterMaySeek};
 
 use super::BufWriter;
 use no_std_io2_base::error::Result;
@@ -24,10 +23,7 @@ impl<W: Write + Seek + Drop, const S: usize> Seek for BufWriter<W, S> {
     fn seek(&mut self, pos: SeekFrom) -> Result<u64>
         ensures law { SeekLaw ⟦<Self as Seek>⟧ self.old pos result self.new }
 
-        // If all held bytes were sent, one inner seek was made after that.
-        ensures first { SendsFirst W.Write writer_inner writer_buffer self.old result self.new }
-        ensures sent { writer_buffer self.new ≡ [] → SeeksAfterSending W.Write W.Seek (writer_inner self.old)
-            (writer_buffer self.old) pos (writer_inner self.new) result }
+        ensures seeks { SeeksSent W.Write W.Seek writer_inner writer_buffer self.old pos result self.new }
     {
         self.core.send()?;
         self.core.get_mut().seek(pos)
