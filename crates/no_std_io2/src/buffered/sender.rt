@@ -1,8 +1,6 @@
 //! An inner writer with a buffer in front of it, from which both buffered writers are built.
 //!
-//! A write that is held is a hot path, which its callers inline. All else is in a cold function, `.._cold`. The hot path does
-//! not call it: a function that makes a call zeroes the room for the result when it starts, which costs four instructions.
-//! So a function that is inlined too, `.._out_of_line`, makes the call, and only its path makes the room.
+//! A write that is held is a hot path, which its callers inline. All else is in a cold function, `.._cold`.
 ghost use Rattle.std.specs.Prelude.{◌≡◌, ◌+◌, ◌<◌, ◌≤◌, [], ◌++◌, length};
 ghost use Rattle.std.specs.Bool.{OnTrue, OnFalse};
 ghost use Rattle.std.specs.Borrow.{Lends, sem};
@@ -80,27 +78,9 @@ impl<W: Write + Drop, const S: usize> Sender<W, S> {
         self.send_apart()
     }
 
-    // The whole of `send`. It is not inlined, since its loop is long and has many callers.
+    // The loop of `send`. It is not inlined, since it is long and has many callers.
     #[inline(never)]
     fn send_apart(&mut self) -> Result<()>
-        ensures calls { TakesStep W.Write sender_inner sender_buffer SendCalls self.old result self.new }
-        ensures unmoved { self.new.buffer.bytes ≡ self.old.buffer.bytes }
-    {
-        self.send_held()
-    }
-
-    /// Tries once to send the held bytes, ignores a fault, and drops the inner writer. The buffer is moved only if bytes are held.
-    #[inline(always)]
-    pub(crate) fn send_last(self) {
-        if self.buffer.len() > 0 {
-            let mut held = self;
-            let _ = held.send_apart();
-        }
-    }
-
-    // The body of `send_apart`. The cold functions inline it.
-    #[inline(always)]
-    fn send_held(&mut self) -> Result<()>
         ensures calls { TakesStep W.Write sender_inner sender_buffer SendCalls self.old result self.new }
         ensures unmoved { self.new.buffer.bytes ≡ self.old.buffer.bytes }
     {
@@ -118,6 +98,15 @@ impl<W: Write + Drop, const S: usize> Sender<W, S> {
         Ok(())
     }
 
+    /// Tries once to send the held bytes, ignores a fault, and drops the inner writer. The buffer is moved only if bytes are held.
+    #[inline(always)]
+    pub(crate) fn send_last(self) {
+        if self.buffer.len() > 0 {
+            let mut held = self;
+            let _ = held.send_apart();
+        }
+    }
+
     /// Holds `more` after the held bytes.
     pub(crate) fn hold(&mut self, more: &[u8])
         requires { length (sender_buffer self.old) + length more.now ≤ S }
@@ -125,20 +114,6 @@ impl<W: Write + Drop, const S: usize> Sender<W, S> {
         ensures buffer { sender_buffer self.new ≡ sender_buffer self.old ++ more.now }
     {
         self.buffer.push(more);
-    }
-
-    /// Sends the held bytes if `more` bytes do not fit beside them.
-    ///
-    /// # Errors
-    /// Returns the error of `send`.
-    #[inline(always)]
-    fn send_if_no_room(&mut self, more: usize) -> Result<()>
-        ensures { TakesStep W.Write sender_inner sender_buffer (WayCalls S more) self.old result self.new }
-    {
-        if more > S - self.buffer.len() {
-            return self.send_held();
-        }
-        Ok(())
     }
 
     /// Sends the held bytes if `more` bytes do not fit beside them. That they fit is a hot path.
@@ -186,7 +161,8 @@ impl<W: Write + Drop, const S: usize> Sender<W, S> {
         self.write_out_of_line(buf)
     }
 
-    // Calls `write_cold`.
+    // Calls `write_cold`, which the hot path does not call: a function that makes a call zeroes the room for the result when it
+    // starts, which costs four instructions. This one is inlined, and only its path makes the room.
     #[inline(always)]
     fn write_out_of_line(&mut self, buf: &[u8]) -> Result<usize>
         ensures { TakesStep W.Write sender_inner sender_buffer (WriteCalls S buf.now) self.old result self.new }
@@ -200,7 +176,7 @@ impl<W: Write + Drop, const S: usize> Sender<W, S> {
     fn write_cold(&mut self, buf: &[u8]) -> Result<usize>
         ensures { TakesStep W.Write sender_inner sender_buffer (WriteCalls S buf.now) self.old result self.new }
     {
-        self.send_if_no_room(buf.len())?;
+        self.make_room(buf.len())?;
         if buf.len() >= S {
             return self.inner.write(buf);
         }
@@ -227,7 +203,7 @@ impl<W: Write + Drop, const S: usize> Sender<W, S> {
         self.write_all_out_of_line(buf)
     }
 
-    // Calls `write_all_cold`.
+    // Calls `write_all_cold`, for the reason at `write_out_of_line`.
     #[inline(always)]
     fn write_all_out_of_line(&mut self, buf: &[u8]) -> Result<()>
         ensures { TakesStep W.Write sender_inner sender_buffer (WriteAllCalls S buf.now) self.old result self.new }
@@ -241,7 +217,7 @@ impl<W: Write + Drop, const S: usize> Sender<W, S> {
     fn write_all_cold(&mut self, buf: &[u8]) -> Result<()>
         ensures { TakesStep W.Write sender_inner sender_buffer (WriteAllCalls S buf.now) self.old result self.new }
     {
-        self.send_if_no_room(buf.len())?;
+        self.make_room(buf.len())?;
         if buf.len() >= S {
             return self.inner.write_all(buf);
         }

@@ -47,7 +47,7 @@ impl<R: Read, const S: usize> BufReader<R, S> {
         Ok(())
     }
 
-    // Calls `read_exact_cold`, for the reason that `sender.rt` gives.
+    // Calls `read_exact_cold`, for the reason at `Sender::write_out_of_line`.
     #[inline(always)]
     fn read_exact_out_of_line(&mut self, buf: &mut [u8]) -> Result<()>
         requires { length (reader_held self.old) < length buf.old }
