@@ -15,15 +15,26 @@ use core::mem::replace_with;
 use std::alloc::Allocator;
 use std::collections::VecDeque;
 
-// Drops the first `n` bytes of the queue.
+// Fewer bytes than these are pushed or popped one by one, which takes less time than a move of all.
+const FEW: usize = 8;
+
+// At least so many held bytes are moved in the time that it takes to push one.
+const MOVED: usize = 16;
+
+// Drops the first `n` bytes of the queue. It is not inlined, because to turn a queue takes much code.
+#[inline(never)]
 fn drop_front<A: Allocator>(queue: &mut VecDeque<u8, A>, n: usize)
     requires { n ≤ deque_len queue.old }
     ensures items { queue.new.items ≡ drop n queue.old.items }
     ensures room { deque_capacity queue.new ≡ deque_capacity queue.old }
 {
     let left = queue.len() - n;
-    queue.rotate_left(n);
-    queue.truncate(left);
+    if n < FEW && n < left {
+        drop(queue.drain(..n));
+    } else {
+        queue.rotate_left(n);
+        queue.truncate(left);
+    }
 }
 
 // Appends bytes to a queue, or returns `OutOfMemory` and leaves it as it was.
@@ -32,16 +43,13 @@ fn append_back<A: Allocator>(queue: &mut VecDeque<u8, A>, bytes: &[u8]) -> Resul
     ensures grows { deque_capacity queue.old ≤ deque_capacity queue.new }
 {
     queue.reserve(bytes.len())?;
-    if bytes.len() >= FEW && queue.len() <= bytes.len() {
-        replace_with(queue, bytes, appended);
+    if bytes.len() < FEW || bytes.len() < queue.len() / MOVED {
+        replace_with(queue, bytes, pushed);
     } else {
-        push_all(queue, bytes);
+        replace_with(queue, bytes, appended);
     }
     Ok(())
 }
-
-// From so many bytes on, they are appended in one move.
-const FEW: usize = 8;
 
 // Moves the content to the front of the block, and appends bytes for which there is room.
 fn appended<A: Allocator>(queue: VecDeque<u8, A>, bytes: &[u8]) -> (VecDeque<u8, A>, ())
@@ -54,15 +62,16 @@ fn appended<A: Allocator>(queue: VecDeque<u8, A>, bytes: &[u8]) -> (VecDeque<u8,
     (VecDeque::from_vec(content), ())
 }
 
-// Appends bytes to a queue that has room for them.
-fn push_all<A: Allocator>(queue: &mut VecDeque<u8, A>, bytes: &[u8])
-    requires { deque_len queue.old + length bytes.now ≤ deque_capacity queue.old }
-    ensures items { queue.new.items ≡ queue.old.items ++ bytes.now }
-    ensures grows { deque_capacity queue.old ≤ deque_capacity queue.new }
+// Appends bytes one by one to a queue that has room for them. The queue is passed by value, so that LLVM keeps its fields in registers.
+fn pushed<A: Allocator>(mut queue: VecDeque<u8, A>, bytes: &[u8]) -> (VecDeque<u8, A>, ())
+    requires { deque_len queue + length bytes.now ≤ deque_capacity queue }
+    ensures items { result.0.items ≡ queue.items ++ bytes.now }
+    ensures grows { deque_capacity queue ≤ deque_capacity result.0 }
 {
     'bytes: for b in bytes {
         queue.push_back_reserved(*b);
     }
+    (queue, ())
 }
 
 // A queue tells no store, because it does not keep the bytes that were read from it.
