@@ -2,15 +2,14 @@
 use Rattle.no_std_io2.proofs.Words.{common_steps, ◌≡◌, ◌+◌, ◌*◌, ◌/◌, ℕ, ◌<◌, ◌≤◌, List, [], ◌∷◌, ◌++◌, length, take, Result, Ok, Err, OnOk}
 use Rattle.no_std_io2.proofs.Words.{IsOk, refl, sym, subst, ap, ap₂, ◌∙◌, arith, inl, inr, length-append, append-nil, le_refl}
 use Rattle.no_std_io2.proofs.Words.{take-append-drop, Writer, TakesAll, CallOf, WriteCall, Wrote, WroteAll, Flushed, Made, Writes, none}
-use Rattle.no_std_io2.proofs.Words.{took, again, calls_for, AllCalls, IsMeter, BufferMay, WriteCalls, WriteAllCalls, FlushCalls, SendCalls}
-use Rattle.no_std_io2.proofs.Words.{Only, InnerCalls, writing_calls, buffer_after}
+use Rattle.no_std_io2.proofs.Words.{took, again, calls_for, AllCalls, IsMeter, BufferMay, SendCalls, Stepped}
+use Rattle.no_std_io2.proofs.Words.{InnerCalls, writing_calls, buffer_after}
 use Rattle.std.specs.List.{flat_map}
 use Rattle.std.proofs.{lemmas.Grind.{flat_map-append}, Common.{take_all}}
 use Rattle.no_std_io2.specs.{declared.io.Error.{Error}, Write.{taken}}
 use Rattle.no_std_io2.proofs.{CallsLemmas.{made_map, law_may}}
-use Rattle.no_std_io2.proofs.BufWriterCalls.{buffered_leaves, writing_all_calls, write_takes, send_leaves, send_counts, write_counts}
-use Rattle.no_std_io2.proofs.BufWriterCalls.{write_all_counts, flush_counts}
-use Rattle.no_std_io2.proofs.{StepLemmas.{then_leaves}, MeterLemmas.{meter_made}}
+use Rattle.no_std_io2.proofs.BufWriterCalls.{send_does, write_does, write_all_does, flush_does, write_takes}
+use Rattle.no_std_io2.proofs.{StepLemmas.{does}, MeterLemmas.{meter_made}}
 use Rattle.io_bench.proofs.{StepCosts.{step_cost, writing_all-is}}
 use Rattle.io_bench.proofs.{PaidLemmas.{Paid, Paid-same, Paid-write, Paid-flush, Paid-bound, Paid-start, calls_for-min}}
 use Rattle.io_bench.specs.{declared.runs.Op.{Op}, declared.runs.Op.TheVariants.{Write, WriteAll, Flush}, declared.runs.Reply.{Reply}}
@@ -78,11 +77,6 @@ run_took _ _ C joined whole = absurd joined
 at_ok : {A P : Type 0} (r : Result A Error) → IsOk r → OnOk r P → P
 at_ok = grind (arith, common_steps)
 
--- nothing is left after a flush
-flush_empties : {held left : List ℕ} {C : List WriteCall} (reply : Result (Unit {0}) Error) → FlushCalls held C reply left
-    → OnOk reply (left ≡ [])
-flush_empties reply calls = grind (arith, common_steps, send_leaves, then_leaves)
-
 module _ {W B : Type 0} (I : Writer W) (cost : W → ℕ) (meter : IsMeter I.may cost) (S : ℕ) (some : 0 < S) (inner : B → W)
     (buffer : B → List ℕ) (fits : (b : B) → length (buffer b) ≤ S) (old : B) where
   abbrev May : B → WriteCall → B → Type 0
@@ -109,25 +103,21 @@ module _ {W B : Type 0} (I : Writer W) (cost : W → ℕ) (meter : IsMeter I.may
       → PaidTo (f + call_flushes call) (n + length (call_bytes call)) b
   call_paid f n a b (Wrote x reply) made paid =
       let k = writing_calls S (buffer a) x in
-      let done = step_cost I cost meter inner buffer (WriteCalls S x) (λ held. writing_calls S held x) (write_counts I S x) a b
-      {reply = reply} made paid.0 in
+      let done = step_cost I cost meter inner buffer (write_does I S x) a b {reply = reply} made paid.0 in
       let whole : taken reply x ≡ x =
-      ap (λ r. taken r x) (write_takes I S made.2 (inner a) (inner b) made.1 paid.0) ∙ take_all (length x) x (le_refl (length x)) in
+      ap (λ r. taken r x) (write_takes I S made paid.0) ∙ take_all (length x) x (le_refl (length x)) in
       subst (λ l. PaidTo (f + 0) (n + length l) b) (sym whole)
-      (paid_on f n a b reply k (buffer_after S (buffer a) x) paid (f + 0) (n + length x) done
-      (buffered_leaves S x (length x) (Only (Wrote x)) _ _ _ _ made.2)
+      (paid_on f n a b reply k (buffer_after S (buffer a) x) paid (f + 0) (n + length x) done (does (write_does I S x) made).leaves
       (Paid-same refl (omega arith) refl refl (Paid-write S paid.1.0 f n (buffer a) x some (fits a) paid.1.2)))
   call_paid f n a b (WroteAll x reply) made paid =
       let k = writing_calls S (buffer a) x in
-      let done = step_cost I cost meter inner buffer (WriteAllCalls S x) (writing_all_calls S x) (write_all_counts I S x) a b
-      {reply = reply} made paid.0 in
+      let done = step_cost I cost meter inner buffer (write_all_does I S x) a b {reply = reply} made paid.0 in
       paid_on f n a b reply k (buffer_after S (buffer a) x) paid (f + 0) (n + length x)
-      (done.0, done.1, omega (arith, done.2, writing_all-is S x (buffer a) some))
-      (buffered_leaves S x tt (λ C. AllCalls C x) _ _ _ _ made.2)
+      (done.0, done.1, omega (arith, done.2, writing_all-is S x (buffer a) some)) (does (write_all_does I S x) made).leaves
       (Paid-same refl (omega arith) refl refl (Paid-write S paid.1.0 f n (buffer a) x some (fits a) paid.1.2))
   call_paid f n a b (Flushed reply) made paid =
-      let done = step_cost I cost meter inner buffer FlushCalls calls_for (flush_counts I) a b {reply = reply} made paid.0 in
-      paid_on f n a b reply (calls_for (buffer a)) [] paid (f + 1) (n + 0) done (flush_empties reply made.2)
+      let done = step_cost I cost meter inner buffer (flush_does I) a b {reply = reply} made paid.0 in
+      paid_on f n a b reply (calls_for (buffer a)) [] paid (f + 1) (n + 0) done (does (flush_does I) made).leaves
       (Paid-same refl refl (omega arith) refl (Paid-flush S paid.1.0 f n (buffer a) paid.1.2))
 
   -- many calls
@@ -144,16 +134,16 @@ module _ {W B : Type 0} (I : Writer W) (cost : W → ℕ) (meter : IsMeter I.may
   -- For N bytes and F flushes through an empty buffer, and its closing: at most `2 * (N / (S + 1)) + F + 1`.
   pub closed_bound : (last : B) (w : W) (ops : List Op) (replies : List Reply) (C : List WriteCall) → JoinsEach OpCalls ops replies C
       → AreWhole ops replies → Made May old C last → buffer old ≡ [] → TakesAll I (inner old)
-      → (D : List WriteCall) × Made (CallOf I) (inner last) D w × SendCalls (buffer last) D (Ok tt) []
+      → Stepped I SendCalls (inner last) (buffer last) (Ok tt) [] w
       → cost w ≤ cost (inner old) + (2 * (length (given_bytes ops) / (S + 1)) + flushes ops + 1)
-  closed_bound last w ops replies C joined whole made empty takes (D, sending, sent) =
+  closed_bound last w ops replies C joined whole made empty takes sent =
       let start = Paid-same refl refl refl (ap length (sym empty)) (Paid-start S) in
       let run = calls_paid 0 0 old last C made (takes, (0, omega arith, start)) in
       let took = run_took ops replies C joined whole in
       let bound = Paid-bound S run.1.0 (flushes ops) (length (given_bytes ops)) (length (buffer last))
       (Paid-same refl (omega (arith, took.1)) (omega (arith, ap length took.0)) refl run.1.2) in
-      let last_one = send_counts I _ _ _ _ sent (inner last) w sending run.0 in
-      omega (arith, meter_made I cost meter D (inner last) w sending, last_one.2, run.1.1, calls_for-min (buffer last), bound)
+      let last_one = (does (send_does I) sent).counts run.0 in
+      omega (arith, meter_made I cost meter sent.0 (inner last) w sent.1, last_one.2, run.1.1, calls_for-min (buffer last), bound)
 
 -- the calls of a run are calls that its writer may make
 pub run_made : {B : Type 0} {J : Writer B} {old new : B} {ops : List Op} {replies : List Reply} (run : RunCalls J old ops replies new)

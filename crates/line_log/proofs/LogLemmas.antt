@@ -18,7 +18,7 @@ way_all S (inr sent) = sent.1
 pub log_stops : {W : Type 0} {S : ℕ} (I : Writer W) (x : List ℕ) {old new : BufWriter W S} (e : Error)
     → Puts I writer_inner writer_buffer S x old (Err e) new
     → Logs I x old (Err e) new
-log_stops I x e put = record { ok = tt; err = put.moves; fault = put.fault; calls = then_stops _ _ put.calls }
+log_stops I x e put = record { ok = tt; err = put.moves; fault = put.fault; calls = then_stops put.calls }
 
 module _ {W : Type 0} {S : ℕ} (I : Writer W) (x : List ℕ) {old mid new : BufWriter W S} where
   -- it was, and then all was sent, or a fault came
@@ -30,7 +30,7 @@ module _ {W : Type 0} {S : ℕ} (I : Writer W) (x : List ℕ) {old mid new : Buf
     ok = of_met met moves room (way_all S way.2);
     err = tt;
     fault = tt;
-    calls = then_goes_on _ _ _ _ put.calls (way.0, way.1, (refl, (met, way_all S way.2)));
+    calls = then_goes_on _ put.calls (way.0, way.1, (refl, (met, way_all S way.2)));
   }
     where
       of_met : (r : Result (Unit {0}) Error) → Moves (writer_told I.told mid) [] (call_mishap r) (writer_told I.told new)

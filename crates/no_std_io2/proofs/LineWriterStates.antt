@@ -13,8 +13,8 @@ use Rattle.no_std_io2_base.proofs.LineLemmas.{lacks_contains, contains_lines}
 use Rattle.no_std_io2_base.proofs.{LineLemmas.{take_lines, drop_lines, lines_split, plain_state, lacks_rest, state_rest, ends_in-append}}
 use Rattle.no_std_io2_base.proofs.{MovesLemmas.{after_ok}, PieceLemmas.{Lacks-append}}
 use Rattle.no_std_io2.specs.LineWriter.{SendLineCalls, HoldsTail, LinesCalls, line_buffer_after, IsShortText}
-use Rattle.no_std_io2.proofs.{BufWriterLemmas.{IsSuffix-trans}, StepLemmas.{Leaves, then_leaves}}
-use Rattle.no_std_io2.proofs.{BufWriterCalls.{buffered_leaves, buffered_fits, send_leaves, write_whole}, HeldTail.{tail_state}}
+use Rattle.no_std_io2.proofs.BufWriterLemmas.{IsSuffix-trans}
+use Rattle.no_std_io2.proofs.{BufWriterCalls.{buffered_fits, write_whole}, HeldTail.{tail_state}}
 
 -- what is left of some bytes that were sent is an end of them
 pub writes_end : {text : List ℕ} {C : List WriteCall} {x left : List ℕ} {reply : Result (Unit {0}) Error}
@@ -51,9 +51,6 @@ line_left held = if lines_len held == 0 then held else []
 -- of a line state that is what follows its lines
 pub line_left-is : (held : List ℕ) → IsLineState held → line_left held ≡ unfinished_line held
 line_left-is held line = grind (arith, common_steps, lines_split held, unfinished_none held, contains_lines held refl)
-
-pub send_line_leaves : Leaves SendLineCalls line_left
-send_line_leaves = grind (arith, common_steps, lines_none, on_ok_weaker, lines_some, writes_whole)
 
 -- and what is left then has no newline
 send_line_plain : {held left : List ℕ} {C : List WriteCall} → SendLineCalls held C (Ok tt) left → Lacks newline left
@@ -144,13 +141,9 @@ flush_state (stops sent) line = state_end (writes_end sent) line
 flush_state (goes_on {left = left} sent past) line = nothing_state past.1
 
 -- after `Ok` of lines that are passed on, nothing is held
-pub send_lines_leaves : (S : ℕ) (y : List ℕ) → Leaves (SendLinesCalls S y) (λ _. [])
-send_lines_leaves S y = λ held C reply left sends. elim sends [
-  | inl past ↦ after_ok reply past.1
-  | inr behind ↦
-      then_leaves (WriteAllCalls S y) SendCalls (λ held. buffer_after S held y) (λ _. []) (buffered_leaves S y tt
-      (λ C. AllCalls C y)) send_leaves behind.1
-]
+send_lines_leaves : (S : ℕ) (y : List ℕ) {held left : List ℕ} {C : List WriteCall} {reply : Result (Unit {0}) Error}
+    → SendLinesCalls S y held C reply left → OnOk reply (left ≡ [])
+send_lines_leaves S y {reply = reply} sends = grind (arith, common_steps, after_ok, writes_whole)
 
 -- a line state at an error
 behind_lines_state : (S : ℕ) {y held left : List ℕ} {C : List WriteCall} {reply : Result (Unit {0}) Error}
@@ -175,7 +168,7 @@ all_lines_state S x (stops {left = left} p) line some = (
   tt,
 )
 all_lines_state S x (goes_on {mid = mid} {reply = reply} p q) line some =
-    let empty = nothing_lacks (send_lines_leaves S (lines_of x) _ _ _ _ p) in
+    let empty = nothing_lacks (send_lines_leaves S (lines_of x) p) in
     let rest = unfinished_line x in
     let none = buffered_plain S rest tt (λ C. AllCalls C rest) q empty (unfinished_lacks x) in
     (plain_state _ none, after_ok reply none)
@@ -188,22 +181,6 @@ pub line_write_all_fits : (S : ℕ) {x held left : List ℕ} {C : List WriteCall
     → LineWriteAllCalls S x held C reply left
     → IsShortText S x → Lacks newline held → length held + length x ≤ S → (C ≡ []) × IsOk reply × (left ≡ held ++ x)
 line_write_all_fits S {x} write short plain room = grind (arith, common_steps, plain_fits, lacks_contains)
-
--- what is held after an `Ok` of `write_all`
-pub line_write_all_leaves : (S : ℕ) {x held left : List ℕ} {C : List WriteCall} {reply : Result (Unit {0}) Error}
-    → LineWriteAllCalls S x held C reply left → IsLineState held → OnOk reply (left ≡ line_buffer_after S held x)
-line_write_all_leaves S {x} {held} {left} {reply = reply} write line = elim write [
-  | inl plain ↦
-      let after = then_leaves SendLineCalls (WriteAllCalls S x) line_left (λ held. buffer_after S held x) send_line_leaves
-      (buffered_leaves S x tt (λ C. AllCalls C x)) plain.1 in
-      on_ok_weaker reply
-      (λ e. grind (arith, nat_tests, e, line_left-is held line, lines_none x plain.0, unfinished_all x plain.0)) after
-  | inr lines ↦
-      let after = then_leaves (SendLinesCalls S (lines_of x)) (WriteAllCalls S (unfinished_line x)) (λ _. [])
-      (λ held. buffer_after S held (unfinished_line x)) (send_lines_leaves S (lines_of x))
-      (buffered_leaves S (unfinished_line x) tt (λ C. AllCalls C (unfinished_line x))) lines.1 in
-      on_ok_weaker reply (λ e. grind (arith, nat_tests, e, lines_some x lines.0)) after
-]
 
 -- the lines were written by one call, and of what it left the tail is held
 pub wrote_lines : {W : Type 0} {I : Writer W} (S : ℕ) (x : List ℕ) {len : ℕ} {answer reply : Result ℕ Error} {held left : List ℕ} {a b : W}

@@ -4,10 +4,10 @@ use Rattle.no_std_io2.proofs.Words.{Ok, Err, IsOk, IfOk, Option, refl, sym, ap, 
 use Rattle.no_std_io2_base.specs.{declared.error.Error.{Error}, Seek.{IsPosition, Seeker}}
 use Rattle.no_std_io2_base.specs.declared.traits.seek.SeekFrom.{SeekFrom}
 use Rattle.no_std_io2_base.proofs.{MovesLemmas.{Moves-steady}, CallsLemmas.{writes_whole}}
-use Rattle.no_std_io2_base.proofs.{WritesFacts.{writes_fault, writes_left, writes_idle, writes_sends}}
+use Rattle.no_std_io2_base.proofs.{WritesFacts.{writes_left, writes_idle, writes_sends}}
 use Rattle.no_std_io2.specs.{BufWriter.{SeeksSent, failed, Unwraps, store_unheld, into_inner_error_writer, into_inner_error_cause}}
 use Rattle.no_std_io2.specs.{declared.buffered.into_inner_error.IntoInnerError.{IntoInnerError}}
-use Rattle.no_std_io2.proofs.{BufWriterCalls.{send_tells, send_counts}, StepLemmas.{no_ok}}
+use Rattle.no_std_io2.proofs.{BufWriterCalls.{send_does}, StepLemmas.{no_ok, does}}
 
 -- the told store of a writer with a buffer, if the sending failed: then some bytes were held
 pub store_refused : (Goes : ℕ → ℕ → ℕ → Type 0) (held : List ℕ) (s s' : Option Store) → (held ≡ [] → ⊥)
@@ -35,21 +35,19 @@ module _ {W : Type 0} {I : Writer W} {a b : W} {held left : List ℕ} where
   sent_idle calls none = let idle = writes_idle calls.2 none in (subst (λ K. Made (CallOf I) a K b) idle.0 calls.1, idle.1)
 
   -- all was sent
-  pub sends_all : Stepped I SendCalls a held (Ok tt) left b → Moves (with_buffer (I.told a) held) [] [] (I.told b)
-      × ((C : List WriteCall) × Made (CallOf I) a C b × SendCalls held C (Ok tt) [])
+  pub sends_all : Stepped I SendCalls a held (Ok tt) left b
+      → Moves (with_buffer (I.told a) held) [] [] (I.told b) × Stepped I SendCalls a held (Ok tt) [] b
   sends_all calls = grind (arith, common_steps, writes_whole, writes_sends)
 
 module _ {W B : Type 0} {I : Writer W} {inner : B → W} {buffer : B → List ℕ} {old : B} where
   -- the sending before a seek failed
   pub seek_failed : {K : Seeker W} {to : SeekFrom} {new : B} {e : Error} → TakesStep I inner buffer SendCalls old (Err e) new
       → SeeksSent I K inner buffer old to (Err e) new
-  seek_failed calls = failed calls (send_tells I _ _ _ _ calls.2 _ _ calls.1) (writes_left calls.2)
+  seek_failed calls = failed calls (does (send_does I) calls).tells.1 (writes_left calls.2)
 
   -- `into_inner`: all was sent, and the inner writer comes back
-  pub unwraps_ok : {w : W} {left : List ℕ}
-      → (C : List WriteCall) × Made (CallOf I) (inner old) C w × SendCalls (buffer old) C (Ok tt) left
-      → Unwraps I inner buffer old (Ok w)
-  unwraps_ok {w} calls =
+  pub unwraps_ok : {w : W} {left : List ℕ} → Stepped I SendCalls (inner old) (buffer old) (Ok tt) left w → Unwraps I inner buffer old (Ok w)
+  unwraps_ok calls =
       let sent = sends_all calls in
       record {
         calls = sent.1;
@@ -58,7 +56,7 @@ module _ {W B : Type 0} {I : Writer W} {inner : B → W} {buffer : B → List �
         fault = tt;
         empty = λ none. ap Ok (sent_idle calls none).0;
         steady = λ _. refl;
-        all = λ t. (send_counts I _ _ _ _ calls.2 (inner old) w calls.1 t).0;
+        all = λ t. ((does (send_does I) calls).counts t).0;
       }
 
   -- or a fault came, with the writer
@@ -66,13 +64,13 @@ module _ {W B : Type 0} {I : Writer W} {inner : B → W} {buffer : B → List �
       → TakesStep I inner buffer SendCalls old (Err (into_inner_error_cause e)) (into_inner_error_writer e)
       → Unwraps I inner buffer old (Err e)
   unwraps_err e calls =
-      let moves = send_tells I _ _ _ _ calls.2 (inner old) (inner (into_inner_error_writer e)) calls.1 in
+      let done = does (send_does I) calls in
       record {
         calls = calls;
         ok = tt;
-        err = moves;
-        fault = writes_fault calls.2;
+        err = done.tells.1;
+        fault = done.tells.0;
         empty = λ none. no_ok (sent_idle calls none).1;
-        steady = λ none. absurd (Moves-steady none moves);
-        all = λ t. no_ok (send_counts I _ _ _ _ calls.2 (inner old) (inner (into_inner_error_writer e)) calls.1 t).1;
+        steady = λ none. absurd (Moves-steady none done.tells.1);
+        all = λ t. no_ok (done.counts t).1;
       }

@@ -1,70 +1,79 @@
--- Steps of a writer with a buffer, one after another: what holds of the parts holds of `first?; next`.
-use Rattle.no_std_io2.proofs.Words.{Stepped, TakesAll, CallOf, Writer, error_kind, Told, Moves, WriteCall, Made, call_mishap, charges, common_steps}
-use Rattle.no_std_io2.proofs.Words.{◌≡◌, ℕ, ◌+◌, List, ◌∷◌, ◌++◌, Result, Ok, Err, OnOk, IsOk, ap, arith, false, true, [], Step, Then}
+-- Steps of a writer with a buffer: what two steps do, they do one after another. For the lemmas of both buffered writers.
+use Rattle.no_std_io2.proofs.Words.{TakesAll, CallOf, Writer, Told, Moves, WriteCall, Made, call_mishap, charges, false, true}
+use Rattle.no_std_io2.proofs.Words.{◌≡◌, ℕ, ◌+◌, List, ◌++◌, Result, Ok, Err, OnOk, IsOk, ap, subst, arith, [], Step, Stepped, Then}
 use Rattle.no_std_io2.proofs.Words.{stops, goes_on, with_buffer}
-use Rattle.no_std_io2_base.specs.declared.error.Error.{Error}
+use Rattle.no_std_io2_base.specs.{declared.error.Error.{Error}, Errors.{IsNoInterruption}}
 use Rattle.no_std_io2_base.proofs.{CallsLemmas.{made_then, made_split}, MeterLemmas.{charges-append}}
 
 -- no error is `Ok`
 pub no_ok : {T : Type 0} → false ≡ true → T
 no_ok h = absurd (let no : ⊥ = cc in no)
 
-module _ {W A : Type 0} {I : Writer W} (first : Step (Unit {0})) (next : Step A) where
+module _ {W A : Type 0} {I : Writer W} {first : Step (Unit {0})} {next : Step A} where
   -- the first step failed, and its error is the result
   pub then_stops : {held left : List ℕ} {e : Error} {a b : W} → Stepped I first a held (Err e) left b
       → Stepped I (Then first next) a held (Err e) left b
   then_stops p = (p.0, p.1, stops p.2)
 
   -- it did not, and the next one followed
-  pub then_goes_on : {held left : List ℕ} {reply : Result A Error} {a b : W} (mid : List ℕ) (m : W)
+  pub then_goes_on : {held left : List ℕ} {reply : Result A Error} {a m b : W} (mid : List ℕ)
       → Stepped I first a held (Ok tt) mid m → Stepped I next m mid reply left b → Stepped I (Then first next) a held reply left b
-  then_goes_on {a = a} {b = b} mid m p q = (p.0 ++ q.0, made_then (CallOf I) p.0 a q.0 m b p.1 q.1, goes_on p.2 q.2)
+  then_goes_on {a = a} {m = m} {b = b} mid p q = (p.0 ++ q.0, made_then (CallOf I) p.0 a q.0 m b p.1 q.1, goes_on p.2 q.2)
 
--- what this step leaves after an `Ok`
-abbrev pub Leaves : {A : Type 0} → Step A → (List ℕ → List ℕ) → Type 0
-Leaves {A} step f = (held : List ℕ) (C : List WriteCall) (reply : Result A Error) (left : List ℕ) → step held C reply left
-    → OnOk reply (left ≡ f held)
-
-pub then_leaves : {A : Type 0} {held left : List ℕ} {C : List WriteCall} {reply : Result A Error} (first : Step (Unit {0})) (next : Step A)
-    (f g : List ℕ → List ℕ) → Leaves first f → Leaves next g → Then first next held C reply left → OnOk reply (left ≡ g (f held))
-then_leaves = grind (arith, common_steps)
-
-module _ {W : Type 0} (I : Writer W) where
-  -- this step changes what is told like this, for every result
-  abbrev pub StepTells : {A : Type 0} → Step A → (Told → Result A Error → Told → Type 0) → Type 0
-  StepTells {A} step R = (held : List ℕ) (C : List WriteCall) (reply : Result A Error) (left : List ℕ) → step held C reply left
-      → (a b : W) → Made (CallOf I) a C b → R (with_buffer (I.told a) held) reply (with_buffer (I.told b) left)
-
-  -- no byte is accepted, and an error is a mishap
-  abbrev pub Sending : Told → Result (Unit {0}) Error → Told → Type 0
-  Sending old reply new = Moves old [] (call_mishap reply) new
-
-  pub then_tells : {A : Type 0} {held left : List ℕ} {C : List WriteCall} {reply : Result A Error} (first : Step (Unit {0})) (next : Step A)
-      (R : Told → Result A Error → Told → Type 0)
-      → ((s t : Told) (e : Error) → Moves s [] (error_kind e ∷ []) t → R s (Err e) t)
-      → ((s m t : Told) (reply : Result A Error) → Moves s [] [] m → R m reply t → R s reply t)
-      → StepTells first Sending → StepTells next R → Then first next held C reply left
-      → (a b : W) → Made (CallOf I) a C b → R (with_buffer (I.told a) held) reply (with_buffer (I.told b) left)
-  then_tells first next R fail join of_first of_next (stops {e = e} p) a b made = fail _ _ e (of_first _ _ _ _ p a b made)
-  then_tells first next R fail join of_first of_next (goes_on {C = C} {D = D} {reply = reply} p q) a b made =
-      let parts = made_split (CallOf I) C a D b made in
-      join _ _ _ reply (of_first _ _ _ _ p a parts.0 parts.1) (of_next _ _ _ _ q parts.0 b parts.2)
-
+-- What a step does, from the inner writer a with `held` to b with `left`, by the calls C.
+pub record Does {W A : Type 0} (I : Writer W) (R : Told → Result A Error → Told → Type 0) (F : List ℕ → List ℕ → Type 0)
+    (n : List ℕ → ℕ) (a : W) (held : List ℕ) (C : List WriteCall) (reply : Result A Error) (left : List ℕ) (b : W) : Type 0 where
+  -- how it changes what is told
+  pub tells : R (with_buffer (I.told a) held) reply (with_buffer (I.told b) left)
+  -- what is held after an `Ok`
+  pub leaves : OnOk reply (F held left)
   -- over an inner writer that takes all: it still does, there is no error, and so many calls are counted
-  abbrev pub Counted : {A : Type 0} → Result A Error → List WriteCall → ℕ → W → Type 0
-  Counted reply C n b = TakesAll I b × IsOk reply × (charges C ≡ n)
+  pub counts : TakesAll I a → TakesAll I b × IsOk reply × (charges C ≡ n held)
 
-  abbrev pub Counts : {A : Type 0} → Step A → (List ℕ → ℕ) → Type 0
-  Counts {A} step n = (held : List ℕ) (C : List WriteCall) (reply : Result A Error) (left : List ℕ) → step held C reply left
-      → (a b : W) → Made (CallOf I) a C b → TakesAll I a → Counted reply C (n held) b
+-- however a step is taken, it does that
+abbrev pub Always : {W A : Type 0} → Writer W → Step A → (Told → Result A Error → Told → Type 0) → (List ℕ → List ℕ → Type 0)
+    → (List ℕ → ℕ) → Type 0
+Always {W} {A} I step R F n = (a b : W) (held left : List ℕ) (C : List WriteCall) (reply : Result A Error) → step held C reply left
+    → Made (CallOf I) a C b → Does I R F n a held C reply left b
 
-  pub then_counts : {A : Type 0} {held left : List ℕ} {C : List WriteCall} {reply : Result A Error} (first : Step (Unit {0}))
-      (next : Step A)
-      (f : List ℕ → List ℕ) (n k : List ℕ → ℕ) → Leaves first f → Counts first n → Counts next k → Then first next held C reply left
-      → (a b : W) → Made (CallOf I) a C b → TakesAll I a → Counted reply C (n held + k (f held)) b
-  then_counts first next f n k leaves of_first of_next (stops p) a b made takes = no_ok (of_first _ _ _ _ p a b made takes).1
-  then_counts first next f n k leaves of_first of_next (goes_on {C = C} {D = D} p q) a b made takes =
-      let parts = made_split (CallOf I) C a D b made in
-      let one = of_first _ _ _ _ p a parts.0 parts.1 takes in
-      let two = of_next _ _ _ _ q parts.0 b parts.2 one.0 in
-      (two.0, two.1, omega (arith, charges-append C D, one.2, two.2, ap k (leaves _ _ _ _ p)))
+-- also this time
+pub does : {W A : Type 0} {I : Writer W} {step : Step A} {R : Told → Result A Error → Told → Type 0} {F : List ℕ → List ℕ → Type 0}
+    {n : List ℕ → ℕ} {a b : W} {held left : List ℕ} {reply : Result A Error} → Always I step R F n → (p : Stepped I step a held reply left b)
+    → Does I R F n a held p.0 reply left b
+does always p = always _ _ _ _ _ _ p.2 p.1
+
+-- exactly this is held then,
+abbrev pub Exactly : (List ℕ → List ℕ) → List ℕ → List ℕ → Type 0
+Exactly f held left = left ≡ f held
+
+-- or nothing
+abbrev pub Emptied : List ℕ → List ℕ → Type 0
+Emptied held left = left ≡ []
+
+-- no byte is accepted, and an error is a mishap and no interruption
+abbrev pub Sending : Told → Result (Unit {0}) Error → Told → Type 0
+Sending old reply new = IsNoInterruption reply × Moves old [] (call_mishap reply) new
+
+-- What P tells of a first step and Q of the next, R tells of both.
+pub record Joins {A : Type 0} (P : Told → Result (Unit {0}) Error → Told → Type 0) (Q R : Told → Result A Error → Told → Type 0) : Type 0 where
+  pub fails : (s t : Told) (e : Error) → P s (Err e) t → R s (Err e) t
+  pub joins : (s m t : Told) (reply : Result A Error) → P s (Ok tt) m → Q m reply t → R s reply t
+
+-- `first?; next`
+pub then_does : {W A : Type 0} {I : Writer W} {P : Told → Result (Unit {0}) Error → Told → Type 0} {Q R : Told → Result A Error → Told → Type 0}
+    (first : Step (Unit {0})) (next : Step A) {f : List ℕ → List ℕ} {n : List ℕ → ℕ} {G : List ℕ → List ℕ → Type 0} {k : List ℕ → ℕ}
+    → Joins P Q R → Always I first P (Exactly f) n → Always I next Q G k
+    → Always I (Then first next) R (λ held. G (f held)) (λ held. n held + k (f held))
+then_does first next follows one two a b held left _ _ (stops p) made =
+    let x = one _ _ _ _ _ _ p made in
+    record { tells = follows.fails _ _ _ x.tells; leaves = tt; counts = λ t. no_ok (x.counts t).1 }
+then_does {I} first next {G = G} {k = k} follows one two a b held left _ reply (goes_on {C = C} {D = D} p q) made =
+    let parts = made_split (CallOf I) C a D b made in
+    let x = one _ _ _ _ _ _ p parts.1 in
+    let y = two _ _ _ _ _ _ q parts.2 in
+    record {
+      tells = follows.joins _ _ _ reply x.tells y.tells;
+      leaves = subst (λ l. OnOk reply (G l left)) x.leaves y.leaves;
+      counts = λ t. let c = x.counts t in let d = y.counts c.0 in
+          (d.0, d.1, omega (arith, charges-append C D, c.2, d.2, ap k x.leaves));
+    }

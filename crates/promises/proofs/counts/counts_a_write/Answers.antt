@@ -1,6 +1,6 @@
 -- The prover does not count inner calls.
-use Rattle.no_std_io2.proofs.Words.{writer_inner, writer_buffer, writing_calls, WriteCalls}
-use Rattle.no_std_io2.proofs.BufWriterCalls.{write_counts}
+use Rattle.no_std_io2.proofs.Words.{writer_inner, writer_buffer}
+use Rattle.no_std_io2.proofs.BufWriterCalls.{write_does}
 use Rattle.io_bench.proofs.{StepCosts.{step_cost}, ClosedLemmas.{tallied_writer, tally_meters}}
 use Rattle.io_bench.specs.Tally.{tally_writes}
 use Rattle.promises.proofs.counts.counts_a_write.Goals as goal
@@ -10,7 +10,6 @@ returns g c = λ takes.
     let x = c.args.x.now in
     let I = tallied_writer g.W.Write in (
       (c.write.ensures.law.all takes).1,
-      (step_cost I tally_writes (tally_meters g.W.Write) (writer_inner {S = g.row.S})
-          writer_buffer (WriteCalls g.row.S x) (λ held. writing_calls g.row.S held x) (write_counts I g.row.S x) c.args.w.now.value
-          c.write.new.self.value c.write.ensures.law.call takes).2,
+      (step_cost I tally_writes (tally_meters g.W.Write) (writer_inner {S = g.row.S}) writer_buffer (write_does I g.row.S x)
+          c.args.w.now.value c.write.new.self.value c.write.ensures.law.call takes).2,
     )

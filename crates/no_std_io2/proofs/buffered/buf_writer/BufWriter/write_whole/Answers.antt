@@ -23,9 +23,9 @@ module _ {W : Type 0} {S : ℕ} (I : Writer W) {old : BufWriter W S} {n : ℕ} (
         moves = Moves-then {k = []} moves
             (Moves-kept I.told (writer_inner mid) (writer_inner new) (writer_buffer mid) (writer_buffer new) (head ++ tail) same whole);
         fault = tt;
-        calls = then_goes_on _ _ _ _
+        calls = then_goes_on _
             (subst (λ k. TakesStep I writer_inner writer_buffer (WayCalls S k) old (Ok tt) mid) (is ∙ sym (length-append head tail)) way)
-            (puts S (head ++ tail) tt (λ C. AllCalls C (head ++ tail)) (omega (arith, is, short, length-append head tail)) same whole);
+            (puts _ (λ C. AllCalls C (head ++ tail)) (omega (arith, is, short, length-append head tail)) same whole);
       }
 
 pub returns-in_err-make_room : goal.returns-in_err-make_room

@@ -1,21 +1,13 @@
 -- The law, by lemmas about the inner calls: the search does not apply these to a whole step.
-use Rattle.no_std_io2.proofs.Words.{sender_inner, writer_inner}
-use Rattle.no_std_io2.proofs.{BufWriterLemmas.{buffer_none}, BufWriterCalls.{flush_empty, flush_tells, flush_counts}}
+use Rattle.no_std_io2.proofs.{BufWriterLemmas.{buffer_none}, StepLemmas.{does}, BufWriterCalls.{flush_empty, flush_does}}
 use Rattle.no_std_io2.proofs.buffered.buf_writer.BufWriterWrite.flush.Goals as goal
 
 pub returns : goal.returns
 returns g c =
-    let I = g.W.Write in
-    let a = writer_inner c.args.self.now in
-    let b = sender_inner c.flush.new.self in
     let calls = c.flush.ensures in
-    let empty = flush_empty I calls.2 a b calls.1 in
+    let done = does (flush_does g.W.Write) calls in
+    let empty = flush_empty g.W.Write calls in
     record {
-      law = record {
-        empty = empty;
-        moves = flush_tells I _ _ _ _ calls.2 a b calls.1;
-        all = λ t. (flush_counts I _ _ _ _ calls.2 a b calls.1 t).0;
-        call = calls;
-      };
+      law = record { empty = empty; moves = done.tells; all = λ t. (done.counts t).0; call = calls };
       unheld = buffer_none _ _ _ empty;
     }

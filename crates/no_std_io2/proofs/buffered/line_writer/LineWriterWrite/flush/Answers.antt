@@ -1,6 +1,5 @@
 -- The line state and the law, by lemmas about the inner calls: the search does not apply these to a whole step.
-use Rattle.no_std_io2.proofs.Words.{sender_inner, line_inner}
-use Rattle.no_std_io2.proofs.{BufWriterLemmas.{buffer_none}, BufWriterCalls.{flush_empty, flush_tells}, LineWriterStates.{flush_state}}
+use Rattle.no_std_io2.proofs.{BufWriterLemmas.{buffer_none}, BufWriterCalls.{flush_empty, flush_does}, StepLemmas.{does}, LineWriterStates.{flush_state}}
 use Rattle.no_std_io2.proofs.buffered.line_writer.LineWriterWrite.flush.Goals as goal
 
 pub invariant_of-self : goal.invariant_of-self
@@ -8,16 +7,9 @@ invariant_of-self g c = record { line = flush_state c.flush.ensures.2 c.args.sel
 
 pub returns : goal.returns
 returns g c =
-    let a = line_inner c.args.self.now in
-    let b = sender_inner c.flush.new.self in
     let calls = c.flush.ensures in
-    let empty = flush_empty g.W.Write calls.2 a b calls.1 in
+    let empty = flush_empty g.W.Write calls in
     record {
-      law = record {
-        empty = empty;
-        moves = flush_tells g.W.Write _ _ _ _ calls.2 a b calls.1;
-        all = λ no. absurd no.0;
-        call = calls;
-      };
+      law = record { empty = empty; moves = (does (flush_does g.W.Write) calls).tells; all = λ no. absurd no.0; call = calls };
       unheld = buffer_none _ _ _ empty;
     }

@@ -1,8 +1,8 @@
 -- The line state and the clauses, by lemmas about the inner calls: the search does not apply these to a whole step.
 use Rattle.no_std_io2.proofs.Words.{CallOf, Made, subst, sender_inner, line_inner}
 use Rattle.no_std_io2_base.proofs.CallsLemmas.{own_law}
-use Rattle.no_std_io2.proofs.{LineWriterStates.{line_write_all_state, line_write_all_fits, line_write_all_leaves}}
-use Rattle.no_std_io2.proofs.{LineWriterCalls.{line_write_all_tells, line_write_all_keeps}}
+use Rattle.no_std_io2.proofs.{LineWriterStates.{line_write_all_state, line_write_all_fits}}
+use Rattle.no_std_io2.proofs.LineWriterCalls.{line_write_all_does}
 use Rattle.no_std_io2.proofs.buffered.line_writer.LineWriterWrite.write_all.Goals as goal
 
 pub invariant_of-self : goal.invariant_of-self
@@ -10,19 +10,16 @@ invariant_of-self g c = record { line = (line_write_all_state g.row.S c.write_al
 
 pub returns : goal.returns
 returns g c =
-    let I = g.W.Write in
     let S = g.row.S in
-    let a = line_inner c.args.self.now in
-    let b = sender_inner c.write_all.new.w in
     let calls = c.write_all.ensures in
-    let said = line_write_all_tells I S calls.2 a b calls.1 in
+    let done = line_write_all_does g.W.Write S calls in
     record {
-      law = own_law (calls, said.1, said.0, λ no. absurd no.0);
+      law = own_law (calls, done.tells.0, done.tells.1, λ no. absurd no.0);
       calls = calls;
       no_newline_held = (line_write_all_state S calls.2 c.args.self.now.core.line).1;
-      held = line_write_all_leaves S calls.2 c.args.self.now.core.line;
+      held = done.leaves c.args.self.now.core.line;
       fits = λ short plain room.
           let fits = line_write_all_fits S calls.2 short plain room in
-          (fits.1, subst (λ C. Made (CallOf I) a C b) fits.0 calls.1, fits.2);
-      inner = λ t. let k = line_write_all_keeps I S calls.2 a b calls.1 t in (k.0, k.1);
+          (fits.1, subst (λ C. Made (CallOf g.W.Write) (line_inner c.args.self.now) C (sender_inner c.write_all.new.w)) fits.0 calls.1, fits.2);
+      inner = λ t. let k = done.keeps t in (k.0, k.1);
     }

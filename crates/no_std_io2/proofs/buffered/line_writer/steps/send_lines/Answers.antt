@@ -7,11 +7,11 @@ pub returns-in_err-write_all : goal.returns-in_err-write_all
 returns-in_err-write_all g c =
     let p = err_from_is_err_and c.from_residual.result c.from_residual.ensures.1 in
     let some : 0 < length (sender_buffer c.args.w.now) = search rules in
-    let stopped = then_stops _ _ c.in_err-write_all.ensures in
+    let stopped = then_stops c.in_err-write_all.ensures in
     rw (p.1, p.2) (stopped.0, stopped.1, inr (some, stopped.2))
 
 pub returns : goal.returns
 returns g c =
     let some : 0 < length (sender_buffer c.args.w.now) = search rules in
-    let went = then_goes_on _ _ _ _ c.in_ok-write_all.ensures c.send.ensures.calls in
+    let went = then_goes_on _ c.in_ok-write_all.ensures c.send.ensures.calls in
     (went.0, went.1, inr (some, went.2))

@@ -14,7 +14,7 @@ returns-in_err-send_lines g c =
     let sent = subst (λ y. TakesStep g.W.Write sender_inner sender_buffer
     (SendLinesCalls g.row.S y) c.args.w.now c.send_lines.result c.send_lines.new.w) is
     c.send_lines.ensures in
-    let stopped = then_stops _ _ (rw c.in_err-send_lines.was at sent) in
+    let stopped = then_stops (rw c.in_err-send_lines.was at sent) in
     rw (p.1, p.2) (stopped.0, stopped.1, inr (contains_lines x c.requires.lines c.requires.some, stopped.2))
 
 pub returns : goal.returns
@@ -25,6 +25,6 @@ returns g c =
     let S = g.row.S in
     let sent = c.in_ok-send_lines.ensures in
     let wrote = c.write_all.ensures in
-    let went = then_goes_on (SendLinesCalls S _) (WriteAllCalls S _) _ _ sent wrote in
+    let went = then_goes_on {first = SendLinesCalls S _} {next = WriteAllCalls S _} _ sent wrote in
     let all = rw (is, rest) at went in
     (all.0, all.1, inr (contains_lines x c.requires.lines c.requires.some, all.2))

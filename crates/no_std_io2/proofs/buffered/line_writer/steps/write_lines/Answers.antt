@@ -10,7 +10,7 @@ use Rattle.no_std_io2.proofs.buffered.line_writer.steps.write_lines.Goals as goa
 pub returns-in_err-send : goal.returns-in_err-send
 returns-in_err-send g c =
     let p = err_from_is_err_and c.from_residual.result c.from_residual.ensures.1 in
-    let stopped = then_stops _ _ c.in_err-send.ensures.calls in
+    let stopped = then_stops c.in_err-send.ensures.calls in
     rw (p.1, p.2) (stopped.0, stopped.1, inr (contains_lines _ c.requires.lines c.requires.some, stopped.2))
 
 -- the write of the lines failed
@@ -18,7 +18,7 @@ pub returns-in_err-n : goal.returns-in_err-n
 returns-in_err-n g c =
     let p = err_from_is_err_and c.from_residual-in_err-n.result c.from_residual-in_err-n.ensures.1 in
     let none = writes_whole c.in_ok-send.ensures.calls.2 in
-    let went = then_goes_on _ _ _ _ c.in_ok-send.ensures.calls
+    let went = then_goes_on _ c.in_ok-send.ensures.calls
     (wrote_lines g.row.S _ c.requires.lines c.in_err-n.ensures.law none (none, refl)) in
     rw (p.1, p.2) (went.0, went.1, inr (contains_lines _ c.requires.lines c.requires.some, went.2))
 
@@ -29,7 +29,7 @@ returns-then-n-eq0 g c =
     let empty = none ∙ sym (ap (held_tail g.row.S c.args.x.now) c.if-n-eq0.true) in
     let zero = ap Ok (let sum : 0 ≡ c.in_ok-n.n + length (sender_buffer c.send.new.self) = omega
     (arith, c.if-n-eq0.true, ap length none) in sum) in
-    let went = then_goes_on _ _ _ _ c.in_ok-send.ensures.calls
+    let went = then_goes_on _ c.in_ok-send.ensures.calls
     (wrote_lines g.row.S _ c.requires.lines c.in_ok-n.ensures.law none (empty, zero)) in
     (went.0, went.1, inr (contains_lines _ c.requires.lines c.requires.some, went.2))
 
@@ -53,6 +53,6 @@ returns g c =
       c.tail_end-end.ensures.within,
     ) in
     let law = rw (sym c.hold.ensures.same) at c.in_ok-n.ensures.law in
-    let went = then_goes_on _ _ _ _ c.in_ok-send.ensures.calls
+    let went = then_goes_on _ c.in_ok-send.ensures.calls
     (wrote_lines g.row.S _ c.requires.lines law none (held ∙ c.tail_end-end.ensures.tail, ap Ok count)) in
     (went.0, went.1, inr (contains_lines _ c.requires.lines c.requires.some, went.2))

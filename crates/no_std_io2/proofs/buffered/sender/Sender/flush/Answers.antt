@@ -7,9 +7,9 @@ use Rattle.no_std_io2.proofs.buffered.sender.Sender.flush.Goals as goal
 pub returns-in_err-send : goal.returns-in_err-send
 returns-in_err-send g c =
     let p = err_from_is_err_and c.from_residual.result c.from_residual.ensures.1 in
-    rw (p.1, p.2) (then_stops _ _ c.in_err-send.ensures.calls)
+    rw (p.1, p.2) (then_stops c.in_err-send.ensures.calls)
 
 pub returns : goal.returns
 returns g c =
     let none = writes_whole c.in_ok-send.ensures.calls.2 in
-    then_goes_on _ _ _ _ c.in_ok-send.ensures.calls (Flushed c.flush.result ∷ [], (_, c.flush.ensures.law, refl), (none, none, refl))
+    then_goes_on _ c.in_ok-send.ensures.calls (Flushed c.flush.result ∷ [], (_, c.flush.ensures.law, refl), (none, none, refl))

@@ -7,7 +7,7 @@ use Rattle.no_std_io2.proofs.buffered.sender.Sender.write.Goals as goal
 pub returns-then-hold_if_room : goal.returns-then-hold_if_room
 returns-then-hold_if_room g c =
     let put = c.if-hold_if_room.ensures.held in
-    then_goes_on _ _ _ _ (way_kept _ _ put.1) (puts _ _ _ (Only (Wrote c.args.buf.now)) put.0 put.2 put.3)
+    then_goes_on _ (way_kept _ put.1) (puts _ (Only (Wrote c.args.buf.now)) put.0 put.2 put.3)
 
 pub returns-then-len-eq0 : goal.returns-then-len-eq0
 returns-then-len-eq0 g c = grind (arith, common_steps, nil_from_length, buffered_past, one_made)

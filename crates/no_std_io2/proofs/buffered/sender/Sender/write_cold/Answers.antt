@@ -6,18 +6,17 @@ use Rattle.no_std_io2.proofs.buffered.sender.Sender.write_cold.Goals as goal
 pub returns-in_err-make_room : goal.returns-in_err-make_room
 returns-in_err-make_room g c =
     let p = err_from_is_err_and c.from_residual.result c.from_residual.ensures.1 in
-    rw (p.1, p.2) (then_stops _ _ c.in_err-make_room.ensures)
+    rw (p.1, p.2) (then_stops c.in_err-make_room.ensures)
 
 pub returns-then-buf : goal.returns-then-buf
 returns-then-buf g c =
     let way = c.in_ok-make_room.ensures in
     let none = way_none _ _ c.if-buf.true way.2 in
-    then_goes_on _ _ _ _ way (passes _ _ _ (Only (Wrote c.args.buf.now)) c.if-buf.true none none (one_made
+    then_goes_on _ way (passes _ (Only (Wrote c.args.buf.now)) c.if-buf.true none none (one_made
     (Wrote c.args.buf.now c.write.result) c.write.ensures.law))
 
 pub push-requires : goal.push-requires
 push-requires g c = (search rules, way_room _ _ (omega (arith, c.if-buf.false)) c.in_ok-make_room.ensures.2)
 
 pub returns : goal.returns
-returns g c = then_goes_on _ _ _ _ c.in_ok-make_room.ensures (puts _ _ _ (Only (Wrote c.args.buf.now)) (omega
-    (arith, c.if-buf.false)) refl c.push.ensures.held)
+returns g c = then_goes_on _ c.in_ok-make_room.ensures (puts _ (Only (Wrote c.args.buf.now)) (omega (arith, c.if-buf.false)) refl c.push.ensures.held)
