@@ -3,13 +3,13 @@ use Rattle.no_std_io2.proofs.Words.{nat_tests, arith, ℕ, List, Result, append-
 use Rattle.no_std_io2_base.specs.{declared.error.Error.{Error}, Write.{CallAdds, RestAdds}}
 use Rattle.no_std_io2_base.proofs.{CallsLemmas.{made_split}, CallsAdd.{Joins, writes_add}, MovesLemmas.{after_ok}}
 
-module _ {W : Type 0} {may : W → WriteCall → W → Type 0} {Adds : W → List ℕ → W → Type 0} (joins : Joins Adds)
-    (each : (a b : W) (call : WriteCall) → may a call b → CallAdds Adds a call b) where
-  -- those of a `flush`: the bytes that are no longer held were added, after `Ok` all held bytes
-  flushed_adds : {C : List WriteCall} {held left : List ℕ} {reply : Result (Unit {0}) Error} → FlushCalls held C reply left
-      → (a b : W) → Made may a C b → RestAdds Adds a held reply b left
-  flushed_adds = grind (arith, nat_tests, writes_add, made_split, after_ok, append-nil)
+module _ {W : Type 0} {may : W → WriteCall → W → Type 0} {Adds : W → List ℕ → W → Type 0} (joins : Joins Adds) where
+  module _ (each : (a b : W) (call : WriteCall) → may a call b → CallAdds Adds a call b) where
+    -- those of a `flush`: the bytes that are no longer held were added, after `Ok` all held bytes
+    flushed_adds : {C : List WriteCall} {held left : List ℕ} {reply : Result (Unit {0}) Error} → FlushCalls held C reply left
+        → (a b : W) → Made may a C b → RestAdds Adds a held reply b left
+    flushed_adds = grind (arith, nat_tests, writes_add, made_split, after_ok, append-nil)
 
-  pub flush_adds : (C : List WriteCall) (held left : List ℕ) (reply : Result (Unit {0}) Error) (a b : W)
-      → Made may a C b → FlushCalls held C reply left → RestAdds Adds a held reply b left
-  flush_adds C held left reply a b made calls = flushed_adds calls a b made
+    pub flush_adds : (C : List WriteCall) (held left : List ℕ) (reply : Result (Unit {0}) Error) (a b : W)
+        → Made may a C b → FlushCalls held C reply left → RestAdds Adds a held reply b left
+    flush_adds C held left reply a b made calls = flushed_adds calls a b made

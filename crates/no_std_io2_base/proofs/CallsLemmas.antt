@@ -2,7 +2,7 @@
 use Rattle.std.proofs.{lemmas.Grind.{common_steps}, Common.{arith, ◌≡◌, ℕ, List, [], ◌∷◌, ◌++◌, Result, OnOk, refl, ap, subst}}
 use Rattle.std.proofs.Common.{append_assoc, inl}
 use Rattle.no_std_io2_base.specs.{declared.error.Error.{Error}, Write.{WriteCall, Made, WroteAll, Writes, none, took, again, stuck, fault}}
-use Rattle.no_std_io2_base.specs.{Write.{Told, CallLaw, WriteAllLaw, AllCalls}, Writers.{Writer, CallOf}}
+use Rattle.no_std_io2_base.specs.{Write.{Told, CallLaw, WriteAllLaw}, Writers.{Writer, CallOf}}
 use Rattle.std.proofs.Math.Nat.{mod-add-mod}
 use Rattle.std.proofs.Common.{◌+◌, ◌%◌, length, sym, ◌∙◌}
 

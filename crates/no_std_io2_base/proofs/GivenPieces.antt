@@ -143,9 +143,8 @@ few_bytes (fails e ∷ P) = omega (arith, few_bytes P)
 pub piece_spends : {t t' : Tells} {P : List Event} → Takes t P t' → 0 < length (bytes P) → t'.turns < t.turns
 piece_spends {P = P} takes some = spends takes (omega (arith, some, few_bytes P))
 
-module _ {X T : Type 0} {R : Lender X} {old new : X} {view : T → List ℕ} {trim : List ℕ → List ℕ} {refuses : List ℕ → Error
-    → Type 0} {d : ℕ}
-  where
+module _ {X T : Type 0} {R : Lender X} {old new : X} {view : T → List ℕ} {trim : List ℕ → List ℕ} where
+  module _ {refuses : List ℕ → Error → Type 0} {d : ℕ} where
     -- each item of `Split` and `Lines` spends a turn
     pub next_turns : (result : Option (Result T Error)) → NextPieceLaw R old view trim refuses d result new
         → OnSome result (items_left (ends_at result) (R.turns new) < items_left false (R.turns old))

@@ -51,35 +51,36 @@ module _ {S : Type 0} {R : Reader S} {left : S → List ℕ} {old new : S} {part
   memory_drained {buf = buf} {buf'} reply grown done failed capacity call =
       grind (arith, common_steps, ends, to_end_by, drains_ended, bytes-events_of, HasNoFault-events_of, length-append)
 
-module _ {S : Type 0} {R : Reader S} {left : S → List ℕ}
-    (may : (old new : S) (call : ReadCall) → GivesLeft left old call new → R.may old call new) {old : S} where
-  -- a `read` of a reader that gives what is left gave as many bytes as fit
-  pub read_left : {new : S} {buf : List ℕ} (buf' : List ℕ) (n : ℕ) → GivesPart R left old (take n buf') new
-      → n ≡ min (length (left old)) (length buf') → ReadLaw R old buf (Ok n) buf' new
-  read_left {new} buf' n gives count = grind (arith, common_steps)
+module _ {S : Type 0} {R : Reader S} {left : S → List ℕ} where
+  module _ (may : (old new : S) (call : ReadCall) → GivesLeft left old call new → R.may old call new) {old : S} where
+    -- a `read` of a reader that gives what is left gave as many bytes as fit
+    pub read_left : {new : S} {buf : List ℕ} (buf' : List ℕ) (n : ℕ) → GivesPart R left old (take n buf') new
+        → n ≡ min (length (left old)) (length buf') → ReadLaw R old buf (Ok n) buf' new
+    read_left {new} buf' n gives count = grind (arith, common_steps)
 
-  -- a `read_exact` fills the buffer
-  pub exact_part : {new : S} {buf buf' : List ℕ} {u : Unit {0}} → GivesPart R left old buf' new → (length buf ≡ 0 → new ≡ old)
-      → ReadExactLaw R old buf (Ok u) buf' new
-  exact_part {new} {buf' = buf'} gives empty =
-      let room = length buf' in
-      let long = ap length gives.split ∙ length-append buf' (left new) in
-      let front = fitting_part (left old) buf' (left new) room gives.split (omega (arith, long)) in
-      let fills : FillsOrEnds room (events_of buf') (Ok buf') (tells R new) = (gives_whole buf' (le_refl _), refl) in
-      let given : GivesLeft left old (GaveExactly room (Ok buf')) new =
-      (λ fits. (ap Ok front.0, front.1), λ short. absurd (omega (arith, short, long))) in
-      record {
-        taken = events_of buf';
-        takes = gives.takes;
-        ends = fills;
-        empty = λ none. (refl, empty none);
-        calls = exact_own (may old new _ given, (events_of buf', gives.takes, fills));
-      }
+    -- a `read_exact` fills the buffer
+    pub exact_part : {new : S} {buf buf' : List ℕ} {u : Unit {0}} → GivesPart R left old buf' new → (length buf ≡ 0 → new ≡ old)
+        → ReadExactLaw R old buf (Ok u) buf' new
+    exact_part {new} {buf' = buf'} gives empty =
+        let room = length buf' in
+        let long = ap length gives.split ∙ length-append buf' (left new) in
+        let front = fitting_part (left old) buf' (left new) room gives.split (omega (arith, long)) in
+        let fills : FillsOrEnds room (events_of buf') (Ok buf') (tells R new) = (gives_whole buf' (le_refl _), refl) in
+        let given : GivesLeft left old (GaveExactly room (Ok buf')) new =
+        (λ fits. (ap Ok front.0, front.1), λ short. absurd (omega (arith, short, long))) in
+        record {
+          taken = events_of buf';
+          takes = gives.takes;
+          ends = fills;
+          empty = λ none. (refl, empty none);
+          calls = exact_own (may old new _ given, (events_of buf', gives.takes, fills));
+        }
 
-  -- too few bytes were left
-  pub exact_short : {buf buf' : List ℕ} {e : Error} → GivesPart R left old [] old → length (left old) < length buf' → IsUnexpectedEnd e
-      → (length buf ≡ 0 → ⊥) → ReadExactLaw R old buf (Err e) buf' old
-  exact_short {buf' = buf'} {e} gives short kind some = grind (arith, common_steps, HasNoFault-events_of, bytes-events_of, ends, exact_own)
+    -- too few bytes were left
+    pub exact_short : {buf buf' : List ℕ} {e : Error} → GivesPart R left old [] old → length (left old) < length buf' → IsUnexpectedEnd e
+        → (length buf ≡ 0 → ⊥) → ReadExactLaw R old buf (Err e) buf' old
+    exact_short {buf' = buf'} {e} gives short kind some =
+        grind (arith, common_steps, HasNoFault-events_of, bytes-events_of, ends, exact_own)
 
 -- a reader that gives what is left is filling
 pub fills_left : {S : Type 0} {R : Reader S} (left : S → List ℕ) → ((x : S) → to_come (tells R x) ≡ Some (events_of (left x)))

@@ -1,5 +1,5 @@
 -- What a call gives if the bytes x are the next to come.
-use Rattle.no_std_io2_base.proofs.{TakesLemmas.{left_of}, EventLemmas.{events_of-append, bytes-events_of, bytes-behind, cut-bytes}}
+use Rattle.no_std_io2_base.proofs.EventLemmas.{events_of-append, bytes-events_of, bytes-behind, cut-bytes}
 use Rattle.no_std_io2_base.proofs.EventLemmas.{cut-append, HasNoFault-front, HasNoFault-behind, HasNoFault-events_of}
 use Rattle.no_std_io2_base.proofs.LimitLemmas.{cut-within}
 use Rattle.std.proofs.Common.{◌≤◌, take, drop, take-append-drop, length-take-le, append_assoc, ◌≡◌, ◌+◌, ◌-◌, ◌<◌, ℕ, List, ◌∷◌, ◌++◌, []}
@@ -7,11 +7,11 @@ use Rattle.std.proofs.Common.{length, Result, Ok, Err, IfSome, IsOk, Some, inl, 
 use Rattle.std.proofs.{Common.{length-append}, lemmas.Grind.{common_steps}, lemmas.List.{append_cancel_left}}
 use Rattle.no_std_io2_base.specs.{declared.error.Error.{Error}, Events.{Event, bytes, cut, events_of, fails, HasNoFault, EndsInFault}}
 use Rattle.no_std_io2_base.specs.{Takes.{Tells, Takes, to_come}, Read.{Reader, tells, ReadExactLaw, AllOrNone, FillsOrEnds, gave_whole}}
-use Rattle.no_std_io2_base.proofs.TakesLemmas.{all_taken}
+use Rattle.no_std_io2_base.proofs.TakesLemmas.{all_taken, left_of, front_taken, TakesBytes-then}
 use Rattle.no_std_io2_base.proofs.EventLemmas.{bytes-cut}
-use Rattle.no_std_io2_base.specs.Read.{ReadFullLaw}
+use Rattle.no_std_io2_base.specs.{Read.{ReadFullLaw}, Takes.{TakesBytes}}
 use Rattle.std.proofs.Common.{length-take, ⊎_elim, refl}
-use Rattle.std.proofs.lemmas.Bool.{cases_lt}
+use Rattle.std.proofs.{lemmas.Bool.{cases_lt}, Math.Seq.{take-append_seam}}
 
 -- cut right after the bytes x, only these are left
 cut_behind : (x : List ℕ) (rest : List Event) → cut (length x) (events_of x ++ rest) ≡ events_of x
@@ -83,13 +83,28 @@ full_known {R = R} {old} {new} {buf} {filled = filled} (Ok u) x rest law long to
 full_known (Err e) x rest law long told =
     absurd (no_fault_before x rest told law.taken law.takes law.ends.0 (omega (arith, law.ends.1, long)))
 
--- It succeeds if the buffer is no longer than x.
-pub ReadsExact-enough : {S : Type 0} {R : Reader S} {old new : S} {buf buf' : List ℕ} {reply : Result (Unit {0}) Error} (x : List ℕ)
-    (rest : List Event) → to_come (tells R old) ≡ Some (events_of x ++ rest) → ReadExactLaw R old buf reply buf' new
-    → length buf' ≤ length x → IsOk reply
-ReadsExact-enough {buf' = buf'} x rest told law fits =
+-- Of bytes that are known to come, a `read_exact` gives as many as its buffer has, if there are so many, and the others are to come.
+pub exact_cut : {S : Type 0} {R : Reader S} {old new : S} {buf buf' : List ℕ} {reply : Result (Unit {0}) Error} (bs : List ℕ)
+    (rest : List Event) → ReadExactLaw R old buf reply buf' new → to_come (tells R old) ≡ Some (events_of bs ++ rest)
+    → length buf' ≤ length bs
+    → IsOk reply × (buf' ≡ take (length buf') bs) × (to_come (tells R new) ≡ Some (events_of (drop (length buf') bs) ++ rest))
+exact_cut {buf' = buf'} bs rest law told fits =
     let n = length buf' in
-    let split : events_of x ++ rest ≡ events_of (take n x) ++ (events_of (drop n x) ++ rest) =
-    ap (λ l. events_of l ++ rest) (sym (take-append-drop n x)) ∙ ap (λ l. l ++ rest) (events_of-append (take n x) (drop n x))
-    ∙ append_assoc (events_of (take n x)) (events_of (drop n x)) rest in
-    (exact_known (take n x) (events_of (drop n x) ++ rest) law (length-take-le n x fits) (told ∙ ap Some split)).0
+    let split : events_of bs ++ rest ≡ events_of (take n bs) ++ (events_of (drop n bs) ++ rest) =
+    ap (λ l. events_of l ++ rest) (sym (take-append-drop n bs)) ∙ ap (λ l. l ++ rest) (events_of-append (take n bs) (drop n bs))
+    ∙ append_assoc (events_of (take n bs)) (events_of (drop n bs)) rest in
+    exact_known (take n bs) (events_of (drop n bs) ++ rest) law (length-take-le n bs fits) (told ∙ ap Some split)
+
+-- fronts of one length of one list are equal
+same_front : (p q r s : List ℕ) → p ++ r ≡ q ++ s → length q ≡ length p → q ≡ p
+same_front p q r s is long =
+    sym (take-append_seam q s) ∙ ap (λ n. take n (q ++ s)) long ∙ ap (take (length p)) (sym is) ∙ take-append_seam p r
+
+-- Two reads, of as many bytes as two known parts have, gave these parts.
+pub in_parts : {a b c : Tells} {x y : List ℕ} (ps qs rest : List ℕ) → TakesBytes a x b → TakesBytes b y c
+    → to_come a ≡ Some (events_of (ps ++ (qs ++ rest))) → length x ≡ length ps → length y ≡ length qs → (x ≡ ps) × (y ≡ qs)
+in_parts {x = x} {y} ps qs rest first next told long longer =
+    let (more, is) = front_taken (ps ++ (qs ++ rest)) (x ++ y) (TakesBytes-then first next) told in
+    let same = is ∙ append_assoc x y more in
+    let one = same_front ps x _ _ same long in
+    (one, same_front qs y rest more (append_cancel_left x _ _ (ap (λ l. l ++ (qs ++ rest)) one ∙ same)) longer)

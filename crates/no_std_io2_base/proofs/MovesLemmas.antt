@@ -5,7 +5,7 @@ use Rattle.std.proofs.{lemmas.List.Sums.{sum_by-append, sum_by-cons}, lemmas.Boo
 use Rattle.no_std_io2_base.specs.{declared.error.ErrorKind.{ErrorKind}, declared.error.Error.{Error}, Write.{Told, IsFront, HasSpent}}
 use Rattle.no_std_io2_base.specs.Write.{Moves, MovesFront, MovesEach, Sends, call_mishap, zero_write}
 use Rattle.std.specs.{List.{concat}, Result.{OnOk}}
-use Rattle.std.proofs.lemmas.List.{take_more, flat_map_more}
+use Rattle.std.proofs.{lemmas.List.{take_more, flat_map_more, append_cancel_left}, lemmas.List.Folds.{concat-append}}
 use Rattle.std.proofs.lemmas.Grind.{flat_map-append}
 use Rattle.std.proofs.Common.{◌<◌, take, drop, get_or, take-append-drop, flat_map}
 
@@ -122,6 +122,33 @@ Sends-then {left} f g = grind (arith, common_steps)
 pub Moves-each : (a c : Told) (xs : List (List ℕ)) → MovesEach a xs c → Moves a (concat xs) [] c
 Moves-each a c [] f = f
 Moves-each a c (x ∷ xs) f = Moves-then f.1 (Moves-each f.0 c xs f.2)
+
+-- What a writer that held nothing accepted is out behind what was out, or held.
+pub out_front : {a b : Told} {x : List ℕ} {k : List ErrorKind} → Moves a x k b → a.held ≡ []
+    → (sent : List ℕ) × (b.out ≡ a.out ++ sent) × (x ≡ sent ++ b.held)
+out_front {a} {b} {x} moves empty = grind (arith, common_steps, append_assoc, append_cancel_left)
+
+-- A device behind a new buffer has what it had, and then a front of the text, after an error too.
+pub device_front : {a b : Told} {text : List ℕ} {r : Result (Unit {0}) Error} → MovesFront a text r b → a.held ≡ []
+    → (sent : List ℕ) × (b.out ≡ a.out ++ sent) × IsFront sent text
+device_front {b = b} m empty =
+    let (sent, is, split) = out_front m.moves empty in (sent, is, IsFront-trans sent _ _ (b.held, split) m.front)
+
+-- After a `flush` that returned `Ok` it has all of the text.
+pub device_empty : {a b : Told} {text : List ℕ} {k : List ErrorKind} → Moves a text k b → a.held ≡ [] → b.held ≡ []
+    → b.out ≡ a.out ++ text
+device_empty {a} {b} {text} moves empty flushed = grind (arith, common_steps, append-nil)
+
+-- After all of a list was written, and flushed, its elements are out, joined.
+pub all_passed : (a b : Told) (xs : List (List ℕ)) → MovesEach a xs b → a.held ≡ [] → b.held ≡ [] → b.out ≡ a.out ++ concat xs
+all_passed a b xs each empty flushed = device_empty (Moves-each a b xs each) empty flushed
+
+-- A loop that passes pieces on has passed one more.
+pub Moves-piece : {a b c : Told} {line piece : List ℕ} {u : Unit {0}} (ps : List (List ℕ)) → Moves a (concat ps) [] b
+    → MovesFront b line (Ok u) c → line ≡ piece → Moves a (concat (ps ++ piece ∷ [])) [] c
+Moves-piece {a} {b} {c} {line} {piece} {u} ps so_far next same =
+    rw (concat-append ps (piece ∷ []), append-nil piece)
+    (Moves-trans so_far (subst (λ l. Moves b l [] c) same (MovesFront-whole line u next)))
 
 -- `write_rest(&mut x)?; flush()`, if the first returned `Ok`
 pub Sends-flush : {a b c : Told} {r : Result (Unit {0}) Error} {u : Unit {0}} {x left : List ℕ} → Sends a x (Ok u) b left

@@ -8,8 +8,10 @@ use denote.Param.Table.{Entry}
 use borrow.Pointer.Hide.{carry_nowᵐ, carried_sameᵐ}
 use Rattle.std.specs.contracts.vec.Vec.{the_row as vec-row}
 use Rattle.std.specs.contracts.collections.VecDeque.{the_row as deque-row}
+use Rattle.std.specs.contracts.boxed.BoxedSlice.{the_row as boxed-row}
 use Rattle.std.specs.contracts.alloc.Global.{the_row as global-row}
 use Rattle.std.specs.contracts.impls.GlobalAllocator.TheImpl.{ghosts}
+use Rattle.std.specs.declared.boxed.BoxedSlice.{BoxedSlice}
 use Rattle.no_std_io2_base.specs.contracts.cursor.Cursor.{the_row as cursor-row}
 use Rattle.no_std_io2_base.specs.declared.cursor.Cursor.{Cursor}
 
@@ -46,3 +48,17 @@ cursor_back w y codes = row_back (cursor-row vec) (λ (c : Cursor (Vec ℕ Globa
 -- and its position
 pub position_back : (w y : Cursor (Vec ℕ Global)) → (cursor-row vec).coded.code w ≡ (cursor-row vec).coded.code y → y.pos ≡ w.pos
 position_back w y codes = row_back (cursor-row vec) (λ (c : Cursor (Vec ℕ Global)). c.pos) w y codes
+
+-- a boxed slice of bytes
+abbrev boxed : RattleType
+boxed = boxed-row u8 global-row ghosts
+
+-- the bytes of a cursor over a boxed slice
+pub boxed_back : (w y : Cursor (BoxedSlice ℕ Global)) → (cursor-row boxed).coded.code w ≡ (cursor-row boxed).coded.code y
+    → y.inner.items.items ≡ w.inner.items.items
+boxed_back w y codes = row_back (cursor-row boxed) (λ (c : Cursor (BoxedSlice ℕ Global)). c.inner.items.items) w y codes
+
+-- and its position
+pub boxed_position : (w y : Cursor (BoxedSlice ℕ Global)) → (cursor-row boxed).coded.code w ≡ (cursor-row boxed).coded.code y
+    → y.pos ≡ w.pos
+boxed_position w y codes = row_back (cursor-row boxed) (λ (c : Cursor (BoxedSlice ℕ Global)). c.pos) w y codes

@@ -118,10 +118,14 @@ count-piece d bs (front, is, none) =
     omega (arith, sum_by-cons (λ b. cond (b == d) 1 0) d [], ap {B = ℕ} (λ t. cond t 1 0) (eq-eqb d d refl)) in
     ap (count_by (λ b. b == d)) is ∙ sum_by-append _ front (d ∷ []) ∙ omega (arith, count-lacks d front none, one)
 
+-- the bytes of a piece end in d, the only d in them
+pub piece_bytes : {d : ℕ} {P : List Event} → EndsAt d P → EndsPiece d (bytes P)
+piece_bytes {d} {P} (front, is, none) = (bytes front, ap bytes is ∙ bytes-append front (byte d ∷ []), none)
+
 -- What one piece is, by its last byte: it ends in d, or it is the last one.
 pub piece_ended : (d : ℕ) (old : Tells) (P : List Event) → EndsAt d P ⊎ (Lacks d (bytes P) × IsAll old P)
     → (ends_in d (bytes P) ≡ true → EndsPiece d (bytes P)) × (ends_in d (bytes P) ≡ false → Lacks d (bytes P) × IsAll old P)
-piece_ended d old P (inl (front, is, none)) =
-    let same : bytes P ≡ bytes front ++ d ∷ [] = ap bytes is ∙ bytes-append front (byte d ∷ []) in
-    (λ _. (bytes front, same, none), λ not. absurd (true≢false (sym (ap (ends_in d) same ∙ ends_in-end d (bytes front)) ∙ not)))
+piece_ended d old P (inl at) =
+    let ends = piece_bytes at in
+    (λ _. ends, λ not. absurd (true≢false (sym (ap (ends_in d) ends.1 ∙ ends_in-end d ends.0) ∙ not)))
 piece_ended d old P (inr last) = (λ ended. absurd (true≢false (sym ended ∙ ends_in-lacks d (bytes P) last.0)), λ _. last)

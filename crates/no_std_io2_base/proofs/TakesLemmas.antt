@@ -1,7 +1,7 @@
 -- Calls one after another: what they take, and what their laws say of it.
 use Rattle.std.proofs.{lemmas.Grind.{common_steps}, Common.{◌≡◌, ℕ, zero, suc, ◌+◌, ◌-◌, ◌<◌, ◌≤◌, List, [], ◌∷◌, ◌++◌, Result, Ok, Err}}
 use Rattle.std.proofs.Common.{length, take, Option, None, Some, refl, sym, ap, subst, ◌∙◌, arith, append_assoc, append-nil, length-append}
-use Rattle.std.proofs.Common.{length-take-le, IfOk, IfSome}
+use Rattle.std.proofs.Common.{drop, length-take-le, IfOk, IfSome}
 use Rattle.no_std_io2_base.specs.{declared.error.Error.{Error}, Errors.{IsInterruption}, Events.{Event, byte, fails, events_of, bytes}}
 use Rattle.no_std_io2_base.specs.{Events.{HasNoFault, cut, EndsInFault}, Takes.{Store, Tells, Takes, TakesBytes, to_come, AreTaken}}
 use Rattle.no_std_io2_base.specs.{Takes.{KeepsContent, IsAtEnd, IsAll}, Read.{Reader, tells, ReadCall, gave, ended, bytes_given}}
@@ -88,21 +88,31 @@ at_end_after {a} {b} {P} {E} takes told all =
     let whole : E ≡ P = subst (λ o. IfSome o (λ l. l ≡ P)) told all in
     subst (λ o. IfSome o (λ l. l ≡ [])) (sym still) (append_cancel_left P after [] (sym split ∙ whole ∙ sym (append-nil P)))
 
+-- the events behind events that are only bytes are only bytes
+bytes_after : (bs : List ℕ) (P Q : List Event) → events_of bs ≡ P ++ Q → Q ≡ events_of (bytes Q)
+bytes_after bs [] Q is = sym is ∙ ap events_of (sym (bytes-events_of bs) ∙ ap bytes is)
+bytes_after [] (p ∷ P) Q is = cc
+bytes_after (b ∷ bs) (p ∷ P) Q is = bytes_after bs P Q (ap (drop 1) is)
+
+-- What is known after a front of the bytes that were to come was taken: the others are to come.
+pub known_after : {a b : Tells} (bs x : List ℕ) → TakesBytes a x b → to_come a ≡ Some (events_of bs)
+    → (rest : List ℕ) × (bs ≡ x ++ rest) × (to_come b ≡ Some (events_of rest))
+known_after bs x took told =
+    let (after, still, split) = left_of took.takes told in
+    let whole = sym (bytes-events_of bs) ∙ ap bytes split ∙ bytes-append took.taken after ∙ ap (λ l. l ++ bytes after) took.are in
+    (bytes after, whole, still ∙ ap Some (bytes_after bs took.taken after split))
+
 -- what was taken is a front of the bytes that were to come
 pub front_taken : {a b : Tells} (bs x : List ℕ) → TakesBytes a x b → to_come a ≡ Some (events_of bs) → (rest : List ℕ) × (bs ≡ x ++ rest)
-front_taken bs x took told =
-    let (after, still, split) = left_of took.takes told in
-    (bytes after, sym (bytes-events_of bs) ∙ ap bytes split ∙ bytes-append took.taken after ∙ ap (λ l. l ++ bytes after) took.are)
+front_taken bs x took told = let (rest, whole, still) = known_after bs x took told in (rest, whole)
 
 -- and the others are what is to come then
 pub front_gone : {a b : Tells} (bs x cs : List ℕ) → TakesBytes a x b → to_come a ≡ Some (events_of bs) → to_come b ≡ Some (events_of cs)
     → bs ≡ x ++ cs
-front_gone {b = b} bs x cs took told left =
-    let (after, still, split) = left_of took.takes told in
-    let same : after ≡ events_of cs = let both : Some after ≡ Some (events_of cs) = sym still ∙ left in cc in
-    let bytes_left : bytes after ≡ cs = ap bytes same ∙ bytes-events_of cs in
-    sym (bytes-events_of bs) ∙ ap bytes split ∙ bytes-append took.taken after ∙ ap (λ l. l ++ bytes after) took.are
-    ∙ ap (λ l. x ++ l) bytes_left
+front_gone bs x cs took told left =
+    let (rest, whole, still) = known_after bs x took told in
+    let same : events_of rest ≡ events_of cs = let both = sym still ∙ left in cc in
+    whole ∙ ap (λ l. x ++ l) (sym (bytes-events_of rest) ∙ ap bytes same ∙ bytes-events_of cs)
 
 -- bytes, and then bytes
 pub TakesBytes-then : {a b c : Tells} {x y : List ℕ} → TakesBytes a x b → TakesBytes b y c → TakesBytes a (x ++ y) c

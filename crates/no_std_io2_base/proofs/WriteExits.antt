@@ -25,40 +25,40 @@ pub fewer_left : (n : ℕ) {turns : ℕ} (turns' k : ℕ) (left : List ℕ)
     → turns' + length (take (length left - n) (drop n left)) < turns + length left
 fewer_left n turns' k left some fits spent = omega (arith, some, fits, spent, ap length (rest_is n left), length-drop n left)
 
-module _ {S : Type 0} {I : Writer S} {old now : S} {start left : List ℕ}
-    (before : CallsSoFar (CallOf I) (codes "failed to write whole buffer") old start left now) where
-  -- all was sent
-  pub writes_done : left ≡ [] → WriteRestOf I old start (Ok tt) now left
-  writes_done empty =
-      writes_law I (calls_end before (Ok tt) left [] refl
-      (subst (λ l. Writes (codes "failed to write whole buffer") [] l (Ok tt) l) (sym empty) no_write))
+module _ {S : Type 0} {I : Writer S} {old now : S} {start left : List ℕ} where
+  module _ (before : CallsSoFar (CallOf I) (codes "failed to write whole buffer") old start left now) where
+    -- all was sent
+    pub writes_done : left ≡ [] → WriteRestOf I old start (Ok tt) now left
+    writes_done empty =
+        writes_law I (calls_end before (Ok tt) left [] refl
+        (subst (λ l. Writes (codes "failed to write whole buffer") [] l (Ok tt) l) (sym empty) no_write))
 
-  module _ {new : S} where
-    -- n bytes more were sent
-    pub writes_more : {n : ℕ} → WriteOf I now left (Ok n) new → 0 < length left → 0 < n
-        → CallsSoFar (CallOf I) (codes "failed to write whole buffer") old start
-        (take (length left - n) (drop n left)) new
-    writes_more {n} wrote some more = calls_more before wrote
-        (λ D r e w. took some more (subst (λ l. Writes (codes "failed to write whole buffer") D l r e) (rest_is n left) w))
+    module _ {new : S} where
+      -- n bytes more were sent
+      pub writes_more : {n : ℕ} → WriteOf I now left (Ok n) new → 0 < length left → 0 < n
+          → CallsSoFar (CallOf I) (codes "failed to write whole buffer") old start
+          (take (length left - n) (drop n left)) new
+      writes_more {n} wrote some more = calls_more before wrote
+          (λ D r e w. took some more (subst (λ l. Writes (codes "failed to write whole buffer") D l r e) (rest_is n left) w))
 
-    -- an interruption is ignored
-    pub writes_interruption : {e : Error} → WriteOf I now left (Err e) new
-        → 0 < length left → IsInterruption e
-        → CallsSoFar (CallOf I) (codes "failed to write whole buffer") old start left new
-    writes_interruption wrote some interrupted = calls_more before wrote (λ D r e w. goes_again some interrupted w)
+      -- an interruption is ignored
+      pub writes_interruption : {e : Error} → WriteOf I now left (Err e) new
+          → 0 < length left → IsInterruption e
+          → CallsSoFar (CallOf I) (codes "failed to write whole buffer") old start left new
+      writes_interruption wrote some interrupted = calls_more before wrote (λ D r e w. goes_again some interrupted w)
 
-    -- a fault stopped it
-    pub writes_stopped : {e : Error} → WriteOf I now left (Err e) new → IsFault e → 0 < length left
-        → WriteRestOf I old start (Err e) new left
-    writes_stopped {e} wrote is_fault some =
-        writes_law I
-        (calls_end before (Err e) left (Wrote left (Err e) ∷ []) (new, wrote, refl) (fails some is_fault))
+      -- a fault stopped it
+      pub writes_stopped : {e : Error} → WriteOf I now left (Err e) new → IsFault e → 0 < length left
+          → WriteRestOf I old start (Err e) new left
+      writes_stopped {e} wrote is_fault some =
+          writes_law I
+          (calls_end before (Err e) left (Wrote left (Err e) ∷ []) (new, wrote, refl) (fails some is_fault))
 
-    -- no byte was taken of some
-    pub writes_zero : {reply : Result ℕ Error} {n : ℕ} {e : Error} → WriteOf I now left reply new
-        → reply ≡ Ok n → n ≡ 0 → 0 < length left → SaysError WriteZero (codes "failed to write whole buffer") e
-        → WriteRestOf I old start (Err e) new left
-    writes_zero {e = e} wrote is none some says =
-        let took = subst (λ r. WriteOf I now left r new) (is ∙ ap Ok none) wrote in
-        writes_law I
-        (calls_end before (Err e) left (Wrote left (Ok 0) ∷ []) (new, took, refl) (stuck some says))
+      -- no byte was taken of some
+      pub writes_zero : {reply : Result ℕ Error} {n : ℕ} {e : Error} → WriteOf I now left reply new
+          → reply ≡ Ok n → n ≡ 0 → 0 < length left → SaysError WriteZero (codes "failed to write whole buffer") e
+          → WriteRestOf I old start (Err e) new left
+      writes_zero {e = e} wrote is none some says =
+          let took = subst (λ r. WriteOf I now left r new) (is ∙ ap Ok none) wrote in
+          writes_law I
+          (calls_end before (Err e) left (Wrote left (Ok 0) ∷ []) (new, took, refl) (stuck some says))

@@ -1,10 +1,10 @@
 -- Pieces of bytes, each of which ends in a delimiter; which events a call that reads a piece takes; what `Split` and `Lines` yield.
 use Rattle.std.specs.Prelude.{◌≡◌, ◌≢◌, ℕ, ◌+◌, ◌<◌, ◌≤◌, ◌==◌, true, false, Bool, List, [], ◌∷◌, ◌++◌, length, take, filter}
 use Rattle.std.specs.{Prelude.{if◌then◌else◌, ◌⊎◌, Option, None, Some, Result, Ok, Err, suc, codes, IsUtf8, IfSome}, List.{AllByRecursion}}
-use Rattle.std.specs.List.{concat}
+use Rattle.std.specs.{List.{concat}, Prelude.{IsSomeAnd}}
 use Rattle.no_std_io2_base.specs.{declared.error.Error.{Error}, Errors.{error_kind, IsInterruption, IsFault, IsOutOfMemory, error_text}}
 use Rattle.no_std_io2_base.specs.Events.{Event, byte, events_of, bytes, HasNoFault, EndsInFault, bytes_to_fault, first_fault}
-use Rattle.no_std_io2_base.specs.{Takes.{Tells, to_come, IsAll}, Read.{ReadCall, Filled, Consumed}, Write.{Made}}
+use Rattle.no_std_io2_base.specs.{Takes.{Tells, to_come, IsAll}, Read.{ReadCall, Filled, Consumed}, Write.{Made, IsFront}}
 use Rattle.no_std_io2_base.specs.{declared.error.ErrorKind.TheVariants.{InvalidData, OutOfMemory}, declared.traits.split.Split.{Split}}
 use Rattle.no_std_io2_base.specs.declared.traits.lines.Lines.{Lines}
 
@@ -123,6 +123,24 @@ pieces_before d (Some e) bs = filter (ends_in d) (pieces d bs)
 -- the pieces that a reader with these events gives: all, or those that end in d before the first fault
 abbrev pub pieces_given : ℕ → List Event → List (List ℕ)
 pieces_given d E = pieces_before d (first_fault E) (bytes_to_fault E)
+
+-- the events E give these pieces first, and then what those after them give
+pub record GivesFirst (d : ℕ) (E : List Event) (ps : List (List ℕ)) (after : List Event) : Type 0 where
+  pub pieces : pieces_given d E ≡ ps ++ pieces_given d after
+  pub fault : first_fault E ≡ first_fault after
+  pub bytes : bytes_to_fault E ≡ concat ps ++ bytes_to_fault after
+
+-- From old to new a reader gave these pieces, if it tells its events.
+pub record GivesPieces (d : ℕ) (old : Tells) (ps : List (List ℕ)) (new : Tells) : Type 0 where
+  pub told : IfSome (to_come old) (λ E. IsSomeAnd (to_come new) (GivesFirst d E ps))
+
+-- these are all pieces that a reader gives, and then this fault comes, or none, if it tells its events
+abbrev pub AreAllPieces : ℕ → Tells → List (List ℕ) → Option Error → Type 0
+AreAllPieces d t ps fault = IfSome (to_come t) (λ E. (pieces_given d E ≡ ps) × (first_fault E ≡ fault))
+
+-- these bytes come first, before any fault, if the reader tells its events
+abbrev pub ComeFirst : Tells → List ℕ → Type 0
+ComeFirst t x = IfSome (to_come t) (λ E. IsFront x (bytes_to_fault E))
 
 -- the inner reader
 abbrev pub split_reader : {R : Type 0} → Split R → R
