@@ -1,11 +1,11 @@
 -- The calls of a buffered writer that first send the held bytes: its seeks and `into_inner`.
 use Rattle.no_std_io2.proofs.Words.{Stepped, CallOf, Writer, Moves, WriteCall, Made, Store, KeepsContent, common_steps, ◌≡◌, ℕ, List, length, Result}
-use Rattle.no_std_io2.proofs.Words.{Ok, Err, IsOk, IfOk, Option, refl, sym, ap, subst, arith, [], ◌∷◌, SendCalls, TakesStep, with_buffer}
+use Rattle.no_std_io2.proofs.Words.{Ok, Err, OnOk, IsOk, IfOk, Option, refl, sym, ap, subst, arith, [], ◌∷◌, SendCalls, TakesStep, with_buffer}
 use Rattle.no_std_io2_base.specs.{declared.error.Error.{Error}, Seek.{IsPosition, Seeker}}
 use Rattle.no_std_io2_base.specs.declared.traits.seek.SeekFrom.{SeekFrom}
-use Rattle.no_std_io2_base.proofs.{MovesLemmas.{Moves-steady}, CallsLemmas.{writes_whole}}
+use Rattle.no_std_io2_base.proofs.{MovesLemmas.{Moves-steady, after_ok}, CallsLemmas.{writes_whole}}
 use Rattle.no_std_io2_base.proofs.{WritesFacts.{writes_left, writes_idle, writes_sends}}
-use Rattle.no_std_io2.specs.{BufWriter.{SeeksSent, failed, Unwraps, store_unheld, into_inner_error_writer, into_inner_error_cause}}
+use Rattle.no_std_io2.specs.{BufWriter.{SeeksSent, went, failed, Unwraps, store_unheld, into_inner_error_writer, into_inner_error_cause}}
 use Rattle.no_std_io2.specs.{declared.buffered.into_inner_error.IntoInnerError.{IntoInnerError}}
 use Rattle.no_std_io2.proofs.{BufWriterCalls.{send_does}, StepLemmas.{no_ok, does}}
 
@@ -44,6 +44,12 @@ module _ {W B : Type 0} {I : Writer W} {inner : B → W} {buffer : B → List �
   pub seek_failed : {K : Seeker W} {to : SeekFrom} {new : B} {e : Error} → TakesStep I inner buffer SendCalls old (Err e) new
       → SeeksSent I K inner buffer old to (Err e) new
   seek_failed calls = failed calls (does (send_does I) calls).tells.1 (writes_left calls.2)
+
+  -- after an `Ok` of a seek nothing is held
+  pub seek_empties : {K : Seeker W} {to : SeekFrom} {reply : Result ℕ Error} {new : B} → SeeksSent I K inner buffer old to reply new
+      → OnOk reply (buffer new ≡ [])
+  seek_empties {reply = reply} (went sent calls moves law none) = after_ok reply none
+  seek_empties (failed calls moves some) = tt
 
   -- `into_inner`: all was sent, and the inner writer comes back
   pub unwraps_ok : {w : W} {left : List ℕ} → Stepped I SendCalls (inner old) (buffer old) (Ok tt) left w → Unwraps I inner buffer old (Ok w)
