@@ -90,6 +90,7 @@ writing_all_calls S x held = way_calls S held (length x) + past_calls S (length 
 abbrev pub Flushing : Told → Result (Unit {0}) Error → Told → Type 0
 Flushing old reply new = Moves old [] (call_mishap reply) new
 
+-- it may follow a sending,
 flushing_joins : Joins Sending Flushing Flushing
 flushing_joins = record { fails = λ s t e f. f.1; joins = λ s m t r f g. Moves-then {k = []} f.1 g }
 
@@ -97,6 +98,7 @@ flushing_joins = record { fails = λ s t e f. f.1; joins = λ s m t r f g. Moves
 abbrev pub Writing : List ℕ → Told → Result ℕ Error → Told → Type 0
 Writing x old reply new = Moves old (taken reply x) (write_mishap reply x) new
 
+-- so may it,
 pub writing_joins : (x : List ℕ) → Joins Sending (Writing x) (Writing x)
 writing_joins x = record { fails = λ s t e f. f.1; joins = λ s m t r f g. Moves-then {k = []} f.1 g }
 
@@ -104,6 +106,7 @@ writing_joins x = record { fails = λ s t e f. f.1; joins = λ s m t r f g. Move
 abbrev pub WritingAll : List ℕ → Told → Result (Unit {0}) Error → Told → Type 0
 WritingAll x old reply new = IsNoInterruption reply × MovesFront old x reply new
 
+-- and so may it
 pub writing_all_joins : (x : List ℕ) → Joins Sending (WritingAll x) (WritingAll x)
 writing_all_joins x = record {
   fails = λ s t e f. (f.0, record { accepted = []; front = (x, refl); whole = tt; moves = f.1 });
@@ -236,11 +239,12 @@ module _ {W : Type 0} (I : Writer W) where
     flush_empty p = grind (arith, common_steps, made_split, on_ok_weaker, append-nil, one_inner_call)
 
   module _ {B : Type 0} (inner : B → W) (buffer : B → List ℕ) (S : ℕ) {old new : B} {x : List ℕ} where
-    -- what follows for `write` and `write_all`
+    -- the clause of `write` follows from its inner calls,
     pub buffers_of : {reply : Result ℕ Error} → TakesStep I inner buffer (WriteCalls S x) old reply new
         → Buffers I S inner buffer old x reply new
     buffers_of calls = let leaves = (does (write_does S x) calls).leaves in grind (arith, common_steps, buffered_fits, write_whole, leaves)
 
+    -- and that of `write_all`
     pub buffers_all_of : {reply : Result (Unit {0}) Error} → TakesStep I inner buffer (WriteAllCalls S x) old reply new
         → BuffersAll I S inner buffer old x reply new
     buffers_all_of calls = let leaves = (does (write_all_does S x) calls).leaves in grind (arith, common_steps, buffered_fits, leaves)

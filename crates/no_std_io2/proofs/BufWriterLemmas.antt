@@ -1,4 +1,4 @@
--- A buffer in front of a writer.
+-- What a buffer in front of a writer tells. For both buffered writers, and for callers with a new buffer in front of a device.
 use Rattle.no_std_io2.proofs.Words.{common_steps, nil_from_length, ◌≡◌, ℕ, ◌-◌, ◌≤◌, length-take, length-append, Result, Ok, Err, OnOk, []}
 use Rattle.no_std_io2.proofs.Words.{List, ◌++◌, length, drop, sym, ap, subst, ◌∙◌, arith, append_assoc, append-nil, Told, Moves, MovesFront}
 use Rattle.no_std_io2.proofs.Words.{with_buffer, writer_inner, writer_buffer, writer_told, line_inner, line_buffer, IsSuffix}

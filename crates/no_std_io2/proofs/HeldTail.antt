@@ -1,4 +1,4 @@
--- The bytes that a line writer holds of those that its inner writer left.
+-- The bytes that a line writer holds of those that its inner writer left (`held_tail`). For the `write` of a `LineWriter`.
 use Rattle.no_std_io2.proofs.Words.{common_steps, ◌≡◌, ℕ, ◌+◌, ◌-◌, ◌<◌, ◌≤◌, List, ◌++◌, length, take, drop, refl, ap, ◌∙◌, arith}
 use Rattle.no_std_io2.proofs.Words.{length-take, length-drop, length-append, subst, take-append-drop, nat_tests, newline, IsLineState}
 use Rattle.no_std_io2.proofs.Words.{lines_len, lines_of, unfinished_line}
@@ -21,11 +21,13 @@ pub lines_rest : (x : List ℕ) (n : ℕ) → n ≤ lines_len x → take (lines_
 lines_rest x n within =
     subst (λ l. take (lines_len x - n) (drop n l) ≡ drop n (lines_of x)) (lines_split x) (grind (arith, common_steps))
 
+-- what is left of the lines is a line state
 rest_state : (x : List ℕ) (n : ℕ) → 0 < lines_len x → IsLineState (drop n (lines_of x))
 rest_state x n some =
     let lines = lines_of x in
     state_rest (take n lines) (drop n lines) (λ has. ap (ends_in newline) (take-append-drop n lines) ∙ lines_end x some)
 
+-- the lines among the first S bytes, or all of these, are a front
 or_all_front : (S : ℕ) (l : List ℕ) → take (length (lines_or_all (take S l))) l ≡ lines_or_all (take S l)
 or_all_front S l = grind (arith, common_steps, take_lines (take S l) refl, take_min, lines_bound (take S l))
 
@@ -33,10 +35,11 @@ or_all_front S l = grind (arith, common_steps, take_lines (take S l) refl, take_
 pub tail_state : (S : ℕ) (x : List ℕ) (n : ℕ) → IsLineState (held_tail S x n)
 tail_state S x n = grind (arith, nat_tests, plain_state, behind_state, lacks_lines, lines_end, rest_state)
 
--- the first n bytes and that tail are the first ones of x
+-- the tail is a front of what follows the first n bytes
 tail_front : (S : ℕ) (x : List ℕ) (n : ℕ) → take (length (held_tail S x n)) (drop n x) ≡ held_tail S x n
 tail_front S x n = grind (arith, nat_tests, or_all_front, lines_rest, take_min, length-drop, length-take)
 
+-- so bytes that were sent and the tail after them are a front of x
 pub took_tail : (S : ℕ) (x : List ℕ) (n : ℕ) → take (n + length (held_tail S x n)) x ≡ take n x ++ held_tail S x n
 took_tail S x n = take-add n (length (held_tail S x n)) x ∙ ap (λ l. take n x ++ l) (tail_front S x n)
 

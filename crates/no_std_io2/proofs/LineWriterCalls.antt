@@ -26,16 +26,19 @@ abbrev lines_calls : ℕ → List ℕ → List ℕ → ℕ
 lines_calls S y held =
     if nat_lt 0 (length held) then writing_all_calls S y held + calls_for (buffer_after S held y) else calls_for y
 
--- these are three at most
+-- a `write` makes three at most: for a text without a newline,
 line_write_few : (S : ℕ) (held x : List ℕ) → line_calls held + writing_calls S (line_left held) x ≤ 3
 line_write_few S held x = grind (arith, nat_tests)
 
+-- and for one with lines;
 lines_few : (held : List ℕ) → calls_for held + 1 ≤ 3
 lines_few held = grind (arith, nat_tests)
 
+-- a `write_all` too: for a text without a newline,
 line_write_all_few : (S : ℕ) (held x : List ℕ) → line_calls held + writing_all_calls S x (line_left held) ≤ 3
 line_write_all_few S held x = grind (arith, nat_tests)
 
+-- and for one with lines
 all_lines_few : (S : ℕ) (held y x : List ℕ) → lines_calls S y held + writing_all_calls S x [] ≤ 3
 all_lines_few S held y x = grind (arith, common_steps)
 
@@ -59,18 +62,20 @@ lines_joins x = record {
       (g.0, MovesFront-join (lines_of x) (unfinished_line x) reply f.1 g.1);
 }
 
--- What a `write` does: it accepts the bytes that its result reports, and over an inner writer that takes all it makes at most three calls.
+-- What a `write` does: it accepts the bytes that its result reports, and over an inner writer that takes all it makes three calls at most.
 pub record LineWrites {W : Type 0} (I : Writer W) (S : ℕ) (x : List ℕ) (a : W) (held : List ℕ) (C : List WriteCall) (reply : Result ℕ Error)
     (left : List ℕ) (b : W) : Type 0 where
   pub tells : Writing x (with_buffer (I.told a) held) reply (with_buffer (I.told b) left)
   pub keeps : TakesAll I a → TakesAll I b × IsOk reply × (charges C ≤ 3)
+  -- then this is held, if a line state was
   pub filled : IsLineState held → TakesAll I a → left ≡ line_buffer_filled S held x
 
--- What a `write_all` does: it accepts some front of x, all of it after `Ok`, and so on.
+-- What a `write_all` does: it accepts some front of x, all of it after `Ok`, and makes three calls at most too.
 pub record LineWritesAll {W : Type 0} (I : Writer W) (S : ℕ) (x : List ℕ) (a : W) (held : List ℕ) (C : List WriteCall)
     (reply : Result (Unit {0}) Error) (left : List ℕ) (b : W) : Type 0 where
   pub tells : WritingAll x (with_buffer (I.told a) held) reply (with_buffer (I.told b) left)
   pub keeps : TakesAll I a → TakesAll I b × IsOk reply × (charges C ≤ 3)
+  -- this is held after an `Ok`, if a line state was
   pub leaves : IsLineState held → OnOk reply (left ≡ line_buffer_after S held x)
 
 module _ {W : Type 0} (I : Writer W) where
@@ -107,6 +112,7 @@ module _ {W : Type 0} (I : Writer W) where
     put_tells some n t whole zero a b call =
         grind (arith, common_steps, Moves-emptied, Moves-buffered, take-take, take_lines x refl)
 
+    -- the write had this answer, and the tail of x is held
     tail_tells : 0 < lines_len x → (answer reply : Result ℕ Error) (held left : List ℕ) → held ≡ [] → HoldsTail S x answer reply left
         → (a b : W) → CallOf I a (Wrote (lines_of x) answer) b
         → Writing x (with_buffer (I.told a) held) reply (with_buffer (I.told b) left)
@@ -125,6 +131,7 @@ module _ {W : Type 0} (I : Writer W) where
               (all.0, (tail_whole S x answer reply left all.1 some tail).0, ap charges is ∙ omega arith);
         }
 
+    -- what is taken and held is no more than x
     tail_bound : (answer reply : Result ℕ Error) (left : List ℕ) → HoldsTail S x answer reply left
         → IfOk answer (λ n. n ≤ length (lines_of x))
         → IfOk reply (λ n. n ≤ length x)
@@ -140,7 +147,7 @@ module _ {W : Type 0} (I : Writer W) where
         (tail_whole S x q.1 reply left (law.all ((send_does I _ _ _ _ _ _ p parts.1).counts takes).0).1 some q.3).1
 
   module _ {a b : W} {held left : List ℕ} where
-    -- what they do
+    -- the calls of a `write` do that,
     pub line_write_does : (S : ℕ) {x : List ℕ} {reply : Result ℕ Error} (p : Stepped I (LineWriteCalls S x) a held reply left b)
         → LineWrites I S x a held p.0 reply left b
     line_write_does S {x} {reply} p = elim p.2 [
@@ -168,6 +175,7 @@ module _ {W : Type 0} (I : Writer W) where
         → IfOk reply (λ n. n ≤ length x)
     line_write_bound S p = grind (arith, nat_tests, made_split, write_bound, tail_bound, one_inner_call)
 
+    -- and those of a `write_all` that
     pub line_write_all_does : (S : ℕ) {x : List ℕ} {reply : Result (Unit {0}) Error}
         (p : Stepped I (LineWriteAllCalls S x) a held reply left b) → LineWritesAll I S x a held p.0 reply left b
     line_write_all_does S {x} {reply} p = elim p.2 [

@@ -1,4 +1,4 @@
--- What the calls of a line writer leave: line states, and after an `Ok` these.
+-- The calls of a line writer leave line states, and hold a short text without a call. For the invariant and the clauses of `LineWriter`.
 use Rattle.no_std_io2.proofs.Words.{Stepped, CallOf, Writer, WriteCall, Wrote, Writes, none as no_write, took, again, stuck, fault, AllCalls}
 use Rattle.no_std_io2.proofs.Words.{newline, IsLineState, lines_of, lines_len, unfinished_line, common_steps, ◌≡◌, ◌+◌, ℕ, ◌<◌, ◌≤◌, ◌==◌}
 use Rattle.no_std_io2.proofs.Words.{◌∙◌, List, ◌∷◌, ◌++◌, length, take, drop, Result, [], Ok, OnOk, IsOk, IfOk, refl, sym, ap, subst, arith}
@@ -26,20 +26,23 @@ writes_end (again some interrupted w) = writes_end w
 writes_end (stuck some says) = ([], refl)
 writes_end (fault some is) = ([], refl)
 
--- the end of bytes without a newline has none, and the end of a line state is one
+-- the end of bytes without a newline has none,
 lacks_end : {whole end : List ℕ} → IsSuffix whole end → Lacks newline whole → Lacks newline end
 lacks_end f plain = lacks_rest newline f.0 _ (subst (Lacks newline) f.1 plain)
 
+-- and the end of a line state is one
 pub state_end : {whole end : List ℕ} → IsSuffix whole end → IsLineState whole → IsLineState end
 state_end f line = state_rest f.0 _ (subst IsLineState f.1 line)
 
--- no bytes have no newline
+-- no bytes have no newline,
 nothing_lacks : {xs : List ℕ} → xs ≡ [] → Lacks newline xs
 nothing_lacks none = subst (Lacks newline) (sym none) tt
 
+-- and are a line state
 nothing_state : {xs : List ℕ} → xs ≡ [] → IsLineState xs
 nothing_state none = plain_state _ (nothing_lacks none)
 
+-- what making room leaves of the held bytes is an end of them,
 way_end : (S n : ℕ) {held left : List ℕ} {C : List WriteCall} {reply : Result (Unit {0}) Error} → WayCalls S n held C reply left
     → IsSuffix held left
 way_end S n {left = left} way = grind (arith, common_steps, writes_end)
@@ -56,6 +59,7 @@ line_left-is held line = grind (arith, common_steps, lines_split held, unfinishe
 send_line_plain : {held left : List ℕ} {C : List WriteCall} → SendLineCalls held C (Ok tt) left → Lacks newline left
 send_line_plain {left = left} sends = grind (arith, common_steps, nothing_lacks, writes_whole)
 
+-- and so is what the sending of a held line leaves
 send_line_end : {held left : List ℕ} {C : List WriteCall} {reply : Result (Unit {0}) Error} → SendLineCalls held C reply left
     → IsSuffix held left
 send_line_end {left = left} sends = grind (arith, common_steps, writes_end)
@@ -96,11 +100,7 @@ module _ {A : Type 0} (S : ℕ) (x : List ℕ) (v : A) (past : List WriteCall �
   plain_fits : {held left : List ℕ} {C : List WriteCall} {reply : Result A Error}
       → Then SendLineCalls (Buffered S x v past) held C reply left → Lacks newline held → length x < S → length held + length x ≤ S
       → (C ≡ []) × IsOk reply × (left ≡ held ++ x)
-  plain_fits (stops p) plain short room = absurd (let never = (no_line_sent p plain).1 in cc)
-  plain_fits (goes_on {D = D} p q) plain short room =
-      let kept = no_line_sent p plain in
-      let fits = buffered_fits S x v past q short (omega (arith, room, ap length kept.2)) in
-      (ap (λ C. C ++ D) kept.0 ∙ fits.0, subst IsOk (sym fits.1) refl, fits.2 ∙ ap (λ l. l ++ x) kept.2)
+  plain_fits {held} {left} write plain short room = grind (arith, common_steps, no_line_sent, buffered_fits)
 
 -- one write of lines, which may take a part of them, leaves a line state
 holds_state : (S : ℕ) (x : List ℕ) (answer reply : Result ℕ Error) (left : List ℕ) → HoldsTail S x answer reply left → IsLineState left
@@ -117,19 +117,22 @@ lines_state : (S : ℕ) (x : List ℕ) {held left : List ℕ} {C : List WriteCal
 lines_state S x (stops p) line = state_end (writes_end p) line
 lines_state S x (goes_on {left = left} {reply = reply} p q) line = holds_state S x q.1 reply left q.3
 
+-- with or without lines
 pub line_write_state : (S : ℕ) {x held left : List ℕ} {C : List WriteCall} {reply : Result ℕ Error} → LineWriteCalls S x held C reply left
     → IsLineState held → IsLineState left
 line_write_state S {x} write line = grind (arith, common_steps, text_state, lines_state)
 
--- a short text is taken whole, or the call fails; if the text fits, it is held without a call
+-- a text without a newline that is shorter than S is taken whole, or the call fails
 plain_whole : (S : ℕ) {x held left : List ℕ} {C : List WriteCall} {reply : Result ℕ Error}
     → Then SendLineCalls (WriteCalls S x) held C reply left → length x < S → IfOk reply (λ n. n ≡ length x)
 plain_whole = grind (arith, common_steps, write_whole)
 
+-- a `write` takes a short text whole, or fails,
 pub line_write_short : (S : ℕ) {x held left : List ℕ} {C : List WriteCall} {reply : Result ℕ Error} → LineWriteCalls S x held C reply left
     → IsShortText S x → IfOk reply (λ n. n ≡ length x)
 line_write_short S {x} write short = grind (arith, common_steps, plain_whole, lacks_contains)
 
+-- and holds it without a call if it fits
 pub line_write_fits : (S : ℕ) {x held left : List ℕ} {C : List WriteCall} {reply : Result ℕ Error} → LineWriteCalls S x held C reply left
     → IsShortText S x → Lacks newline held → length held + length x ≤ S → (C ≡ []) × IsOk reply × (left ≡ held ++ x)
 line_write_fits S {x} write short plain room = grind (arith, common_steps, plain_fits, lacks_contains)
@@ -153,6 +156,7 @@ behind_lines_state S {y} (stops w) line ended = buffered_line S y tt (λ C. AllC
 behind_lines_state S {y} (goes_on w s) line ended =
     state_end (writes_end s) (buffered_line S y tt (λ C. AllCalls C y) w line ended)
 
+-- lines that follow other bytes end in a newline
 lines_ended : (x : List ℕ) → 0 < lines_len x → (front : List ℕ) → IsLineState (front ++ lines_of x)
 lines_ended x some front has = ends_in-append newline front (lines_of x) some ∙ lines_end x some
 
@@ -173,10 +177,12 @@ all_lines_state S x (goes_on {mid = mid} {reply = reply} p q) line some =
     let none = buffered_plain S rest tt (λ C. AllCalls C rest) q empty (unfinished_lacks x) in
     (plain_state _ none, after_ok reply none)
 
+-- with or without lines
 pub line_write_all_state : (S : ℕ) {x held left : List ℕ} {C : List WriteCall} {reply : Result (Unit {0}) Error}
     → LineWriteAllCalls S x held C reply left → IsLineState held → IsLineState left × OnOk reply (Lacks newline left)
 line_write_all_state S {x} write line = grind (arith, common_steps, all_lines_state, lines_some, text_state)
 
+-- a short text that fits is held without a call
 pub line_write_all_fits : (S : ℕ) {x held left : List ℕ} {C : List WriteCall} {reply : Result (Unit {0}) Error}
     → LineWriteAllCalls S x held C reply left
     → IsShortText S x → Lacks newline held → length held + length x ≤ S → (C ≡ []) × IsOk reply × (left ≡ held ++ x)

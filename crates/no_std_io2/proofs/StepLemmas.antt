@@ -56,7 +56,9 @@ Sending old reply new = IsNoInterruption reply × Moves old [] (call_mishap repl
 
 -- What P tells of a first step and Q of the next, R tells of both.
 pub record Joins {A : Type 0} (P : Told → Result (Unit {0}) Error → Told → Type 0) (Q R : Told → Result A Error → Told → Type 0) : Type 0 where
+  -- the first failed
   pub fails : (s t : Told) (e : Error) → P s (Err e) t → R s (Err e) t
+  -- it did not, and the next one followed
   pub joins : (s m t : Told) (reply : Result A Error) → P s (Ok tt) m → Q m reply t → R s reply t
 
 -- `first?; next`

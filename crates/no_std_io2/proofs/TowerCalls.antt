@@ -1,4 +1,4 @@
--- The calls of a tower are calls of the device below it.
+-- The calls of a tower are calls of the device below it. For callers over towers.
 use Rattle.no_std_io2.proofs.Words.{CallOf, Writer, WriteCall, Made, List, ◌∷◌, ◌++◌, ℕ, refl, ap, [], Through}
 use Rattle.no_std_io2_base.proofs.CallsLemmas.{made_then, law_may}
 
