@@ -1,12 +1,7 @@
 -- How a `Take` goes to a position, step by step.
 use Rattle.std.proofs.Common.{◌≡◌, ℕ, ◌<◌, ◌^◌, Result, Ok, arith, sym, subst}
-use Rattle.no_std_io2_base.specs.{declared.error.Error.{Error}, declared.traits.seek.Seek.{Ghosts as SeekMembers}}
-use Rattle.no_std_io2_base.specs.{declared.traits.stored.Stored.{Ghosts as Stores}, declared.traits.take.Take.{Take}, Seek.{Seeker, Sought}}
-use Rattle.no_std_io2_base.specs.{Seek.{here}, Take.{limit_position}, LimitSeeks.{LimitGoes, LimitMaySeek, arrived}}
-
--- the members of a bound `Seek`
-abbrev pub limit_seeker : {S : Type 0} → Stores S → SeekMembers S → Seeker S
-limit_seeker stored seek = record { store = stored.store; may = seek.may; sound = seek.sound }
+use Rattle.no_std_io2_base.specs.{declared.error.Error.{Error}, declared.traits.take.Take.{Take}, Seek.{Seeker, Sought, here}}
+use Rattle.no_std_io2_base.specs.{Take.{limit_position}, LimitSeeks.{LimitGoes, LimitMaySeek, arrived}}
 
 -- however it goes on from here, so it does from the start
 abbrev pub LimitGoesOn : {T : Type 0} → Seeker T → ℕ → Take T → Take T → Type 0

@@ -1,6 +1,7 @@
--- Readers, as the laws of their calls take them.
+-- Readers and seekers, as the laws of their calls take them.
 use Rattle.no_std_io2_base.specs.{declared.traits.read.Read.{Ghosts as Reads}, declared.traits.stored.Stored.{Ghosts as Stores}}
-use Rattle.no_std_io2_base.specs.{declared.traits.buf_read.BufRead.{Ghosts as BufReads}, Read.{Reader}, BufRead.{Lender}}
+use Rattle.no_std_io2_base.specs.{declared.traits.buf_read.BufRead.{Ghosts as BufReads}, declared.traits.seek.Seek.{Ghosts as Seeks}}
+use Rattle.no_std_io2_base.specs.{Read.{Reader}, BufRead.{Lender}, Seek.{Seeker}}
 
 -- the members of a bound
 abbrev pub reader : {S : Type 0} → Stores S → Reads S → Reader S
@@ -10,3 +11,7 @@ reader stored read = record { store = stored.store; turns = read.turns; events =
 abbrev pub lends : {X : Type 0} → Stores X → Reads X → BufReads X → Lender X
 lends stored read lent =
     record { store = stored.store; turns = read.turns; events = read.events; may = read.may; held = lent.held }
+
+-- the members of a bound `Seek`
+abbrev pub seeker : {S : Type 0} → Stores S → Seeks S → Seeker S
+seeker stored seek = record { store = stored.store; may = seek.may; sound = seek.sound }

@@ -62,19 +62,19 @@ pub record SeeksThrough {X Y : Type 0} (S : Seeker X) (S' : Seeker Y) (put : X �
 
 -- what a call did to a value, it did to that which the value was put into
 module _ {X Y : Type 0} {S : Seeker X} {S' : Seeker Y} (put : X → Y) (through : SeeksThrough S S' put) {a b : X} where
-  seek_through : {target : SeekFrom} {reply : Result ℕ Error} → SeekLaw S a target reply b → SeekLaw S' (put a) target reply (put b)
+  pub seek_through : {target : SeekFrom} {reply : Result ℕ Error} → SeekLaw S a target reply b → SeekLaw S' (put a) target reply (put b)
   seek_through law = grind (arith, common_steps)
 
-  stream_position_through : {reply : Result ℕ Error} → StreamPositionLaw S a reply b → StreamPositionLaw S' (put a) reply (put b)
+  pub stream_position_through : {reply : Result ℕ Error} → StreamPositionLaw S a reply b → StreamPositionLaw S' (put a) reply (put b)
   stream_position_through law = grind (arith, common_steps)
 
-  rewind_through : {reply : Result (Unit {0}) Error} → RewindLaw S a reply b → RewindLaw S' (put a) reply (put b)
+  pub rewind_through : {reply : Result (Unit {0}) Error} → RewindLaw S a reply b → RewindLaw S' (put a) reply (put b)
   rewind_through {reply} law = grind (arith, common_steps)
 
   pub stream_len_through : {reply : Result ℕ Error} → StreamLenLaw S a reply b → StreamLenLaw S' (put a) reply (put b)
   stream_len_through law = grind (arith, common_steps)
 
-  seek_relative_through : {offset : ℤ} {reply : Result (Unit {0}) Error} → SeekRelativeLaw S a offset reply b
+  pub seek_relative_through : {offset : ℤ} {reply : Result (Unit {0}) Error} → SeekRelativeLaw S a offset reply b
       → SeekRelativeLaw S' (put a) offset reply (put b)
   seek_relative_through {offset} {reply} law = grind (arith, common_steps)
 
@@ -90,34 +90,11 @@ module _ {I A : Type 0} {V : I → Type 0} (o : (p : (x : I) × V x) → Seeker 
     sound = λ b. (value_seeker b.vtable).sound b.value;
   }
 
-  in_value : SeeksThrough (value_seeker box.vtable) box_seeker (holding box box.vtable)
-  in_value = record { store = λ x. refl; may = λ x y call may. (y, refl, may); sound = λ x is. is; stays = λ x is. is }
-
   -- what a call did to the value that was lent, it did to the box
-  pub seek_box : {target : SeekFrom} {reply : Result ℕ Error} (lent : (x : I) × V x) → lent ≡ (box.vtable, box.value)
-      → (new : V lent.0) → SeekLaw (value_seeker lent.0) lent.1 target reply new
-      → SeekLaw box_seeker box target reply (holding box lent.0 new)
-  seek_box {target} {reply} = in_box box (λ i a b. SeekLaw (value_seeker i) a target reply b) (SeekLaw box_seeker box target reply)
-      (λ new. seek_through (holding box box.vtable) in_value)
-
-  pub stream_position_box : {reply : Result ℕ Error} (lent : (x : I) × V x) → lent ≡ (box.vtable, box.value)
-      → (new : V lent.0) → StreamPositionLaw (value_seeker lent.0) lent.1 reply new
-      → StreamPositionLaw box_seeker box reply (holding box lent.0 new)
-  stream_position_box {reply} = in_box box (λ i a b. StreamPositionLaw (value_seeker i) a reply b) (StreamPositionLaw box_seeker box reply)
-      (λ new. stream_position_through (holding box box.vtable) in_value)
-
-  pub rewind_box : {reply : Result (Unit {0}) Error} (lent : (x : I) × V x) → lent ≡ (box.vtable, box.value)
-      → (new : V lent.0) → RewindLaw (value_seeker lent.0) lent.1 reply new → RewindLaw box_seeker box reply (holding box lent.0 new)
-  rewind_box {reply} = in_box box (λ i a b. RewindLaw (value_seeker i) a reply b) (RewindLaw box_seeker box reply)
-      (λ new. rewind_through (holding box box.vtable) in_value)
-
-  pub stream_len_box : {reply : Result ℕ Error} (lent : (x : I) × V x) → lent ≡ (box.vtable, box.value)
-      → (new : V lent.0) → StreamLenLaw (value_seeker lent.0) lent.1 reply new → StreamLenLaw box_seeker box reply (holding box lent.0 new)
-  stream_len_box {reply} = in_box box (λ i a b. StreamLenLaw (value_seeker i) a reply b) (StreamLenLaw box_seeker box reply)
-      (λ new. stream_len_through (holding box box.vtable) in_value)
-
-  pub seek_relative_box : {offset : ℤ} {reply : Result (Unit {0}) Error} (lent : (x : I) × V x) → lent ≡ (box.vtable, box.value)
-      → (new : V lent.0) → SeekRelativeLaw (value_seeker lent.0) lent.1 offset reply new
-      → SeekRelativeLaw box_seeker box offset reply (holding box lent.0 new)
-  seek_relative_box {offset} {reply} = in_box box (λ i a b. SeekRelativeLaw (value_seeker i) a offset reply b)
-      (SeekRelativeLaw box_seeker box offset reply) (λ new. seek_relative_through (holding box box.vtable) in_value)
+  pub seeks_box : (Law : (X : Type 0) → Seeker X → X → X → Type 0)
+      → (SeeksThrough (value_seeker box.vtable) box_seeker (holding box box.vtable) → (new : V box.vtable)
+      → Law _ (value_seeker box.vtable) box.value new → Law _ box_seeker box (holding box box.vtable new))
+      → (lent : (x : I) × V x) → lent ≡ (box.vtable, box.value) → (new : V lent.0) → Law _ (value_seeker lent.0) lent.1 new
+      → Law _ box_seeker box (holding box lent.0 new)
+  seeks_box Law through = in_box box (λ i a b. Law _ (value_seeker i) a b) (Law _ box_seeker box)
+      (through (record { store = λ x. refl; may = λ x y call may. (y, refl, may); sound = λ x is. is; stays = λ x is. is }))

@@ -44,7 +44,7 @@ IsRefusal place x e =
     × (error_text e ≡ Some (codes "vector position past the greatest usize")))
     ⊎ ((place + length x < 2 ^ 64) × (error_kind e ≡ OutOfMemory) × (error_text e ≡ None))
 
--- `write` of x: a vector has all of x at the place, and the place moved behind x; or the vector had to grow and could not,
+-- `write` of x: a vector has all of x at the place, and the place moved to its end; or the vector had to grow and could not,
 -- and nothing changed
 abbrev pub PutsWhole : List ℕ → ℕ → List ℕ → Result ℕ Error → List ℕ → ℕ → Type 0
 PutsWhole bs place x (Ok n) bs' place' =
@@ -57,7 +57,7 @@ PutsAll bs place x (Ok u) bs' place' =
     (0 < length x → (place + length x < 2 ^ 64) × (bs' ≡ put_at place x bs)) × (length x ≡ 0 → bs' ≡ bs) × (place' ≡ place + length x)
 PutsAll bs place x (Err e) bs' place' = (length bs < place + length x) × IsRefusal place x e × (bs' ≡ bs) × (place' ≡ place)
 
--- a slice has the front of x that fits at the place, and the place moved behind it
+-- a slice has the front of x that fits at the place, and the place moved to its end
 abbrev pub PutsFitting : List ℕ → ℕ → List ℕ → List ℕ → ℕ → Type 0
 PutsFitting bs place x bs' place' =
     let front = fitting place x bs in (bs' ≡ put_over place front bs) × (place' ≡ place + length front)

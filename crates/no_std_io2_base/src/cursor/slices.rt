@@ -12,7 +12,7 @@ use crate::traits::Write;
 use std::alloc::Allocator;
 use std::boxed::BoxedSlice;
 
-// Writes as many bytes as fit into the slice at the position, and moves the position behind them.
+// Writes as many bytes as fit into the slice at the position, and moves the position to their end.
 fn write_fitting(content: &mut [u8], pos: &mut u64, buf: &[u8]) -> usize
     ensures count { result ≡ min (length buf.now) (length content.old - pos.old) }
     ensures puts { PutsFitting content.old pos.old buf.now content.new pos.new }

@@ -47,7 +47,7 @@ fn put<A: Allocator>(content: &mut Vec<u8, A>, start: usize, buf: &[u8]) -> Resu
     Ok(())
 }
 
-// `write` of a cursor on a vector: puts `buf` at the position, and moves the position behind it.
+// `write` of a cursor on a vector: puts `buf` at the position, and moves the position to its end.
 #[inline(always)]
 fn write_at<A: Allocator>(content: &mut Vec<u8, A>, pos: &mut u64, buf: &[u8]) -> Result<usize>
     ensures puts { PutsWhole content.old.items pos.old buf.now result content.new.items pos.new }

@@ -54,11 +54,10 @@ impl<R: Seek, const S: usize> BufReader<R, S> {
 
 /// Seeks the inner reader, and drops the buffer. `Current(n)` counts from the next byte that this
 /// reader would give. The inner reader is ahead of that byte by the held bytes, so its seek is by `n`
-/// minus their number. If this does not fit an
-/// `i64`, there are two inner seeks: back by the number of held bytes, which drops them, and then
-/// by `n`. `Start` and `End` go to the inner reader. Success drops the held bytes and those that
-/// lie behind; if the first or only inner seek is refused, they are kept. Each error is the inner
-/// reader's, with its text.
+/// minus their number. If this does not fit an `i64`, there are two inner seeks: back by the number of
+/// held bytes, which drops them, and then by `n`. `Start` and `End` go to the inner reader. Success
+/// drops the held bytes and those that lie behind; if the first or only inner seek is refused, they
+/// are kept. Each error is the inner reader's, with its text.
 impl<R: Seek, const S: usize> Seek for BufReader<R, S> {
     ghost may = { ReaderMaySeek R.Seek };
 

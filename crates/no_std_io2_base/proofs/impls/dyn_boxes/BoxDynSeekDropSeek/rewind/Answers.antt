@@ -1,13 +1,13 @@
 -- What the call did to the value in the box, it did to the box.
 use Rattle.std.proofs.Common.{rules}
-use Rattle.no_std_io2_base.proofs.SeekCalls.{rewind_box}
+use Rattle.no_std_io2_base.specs.Seek.{RewindLaw}
+use Rattle.no_std_io2_base.proofs.{Readers.{seeker}, SeekCalls.{seeks_box, rewind_through}}
 use Rattle.no_std_io2_base.proofs.impls.dyn_boxes.BoxDynSeekDropSeek.rewind.Goals as goal
 
 pub returns : goal.returns
 returns g c =
     let o = goal.Seek-dyn g in
     record {
-      law = rewind_box (λ p. record { store = (o p).Stored.store; may = (o p).Seek.may; sound = (o p).Seek.sound })
-          c.args.self.now c.deref_box_mut-1.result.now
-          (search rules) c.rewind.new.self c.rewind.ensures;
+      law = seeks_box (λ p. seeker (o p).Stored (o p).Seek) c.args.self.now (λ X S a b. RewindLaw S a c.rewind.result b)
+          (λ t new. rewind_through _ t) c.deref_box_mut-1.result.now (search rules) c.rewind.new.self c.rewind.ensures;
     }

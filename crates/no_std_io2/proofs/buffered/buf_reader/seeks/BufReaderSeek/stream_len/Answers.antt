@@ -1,6 +1,7 @@
 -- The inner reader is measured, and nothing else changes.
 use Rattle.no_std_io2.proofs.Words.{refl}
-use Rattle.no_std_io2.proofs.BufReaderSeeks.{measures, seeker}
+use Rattle.no_std_io2.proofs.{BufReaderSeeks.{measures}}
+use Rattle.no_std_io2_base.proofs.Readers.{seeker}
 use Rattle.no_std_io2.proofs.buffered.buf_reader.seeks.BufReaderSeek.stream_len.Goals as goal
 
 pub returns : goal.returns
