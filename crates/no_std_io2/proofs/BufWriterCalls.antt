@@ -1,7 +1,9 @@
 -- What the steps of a buffered writer do, and what follows for its calls. For `Sender` and `BufWriter`, and for counts of calls.
-use Rattle.no_std_io2.proofs.Words.{TakesAll, CallOf, Writer, Told, Moves, MovesFront, WriteCall, Made, call_mishap, Wrote, Flushed, AllCalls, calls_for}
+use Rattle.no_std_io2.proofs.Words.{TakesAll, CallOf, Writer, Told, Moves, MovesFront, WriteCall, Made, call_mishap, Wrote, Flushed}
+use Rattle.no_std_io2.proofs.Words.{AllCalls, calls_for}
 use Rattle.no_std_io2.proofs.Words.{none as no_write, charges, [], ◌≡◌, ◌+◌, ℕ, ◌<◌, ◌≤◌, List, ◌∷◌, ◌++◌, length, Result, Ok, Err, OnOk}
-use Rattle.no_std_io2.proofs.Words.{IsOk, IfOk, refl, sym, subst, ap, ◌∙◌, arith, le_refl, append-nil, if◌then◌else◌, nat_lt, ⊎_elim, inl, inr}
+use Rattle.no_std_io2.proofs.Words.{IsOk, IfOk, refl, sym, subst, ap, ◌∙◌, arith, le_refl, append-nil, if◌then◌else◌, nat_lt, ⊎_elim, inl}
+use Rattle.no_std_io2.proofs.Words.{inr}
 use Rattle.no_std_io2.proofs.Words.{common_steps, nil_from_length, cases_lt, nat_tests, stops, goes_on, with_buffer, Stepped, TakesStep}
 use Rattle.no_std_io2.proofs.Words.{sender_inner, sender_buffer, Only, SendCalls, WayCalls, Buffered, WriteCalls, WriteAllCalls, FlushCalls}
 use Rattle.no_std_io2.proofs.Words.{writing_calls, buffer_after}
@@ -12,7 +14,7 @@ use Rattle.no_std_io2_base.proofs.{WritesFacts.{writes_fault, writes_sends}, All
 use Rattle.no_std_io2_base.proofs.{MeterLemmas.{writes_count, all_count}}
 use Rattle.no_std_io2.specs.{declared.buffered.sender.Sender.{Sender}, BufWriter.{PutCalls, PastEmpty, way_calls, Buffers, BuffersAll}}
 use Rattle.no_std_io2.proofs.{BufWriterLemmas.{Moves-kept, Moves-emptied, MovesFront-emptied}}
-use Rattle.no_std_io2.proofs.StepLemmas.{no_ok, then_goes_on, then_does, does, Does, Always, Exactly, Emptied, Sending, Joins}
+use Rattle.no_std_io2.proofs.StepLemmas.{no_ok, then_goes_on, then_does, does, Does, Always, Exactly, Emptied, Sending, StepsJoin}
 
 -- in front of fewer than S bytes there is room then,
 pub way_room : (S n : ℕ) {held left : List ℕ} {C : List WriteCall} → n < S → WayCalls S n held C (Ok tt) left → length left + n ≤ S
@@ -91,7 +93,7 @@ abbrev pub Flushing : Told → Result (Unit {0}) Error → Told → Type 0
 Flushing old reply new = Moves old [] (call_mishap reply) new
 
 -- it may follow a sending,
-flushing_joins : Joins Sending Flushing Flushing
+flushing_joins : StepsJoin Sending Flushing Flushing
 flushing_joins = record { fails = λ s t e f. f.1; joins = λ s m t r f g. Moves-then {k = []} f.1 g }
 
 -- a `write` accepts the bytes that its result reports
@@ -99,7 +101,7 @@ abbrev pub Writing : List ℕ → Told → Result ℕ Error → Told → Type 0
 Writing x old reply new = Moves old (taken reply x) (write_mishap reply x) new
 
 -- so may it,
-pub writing_joins : (x : List ℕ) → Joins Sending (Writing x) (Writing x)
+pub writing_joins : (x : List ℕ) → StepsJoin Sending (Writing x) (Writing x)
 writing_joins x = record { fails = λ s t e f. f.1; joins = λ s m t r f g. Moves-then {k = []} f.1 g }
 
 -- a `write_all` accepts some front of x, all of it after `Ok`, and returns no interruption
@@ -107,7 +109,7 @@ abbrev pub WritingAll : List ℕ → Told → Result (Unit {0}) Error → Told �
 WritingAll x old reply new = IsNoInterruption reply × MovesFront old x reply new
 
 -- and so may it
-pub writing_all_joins : (x : List ℕ) → Joins Sending (WritingAll x) (WritingAll x)
+pub writing_all_joins : (x : List ℕ) → StepsJoin Sending (WritingAll x) (WritingAll x)
 writing_all_joins x = record {
   fails = λ s t e f. (f.0, record { accepted = []; front = (x, refl); whole = tt; moves = f.1 });
   joins = λ s m t r f g.
@@ -129,8 +131,8 @@ module _ {W : Type 0} (I : Writer W) where
   }
 
   -- a step without a call,
-  pub kept_does : {C : List WriteCall} {reply : Result (Unit {0}) Error} {held left : List ℕ} (F : List ℕ → List ℕ → Type 0) (n : List ℕ → ℕ)
-      (a b : W) → C ≡ [] → reply ≡ Ok tt → left ≡ held → F held held → n held ≡ 0 → Made (CallOf I) a C b
+  pub kept_does : {C : List WriteCall} {reply : Result (Unit {0}) Error} {held left : List ℕ} (F : List ℕ → List ℕ → Type 0)
+      (n : List ℕ → ℕ) (a b : W) → C ≡ [] → reply ≡ Ok tt → left ≡ held → F held held → n held ≡ 0 → Made (CallOf I) a C b
       → Does I Sending F n a held C reply left b
   kept_does F n a b is ok same this none made = grind (arith, common_steps)
 
@@ -147,7 +149,8 @@ module _ {W : Type 0} (I : Writer W) where
       }
 
   module _ {A : Type 0} (S : ℕ) (x : List ℕ) (v : A) (past : List WriteCall → Result A Error → Type 0)
-      {R : Told → Result A Error → Told → Type 0} {m : ℕ} (follows : Joins Sending R R) (hold : (s t : Told) → Moves s x [] t → R s (Ok v) t)
+      {R : Told → Result A Error → Told → Type 0} {m : ℕ} (follows : StepsJoin Sending R R)
+      (hold : (s t : Told) → Moves s x [] t → R s (Ok v) t)
       (gone : Always I (PastEmpty past) R Emptied (λ _. m)) where
     -- one that holds x or passes it on,
     put_does : Always I (PutCalls S x v past) R (Exactly (put_left S x)) (λ _. past_calls S (length x) m)

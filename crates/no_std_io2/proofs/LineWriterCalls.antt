@@ -2,7 +2,8 @@
 use Rattle.no_std_io2.proofs.Words.{TakesAll, CallOf, Writer, Told, MovesFront, WriteCall, Wrote, Made, calls_for, AllCalls, IsLineState}
 use Rattle.no_std_io2.proofs.Words.{lines_of, lines_len, unfinished_line, charges, [], ◌≡◌, ◌+◌, ℕ, ◌<◌, ◌≤◌, ◌==◌, List, ◌++◌}
 use Rattle.no_std_io2.proofs.Words.{length, take, Result, Ok, Err, OnOk, IsOk, IfOk, refl, ap, subst, arith, if◌then◌else◌, inl, inr, ◌∙◌}
-use Rattle.no_std_io2.proofs.Words.{common_steps, nat_lt, nat_tests, stops, goes_on, with_buffer, Stepped, SendCalls, WriteCalls, WriteAllCalls}
+use Rattle.no_std_io2.proofs.Words.{common_steps, nat_lt, nat_tests, stops, goes_on, with_buffer, Stepped, SendCalls, WriteCalls}
+use Rattle.no_std_io2.proofs.Words.{WriteAllCalls}
 use Rattle.no_std_io2.proofs.Words.{buffer_after, writing_calls, SendLinesCalls, LineWriteCalls, LineWriteAllCalls, Then}
 use Rattle.no_std_io2_base.specs.declared.error.Error.{Error}
 use lib.Seq.{take-take}
@@ -12,8 +13,9 @@ use Rattle.no_std_io2_base.proofs.{CallsLemmas.{made_split}, AllFacts.{all_calls
 use Rattle.no_std_io2_base.proofs.LineLemmas.{lines_some, lines_none, lines_split, take_lines, lines_bound, unfinished_all}
 use Rattle.no_std_io2.specs.LineWriter.{SendLineCalls, HoldsTail, LinesCalls, line_buffer_after, line_buffer_filled, held_tail}
 use Rattle.no_std_io2.proofs.{BufWriterLemmas.{Moves-buffered, Moves-emptied, MovesFront-emptied}}
-use Rattle.no_std_io2.proofs.StepLemmas.{no_ok, then_does, Always, Exactly, Emptied, Sending, Joins}
-use Rattle.no_std_io2.proofs.BufWriterCalls.{one_inner_call, send_does, kept_does, write_does, write_all_does, write_bound, Writing, WritingAll}
+use Rattle.no_std_io2.proofs.StepLemmas.{no_ok, then_does, Always, Exactly, Emptied, Sending, StepsJoin}
+use Rattle.no_std_io2.proofs.BufWriterCalls.{one_inner_call, send_does, kept_does, write_does, write_all_does, write_bound, Writing}
+use Rattle.no_std_io2.proofs.BufWriterCalls.{WritingAll}
 use Rattle.no_std_io2.proofs.BufWriterCalls.{writing_joins, writing_all_joins, writing_all_calls}
 use Rattle.no_std_io2.proofs.{LineWriterStates.{line_left, line_left-is, tail_whole}, HeldTail.{took_tail, tail_fits}}
 
@@ -47,14 +49,14 @@ at_ok : {A : Type 0} {P : Type 0} (r : Result A Error) → IsOk r → OnOk r P �
 at_ok = grind (arith, common_steps)
 
 -- lines that go through a buffer, and then a sending
-behind_joins : (y : List ℕ) → Joins (WritingAll y) Sending (WritingAll y)
+behind_joins : (y : List ℕ) → StepsJoin (WritingAll y) Sending (WritingAll y)
 behind_joins y = record {
   fails = λ s t e f. f;
   joins = λ s m t reply f g. (g.0, MovesFront-ends y reply (MovesFront-whole y tt f.1) g.1);
 }
 
 -- the lines of x, and then the bytes after them
-lines_joins : (x : List ℕ) → Joins (WritingAll (lines_of x)) (WritingAll (unfinished_line x)) (WritingAll x)
+lines_joins : (x : List ℕ) → StepsJoin (WritingAll (lines_of x)) (WritingAll (unfinished_line x)) (WritingAll x)
 lines_joins x = record {
   fails = λ s t e f. subst (λ l. WritingAll l s (Err e) t) (lines_split x)
       (f.0, MovesFront-first (lines_of x) (unfinished_line x) e f.1);

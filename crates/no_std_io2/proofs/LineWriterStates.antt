@@ -1,5 +1,6 @@
--- The calls of a line writer leave line states, and hold a short text without a call. For the invariant and the clauses of `LineWriter`.
-use Rattle.no_std_io2.proofs.Words.{Stepped, CallOf, Writer, WriteCall, Wrote, Writes, none as no_write, took, again, stuck, fault, AllCalls}
+-- The calls of a line writer leave line states, and hold a short text without a call. For `LineWriter`: its invariant and its clauses.
+use Rattle.no_std_io2.proofs.Words.{Stepped, CallOf, Writer, WriteCall, Wrote, Writes, none as no_write, took, again, stuck, fault}
+use Rattle.no_std_io2.proofs.Words.{AllCalls}
 use Rattle.no_std_io2.proofs.Words.{newline, IsLineState, lines_of, lines_len, unfinished_line, common_steps, ◌≡◌, ◌+◌, ℕ, ◌<◌, ◌≤◌, ◌==◌}
 use Rattle.no_std_io2.proofs.Words.{◌∙◌, List, ◌∷◌, ◌++◌, length, take, drop, Result, [], Ok, OnOk, IsOk, IfOk, refl, sym, ap, subst, arith}
 use Rattle.no_std_io2.proofs.Words.{if◌then◌else◌, inl, inr, take-append-drop, nat_tests, IsSuffix, Then, stops, goes_on, SendCalls}

@@ -38,8 +38,8 @@ Always {W} {A} I step R F n = (a b : W) (held left : List ℕ) (C : List WriteCa
 
 -- also this time
 pub does : {W A : Type 0} {I : Writer W} {step : Step A} {R : Told → Result A Error → Told → Type 0} {F : List ℕ → List ℕ → Type 0}
-    {n : List ℕ → ℕ} {a b : W} {held left : List ℕ} {reply : Result A Error} → Always I step R F n → (p : Stepped I step a held reply left b)
-    → Does I R F n a held p.0 reply left b
+    {n : List ℕ → ℕ} {a b : W} {held left : List ℕ} {reply : Result A Error} → Always I step R F n
+    → (p : Stepped I step a held reply left b) → Does I R F n a held p.0 reply left b
 does always p = always _ _ _ _ _ _ p.2 p.1
 
 -- exactly this is held then,
@@ -55,16 +55,18 @@ abbrev pub Sending : Told → Result (Unit {0}) Error → Told → Type 0
 Sending old reply new = IsNoInterruption reply × Moves old [] (call_mishap reply) new
 
 -- What P tells of a first step and Q of the next, R tells of both.
-pub record Joins {A : Type 0} (P : Told → Result (Unit {0}) Error → Told → Type 0) (Q R : Told → Result A Error → Told → Type 0) : Type 0 where
+pub record StepsJoin {A : Type 0} (P : Told → Result (Unit {0}) Error → Told → Type 0)
+    (Q R : Told → Result A Error → Told → Type 0) : Type 0 where
   -- the first failed
   pub fails : (s t : Told) (e : Error) → P s (Err e) t → R s (Err e) t
   -- it did not, and the next one followed
   pub joins : (s m t : Told) (reply : Result A Error) → P s (Ok tt) m → Q m reply t → R s reply t
 
 -- `first?; next`
-pub then_does : {W A : Type 0} {I : Writer W} {P : Told → Result (Unit {0}) Error → Told → Type 0} {Q R : Told → Result A Error → Told → Type 0}
-    (first : Step (Unit {0})) (next : Step A) {f : List ℕ → List ℕ} {n : List ℕ → ℕ} {G : List ℕ → List ℕ → Type 0} {k : List ℕ → ℕ}
-    → Joins P Q R → Always I first P (Exactly f) n → Always I next Q G k
+pub then_does : {W A : Type 0} {I : Writer W} {P : Told → Result (Unit {0}) Error → Told → Type 0}
+    {Q R : Told → Result A Error → Told → Type 0} (first : Step (Unit {0})) (next : Step A) {f : List ℕ → List ℕ} {n : List ℕ → ℕ}
+    {G : List ℕ → List ℕ → Type 0} {k : List ℕ → ℕ}
+    → StepsJoin P Q R → Always I first P (Exactly f) n → Always I next Q G k
     → Always I (Then first next) R (λ held. G (f held)) (λ held. n held + k (f held))
 then_does first next follows one two a b held left _ _ (stops p) made =
     let x = one _ _ _ _ _ _ p made in

@@ -18,4 +18,6 @@ pub push-requires : goal.push-requires
 push-requires g c = (search rules, way_room _ _ (omega (arith, c.if-buf.false)) c.in_ok-make_room.ensures.2)
 
 pub returns : goal.returns
-returns g c = then_goes_on _ c.in_ok-make_room.ensures (puts _ (λ C. AllCalls C c.args.buf.now) (omega (arith, c.if-buf.false)) refl c.push.ensures.held)
+returns g c =
+    then_goes_on _ c.in_ok-make_room.ensures
+    (puts _ (λ C. AllCalls C c.args.buf.now) (omega (arith, c.if-buf.false)) refl c.push.ensures.held)
