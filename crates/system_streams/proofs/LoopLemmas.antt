@@ -1,17 +1,17 @@
 -- What the reads of a patient give.
-use Rattle.no_std_io2.proofs.Words.{◌≡◌, ℕ, zero, suc, ◌+◌, ◌<◌, ◌≤◌, List, [], ◌∷◌, ◌++◌, Option, None, Some, Result, Ok, Err, length}
-use Rattle.no_std_io2.proofs.Words.{take, refl, sym, ap, subst, ◌∙◌, arith, inl, inr, ◌⊎◌, le_refl, append-nil, length-append, IfOk, ⊤}
+use Rattle.no_std_io2.proofs.Words.{◌≡◌, ℕ, zero, suc, ◌+◌, ◌<◌, ◌≤◌, List, [], ◌∷◌, Option, None, Some, Result, Ok, Err, length}
+use Rattle.no_std_io2.proofs.Words.{refl, sym, ap, subst, ◌∙◌, arith, inl, inr, ◌⊎◌, append-nil, length-append, IfOk, OnOk, ⊤}
 use Rattle.no_std_io2.proofs.Words.{IsFault, Reader, ReadLaw, ReadCall, Gave, bytes_given, answered, GaveLaw, ReadCallLaw, GathersUntil}
-use Rattle.no_std_io2.proofs.Words.{IsRest, ExactCalls, Made, IsFront}
+use Rattle.no_std_io2.proofs.Words.{ExactCalls, Made, IsFront}
 use Rattle.std.specs.{Prelude.{min}, Result.{IsErrAnd}, Io.KnownBytes.{Consumes, Keeps, ReadConsumes}}
-use Rattle.std.proofs.{KnownBytes.{Consumes-nil, Consumes-trans}, lemmas.List.{take_all}}
+use Rattle.std.proofs.KnownBytes.{Consumes-nil, Consumes-trans}
 use lib.Seq.{take-append_seam}
 use Rattle.no_std_io2.specs.{declared.io.Error.{Error}, Errors.{is_interruption}, Read.{gave, ExactMade}}
 use Rattle.no_std_io2.proofs.{CallsLemmas.{made_split}, EventLemmas.{length-events_of}, ReadsAdd.{EachAdds, gathers_add}}
 use Rattle.system_streams.specs.{declared.patient.Patient.{Patient}, declared.system.SystemRead.{Ghosts as Source}}
 use Rattle.system_streams.specs.Patient.{patient_device, patient_turns, patient_taken, patient_error, PatientReads, AsksOnce, AsksDevice}
 use Rattle.system_streams.specs.Patient.{Remembers, Fills}
-use Rattle.system_streams.specs.{Turns.{AnswersRead, GivesOn, EndsReads, IsOutOfTurns, IsPlainInterruption, IsDeviceFault}}
+use Rattle.system_streams.specs.{Turns.{AnswersRead, GivesOn, EndsReads, IsOutOfTurns, IsDeviceFault}}
 use Rattle.std.specs.declared.io.Error as Std
 
 -- what a patient reader tells
@@ -132,71 +132,51 @@ module _ {D : Type 0} (I : Source D) where
     took = λ a b c x n law next within. absurd law.0;
   }
 
-  -- reads gave x, and then one returned this
-  record Ended (old : Patient D) (x : List ℕ) (answer : Result (List ℕ) Error) (new : Patient D) : Type 0 where
-    pub mid : Patient D
-    pub room : ℕ
-    pub some : 0 < room
-    pub before : ReadsGave old x mid
-    pub law : GaveLaw (patient_reader I) mid room answer new
+  -- reads gave x, and then a last one this
+  until_gave : {asks : ℕ → ℕ → Type 0} {C : List ReadCall} {x : List ℕ} (answer : Result (List ℕ) Error) → GathersUntil asks C x answer
+      → (old new : Patient D) → Made (ReadCallLaw (patient_reader I)) old C new
+      → (mid : Patient D) × (room : ℕ) × asks (length x) room × ReadsGave old x mid × GaveLaw (patient_reader I) mid room answer new
+  until_gave answer (D, room, so_far, into, is) old new made =
+      let parts = made_split (ReadCallLaw (patient_reader I)) D old (Gave room answer ∷ []) new (rw is at made) in
+      (parts.0, room, into, gathers_add adds so_far old parts.0 parts.1, rw (← parts.2.2) at parts.2.1)
 
-  reads_ended : {size : ℕ} {C : List ReadCall} {x : List ℕ} (answer : Result (List ℕ) Error) → GathersUntil (IsRest size) C x answer
-      → (old new : Patient D) → Made (ReadCallLaw (patient_reader I)) old C new → Ended old x answer new
-  reads_ended answer until old new made =
-      let call = Gave until.1 answer in
-      let parts =
-      made_split (ReadCallLaw (patient_reader I)) until.0 old (call ∷ []) new
-      (subst (λ K. Made (ReadCallLaw (patient_reader I)) old K new) until.4 made) in
-      record {
-        mid = parts.0;
-        room = until.1;
-        some = until.3.1;
-        before = gathers_add adds until.2 old parts.0 parts.1;
-        law = subst (GaveLaw (patient_reader I) parts.0 until.1 answer) (sym parts.2.2) parts.2.1;
-      }
+  -- if that gave nothing, all gave x
+  nothing_more : {old mid new : Patient D} {x : List ℕ} {room : ℕ} (answer : Result (List ℕ) Error) → bytes_given answer ≡ []
+      → ReadsGave old x mid → GaveLaw (patient_reader I) mid room answer new → ReadsGave old x new
+  nothing_more {old} {mid} {new} {x} {room} answer none before law =
+      rw (none, append-nil) at (adds.joins.more old mid new x (bytes_given answer) before (read_gave mid new room answer law))
 
-  -- what the device gave is the front of the buffer
-  fills_err : {old new : Patient D} {buf x : List ℕ} (e : Error) (answer : Result (List ℕ) Error) → bytes_given answer ≡ []
-      → IsFront x buf → Ended old x answer new → EndsReads {T = Unit {0}} (length buf) (Err e) (patient_turns old) (patient_turns new)
-      → Fills I.known (Err e) buf old new
-  fills_err {old} {new} {buf} {x} e answer none front ended ends =
-      let last = read_gave ended.mid new ended.room answer ended.law in
-      let all : Lost old x new =
-      subst (λ l. Lost old l new) (ap (λ l. x ++ l) none ∙ append-nil x) (Consumes-trans _ _ _ x _ ended.before.lost last.lost) in
-      record {
-        bytes = record {
-          count = length x;
-          within = omega (arith, ap length front.1, length-append x front.0);
-          whole = tt;
-          device = subst (λ l. Lost old l new) (sym (take-append_seam x front.0) ∙ ap (take (length x)) (sym front.1)) all;
-        };
-        ends = ends;
-        taken = last.taken ∙ ended.before.taken;
-      }
-
-  -- an error but an interruption ends a loop of reads
-  ends_reads : {old new : Patient D} {x : List ℕ} (room : ℕ) (e : Error) → IsFault e → Ended old x (Err e) new
-      → EndsReads {T = Unit {0}} room (Err e) (patient_turns old) (patient_turns new)
-  ends_reads {old} {new} room e fault ended = by (patient_turns ended.mid) refl
+  -- the device's fault, or that no turns are left
+  fault_spends : {old new : Patient D} {room : ℕ} (e : Error) → IsFault e → 0 < room → AsksOnce I old room (Err e) new
+      → (IsOutOfTurns e × (patient_turns new ≡ 0)) ⊎ IsDeviceFault e
+  fault_spends {old} {new} e fault some once = by (patient_turns old) refl
     where
-      fell : patient_turns new < patient_turns old
-      fell = omega (arith, ended.before.turns, ended.law.takes.turns)
-
-      device : (reply : Result ℕ Error) (buf : List ℕ) → Err e ≡ gave reply buf → AsksDevice I ended.mid reply buf new
-          → EndsReads {T = Unit {0}} room (Err e) (patient_turns old) (patient_turns new)
+      device : (reply : Result ℕ Error) (buf : List ℕ) → Err e ≡ gave reply buf → AsksDevice I old reply buf new → IsDeviceFault e
       device (Ok n) buf is asks = absurd (cc is)
-      device (Err f) buf is asks = kind asks.turns.1
-        where
-          kind : IsPlainInterruption f ⊎ IsDeviceFault f → EndsReads {T = Unit {0}} room (Err e) (patient_turns old) (patient_turns new)
-          kind (inl plain) = let no = ap is_interruption plain.0 in absurd cc
-          kind (inr failed) = let same : f ≡ e = cc in (omega (arith, fell), inr (inl (subst IsDeviceFault same failed, fell)))
+      device (Err f) buf is asks = elim asks.turns.1 [
+        | inl plain ↦ let no = ap is_interruption plain.0 in absurd cc
+        | inr failed ↦ let same : f ≡ e = cc in subst IsDeviceFault same failed
+      ]
 
-      by : (n : ℕ) → patient_turns ended.mid ≡ n → EndsReads {T = Unit {0}} room (Err e) (patient_turns old) (patient_turns new)
-      by zero is = let over = (ended.law.call.over is).0 in absurd (cc over)
-      by (suc zero) is =
-          let last = ended.law.call.last ended.some is in (omega (arith, fell), inl (last.0, last.1, omega (arith, fell)))
-      by (suc (suc n)) is =
-          let asked = ended.law.call.asked ended.some (omega (arith, is)) in device asked.0 asked.1 asked.3 asked.4
+      by : (n : ℕ) → patient_turns old ≡ n → (IsOutOfTurns e × (patient_turns new ≡ 0)) ⊎ IsDeviceFault e
+      by zero is = let over = (once.over is).0 in absurd (cc over)
+      by (suc zero) is = let last = once.last some is in inl (last.0, last.1)
+      by (suc (suc n)) is = let asked = once.asked some (omega (arith, is)) in inr (device asked.0 asked.1 asked.3 asked.4)
+
+  -- the device gave the front x of the buffer
+  front_fills : {old new : Patient D} {buf x : List ℕ} (reply : Result (Unit {0}) Error) → IsFront x buf
+      → OnOk reply (length x ≡ length buf) → ReadsGave old x new
+      → EndsReads (length buf) reply (patient_turns old) (patient_turns new) → Fills I.known reply buf old new
+  front_fills {x = x} reply front whole all ends = record {
+    bytes = record {
+      count = length x;
+      within = omega (arith, ap length front.1, length-append x front.0);
+      whole = whole;
+      device = rw (front.1, take-append_seam) all.lost;
+    };
+    ends = ends;
+    taken = all.taken;
+  }
 
   -- a `read_exact`
   pub fills : {old new : Patient D} {buf : List ℕ} (reply : Result (Unit {0}) Error)
@@ -208,19 +188,19 @@ module _ {D : Type 0} (I : Source D) where
           let made = subst (λ K. Made (ReadCallLaw (patient_reader I)) old K new) own exact.made in absurd made.1.0
       by (Ok u) (inr reads) =
           let all = gathers_add adds reads old new exact.made in
-          record {
-            bytes = record {
-              count = length buf;
-              within = le_refl _;
-              whole = refl;
-              device = subst (λ l. Lost old l new) (sym (take_all (length buf) buf (le_refl _))) all.lost;
-            };
-            ends = (omega (arith, all.turns), λ some. omega (arith, all.turns, some));
-            taken = all.taken;
-          }
+          front_fills (Ok u) ([], sym (append-nil buf)) refl all (omega (arith, all.turns), λ some. omega (arith, all.turns, some))
       by (Err e) (inr (x, front, inl (kind, until))) =
-          let ended = reads_ended (Ok []) until old new exact.made in
-          fills_err e (Ok []) refl front ended (omega (arith, ended.before.turns, ended.law.takes.turns), inr (inr kind))
+          let (mid, room, into, before, law) = until_gave (Ok []) until old new exact.made in
+          let all = nothing_more (Ok []) refl before law in
+          front_fills (Err e) front tt all (omega (arith, all.turns), inr (inr kind))
       by (Err e) (inr (x, front, inr (fault, until))) =
-          let ended = reads_ended (Err e) until old new exact.made in
-          fills_err e (Err e) refl front ended (ends_reads (length buf) e fault ended)
+          let (mid, room, into, before, law) = until_gave (Err e) until old new exact.made in
+          let fell : patient_turns new < patient_turns old = omega (arith, before.turns, law.takes.turns) in
+          let all = nothing_more (Err e) refl before law in
+          front_fills (Err e) front tt all (
+            omega (arith, fell),
+            elim (fault_spends e fault into.1 law.call) [
+              | inl over ↦ inl (over.0, over.1, omega (arith, fell))
+              | inr failed ↦ inr (inl (failed, fell))
+            ],
+          )
