@@ -21,10 +21,10 @@ line_of text = text ++ newline ∷ []
 abbrev pub IsLine : ℕ → List ℕ → Type 0
 IsLine S text = Lacks newline text × (length text + 1 < S)
 
--- e is the error of a text that is not such a line
+-- e is the error of a text that is not such a line: it is too long; or it is not, and has a newline in it
 abbrev pub IsLineRefusal : ℕ → List ℕ → Error → Type 0
-IsLineRefusal S text e = (Contains text newline × SaysError InvalidInput (codes "a line has a newline in it") e)
-    ⊎ ((S ≤ length text + 1) × SaysLong e)
+IsLineRefusal S text e = ((S ≤ length text + 1) × SaysLong e)
+    ⊎ ((length text + 1 < S) × Contains text newline × SaysError InvalidInput (codes "a line has a newline in it") e)
 
 -- a step is taken, and its error is ignored
 abbrev pub Ignoring : Step (Unit {0}) → Step (Unit {0})

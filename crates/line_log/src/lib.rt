@@ -71,7 +71,7 @@ impl<W: Write + Drop, const S: usize> LineLog<W, S> {
     /// of it; or a fault came, and the end of it, or all, is held until the next call, which sends it first.
     ///
     /// # Errors
-    /// Returns `InvalidInput` if the text has a newline in it, or if the line is not shorter than the buffer. Otherwise
+    /// Returns `InvalidInput` if the line is not shorter than the buffer, or else if the text has a newline in it. Otherwise
     /// returns the fault of the sending of earlier lines, if there is no room beside them. After each error nothing of this
     /// line was accepted. Never returns `Interrupted`.
     pub fn log(&mut self, line: &str) -> Result<()>
@@ -118,12 +118,12 @@ impl<W: Write + Drop, const S: usize> LineLog<W, S> {
     fn log_bytes(&mut self, line: &[u8]) -> Result<()>
         ensures logs { LogsLine W.Write line.now self.old result self.new }
     {
+        if line.len() + 1 >= S {
+            return Err(too_long());
+        }
         if line.contains(&b'\n') {
             let text = "a line has a newline in it";
             return Err(Error::new(ErrorKind::InvalidInput, text));
-        }
-        if line.len() + 1 >= S {
-            return Err(too_long());
         }
         self.inner.write_whole(line, b"\n")?;
         // Sends all. A fault is ignored: the next call meets it again.

@@ -8,7 +8,7 @@ use Rattle.line_log.proofs.LineLog.log_bytes.Goals as goal
 pub returns-then-contains : goal.returns-then-contains
 returns-then-contains g c =
     let inside : Contains c.args.line.now newline = grind (arith, common_steps, c.contains.ensures) in
-    record { logs = inr (inl (inside, (c.new.ensures.kind, c.new.ensures.text)), refl) }
+    record { logs = inr (inr (omega (arith, c.if-line.false), inside, (c.new.ensures.kind, c.new.ensures.text)), refl) }
 
 pub returns-in_err-write_whole : goal.returns-in_err-write_whole
 returns-in_err-write_whole g c =
