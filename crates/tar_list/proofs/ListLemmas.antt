@@ -1,11 +1,12 @@
 -- The lines of members, one after another.
 use Rattle.no_std_io2.proofs.Words.{◌≡◌, ◌⊎◌, List, ℕ, [], ◌∷◌, ◌++◌, Result, Ok, sym, ap, ◌∙◌, append-nil, append_assoc, inl, inr, Told}
-use Rattle.no_std_io2.proofs.Words.{Moves, MovesFront}
-use Rattle.std.proofs.Common.{IsErrAnd}
+use Rattle.no_std_io2.proofs.Words.{Moves, MovesFront, Err, Option, Some, None, refl, ⊤, IfOk, Lender}
+use Rattle.std.proofs.Common.{IsErrAnd, IfSome}
 use Rattle.no_std_io2.specs.{declared.io.Error.{Error}, Text.{IsTextError}}
 use Rattle.no_std_io2.proofs.MovesLemmas.{Moves-then, MovesFront-whole}
-use Rattle.tar_reader.specs.declared.header.Header.{Header}
-use Rattle.tar_list.specs.Listing.{member_line, member_lines, PrintsMember}
+use Rattle.tar_reader.specs.{declared.archive.Archive.{Archive}, declared.header.Header.{Header}, Members.{NextHeaderLaw}}
+use Rattle.tar_reader.proofs.MemberLemmas.{Skipping, comes_to}
+use Rattle.tar_list.specs.Listing.{member_line, member_lines, PrintsMember, ListEnds, Lists}
 
 -- a text was printed, and no formatter failed
 pub printed_whole : {a b : Told} (x : List ℕ) {r : Result (Unit {0}) Error} {u : Unit {0}} → r ≡ Ok u
@@ -24,3 +25,15 @@ pub prints_more : {a b c : Told} (headers : List Header) (h : Header) {r : Resul
     → Moves a (member_lines headers) [] b → PrintsMember h b r c → Moves a (member_lines (headers ++ h ∷ [])) [] c
 prints_more headers h is so_far line =
     rw (lines_more headers h) (Moves-then so_far (MovesFront-whole (member_line h) tt (printed_whole (member_line h) is line)))
+
+-- members were passed over, and the next call ended the list
+pub lists : {X : Type 0} {R : Lender X} {old mid new : Archive X} {was told : Told} {last : Result (Option Header) Error}
+    {reply : Result (Unit {0}) Error} (before : Skipping R old mid) → NextHeaderLaw R mid last new
+    → ListEnds (member_lines before.headers) last was reply told → Lists R old was reply new told
+lists {last = last} before law ends =
+    record { headers = before.headers; last = last; comes = comes_to before refl law (trivial last); prints = ends }
+  where
+    trivial : (r : Result (Option Header) Error) → IfOk r (λ found. IfSome found (λ h. ⊤))
+    trivial (Ok None) = tt
+    trivial (Ok (Some h)) = tt
+    trivial (Err e) = tt
