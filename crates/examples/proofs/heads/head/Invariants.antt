@@ -1,16 +1,19 @@
--- The lines so far; and the reader's turns or the lines that are wanted still.
-use Rattle.no_std_io2.proofs.Words.{◌≤◌, ◌-◌, lender_tells}
+-- The lines so far were passed on, at most as many as are wanted; each lowers those that are wanted still.
+use Rattle.no_std_io2.proofs.Words.{◌≡◌, ◌≤◌, ◌-◌, ℕ, List, [], length, concat, newline, lender_tells, Moves}
+use Rattle.no_std_io2.specs.Pieces.{GivesPieces}
 use Rattle.no_std_io2.proofs.Readers.{lends}
-use Rattle.examples.proofs.HeadLemmas.{HeadSoFar}
 use Rattle.examples.proofs.heads.head.Given as goal
 
 abbrev pub invariant-lines : goal.invariant-lines
-invariant-lines g l = record {
-  lines : HeadSoFar (lender_tells (lends g.B.Stored g.B.Read g.B.BufRead) l.initial.r)
-      (lender_tells (lends g.B.Stored g.B.Read g.B.BufRead) l.r)
-      (g.W.Write.told l.initial.w) (g.W.Write.told l.w) l.count;
-  within : l.count ≤ l.wanted;
-}
+invariant-lines g l =
+    let B = lends g.B.Stored g.B.Read g.B.BufRead in
+    record {
+      lines : List (List ℕ);
+      count : length lines ≡ l.count;
+      within : l.count ≤ l.wanted;
+      gives : GivesPieces newline (lender_tells B l.initial.r) lines (lender_tells B l.r);
+      moves : Moves (g.W.Write.told l.initial.w) (concat lines) [] (g.W.Write.told l.w);
+    }
 
 abbrev pub decreases-lines : goal.decreases-lines
 decreases-lines g l = l.wanted - l.count
