@@ -1,12 +1,10 @@
 -- What the steps of a buffered writer do, and what follows for its calls. For `Sender` and `BufWriter`, and for counts of calls.
 use Rattle.no_std_io2.proofs.Words.{TakesAll, CallOf, Writer, Told, Moves, MovesFront, WriteCall, Made, call_mishap, Wrote, Flushed}
-use Rattle.no_std_io2.proofs.Words.{AllCalls, calls_for}
-use Rattle.no_std_io2.proofs.Words.{none as no_write, charges, [], ◌≡◌, ◌+◌, ℕ, ◌<◌, ◌≤◌, List, ◌∷◌, ◌++◌, length, Result, Ok, Err, OnOk}
-use Rattle.no_std_io2.proofs.Words.{IsOk, IfOk, refl, sym, subst, ap, ◌∙◌, arith, le_refl, append-nil, if◌then◌else◌, nat_lt, ⊎_elim, inl}
-use Rattle.no_std_io2.proofs.Words.{inr}
-use Rattle.no_std_io2.proofs.Words.{common_steps, nil_from_length, cases_lt, nat_tests, stops, goes_on, with_buffer, Stepped, TakesStep}
-use Rattle.no_std_io2.proofs.Words.{sender_inner, sender_buffer, Only, SendCalls, WayCalls, Buffered, WriteCalls, WriteAllCalls, FlushCalls}
-use Rattle.no_std_io2.proofs.Words.{writing_calls, buffer_after}
+use Rattle.no_std_io2.proofs.Words.{AllCalls, calls_for, none as no_write, charges, [], ◌≡◌, ◌+◌, ℕ, ◌<◌, ◌≤◌, List, ◌∷◌, ◌++◌, length}
+use Rattle.no_std_io2.proofs.Words.{Result, Ok, OnOk, IsOk, IfOk, refl, sym, subst, ap, ◌∙◌, arith, le_refl, append-nil, if◌then◌else◌}
+use Rattle.no_std_io2.proofs.Words.{nat_lt, ⊎_elim, inl, inr, common_steps, nil_from_length, cases_lt, nat_tests, stops, goes_on, Stepped}
+use Rattle.no_std_io2.proofs.Words.{TakesStep, sender_inner, sender_buffer, Only, SendCalls, WayCalls, Buffered, WriteCalls}
+use Rattle.no_std_io2.proofs.Words.{WriteAllCalls, FlushCalls, writing_calls, buffer_after}
 use Rattle.no_std_io2_base.specs.{declared.error.Error.{Error}, Errors.{IsNoInterruption}, Write.{taken, write_mishap}}
 use Rattle.std.proofs.{Common.{take_all, nat_le}, lemmas.Result.{on_ok_weaker}}
 use Rattle.no_std_io2_base.proofs.{MovesLemmas.{IsFront-refl, Moves-then, zero_write-whole}, CallsLemmas.{made_split, writes_whole}}

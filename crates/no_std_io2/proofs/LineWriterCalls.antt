@@ -1,10 +1,9 @@
 -- What the calls of a line writer tell and count, by the calls of its inner writer. For `LineWriter`, and for counts of calls.
-use Rattle.no_std_io2.proofs.Words.{TakesAll, CallOf, Writer, Told, MovesFront, WriteCall, Wrote, Made, calls_for, AllCalls, IsLineState}
-use Rattle.no_std_io2.proofs.Words.{lines_of, lines_len, unfinished_line, charges, [], ◌≡◌, ◌+◌, ℕ, ◌<◌, ◌≤◌, ◌==◌, List, ◌++◌}
-use Rattle.no_std_io2.proofs.Words.{length, take, Result, Ok, Err, OnOk, IsOk, IfOk, refl, ap, subst, arith, if◌then◌else◌, inl, inr, ◌∙◌}
-use Rattle.no_std_io2.proofs.Words.{common_steps, nat_lt, nat_tests, stops, goes_on, with_buffer, Stepped, SendCalls, WriteCalls}
-use Rattle.no_std_io2.proofs.Words.{WriteAllCalls}
-use Rattle.no_std_io2.proofs.Words.{buffer_after, writing_calls, SendLinesCalls, LineWriteCalls, LineWriteAllCalls, Then}
+use Rattle.no_std_io2.proofs.Words.{TakesAll, CallOf, Writer, WriteCall, Wrote, Made, calls_for, IsLineState, lines_of, lines_len}
+use Rattle.no_std_io2.proofs.Words.{unfinished_line, charges, [], ◌≡◌, ◌+◌, ℕ, ◌<◌, ◌≤◌, ◌==◌, List, ◌++◌, length, take, Result, Ok, Err}
+use Rattle.no_std_io2.proofs.Words.{OnOk, IsOk, IfOk, refl, ap, subst, arith, if◌then◌else◌, inl, inr, ◌∙◌, common_steps, nat_lt}
+use Rattle.no_std_io2.proofs.Words.{nat_tests, stops, goes_on, with_buffer, Stepped, SendCalls, WriteCalls, WriteAllCalls, buffer_after}
+use Rattle.no_std_io2.proofs.Words.{writing_calls, SendLinesCalls, LineWriteCalls, LineWriteAllCalls, Then}
 use Rattle.no_std_io2_base.specs.declared.error.Error.{Error}
 use lib.Seq.{take-take}
 use Rattle.std.proofs.lemmas.Result.{on_ok_weaker}
@@ -15,8 +14,7 @@ use Rattle.no_std_io2.specs.LineWriter.{SendLineCalls, HoldsTail, LinesCalls, li
 use Rattle.no_std_io2.proofs.{BufWriterLemmas.{Moves-buffered, Moves-emptied, MovesFront-emptied}}
 use Rattle.no_std_io2.proofs.StepLemmas.{no_ok, then_does, Always, Exactly, Emptied, Sending, StepsJoin}
 use Rattle.no_std_io2.proofs.BufWriterCalls.{one_inner_call, send_does, kept_does, write_does, write_all_does, write_bound, Writing}
-use Rattle.no_std_io2.proofs.BufWriterCalls.{WritingAll}
-use Rattle.no_std_io2.proofs.BufWriterCalls.{writing_joins, writing_all_joins, writing_all_calls}
+use Rattle.no_std_io2.proofs.BufWriterCalls.{WritingAll, writing_joins, writing_all_joins, writing_all_calls}
 use Rattle.no_std_io2.proofs.{LineWriterStates.{line_left, line_left-is, tail_whole}, HeldTail.{took_tail, tail_fits}}
 
 -- a sent line is one call at most

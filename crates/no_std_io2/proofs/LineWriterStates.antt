@@ -1,19 +1,16 @@
 -- The calls of a line writer leave line states, and hold a short text without a call. For `LineWriter`: its invariant and its clauses.
 use Rattle.no_std_io2.proofs.Words.{Stepped, CallOf, Writer, WriteCall, Wrote, Writes, none as no_write, took, again, stuck, fault}
-use Rattle.no_std_io2.proofs.Words.{AllCalls}
-use Rattle.no_std_io2.proofs.Words.{newline, IsLineState, lines_of, lines_len, unfinished_line, common_steps, ◌≡◌, ◌+◌, ℕ, ◌<◌, ◌≤◌, ◌==◌}
-use Rattle.no_std_io2.proofs.Words.{◌∙◌, List, ◌∷◌, ◌++◌, length, take, drop, Result, [], Ok, OnOk, IsOk, IfOk, refl, sym, ap, subst, arith}
-use Rattle.no_std_io2.proofs.Words.{if◌then◌else◌, inl, inr, take-append-drop, nat_tests, IsSuffix, Then, stops, goes_on, SendCalls}
-use Rattle.no_std_io2.proofs.Words.{WayCalls, Buffered, WriteCalls, WriteAllCalls, FlushCalls, buffer_after, SendLinesCalls, LineWriteCalls}
+use Rattle.no_std_io2.proofs.Words.{AllCalls, newline, IsLineState, lines_of, lines_len, unfinished_line, common_steps, ◌≡◌, ◌+◌, ℕ, ◌<◌}
+use Rattle.no_std_io2.proofs.Words.{◌≤◌, ◌==◌, ◌∙◌, List, ◌∷◌, ◌++◌, length, take, drop, Result, [], Ok, OnOk, IsOk, IfOk, refl, sym}
+use Rattle.no_std_io2.proofs.Words.{subst, arith, if◌then◌else◌, inl, inr, take-append-drop, IsSuffix, Then, stops, goes_on, SendCalls}
+use Rattle.no_std_io2.proofs.Words.{WayCalls, Buffered, WriteCalls, WriteAllCalls, FlushCalls, SendLinesCalls, LineWriteCalls}
 use Rattle.no_std_io2.proofs.Words.{LineWriteAllCalls}
 use Rattle.no_std_io2_base.specs.{declared.error.Error.{Error}, Pieces.{Lacks}}
-use Rattle.std.proofs.lemmas.Result.{on_ok_weaker}
 use Rattle.no_std_io2_base.proofs.{CallsLemmas.{writes_whole}}
-use Rattle.no_std_io2_base.proofs.LineLemmas.{lines_end, lines_none, lines_some, unfinished_lacks, unfinished_none, unfinished_all}
-use Rattle.no_std_io2_base.proofs.LineLemmas.{lacks_contains, contains_lines}
+use Rattle.no_std_io2_base.proofs.LineLemmas.{lines_end, lines_some, unfinished_lacks, unfinished_none, lacks_contains, contains_lines}
 use Rattle.no_std_io2_base.proofs.{LineLemmas.{take_lines, drop_lines, lines_split, plain_state, lacks_rest, state_rest, ends_in-append}}
 use Rattle.no_std_io2_base.proofs.{MovesLemmas.{after_ok}, PieceLemmas.{Lacks-append}}
-use Rattle.no_std_io2.specs.LineWriter.{SendLineCalls, HoldsTail, LinesCalls, line_buffer_after, IsShortText}
+use Rattle.no_std_io2.specs.LineWriter.{SendLineCalls, HoldsTail, LinesCalls, IsShortText}
 use Rattle.no_std_io2.proofs.BufWriterLemmas.{IsSuffix-trans}
 use Rattle.no_std_io2.proofs.{BufWriterCalls.{buffered_fits, write_whole}, HeldTail.{tail_state}}
 

@@ -1,7 +1,6 @@
 -- The calls of a buffered writer that first send the held bytes: its seeks and `into_inner`.
-use Rattle.no_std_io2.proofs.Words.{Stepped, CallOf, Writer, Moves, WriteCall, Made, Store, KeepsContent, common_steps, ◌≡◌, ℕ, List}
-use Rattle.no_std_io2.proofs.Words.{length, Result}
-use Rattle.no_std_io2.proofs.Words.{Ok, Err, OnOk, IsOk, IfOk, Option, refl, sym, ap, subst, arith, [], ◌∷◌, SendCalls, TakesStep}
+use Rattle.no_std_io2.proofs.Words.{Stepped, CallOf, Writer, Moves, Made, Store, KeepsContent, common_steps, ◌≡◌, ℕ, List, Result, Ok}
+use Rattle.no_std_io2.proofs.Words.{Err, OnOk, IsOk, IfOk, Option, refl, sym, ap, subst, arith, [], ◌∷◌, SendCalls, TakesStep}
 use Rattle.no_std_io2.proofs.Words.{with_buffer}
 use Rattle.no_std_io2_base.specs.{declared.error.Error.{Error}, Seek.{IsPosition, Seeker}}
 use Rattle.no_std_io2_base.specs.declared.traits.seek.SeekFrom.{SeekFrom}
