@@ -48,16 +48,16 @@ module _ {S : ℕ} where
   Taken = TakesStep queue writer_inner writer_buffer
 
   -- the held bytes were sent, and that failed
-  sent : {C : List WriteCall} {e : Error} (a b : BufWriter Queue S) → Made (CallOf queue) (writer_inner a) C (writer_inner b)
+  send_failed : {C : List WriteCall} {e : Error} (a b : BufWriter Queue S) → Made (CallOf queue) (writer_inner a) C (writer_inner b)
       → SendCalls (writer_buffer a) C (Err e) (writer_buffer b) → IsOverfull b
-  sent a b made calls = omega (arith, blocked calls (writer_inner a) (writer_inner b) made, writes_left calls)
+  send_failed a b made calls = omega (arith, blocked calls (writer_inner a) (writer_inner b) made, writes_left calls)
 
   -- bytes that are fewer than those of the buffer were put into it, or that failed
   pub put : {A : Type 0} {x : List ℕ} {v : A} {past : List WriteCall → Result A Error → Type 0} {reply : Result A Error}
       (a b : BufWriter Queue S) → length x < S → Taken (Buffered S x v past) a reply b → MatchResult reply (λ n. n ≡ v) (λ _. IsOverfull b)
   put a b short (C, made, stops way) = elim way [
     | inl kept ↦ absurd (let no : ⊥ = cc (kept.2) in no)
-    | inr calls ↦ sent a b made calls.1
+    | inr calls ↦ send_failed a b made calls.1
   ]
   put {v = v} a b short (C, made, goes_on way next) = elim next [
     | inl held ↦ subst (λ r. MatchResult r (λ n. n ≡ v) (λ _. IsOverfull b)) (sym held.2) refl
@@ -65,9 +65,9 @@ module _ {S : ℕ} where
   ]
 
   -- a flush failed
-  flushed : {e : Error} (a b : BufWriter Queue S) → Taken FlushCalls a (Err e) b → IsOverfull b
-  flushed a b (C, made, stops calls) = sent a b made calls
-  flushed a b (C, made, goes_on {C = D} {D = E} calls next) =
+  flush_failed : {e : Error} (a b : BufWriter Queue S) → Taken FlushCalls a (Err e) b → IsOverfull b
+  flush_failed a b (C, made, stops calls) = send_failed a b made calls
+  flush_failed a b (C, made, goes_on {C = D} {D = E} calls next) =
       let parts = made_split (CallOf queue) D (writer_inner a) E (writer_inner b) made in
       let one = subst (λ K. Made (CallOf queue) parts.0 K (writer_inner b)) next.2 parts.2 in absurd (true≢false (sym one.1.call))
 
@@ -105,4 +105,4 @@ module _ {S : ℕ} where
       → FlushOf buffered b q c → OnErr q (capacity < size a + length x)
   flush_full (Ok u) moved law = tt
   flush_full {b = b} {c = c} (Err e) moved law =
-      omega (arith, flushed b c law.call, size-moves moved, size-moves law.moves)
+      omega (arith, flush_failed b c law.call, size-moves moved, size-moves law.moves)

@@ -1,8 +1,9 @@
 -- The prover does not find which frames were taken before the last `next`.
-use Rattle.no_std_io2.proofs.Words.{[], ◌∷◌, ◌++◌, List, ℕ, take, None, Result, Ok, Err, inl, inr, err_from_is_err_and, Reader}
+use Rattle.no_std_io2.proofs.Words.{[], ◌∷◌, ◌++◌, List, ℕ, take, None, Result, Ok, Err, inl, inr, err_from_is_err_and, Reader, Told}
 use Rattle.no_std_io2.specs.declared.io.Error.{Error}
 use Rattle.framing.specs.{declared.reader.FrameReader.{FrameReader}, Taking.{TakesFrame}}
-use Rattle.frame_lines.specs.Printing.{nothing, frame, PrintEnds}
+use Rattle.line_log.specs.declared.LineLog.{LineLog}
+use Rattle.frame_lines.specs.Printing.{nothing, frame, PrintEnds, PrintsEach, PrintsFrames}
 use Rattle.frame_lines.proofs.print_frames.Goals as goal
 
 pub frames-init : goal.frames-init
@@ -14,29 +15,21 @@ frames-preserved g c = record {
   prints = frame c.in-Some.len c.frames.invariant.prints (rw c.in-Some.is at c.in_ok-len.ensures.takes) c.in_ok-print_line.ensures;
 }
 
+-- frames were printed, and then it ended so
+printed : {R W : Type 0} {I : Reader R} {told : W → Told} {from mid new : FrameReader R 512} {room held : List ℕ} {to log : LineLog W 16386}
+    {payloads : List (List ℕ)} {reply : Result (Unit {0}) Error} → PrintsEach I told from room to payloads mid held log
+    → PrintEnds I mid held reply new → PrintsFrames I told from room to reply new
+printed prints ends = record { payloads = _; mid = _; held = _; log = _; prints = prints; ends = ends }
+
 pub returns-in_err-len-clause-prints : goal.returns-in_err-len-clause-prints
 returns-in_err-len-clause-prints g c =
     let p = err_from_is_err_and c.from_residual.result c.from_residual.ensures.1 in
-    rw (p.1, p.2) (record {
-      payloads = c.frames.invariant.payloads;
-      mid = _;
-      held = _;
-      log = _;
-      prints = c.frames.invariant.prints;
-      ends = (_, inl c.in_err-len.ensures.takes);
-    })
+    rw (p.1, p.2) (printed c.frames.invariant.prints (_, inl c.in_err-len.ensures.takes))
 
 pub returns-in_err-print_line-clause-prints : goal.returns-in_err-print_line-clause-prints
 returns-in_err-print_line-clause-prints g c =
     let p = err_from_is_err_and c.from_residual-in_err-print_line.result c.from_residual-in_err-print_line.ensures.1 in
-    rw p.1 (record {
-      payloads = c.frames.invariant.payloads;
-      mid = _;
-      held = _;
-      log = _;
-      prints = c.frames.invariant.prints;
-      ends = (_, inr (_, c.in_ok-len.ensures.takes));
-    })
+    rw p.1 (printed c.frames.invariant.prints (_, inr (_, c.in_ok-len.ensures.takes)))
 
 -- how it ended, whatever the flush returned
 ends : {R : Type 0} {I : Reader R} {mid new : FrameReader R 512} {held room : List ℕ} (r : Result (Unit {0}) Error)
@@ -45,11 +38,5 @@ ends (Ok u) taken = (_, taken)
 ends (Err e) taken = (_, inr (None, taken))
 
 pub returns-clause-prints : goal.returns-clause-prints
-returns-clause-prints g c = record {
-  payloads = c.frames.invariant.payloads;
-  mid = _;
-  held = _;
-  log = _;
-  prints = c.frames.invariant.prints;
-  ends = ends c.flush.result (rw c.in_default.is at c.in_ok-len.ensures.takes);
-}
+returns-clause-prints g c =
+    printed c.frames.invariant.prints (ends c.flush.result (rw c.in_default.is at c.in_ok-len.ensures.takes))
