@@ -12,6 +12,9 @@ use crate::error::{Error, ErrorKind, Result};
 use std::alloc::Global;
 use std::mem;
 
+// The room of a vector for a line, which comes by pieces: without it, the first ones would make the vector grow.
+const LINE_ROOM: usize = 64;
+
 // The number of bytes that are compared in one step.
 const STEP: usize = 16;
 
@@ -128,8 +131,8 @@ pub fn append_text(buf: &mut String, line: &[u8]) -> bool
     true
 }
 
-/// Returns an empty vector. It has the memory of the string if the string is empty, and else none. For a reader with a
-/// `read_line` of its own.
+/// Returns an empty vector. It has the memory of the string if the string is empty, and else room for a short line, if
+/// there is memory. For a reader with a `read_line` of its own.
 #[inline(always)]
 pub fn take_memory(alloc: Global, buf: &mut String) -> Vec<u8>
     ensures items { result.items ≡ [] }
@@ -140,7 +143,10 @@ pub fn take_memory(alloc: Global, buf: &mut String) -> Vec<u8>
     if buf.is_empty() {
         return mem::replace(buf, String::new(alloc)).into_bytes();
     }
-    Vec::new(alloc)
+    match Vec::with_capacity(alloc, LINE_ROOM) {
+        Ok(line) => line,
+        Err(_refused) => Vec::new(alloc),
+    }
 }
 
 /// Appends a line's bytes to a string if they are UTF-8, and returns the result of their read. If the
