@@ -88,21 +88,7 @@ module _ {R A : Type 0} {S : ℕ} {K : Reader R} {old new : BufReader R S} {buf 
       )
 
       call : ReaderMay K old (GaveAll all (ended (recount reply k))) new
-      call = inr (
-        (
-          reply,
-          same reply,
-          record {
-            calls = inner.calls.calls;
-            given = inner.calls.given;
-            made = inner.calls.made;
-            appended = ap (λ l. held ++ l)
-                (append_cancel_left mid.items (bytes inner.taken) inner.calls.given (sym inner.appends.0 ∙ inner.calls.appended));
-            are = inner.calls.are;
-          },
-        ),
-        empty,
-      )
+      call = grind (arith, common_steps, append_cancel_left, bytes, held, same, taken)
         where
           same : (reply : Result ℕ Error) → ended reply ≡ ended (recount reply k)
           same (Ok n) = refl

@@ -1,12 +1,12 @@
 -- What follows of a copy, if its reader tells its events or its writer its mishaps.
-use Rattle.no_std_io2.proofs.Words.{common_steps, ◌≡◌, Option, None, Some, true, ℕ, List, ◌∷◌, ◌++◌, [], refl, ap, subst, arith, Err}
-use Rattle.no_std_io2.proofs.Words.{append-nil, Ok, Result, length, length-append, concat, IsInterruption, IsFault, Event, byte, fails}
-use Rattle.no_std_io2.proofs.Words.{HasNoFault, Reader, ReadCall, Gave, ReadCallLaw, Gathers, no_read, and_gave, and_again, Tells, Takes}
+use Rattle.no_std_io2.proofs.Words.{common_steps, ◌≡◌, Option, None, Some, true, ℕ, List, ◌∷◌, ◌++◌, [], refl, subst, arith, Err}
+use Rattle.no_std_io2.proofs.Words.{append-nil, Ok, Result, IsInterruption, IsFault, Event, byte, fails}
+use Rattle.no_std_io2.proofs.Words.{HasNoFault, Reader, ReadCall, Tells, Takes}
 use Rattle.no_std_io2.proofs.Words.{to_come, IsAtEnd, Told, Moves, Made, WriteCall, Writer, CallOf, Copied}
 use Rattle.std.proofs.lemmas.List.Sums.{sum_by-cons}
 use Rattle.no_std_io2_base.specs.{declared.error.Error.{Error}, declared.error.ErrorKind.{ErrorKind}, Events.{EndsInFault}}
 use Rattle.no_std_io2_base.specs.{Write.{HasSpent}}
-use Rattle.no_std_io2_base.proofs.{CallsLemmas.{made_split}, EventLemmas.{HasNoFault-front}, MovesLemmas.{Moves-steady}}
+use Rattle.no_std_io2_base.proofs.{EventLemmas.{HasNoFault-front}, MovesLemmas.{Moves-steady}}
 use Rattle.no_std_io2_base.proofs.{TakesLemmas.{left_of}}
 use Rattle.no_std_io2.specs.{Copy.{CopyEnds, SidesCopied, side_error, Handed, nothing, piece, refused, HandsOn}}
 use Rattle.no_std_io2.specs.{declared.util.sides.CopyError.{CopyError}, declared.util.sides.CopyError.TheVariants.{Read, Write}}
@@ -59,30 +59,16 @@ pub flushed : (a : Told) {b c : Told} {x : List ℕ}
     → Moves a x [] b → Moves b [] [] c → c.held ≡ [] → c.out ≡ a.out ++ a.held ++ x
 flushed a {b = b} {c = c} m n empty = grind (arith, common_steps)
 
--- no pieces, no calls
-none_handed : {S : ℕ} {xs : List (List ℕ)} {C : List WriteCall} {reply : Result (Unit {0}) Error} → Handed S xs C reply → concat xs ≡ []
-    → C ≡ []
-none_handed nothing is = refl
-none_handed (piece {x = x} {xs = xs} some fits calls more) is = absurd (omega (arith, some, ap length is, length-append x (concat xs)))
-none_handed (refused {x = x} some fits calls) is = absurd (omega (arith, some, ap length is, length-append x []))
-
--- reads without room give nothing
-none_gathered : {R : Type 0} (K : Reader R) {C : List ReadCall} {x : List ℕ} → Gathers (λ _ room. room ≡ 0) C x → (a b : R)
-    → Made (ReadCallLaw K) a C b → x ≡ []
-none_gathered K no_read a b made = refl
-none_gathered K (and_gave C x y room before whole more) a b made =
-    let (mid, first, last) = made_split (ReadCallLaw K) C a (Gave room (Ok y) ∷ []) b made in
-    absurd (omega (arith, whole, more, last.1.bound))
-none_gathered K (and_again C x room e before whole again) a b made =
-    let (mid, first, last) = made_split (ReadCallLaw K) C a (Gave room (Err e) ∷ []) b made in none_gathered K before a mid first
+-- no piece fits an empty buffer, so nothing was passed on
+none_handed : {xs : List (List ℕ)} {C : List WriteCall} {reply : Result (Unit {0}) Error} → Handed 0 xs C reply → C ≡ []
+none_handed nothing = refl
+none_handed (piece some fits calls more) = absurd (omega (arith, some, fits))
+none_handed (refused some fits calls) = absurd (omega (arith, some, fits))
 
 module _ {R W : Type 0} {K : Reader R} {I : Writer W} where
   hands_none : {last : List ReadCall} {from from' : R} {old new : W} {reply : Result (Unit {0}) Error}
       → HandsOn K I 0 last from old reply from' new → new ≡ old
-  hands_none {last = last} {from = from} {from' = from'} {old = old} {new = new} hands =
-      let (mid, first, rest) = made_split (ReadCallLaw K) hands.reads from last from' hands.asked in
-      let none : concat hands.pieces ≡ [] = none_gathered K hands.gathered from mid first in
-      subst (λ C. Made (CallOf I) old C new) (none_handed hands.handed none) hands.made
+  hands_none {old = old} {new} hands = subst (λ C. Made (CallOf I) old C new) (none_handed hands.handed) hands.made
 
   -- a `copy_with` through an empty buffer, and a `copy_sided` with S = 0, leave the writer as it was,
   pub sides_none : {from from' : R} {old new : W} (reply : Result ℕ CopyError) → SidesCopied K I 0 from old reply from' new → new ≡ old

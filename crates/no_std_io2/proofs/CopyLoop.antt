@@ -1,15 +1,14 @@
--- A loop that passes on what it reads, piece by piece, for any reader and any writer.
-use Rattle.no_std_io2.proofs.Words.{common_steps, ◌≡◌, ℕ, ◌+◌, ◌-◌, ◌^◌, ◌<◌, ◌≤◌, min, List, [], ◌∷◌, ◌++◌, Result, Ok, Err, length, take}
+-- The loop of `copy_with`, and so of `copy_sided` and `copy`: it passes on what it reads, piece by piece.
+use Rattle.no_std_io2.proofs.Words.{◌≡◌, ℕ, ◌+◌, ◌-◌, ◌^◌, ◌<◌, ◌≤◌, min, List, [], ◌∷◌, ◌++◌, Result, Ok, Err, true, length, take}
 use Rattle.no_std_io2.proofs.Words.{refl, sym, ap, subst, ◌∙◌, arith, append_assoc, append-nil, length-append, length-take-le, concat}
-use Rattle.no_std_io2.proofs.Words.{IsInterruption, IsFault, fails, events_of, bytes, Reader, Gave, ReadLaw, GaveLaw, ReadCallLaw}
-use Rattle.no_std_io2.proofs.Words.{WriteCall, Made, AllCalls, Moves, Writer, CallOf, TakesAll}
+use Rattle.no_std_io2.proofs.Words.{IsInterruption, IsFault, bytes, Tells, Bool, Reader, Gave, ReadLaw, GaveLaw, ReadCallLaw, tells}
+use Rattle.no_std_io2.proofs.Words.{no_read}
+use Rattle.no_std_io2.proofs.Words.{and_gave, and_again, WriteCall, Made, AllCalls, Moves, Writer, CallOf, TakesAll}
 use Rattle.std.proofs.lemmas.List.Folds.{concat-append}
-use Rattle.no_std_io2_base.specs.{declared.error.Error.{Error}, Writers.{WriteAllOf}}
-use Rattle.no_std_io2_base.proofs.{CallsLemmas.{made_more, made_then}}
-use Rattle.no_std_io2_base.proofs.{EventLemmas.{bytes-append, bytes-events_of, HasNoFault-append, HasNoFault-events_of}}
-use Rattle.no_std_io2_base.proofs.{MovesLemmas.{Moves-refl, Moves-then}, PieceLemmas.{bytes-fails}, ReadExactExits.{some_bytes}}
-use Rattle.no_std_io2_base.proofs.{ReadLoop.{ReadsSoFar, reads_none, reads_more, reads_again}}
-use Rattle.no_std_io2_base.proofs.{TakesLemmas.{takes_then, takes_still, takes_turns, read_law, read_spends, nothing_read}}
+use Rattle.no_std_io2_base.specs.{declared.error.Error.{Error}, Read.{gave}, Reads.{Took}, Writers.{WriteAllOf}}
+use Rattle.no_std_io2_base.proofs.{CallsLemmas.{made_more, made_then}, EventLemmas.{length-events_of}}
+use Rattle.no_std_io2_base.proofs.{MovesLemmas.{Moves-refl, Moves-then}, ReadExactExits.{some_bytes}, TakesLemmas.{read_law, nothing_read}}
+use Rattle.no_std_io2_base.proofs.TookLemmas.{Took-none, Took-then, Took-bytes, Took-again, Took-fault}
 use Rattle.no_std_io2.specs.{Copy.{Handed, nothing, piece, refused, HandsOn, counted, SidesCopied}}
 use Rattle.no_std_io2.specs.{declared.util.sides.CopyError.TheVariants.{Read, Write}}
 
@@ -29,187 +28,184 @@ handed_more reply (refused more room first) done some fits calls = absurd (let n
 joined_more : (xs : List (List ℕ)) (x : List ℕ) → concat xs ++ x ≡ concat (xs ++ x ∷ [])
 joined_more xs x = ap (λ l. concat xs ++ l) (sym (append-nil x)) ∙ sym (concat-append xs (x ∷ []))
 
--- So far these pieces were read into a buffer of S bytes, and passed on whole; `copied` counts their bytes.
+-- bytes that were taken, and then a call that took none, or met the end or a fault
+pub Took-last : {a b c : Tells} {x : List ℕ} {how : Result Bool Error} → Took a x (Ok true) b → Took b [] how c → Took a x how c
+Took-last {a} {c = c} {x} {how} first last = subst (λ l. Took a l how c) (append-nil x) (Took-then first last)
+
+-- So far the pieces were passed on whole; `copied` counts their bytes.
 pub record CopySoFar {R W : Type 0} (K : Reader R) (I : Writer W) (S : ℕ) (from : R) (old : W) (copied : ℕ) (buf : List ℕ) (mid : R)
-    (now : W)
-    : Type 0 where
+    (now : W) : Type 0 where
   pub long : length buf ≡ S
-  pub pieces : List (List ℕ)
-  pub reads : ReadsSoFar K (λ _ room. room ≡ S) from (concat pieces) mid
-  pub turns : K.turns mid + length pieces ≤ K.turns from
-  pub writes : List WriteCall
-  pub handed : Handed S pieces writes (Ok tt)
-  pub made : Made (CallOf I) old writes now
-  pub moves : Moves (I.told old) (concat pieces) [] (I.told now)
-  pub count : copied ≡ counted (concat pieces)
+  pub hands : HandsOn K I S [] from old (Ok tt) mid now
+  pub took : Took (tells K from) (concat hands.pieces) (Ok true) (tells K mid)
+  pub moves : Moves (I.told old) (concat hands.pieces) [] (I.told now)
+  pub count : copied ≡ counted (concat hands.pieces)
   pub all : TakesAll I old → TakesAll I now
 
 module _ {R W : Type 0} {K : Reader R} {I : Writer W} {S : ℕ} {from : R} {old : W} where
+  module _ {mid mid' : R} {now : W} (before : HandsOn K I S [] from old (Ok tt) mid now) where
+    asked_more : {answer : Result (List ℕ) Error} → GaveLaw K mid S answer mid'
+        → Made (ReadCallLaw K) from (before.reads ++ Gave S answer ∷ []) mid'
+    asked_more law = made_more (ReadCallLaw K) before.reads from (rw append-nil at before.asked) law
+
+    -- the pieces so far were passed on, and then came a last read
+    hands_last : (answer : Result (List ℕ) Error) → GaveLaw K mid S answer mid'
+        → HandsOn K I S (Gave S answer ∷ []) from old (Ok tt) mid' now
+    hands_last answer law = record {
+      pieces = before.pieces;
+      calls = before.calls;
+      handed = before.handed;
+      made = before.made;
+      reads = before.reads;
+      gathered = before.gathered;
+      asked = asked_more law;
+      turns = omega (arith, before.turns, law.takes.turns);
+    }
+
+    -- or a read that was interrupted
+    hands_again : {e : Error} → GaveLaw K mid S (Err e) mid' → IsInterruption e → HandsOn K I S [] from old (Ok tt) mid' now
+    hands_again {e} law again = record {
+      pieces = before.pieces;
+      calls = before.calls;
+      handed = before.handed;
+      made = before.made;
+      reads = before.reads ++ Gave S (Err e) ∷ [];
+      gathered = and_again before.reads (concat before.pieces) S e before.gathered refl again;
+      asked = rw append-nil (asked_more law);
+      turns = omega (arith, before.turns, law.takes.turns);
+    }
+
+    -- or one piece more, which was passed on as far as this says
+    hands_more : (x : List ℕ) {new : W} (reply : Result (Unit {0}) Error) → GaveLaw K mid S (Ok x) mid' → 0 < length x
+        → WriteAllOf I now x reply new → HandsOn K I S [] from old reply mid' new
+    hands_more x {new} reply law some wrote = record {
+      pieces = before.pieces ++ x ∷ [];
+      calls = before.calls ++ wrote.calls.0;
+      handed = handed_more reply before.handed refl some law.bound wrote.calls.2;
+      made = made_then (CallOf I) before.calls old wrote.calls.0 now new before.made wrote.calls.1;
+      reads = before.reads ++ Gave S (Ok x) ∷ [];
+      gathered = rw (← joined_more before.pieces x) (and_gave before.reads (concat before.pieces) x S before.gathered refl some);
+      asked = rw append-nil (asked_more law);
+      turns = omega (arith, before.turns, law.takes.turns, length-events_of x, some, length-append before.pieces (x ∷ []));
+    }
+
   -- before the first read
   pub copy_none : {buf : List ℕ} → length buf ≡ S → CopySoFar K I S from old 0 buf from old
-  unfolding reads_none
   copy_none long = record {
     long = long;
-    pieces = [];
-    reads = reads_none from;
-    turns = omega arith;
-    writes = [];
-    handed = nothing;
-    made = refl;
+    hands = record {
+      pieces = [];
+      calls = [];
+      handed = nothing;
+      made = refl;
+      reads = [];
+      gathered = no_read;
+      asked = refl;
+      turns = omega arith;
+    };
+    took = Took-none (tells K from);
     moves = Moves-refl (I.told old);
     count = omega arith;
     all = λ t. t;
   }
 
-  module _ {copied : ℕ} {buf : List ℕ} {mid : R} {now : W} (before : CopySoFar K I S from old copied buf mid now) {mid' : R} where
-    -- the pieces so far were passed on, and then came a last read
-    hands_last : {room : ℕ} → room ≡ S → (answer : Result (List ℕ) Error) → GaveLaw K mid room answer mid'
-        → HandsOn K I S (Gave S answer ∷ []) from old (Ok tt) mid' now
-    hands_last long answer last = record {
-      pieces = before.pieces;
-      calls = before.writes;
-      handed = before.handed;
-      made = before.made;
-      reads = before.reads.calls;
-      gathered = before.reads.gathers;
-      asked = subst (λ n. Made (ReadCallLaw K) from (before.reads.calls ++ Gave n answer ∷ []) mid') long
-          (made_more (ReadCallLaw K) before.reads.calls from before.reads.made last);
-      turns = omega (arith, before.turns, takes_turns last.takes);
+  module _ {copied : ℕ} {buf part ys : List ℕ} {mid mid' : R} {now : W}
+      (before : CopySoFar K I S from old copied buf mid now) (long : length ys ≡ S) where
+    law : (reply : Result ℕ Error) → ReadLaw K mid part reply ys mid' → GaveLaw K mid S (gave reply ys) mid'
+    law reply read = subst (λ n. GaveLaw K mid n (gave reply ys) mid') long (read_law reply read)
+
+    -- the reader's interruption is ignored
+    pub copy_again : {e : Error} → ReadLaw K mid part (Err e) ys mid' → IsInterruption e → CopySoFar K I S from old copied ys mid' now
+    unfolding hands_again
+    copy_again {e} read again = record {
+      long = long;
+      hands = hands_again before.hands (law (Err e) read) again;
+      took = Took-last before.took (Took-again read.takes again);
+      moves = before.moves;
+      count = before.count;
+      all = before.all;
     }
 
-    module _ {part ys : List ℕ} (long : length ys ≡ S) where
-      -- the reader's interruption is ignored
-      pub copy_again : {e : Error} → ReadLaw K mid part (Err e) ys mid' → IsInterruption e → CopySoFar K I S from old copied ys mid' now
-      unfolding reads_again
-      copy_again read again = record {
-        long = long;
-        pieces = before.pieces;
-        reads = reads_again before.reads read again long;
-        turns = omega (arith, before.turns, takes_turns read.takes);
-        writes = before.writes;
-        handed = before.handed;
-        made = before.made;
-        moves = before.moves;
-        count = before.count;
-        all = before.all;
-      }
+    -- its fault ends the loop
+    pub copy_faulted : {e : Error} → ReadLaw K mid part (Err e) ys mid' → IsFault e → SidesCopied K I S from old (Err (Read e)) mid' now
+    copy_faulted {e} read fault =
+        let took = Took-last before.took (Took-fault read.takes fault) in
+        record {
+          taken = took.taken;
+          takes = took.takes;
+          ends = (took.ends, rw took.are before.moves);
+          all = before.all;
+          calls = hands_last before.hands (Err e) (law (Err e) read);
+        }
 
-      -- its fault ends the loop
-      pub copy_faulted : {e : Error} → ReadLaw K mid part (Err e) ys mid' → IsFault e
-          → SidesCopied K I S from old (Err (Read e)) mid' now
-      copy_faulted {e} read fault =
-          let took = before.reads.took in
+    -- and so does its end
+    pub copy_ended : {reply : Result ℕ Error} {n : ℕ} → ReadLaw K mid part reply ys mid' → reply ≡ Ok n → n ≡ 0
+        → SidesCopied K I S from old (Ok copied) mid' now
+    copy_ended read is none =
+        let last = subst (λ n. GaveLaw K mid n (Ok []) mid') long (nothing_read read is none) in
+        let took = Took-last before.took (Took-bytes [] last.takes) in
+        record {
+          taken = took.taken;
+          takes = took.takes;
+          ends = (took.ends, λ room. last.end refl room, rw took.are before.count, rw took.are before.moves);
+          all = before.all;
+          calls = hands_last before.hands (Ok []) last;
+        }
+
+    module _ {n : ℕ} (read : ReadLaw K mid part (Ok n) ys mid') (some : n ≡ 0 → ⊥) where
+      abbrev x : List ℕ
+      x = take n ys
+
+      size : length x ≡ n
+      size = length-take-le n ys read.bound
+
+      hands : {new : W} (reply : Result (Unit {0}) Error) → WriteAllOf I now x reply new → HandsOn K I S [] from old reply mid' new
+      hands reply wrote =
+          hands_more before.hands x reply (law (Ok n) read) (omega (arith, size, some_bytes n some)) wrote
+
+      took : Took (tells K from) (concat before.hands.pieces ++ x) (Ok true) (tells K mid')
+      took = Took-then before.took (Took-bytes x read.takes)
+
+      -- a piece was passed on
+      pub copy_more : {new : W} {k : ℕ} {done : Unit {0}} → WriteAllOf I now x (Ok done) new → k ≡ min (copied + n) (2 ^ 64 - 1)
+          → CopySoFar K I S from old k ys mid' new
+      unfolding hands hands_more
+      copy_more wrote is =
+          let joined = joined_more before.hands.pieces x in
           record {
-            taken = took.taken ++ fails e ∷ [];
-            takes = takes_then took.takes read.takes;
-            ends = (
-              (took.taken, refl, took.no_fault, fault),
-              subst (λ l. Moves (I.told old) l [] (I.told now)) (sym (bytes-fails took.taken e ∙ took.are)) before.moves,
-            );
-            all = before.all;
-            calls = hands_last long (Err e) (read_law (Err e) read);
+            long = long;
+            hands = hands (Ok tt) wrote;
+            took = rw (← joined) took;
+            moves = rw (← joined) (Moves-then before.moves (rw wrote.moves.whole at wrote.moves.moves));
+            count = omega (arith, is, before.count, size, ap length joined, length-append (concat before.hands.pieces) x);
+            all = λ t. wrote.all (before.all t);
           }
 
-      -- and so does its end
-      pub copy_ended : {reply : Result ℕ Error} {n : ℕ} → ReadLaw K mid part reply ys mid' → reply ≡ Ok n → n ≡ 0
-          → SidesCopied K I S from old (Ok copied) mid' now
-      copy_ended read is none =
-          let took = before.reads.took in
-          let last = nothing_read read is none in
+      -- the writer's fault ends the loop, in the middle of a piece
+      pub copy_refused : {new : W} {e : Error} → WriteAllOf I now x (Err e) new → SidesCopied K I S from old (Err (Write e)) mid' new
+      copy_refused {e = e} wrote =
+          let start = concat before.hands.pieces in
+          let accepted = wrote.moves.accepted in
+          let lost = wrote.moves.front.0 in
+          let whole : bytes took.taken ≡ (start ++ accepted) ++ lost =
+          took.are ∙ ap (λ l. start ++ l) wrote.moves.front.1 ∙ sym (append_assoc start accepted lost) in
+          let rest = ap length wrote.moves.front.1 ∙ length-append accepted lost in
+          let fits = ap length whole ∙ length-append (start ++ accepted) lost in
           record {
             taken = took.taken;
-            takes = takes_still took.takes last.takes;
+            takes = took.takes;
             ends = (
-              took.no_fault,
-              λ room. last.end refl (omega (arith, room, long)),
-              before.count ∙ ap counted (sym took.are),
-              subst (λ l. Moves (I.told old) l [] (I.told now)) (sym took.are) before.moves,
-            );
-            all = before.all;
-            calls = hands_last long (Ok []) last;
-          }
-
-      module _ {n : ℕ} (read : ReadLaw K mid part (Ok n) ys mid') (some : n ≡ 0 → ⊥) where
-        -- the piece
-        abbrev pub x : List ℕ
-        x = take n ys
-
-        size : length x ≡ n
-        size = length-take-le n ys read.bound
-
-        -- the reads up to this piece
-        reads : ReadsSoFar K (λ _ room. room ≡ S) from (concat (before.pieces ++ x ∷ [])) mid'
-        reads = subst (λ l. ReadsSoFar K (λ _ room. room ≡ S) from l mid') (joined_more before.pieces x)
-            (reads_more before.reads read some long)
-
-        turns : K.turns mid' + length (before.pieces ++ x ∷ []) ≤ K.turns from
-        turns = omega (arith, before.turns, read_spends read some, length-append before.pieces (x ∷ []))
-
-        module _ {new : W} {reply : Result (Unit {0}) Error} (wrote : WriteAllOf I now x reply new) where
-          handed : Handed S (before.pieces ++ x ∷ []) (before.writes ++ wrote.calls.0) reply
-          handed = grind (arith, common_steps, handed_more, long, size, some_bytes)
-
-          made : Made (CallOf I) old (before.writes ++ wrote.calls.0) new
-          made = made_then (CallOf I) before.writes old wrote.calls.0 now new before.made wrote.calls.1
-
-        -- a piece was passed on
-        pub copy_more : {new : W} {k : ℕ} {done : Unit {0}} → WriteAllOf I now x (Ok done) new → k ≡ min (copied + n) (2 ^ 64 - 1)
-            → CopySoFar K I S from old k ys mid' new
-        copy_more {new} wrote is =
-            let more = joined_more before.pieces x in
-            let whole = subst (λ l. Moves (I.told now) l [] (I.told new)) wrote.moves.whole wrote.moves.moves in
-            record {
-              long = long;
-              pieces = before.pieces ++ x ∷ [];
-              reads = reads;
-              turns = turns;
-              writes = before.writes ++ wrote.calls.0;
-              handed = handed wrote;
-              made = made wrote;
-              moves = subst (λ l. Moves (I.told old) l [] (I.told new)) more (Moves-then before.moves whole);
-              count = omega (arith, is, before.count, size, ap length more, length-append (concat before.pieces) x);
-              all = λ t. wrote.all (before.all t);
-            }
-
-        -- the writer's fault ends the loop, in the middle of a piece
-        pub copy_refused : {new : W} {e : Error} → WriteAllOf I now x (Err e) new
-            → SidesCopied K I S from old (Err (Write e)) mid' new
-        copy_refused {new} {e} wrote =
-            let took = before.reads.took in
-            let accepted = wrote.moves.accepted in
-            let lost = wrote.moves.front.0 in
-            let start = concat before.pieces in
-            let P = took.taken ++ events_of x in
-            let whole : bytes P ≡ (start ++ accepted) ++ lost =
-            bytes-append took.taken (events_of x) ∙ ap (λ l. l ++ bytes (events_of x)) took.are ∙ ap (λ l. start ++ l) (bytes-events_of x)
-            ∙ ap (λ l. start ++ l) wrote.moves.front.1 ∙ sym (append_assoc start accepted lost) in
-            let rest = ap length wrote.moves.front.1 ∙ length-append accepted lost in
-            let long' = ap length whole ∙ length-append (start ++ accepted) lost in
-            record {
-              taken = P;
-              takes = takes_then took.takes read.takes;
-              ends = (
-                HasNoFault-append took.taken (events_of x) took.no_fault (HasNoFault-events_of x),
+              took.ends,
+              (
+                omega (arith, some_bytes n some, read.bound, long),
+                wrote.never_interrupted,
                 (
-                  omega (arith, some_bytes n some, read.bound, long),
-                  wrote.never_interrupted,
-                  (
-                    start ++ accepted,
-                    ((lost, whole), omega (arith, long', rest, size, read.bound, long)),
-                    Moves-then before.moves
-                        wrote.moves.moves,
-                  ),
+                  start ++ accepted,
+                  ((lost, whole), omega (arith, fits, rest, size, read.bound, long)),
+                  Moves-then before.moves wrote.moves.moves,
                 ),
-              );
-              all = λ t. wrote.all (before.all t);
-              calls = record {
-                pieces = before.pieces ++ x ∷ [];
-                calls = before.writes ++ wrote.calls.0;
-                handed = handed wrote;
-                made = made wrote;
-                reads = reads.calls;
-                gathered = reads.gathers;
-                asked = subst (λ l. Made (ReadCallLaw K) from l mid') (sym (append-nil reads.calls)) reads.made;
-                turns = turns;
-              };
-            }
+              ),
+            );
+            all = λ t. wrote.all (before.all t);
+            calls = hands (Err e) wrote;
+          }

@@ -4,7 +4,7 @@ use Rattle.no_std_io2.proofs.Words.{append-nil, inl, inr, take-append-drop, Even
 use Rattle.no_std_io2.proofs.Words.{Filled, Consumed, ReadCallLaw, tells, answered, bytes_given, reader_held, reader_behind, reader_inner}
 use Rattle.no_std_io2.proofs.Words.{ReadsBelow, FillsBelow, of_held, went_past, was_filled, lent_held, lent_read}
 use Rattle.no_std_io2_base.specs.{declared.error.Error.{Error}, Read.{GaveExactly}}
-use Rattle.no_std_io2_base.proofs.{EventLemmas.{bytes-events_of}, TakesLemmas.{made_takes}}
+use Rattle.no_std_io2_base.proofs.{EventLemmas.{bytes-events_of}, TakesLemmas.{made_may, made_takes}}
 use Rattle.no_std_io2.specs.{declared.buffered.buf_reader.BufReader.{BufReader}, BufReader.{HasBuffer, ReaderIsSound, ReaderMay}}
 use Rattle.no_std_io2.proofs.{BufferedReads.{goes_before}, BufReaderCalls.{buf_reader}}
 
@@ -72,14 +72,8 @@ module _ {R : Type 0} {S : ℕ} (I : Reader R) (old new : BufReader R S) where
 -- and any calls, such as those that the law of a `read_exact` or of a `read_until` lists
 pub calls_stay_sound : {R : Type 0} {S : ℕ} (I : Reader R) (C : List ReadCall) (old new : BufReader R S)
     → Made (ReadCallLaw (buf_reader I)) old C new → ReaderIsSound I.store old → ReaderIsSound I.store new
-calls_stay_sound I [] old new made sound = subst (ReaderIsSound I.store) (sym made) sound
-calls_stay_sound I (Gave room answer ∷ C) old new (mid, law, rest) sound =
-    calls_stay_sound I C mid new rest (call_stays_sound I old mid (Gave room answer) law.call sound)
-calls_stay_sound I (GaveExactly room answer ∷ C) old new (mid, law, rest) sound =
-    calls_stay_sound I C mid new rest (call_stays_sound I old mid (GaveExactly room answer) law.0 sound)
-calls_stay_sound I (GaveAll x answer ∷ C) old new (mid, law, rest) sound =
-    calls_stay_sound I C mid new rest (call_stays_sound I old mid (GaveAll x answer) law.0 sound)
-calls_stay_sound I (Filled answer ∷ C) old new (mid, law, rest) sound =
-    calls_stay_sound I C mid new rest (call_stays_sound I old mid (Filled answer) law.0 sound)
-calls_stay_sound I (Consumed n ∷ C) old new (mid, law, rest) sound =
-    calls_stay_sound I C mid new rest (call_stays_sound I old mid (Consumed n) law.0 sound)
+calls_stay_sound {R} {S} I C old new made sound = by C old (made_may (buf_reader I) C old new made) sound
+  where
+    by : (C : List ReadCall) (old : BufReader R S) → Made (ReaderMay I) old C new → ReaderIsSound I.store old → ReaderIsSound I.store new
+    by [] old made sound = subst (ReaderIsSound I.store) (sym made) sound
+    by (call ∷ C) old (mid, may, rest) sound = by C mid rest (call_stays_sound I old mid call may sound)

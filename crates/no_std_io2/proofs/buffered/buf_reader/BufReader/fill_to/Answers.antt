@@ -1,7 +1,7 @@
 -- Reads until enough bytes are held: after each read, and at the three ends.
 use Rattle.no_std_io2.proofs.Words.{sym, ◌∙◌, arith}
-use Rattle.no_std_io2.proofs.FillToLemmas.{filled_none, filled_more, filled_again, fills_fault, fills_end, fills_enough, fills_store}
-use Rattle.no_std_io2.proofs.FillToLemmas.{fills_sound, fills_turns, spends_more, spends_again}
+use Rattle.no_std_io2.proofs.FillToLemmas.{filled_none, filled_more, filled_again, fills_fault, fills_end, fills_enough, fills_all}
+use Rattle.no_std_io2.proofs.FillToLemmas.{spends_more, spends_again}
 use Rattle.no_std_io2.proofs.buffered.buf_reader.BufReader.fill_to.Goals as goal
 
 pub reads-init : goal.reads-init
@@ -27,32 +27,13 @@ reads-smaller g c = spends_again c.in-Err.ensures.read
 pub returns-in-Err-2 : goal.returns-in-Err-2
 returns-in-Err-2 g c =
     let read = c.in-Err.ensures in
-    let fills = fills_fault c.reads.invariant (omega arith) c.requires read.read read.behind
-    (sym c.is_interrupted.ensures ∙ c.if-is_interrupted.false) in
-    record {
-      fills = fills;
-      store = fills_store c.requires fills;
-      sound = fills_sound c.requires fills;
-      turns = fills_turns c.requires fills;
-    }
+    fills_all c.requires (fills_fault c.reads.invariant (omega arith) c.requires read.read read.behind
+    (sym c.is_interrupted.ensures ∙ c.if-is_interrupted.false))
 
 pub returns-in-Ok-eq0 : goal.returns-in-Ok-eq0
 returns-in-Ok-eq0 g c =
     let read = c.read_on.ensures in
-    let fills = fills_end c.reads.invariant (omega arith) c.requires read.read read.behind c.in-Ok-eq0.is (omega arith) in
-    record {
-      fills = fills;
-      store = fills_store c.requires fills;
-      sound = fills_sound c.requires fills;
-      turns = fills_turns c.requires fills;
-    }
+    fills_all c.requires (fills_end c.reads.invariant (omega arith) c.requires read.read read.behind c.in-Ok-eq0.is (omega arith))
 
 pub returns : goal.returns
-returns g c =
-    let fills = fills_enough c.reads.invariant (omega (arith, c.reads-test.false)) in
-    record {
-      fills = fills;
-      store = fills_store c.requires fills;
-      sound = fills_sound c.requires fills;
-      turns = fills_turns c.requires fills;
-    }
+returns g c = fills_all c.requires (fills_enough c.reads.invariant (omega (arith, c.reads-test.false)))
