@@ -6,7 +6,7 @@ use Rattle.no_std_io2.proofs.Words.{behind_held, Event, fails, bytes, events_of,
 use Rattle.no_std_io2.proofs.Words.{AreTaken, to_come, IsFront}
 use Rattle.std.proofs.Common.{slice_index_or, IfSome}
 use Rattle.no_std_io2.specs.{declared.io.Error.{Error}, declared.buffered.buf_reader.BufReader.{BufReader}, Errors.{IsUnexpectedEnd}}
-use Rattle.no_std_io2.specs.{FillTo.{FillsTo, HasTo}, Reads.{GathersTo, Took}}
+use Rattle.no_std_io2.specs.{BufReader.{HasTo}, FillTo.{FillsTo}, Reads.{GathersTo, Took}}
 use Rattle.no_std_io2.proofs.{BufReaderCalls.{buf_reader}, BufferedReads.{told_behind}}
 use Rattle.no_std_io2.proofs.{EventLemmas.{bytes-append, bytes-behind, bytes-events_of, HasNoFault-append, HasNoFault-events_of}}
 use Rattle.no_std_io2.proofs.{GivenPieces.{first_fault-append, bytes_to_fault-append}, ReadsLemmas.{Reads-takes}}

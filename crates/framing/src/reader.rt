@@ -207,7 +207,7 @@ impl<R: Read, const S: usize> FrameReader<R, S> {
         }
         self.begin_long(len);
         self.inner.read_full(&mut room[..len], &mut self.given)?;
-        Ok(self.given == len)
+        Ok(self.given >= len)
     }
 
     // Takes the header of a frame that is longer than the buffer, if it is not taken yet. The payload has this length.

@@ -5,11 +5,11 @@ use Rattle.std.specs.Mem.{FitsInMemory}
 use Rattle.std.proofs.Common.{lt_of_le_of_lt, sub-le}
 use lib.Pointwise.{pointwise}
 use denote.{Param.{param, number}, RattleType.{RattleType}}
-use Rattle.no_std_io2_base.specs.{declared.{error.Error.{Error}, traits.seek.SeekFrom.{SeekFrom, TheVariants.{Current}}}, Errors.{IsFault}}
+use Rattle.no_std_io2_base.specs.{declared.{error.Error.{Error}, traits.seek.SeekFrom.{SeekFrom, TheVariants.{Current}}}}
 use Rattle.no_std_io2_base.specs.{Errors.{IsUnexpectedEnd, IsOutOfMemory}, Events.{Event, events_of}, Takes.{Store, Tells, Takes, to_come}}
-use Rattle.no_std_io2_base.specs.{Write.{Made, IsFront}, Seek.{Seeker, SeekCall, Sought, Measured, Moved, SeekLaw, StreamLenLaw}}
+use Rattle.no_std_io2_base.specs.{Write.{IsFront}, Seek.{Seeker, SeekCall, Sought, Measured, Moved, SeekLaw, StreamLenLaw}}
 use Rattle.no_std_io2_base.specs.{Seek.{WithoutPosition}, Read.{Reader, ReadCall, Gave, GaveExactly, GaveAll, Filled, Consumed}}
-use Rattle.no_std_io2_base.specs.Read.{ReadCallLaw, bytes_given, gave_whole, Gathers, GathersUntil, Drains}
+use Rattle.no_std_io2_base.specs.{Read.{ReadCallLaw, bytes_given, gave_whole, Drains}, Reads.{Reads}}
 use Rattle.no_std_io2.specs.contracts.buffered.buf_reader.BufReader.{the_row as reader-row}
 use Rattle.no_std_io2.specs.{declared.buffered.buf_reader.BufReader.{BufReader}, Buffer.{buffer_held, buffer_behind, IsInBuffer, IsCutOn}}
 use Rattle.no_std_io2.specs.Buffer.{IsSuffix}
@@ -146,31 +146,48 @@ ReaderMay inner old (Consumed n) new = (reader_inner new ≡ reader_inner old)
 abbrev pub AsksExact : ℕ → ℕ → ℕ → ℕ → ℕ → Type 0
 AsksExact size wanted held at room = (held + at < wanted) × (room ≡ max size (wanted - (held + at)))
 
--- C are the inner reads of a `read_exact` that gave x
-abbrev pub ExactReads : (ℕ → ℕ → Type 0) → List ReadCall → List ℕ → Result (Unit {0}) Error → Type 0
-ExactReads asks C x (Ok u) = Gathers asks C x
-ExactReads asks C x (Err e) = (IsUnexpectedEnd e × GathersUntil asks C x (Ok [])) ⊎ (IsFault e × GathersUntil asks C x (Err e))
+-- after `Ok(true)` there are at least n bytes, and otherwise fewer
+abbrev pub HasTo : ℕ → Result Bool Error → ℕ → Type 0
+HasTo n (Ok true) len = n ≤ len
+HasTo n (Ok false) len = len < n
+HasTo n (Err e) len = len < n
 
--- What such reads, which gave this, leave after the held bytes: what was given of both, and what is still held. Fewer
--- bytes than a full buffer lie behind, the last that were given. After an error all was given, and the buffer is empty.
-abbrev ExactLeaves : {R : Type 0} {S : ℕ} → BufReader R S → List ℕ → Result (Unit {0}) Error → List ℕ → BufReader R S → Type 0
-ExactLeaves {S = size} old given (Ok u) buf new = (reader_held old ++ given ≡ buf ++ reader_held new)
-    × IsSuffix buf (reader_behind new) × (length (reader_behind new) < size)
-ExactLeaves old given (Err e) buf new = IsFront (reader_held old ++ given) buf × HasNoBuffer new
+-- What reads for `wanted` bytes that gave x leave, by how they ended. If all were given, and more than were held: fewer bytes than a full
+-- buffer lie behind, the last that were given. After the end or a fault the buffer is empty.
+abbrev pub LeavesThrough : {R : Type 0} {S : ℕ} → BufReader R S → ℕ → List ℕ → Result Bool Error → BufReader R S → Type 0
+LeavesThrough {S = size} old wanted x (Ok true) new =
+    length (reader_held old) < wanted → IsSuffix x (reader_behind new) × (length (reader_behind new) < size)
+LeavesThrough old wanted x (Ok false) new = HasNoBuffer new
+LeavesThrough old wanted x (Err e) new = HasNoBuffer new
 
--- A `read_exact` of more than the held bytes: which inner reads it made, and what is in the buffer then.
-pub record ExactBelow {R : Type 0} {S : ℕ} (inner : Reader R) (old : BufReader R S) (room : ℕ) (reply : Result (Unit {0}) Error)
-    (buf : List ℕ) (new : BufReader R S) : Type 0 where
-  pub reads : List ReadCall
+-- Reads of a `BufReader` for `wanted` bytes gave x, and ended like this: which inner reads they made, and what is in the buffer then.
+pub record ReadsThrough {R : Type 0} {S : ℕ} (inner : Reader R) (old : BufReader R S) (wanted : ℕ) (x : List ℕ) (how : Result Bool Error)
+    (new : BufReader R S) : Type 0 where
   pub given : List ℕ
-  pub made : Made (ReadCallLaw inner) (reader_inner old) reads (reader_inner new)
-  pub are : ExactReads (AsksExact S room (length (reader_held old))) reads given reply
-  pub leaves : ExactLeaves old given reply buf new
+  pub reads : Reads inner (AsksExact S wanted (length (reader_held old))) (reader_inner old) given how (reader_inner new)
+  -- the held bytes, and then those that the inner reads gave, are x and what is still held
+  pub split : reader_held old ++ given ≡ x ++ reader_held new
+  -- whether all were given
+  pub enough : HasTo wanted how (length x)
+  pub leaves : LeavesThrough old wanted x how new
 
--- a `read_exact`: if enough bytes are held, it gives them and makes no inner call
-abbrev pub LeavesExact : {R : Type 0} {S : ℕ} → Reader R → BufReader R S → ℕ → Result (Unit {0}) Error → List ℕ → BufReader R S → Type 0
-LeavesExact inner old room reply buf new = (room ≤ length (reader_held old) → GivesHeld old room (gave_whole reply buf) new)
-    × (length (reader_held old) < room → ExactBelow inner old room reply buf new)
+-- how a `read_full` with this result ended: with a full buffer, at the end, or at a fault
+abbrev pub full_ended : Result (Unit {0}) Error → Bool → Result Bool Error
+full_ended (Ok u) full = Ok full
+full_ended (Err e) full = Err e
+
+-- A `read_exact` of `room` bytes. If enough are held, it gives them and makes no inner call. If not, it makes inner reads: until all
+-- are given, or up to the end or a fault, after the bytes x.
+pub data LeavesExact {R : Type 0} {S : ℕ} (inner : Reader R) (old : BufReader R S) (room : ℕ) : Result (Unit {0}) Error → List ℕ
+    → BufReader R S → Type 0 where
+  only_held : {reply : Result (Unit {0}) Error} {buf : List ℕ} {new : BufReader R S} → room ≤ length (reader_held old)
+      → GivesHeld old room (gave_whole reply buf) new → LeavesExact inner old room reply buf new
+  read_whole : {u : Unit {0}} {buf : List ℕ} {new : BufReader R S} → length (reader_held old) < room
+      → ReadsThrough inner old room buf (Ok true) new → LeavesExact inner old room (Ok u) buf new
+  read_to_end : {e : Error} {x buf : List ℕ} {new : BufReader R S} → length (reader_held old) < room → IsUnexpectedEnd e → IsFront x buf
+      → ReadsThrough inner old room x (Ok false) new → LeavesExact inner old room (Err e) buf new
+  read_to_fault : {e : Error} {x buf : List ℕ} {new : BufReader R S} → length (reader_held old) < room → IsFront x buf
+      → ReadsThrough inner old room x (Err e) new → LeavesExact inner old room (Err e) buf new
 
 -- a piece that was held whole was appended, and no inner call was made; or an allocation failed, and nothing changed
 abbrev pub TakesHeld : {R : Type 0} {S : ℕ} → List ℕ → List ℕ → BufReader R S → List ℕ → Result ℕ Error → List ℕ → BufReader R S → Type 0
@@ -226,12 +243,13 @@ ReaderSeeks inner old target reply new = SeeksOnce inner old target reply new
 
 -- A `seek_relative` within the buffer succeeds, moves the border between the bytes behind and the held bytes, and makes no inner call. Any
 -- other is a seek.
-pub record MovesBelow {R : Type 0} {S : ℕ} (inner : Seeker R) (old : BufReader R S) (offset : ℤ) (reply : Result (Unit {0}) Error)
+pub data MovesBelow {R : Type 0} {S : ℕ} (inner : Seeker R) (old : BufReader R S) (offset : ℤ) (reply : Result (Unit {0}) Error)
     (new : BufReader R S) : Type 0 where
-  pub within : IsInBuffer offset (length (reader_behind old)) (length (reader_held old)) → (reply ≡ Ok tt)
-      × (reader_inner new ≡ reader_inner old) × IsCutOn offset (reader_behind old) (reader_held old) (reader_behind new) (reader_held new)
-  pub far : (IsInBuffer offset (length (reader_behind old)) (length (reader_held old)) → ⊥)
-      → WithoutPosition (λ answer. ReaderSeeks inner old (Current offset) answer new) reply
+  moved_within : IsInBuffer offset (length (reader_behind old)) (length (reader_held old)) → reply ≡ Ok tt
+      → reader_inner new ≡ reader_inner old → IsCutOn offset (reader_behind old) (reader_held old) (reader_behind new) (reader_held new)
+      → MovesBelow inner old offset reply new
+  moved_far : (IsInBuffer offset (length (reader_behind old)) (length (reader_held old)) → ⊥)
+      → WithoutPosition (λ answer. ReaderSeeks inner old (Current offset) answer new) reply → MovesBelow inner old offset reply new
 
 -- what a call of `Seek` may do to a `BufReader`; its `stream_len` is the inner one, and keeps the buffer
 abbrev pub ReaderMaySeek : {R : Type 0} {S : ℕ} → Seeker R → BufReader R S → SeekCall → BufReader R S → Type 0

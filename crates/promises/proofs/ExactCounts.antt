@@ -1,11 +1,12 @@
 -- How many inner reads an exact read of a `BufReader` makes over a filling reader, and how much is held then.
 use Rattle.no_std_io2.proofs.Words.{nat_tests, cases_lt, ◌≡◌, ℕ, ◌+◌, ◌-◌, ◌<◌, ◌≤◌, ◌⊎◌, min, List, [], ◌∷◌, ◌++◌, Result, Ok, Err, length}
-use Rattle.no_std_io2.proofs.Words.{refl, sym, ap, subst, ◌∙◌, arith, inl, inr, ⊎_elim, length-append, length-drop, Made, Reader, ReadCall}
-use Rattle.no_std_io2.proofs.Words.{ReadCallLaw, GaveLaw, Gave, Gathers, no_read, and_gave, and_again, bytes_given, IsReadMeter, FillsRoom}
+use Rattle.no_std_io2.proofs.Words.{true, false, refl, sym, ap, subst, ◌∙◌, arith, inl, inr, ⊎_elim, length-append, length-drop, Made}
+use Rattle.no_std_io2.proofs.Words.{Reader, ReadCall, ReadCallLaw, GaveLaw, Gave, Gathers, no_read, and_gave, and_again, bytes_given}
+use Rattle.no_std_io2.proofs.Words.{IsReadMeter, FillsRoom}
 use Rattle.no_std_io2.proofs.Words.{reader_held, reader_inner, AsksExact}
 use Rattle.std.proofs.{Common.{max}, Math.Nat.{le-max_left, le-max_right, max-eq_left, max-eq_right}}
 use Rattle.no_std_io2.specs.{declared.io.Error.{Error}, declared.buffered.buf_reader.BufReader.{BufReader}}
-use Rattle.no_std_io2.specs.{BufReader.{ExactReads, ExactBelow, LeavesExact}}
+use Rattle.no_std_io2.specs.{BufReader.{ReadsThrough, LeavesExact, only_held, read_whole, read_to_end, read_to_fault}}
 use Rattle.no_std_io2.proofs.CallsLemmas.{made_split}
 use Rattle.io_bench.proofs.BufReaderCounts.{drawn}
 use Rattle.promises.specs.Counts.{exact_reads, exact_left}
@@ -62,18 +63,19 @@ module _ {R : Type 0} {S : ℕ} {K : Reader R} (fills : FillsRoom K) (old new : 
         → cost (reader_inner new) ≡ cost (reader_inner old) + exact_reads len h (h + L)
     pub left : length (reader_held new) ≡ exact_left S len h (h + L)
 
-  only_held : len ≤ h → reader_inner new ≡ reader_inner old → length (reader_held new) ≡ h - len → Counted
-  only_held fits same rest = record {
+  held_alone : len ≤ h → reader_inner new ≡ reader_inner old → length (reader_held new) ≡ h - len → Counted
+  held_alone fits same rest = record {
     cost = λ cost meter. let none : exact_reads len h (h + L) ≡ 0 = grind (arith, nat_tests) in omega (arith, none, ap cost same);
     left = rest ∙ (let is : h - len ≡ exact_left S len h (h + L) = grind (arith, nat_tests) in is);
   }
 
-  by_reads : h < len → (reply : Result (Unit {0}) Error) (buf : List ℕ) → length buf ≡ len → ExactBelow K old len reply buf new → Counted
-  by_reads past (Ok u) buf long below =
-      let drew = reads fills S len h (reader_inner old) below.are (reader_inner new) below.made in
-      let all = sym (length-append (reader_held old) below.given) ∙ ap length below.leaves.0 ∙ length-append buf (reader_held new) in
-      let some : 0 < length below.given = omega (arith, all, long, past) in
-      let drawn_all : length below.given ≡ min (max S (len - h)) L =
+  -- all were read
+  by_reads : h < len → (buf : List ℕ) → length buf ≡ len → ReadsThrough K old len buf (Ok true) new → Counted
+  by_reads past buf long through =
+      let drew = reads fills S len h (reader_inner old) through.reads.are (reader_inner new) through.reads.made in
+      let all = sym (length-append (reader_held old) through.given) ∙ ap length through.split ∙ length-append buf (reader_held new) in
+      let some : 0 < length through.given = omega (arith, all, long, past) in
+      let drawn_all : length through.given ≡ min (max S (len - h)) L =
       ⊎_elim (λ none. absurd (omega (arith, none, some))) (λ is. is) drew.once in
       let enough : len ≤ h + L = omega (arith, all, long, drew.rest) in
       let one : exact_reads len h (h + L) ≡ 1 = grind (arith, nat_tests) in
@@ -88,37 +90,37 @@ module _ {R : Type 0} {S : ℕ} {K : Reader R} (fills : FillsRoom K) (old new : 
             let room : max S (len - h) ≡ len - h = max-eq_right large in omega (arith, is, room, all, long, drawn_all, past, enough))
             (cases_lt (len - h) S);
       }
-  by_reads past (Err e) buf long below = by below.are
-    where
-      by : ExactReads (AsksExact S len h) below.reads below.given (Err e) → Counted
-      by (inl (end, (D, room, gathers, asks, is))) =
-          let split = made_split (ReadCallLaw K) D (reader_inner old) (Gave room (Ok []) ∷ []) (reader_inner new)
-          (subst (λ C. Made (ReadCallLaw K) (reader_inner old) C (reader_inner new)) is below.made) in
-          let drew = reads fills S len h (reader_inner old) gathers split.0 split.1 in
-          let last = drawn fills (Ok []) split.2.1 in
-          let some : 0 < room = omega (arith, asks.1, le-max_left S (len - (h + length below.given)), old.some_room) in
-          let none : length (fills.left split.0) ≡ 0 =
-          omega (arith, last.count, ap (λ r. length (bytes_given r)) last.is, some) in
-          let all : length below.given ≡ L = omega (arith, drew.rest, none) in
-          let short : h + L < len = omega (arith, asks.0, all) in
-          let count : exact_reads len h (h + L) ≡ 1 + min 1 L = grind (arith, nat_tests) in
-          let left : exact_left S len h (h + L) ≡ 0 = grind (arith, nat_tests) in
-          record {
-            cost = λ cost meter.
-                let first = drew.cost cost meter old.some_room in
-                let one = meter _ _ _ _ split.2.1.call in
-                omega (arith, count, first, one, some, all, ap cost split.2.2);
-            left = ap length below.leaves.1.1 ∙ sym left;
-          }
-      by (inr (fault, (D, room, gathers, asks, is))) =
-          let split = made_split (ReadCallLaw K) D (reader_inner old) (Gave room (Err e) ∷ []) (reader_inner new)
-          (subst (λ C. Made (ReadCallLaw K) (reader_inner old) C (reader_inner new)) is below.made) in
-          let last = drawn fills (Err e) split.2.1 in
-          absurd (let no : ⊥ = cc in no)
+
+  -- the end came first
+  by_end : {x : List ℕ} → ReadsThrough K old len x (Ok false) new → Counted
+  by_end through =
+      let (D, room, gathers, asks, is) = through.reads.are in
+      let split = made_split (ReadCallLaw K) D (reader_inner old) (Gave room (Ok []) ∷ []) (reader_inner new)
+      (rw is at through.reads.made) in
+      let drew = reads fills S len h (reader_inner old) gathers split.0 split.1 in
+      let last = drawn fills (Ok []) split.2.1 in
+      let some : 0 < room = omega (arith, asks.1, le-max_left S (len - (h + length through.given)), old.some_room) in
+      let none : length (fills.left split.0) ≡ 0 = omega (arith, last.count, ap (λ r. length (bytes_given r)) last.is, some) in
+      let all : length through.given ≡ L = omega (arith, drew.rest, none) in
+      let short : h + L < len = omega (arith, asks.0, all) in
+      let count : exact_reads len h (h + L) ≡ 1 + min 1 L = grind (arith, nat_tests) in
+      let left : exact_left S len h (h + L) ≡ 0 = grind (arith, nat_tests) in
+      record {
+        cost = λ cost meter.
+            let first = drew.cost cost meter old.some_room in
+            let one = meter _ _ _ _ split.2.1.call in
+            omega (arith, count, first, one, some, all, ap cost split.2.2);
+        left = ap length through.leaves.1 ∙ sym left;
+      }
 
   -- so many, by its law
   pub exact_counted : (reply : Result (Unit {0}) Error) (buf : List ℕ) → length buf ≡ len → LeavesExact K old len reply buf new → Counted
-  exact_counted reply buf long leaves = ⊎_elim
-      (λ past. by_reads past reply buf long (leaves.1 past))
-      (λ fits. let gives = leaves.0 fits in only_held fits gives.0 (ap length gives.1.1.1 ∙ length-drop len (reader_held old)))
-      (cases_lt h len)
+  exact_counted reply buf long (only_held fits gives) = held_alone fits gives.0 (ap length gives.1.1.1 ∙ length-drop len (reader_held old))
+  exact_counted (Ok u) buf long (read_whole past through) = by_reads past buf long through
+  exact_counted (Err e) buf long (read_to_end past end front through) = by_end through
+  exact_counted (Err e) buf long (read_to_fault past front through) =
+      let (D, room, gathers, asks, is) = through.reads.are in
+      let split = made_split (ReadCallLaw K) D (reader_inner old) (Gave room (Err e) ∷ []) (reader_inner new)
+      (rw is at through.reads.made) in
+      let last = drawn fills (Err e) split.2.1 in
+      absurd (let no : ⊥ = cc in no)

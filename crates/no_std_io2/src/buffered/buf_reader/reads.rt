@@ -1,7 +1,7 @@
 // The `impl` of `Read` for `BufReader`.
-ghost use Rattle.std.specs.Prelude.{◌≡◌, ◌<◌, [], ◌++◌, ℕ, List, length};
-ghost use Rattle.no_std_io2_base.specs.Read.{tells, gave, bytes_given, ReadLaw, ReadExactLaw, ReadToEndLaw, GaveAll, ended};
-ghost use Rattle.no_std_io2.specs.BufReader.{reader_held, reader_events, reader_turns, LeavesExact, ReaderMay};
+ghost use Rattle.std.specs.Prelude.{◌≡◌, ◌<◌, ◌-◌, ◌++◌, ℕ, List, length, take, nat_le};
+ghost use Rattle.no_std_io2_base.specs.Read.{tells, ReadExactLaw, ReadFullLaw, ReadToEndLaw, GaveAll, ended};
+ghost use Rattle.no_std_io2.specs.BufReader.{reader_held, reader_events, reader_turns, LeavesExact, ReadsThrough, full_ended, ReaderMay};
 
 use super::BufReader;
 use no_std_io2_base::error::Result;
@@ -10,24 +10,7 @@ use no_std_io2_base::traits::Read;
 use std::alloc::Allocator;
 
 impl<R: Read, const S: usize> BufReader<R, S> {
-    // The `read` past the held bytes, of which there are none.
-    #[inline(always)]
-    fn read_past(&mut self, buf: &mut [u8]) -> Result<usize>
-        requires { reader_held self.old ≡ [] }
-        ensures law { ReadLaw ⟦<BufReader<R, S> as Read>⟧ self.old buf.old result buf.new self.new }
-
-        // A short read leaves nothing held.
-        ensures short { length (bytes_given (gave result buf.new)) < length buf.old → reader_held self.new ≡ [] }
-    {
-        if buf.len() >= S {
-            self.buffer.clear();
-            return self.inner.read(buf);
-        }
-        self.buffer.fill(&mut self.inner)?;
-        Ok(self.buffer.give(buf))
-    }
-
-    // Continues an exact read of more than the held bytes, as the trait's body does.
+    // An exact read of more than the held bytes.
     #[cold]
     #[inline(never)]
     fn read_exact_cold(&mut self, buf: &mut [u8]) -> Result<()>
@@ -35,14 +18,10 @@ impl<R: Read, const S: usize> BufReader<R, S> {
         ensures law { ReadExactLaw ⟦<BufReader<R, S> as Read>⟧ self.old buf.old result buf.new self.new }
         ensures leaves { LeavesExact R.Read self.old (length buf.old) result buf.new self.new }
     {
-        let mut at = self.buffer.give(buf);
-        'reads: while at < buf.len() {
-            match self.read_past(&mut buf[at..]) {
-                Ok(0) => return Err(failed_to_fill()),
-                Ok(n) => at += n,
-                Err(e) if e.is_interrupted() => {}
-                Err(e) => return Err(e),
-            }
+        let mut filled = 0;
+        self.read_full(buf, &mut filled)?;
+        if filled < buf.len() {
+            return Err(failed_to_fill());
         }
         Ok(())
     }
@@ -70,7 +49,12 @@ impl<R: Read, const S: usize> Read for BufReader<R, S> {
         if self.buffer.len() > 0 {
             return Ok(self.buffer.give(buf));
         }
-        self.read_past(buf)
+        if buf.len() >= S {
+            self.buffer.clear();
+            return self.inner.read(buf);
+        }
+        self.buffer.fill(&mut self.inner)?;
+        Ok(self.buffer.give(buf))
     }
 
     // If the bytes end too early, all of them are taken.
@@ -85,6 +69,26 @@ impl<R: Read, const S: usize> Read for BufReader<R, S> {
             return self.read_exact_out_of_line(buf);
         }
         self.buffer.give_whole(buf);
+        Ok(())
+    }
+
+    #[inline(always)]
+    fn read_full(&mut self, buf: &mut [u8], filled: &mut usize) -> Result<()>
+        ensures law { ReadFullLaw ⟦<Self as Read>⟧ self.old buf.old filled.old result buf.new filled.new self.new }
+
+        // Which inner reads it made for the bytes that it gave, and what is in the buffer then.
+        ensures through { (x : List ℕ) × (take filled.new buf.new ≡ take filled.old buf.old ++ x)
+            × ReadsThrough R.Read self.old (length buf.old - filled.old) x
+            (full_ended result (nat_le (length buf.new) filled.new)) self.new }
+    {
+        'reads: while *filled < buf.len() {
+            match self.read(&mut buf[*filled..]) {
+                Ok(0) => return Ok(()),
+                Ok(n) => *filled += n,
+                Err(e) if e.is_interrupted() => {}
+                Err(e) => return Err(e),
+            }
+        }
         Ok(())
     }
 

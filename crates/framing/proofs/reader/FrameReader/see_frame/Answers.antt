@@ -1,4 +1,4 @@
--- The prover does not find the inner reads of a `read_full` (`rest_sees`), nor those of `fill_to` (`fills_sees`).
+-- The prover does not find that the bytes of a `read_full` are seen (`rest_sees`), nor those of `fill_to` (`fills_sees`).
 use Rattle.no_std_io2.proofs.Words.{◌<◌, Ok, Err, refl, arith, err_from_is_err_and}
 use Rattle.no_std_io2.proofs.Readers.{reader}
 use Rattle.framing.proofs.SeenLemmas.{fills_sees, rest_sees}
@@ -12,16 +12,18 @@ returns-in_err-read_full-clause-sees g c =
     let p = err_from_is_err_and c.from_residual.result c.from_residual.ensures.1 in
     let begun = c.begin_long.ensures in
     let some : 0 < c.args.len = omega (arith, begun.long, c.begin_long.new.self.header_fits) in
+    let through = c.in_err-read_full.ensures.through in
     rw (p.1, p.2, ← begun.inner, ← begun.seen c.args.room.now)
     (rest_sees (reader g.R.Stored g.R.Read) c.begin_long.new.self c.args.room.now _ c.begin_long.new.self.len
     c.read_full.new.filled c.read_full.new.self c.args.len begun.len begun.len some c.requires.fits
-    (omega arith) c.read_full.new.buf c.read_full.auto.buf refl (Err _) c.in_err-read_full.ensures.law)
+    (omega arith) c.read_full.new.buf c.read_full.auto.buf refl (Err _) _ through.1 through.2)
 
 pub returns-clause-sees : goal.returns-clause-sees
 returns-clause-sees g c =
     let begun = c.begin_long.ensures in
     let some : 0 < c.args.len = omega (arith, begun.long, c.begin_long.new.self.header_fits) in
+    let through = c.in_ok-read_full.ensures.through in
     rw (← begun.inner, ← begun.seen c.args.room.now)
     (rest_sees (reader g.R.Stored g.R.Read) c.begin_long.new.self c.args.room.now _ c.begin_long.new.self.len
     c.read_full.new.filled c.read_full.new.self c.args.len begun.len begun.len some c.requires.fits
-    (omega arith) c.read_full.new.buf c.read_full.auto.buf refl (Ok _) c.in_ok-read_full.ensures.law)
+    (omega arith) c.read_full.new.buf c.read_full.auto.buf refl (Ok _) _ through.1 through.2)

@@ -1,0 +1,250 @@
+-- Which inner reads a `BufReader` makes for its reads, one after another, and what is in the buffer then: for `read_full` and `read_exact`.
+use Rattle.no_std_io2.proofs.Words.{common_steps, ◌≡◌, ℕ, ◌+◌, ◌-◌, ◌<◌, ◌≤◌, ◌⊎◌, List, [], ◌∷◌, ◌++◌, Bool, true, false, Result, Ok, Err}
+use Rattle.no_std_io2.proofs.Words.{length, take, drop, refl, sym, ap, subst, ◌∙◌, arith, append_assoc, append-nil, length-append}
+use Rattle.no_std_io2.proofs.Words.{take-append-drop, length-take, length-take-le, length-drop, inl, inr, le_refl, nil_from_length}
+use Rattle.no_std_io2.proofs.Words.{IsInterruption, bytes, events_of, Takes, Made, Reader, ReadCall, Gave, Gathers, no_read, and_gave}
+use Rattle.no_std_io2.proofs.Words.{and_again, IsRest, GathersUntil, tells, ReadCallLaw, GaveLaw, bytes_given, IsSuffix, reader_held}
+use Rattle.no_std_io2.proofs.Words.{reader_behind, reader_inner, ReadsBelow, AsksExact, of_held, went_past, was_filled}
+use Rattle.std.proofs.{Common.{max, nat_le, take_all}, lemmas.Bool.{le-leb, lt-leb}}
+use Rattle.no_std_io2_base.specs.{declared.error.Error.{Error}, Errors.{IsUnexpectedEnd}, Read.{FullCalls, FillsOrEnds, ReadFullLaw}}
+use Rattle.no_std_io2_base.specs.{Read.{ReadExactLaw}, Reads.{Reads}}
+use Rattle.no_std_io2_base.proofs.{CallsLemmas.{made_split}, ReadCalls.{exact_own}, TakesLemmas.{gives_whole}}
+use Rattle.no_std_io2_base.proofs.{ReadsLemmas.{Reads-none, Reads-more, Reads-again, Reads-end, Reads-fault}}
+use Rattle.no_std_io2.specs.{declared.buffered.buf_reader.BufReader.{BufReader}, BufReader.{HasNoBuffer, HasTo, LeavesThrough}}
+use Rattle.no_std_io2.specs.BufReader.{ReadsThrough, full_ended, LeavesExact, only_held, read_whole, read_to_end, read_to_fault, GivesHeld}
+use Rattle.no_std_io2.proofs.{BufferedReads.{takes_held}, BufReaderCalls.{buf_reader}, BufReaderRoom.{held-le}}
+
+-- r was read behind bytes of which none were held: y of it is given, and the others are held
+split_more : (held given x y new : List ℕ) {now r : List ℕ} → held ++ given ≡ x ++ now → now ≡ [] → r ≡ y ++ new
+    → held ++ (given ++ r) ≡ (x ++ y) ++ new
+split_more held given x y new split none whole = grind (arith, append_assoc, append-nil)
+
+-- y of the held bytes is given
+split_given : (held given x y new : List ℕ) {now : List ℕ} → held ++ given ≡ x ++ now → now ≡ y ++ new → held ++ given ≡ (x ++ y) ++ new
+split_given held given x y new split whole = grind (arith, append_assoc)
+
+module _ {R : Type 0} {S : ℕ} (inner : Reader R) (old : BufReader R S) (wanted : ℕ) where
+  abbrev asks : ℕ → ℕ → Type 0
+  asks = AsksExact S wanted (length (reader_held old))
+
+  -- The bytes x were given so far. No inner read was made yet; or nothing is held before all are given, and the last of them lie behind.
+  record Below (x : List ℕ) (now : BufReader R S) : Type 0 where
+    pub given : List ℕ
+    pub reads : Reads inner asks (reader_inner old) given (Ok true) (reader_inner now)
+    pub split : reader_held old ++ given ≡ x ++ reader_held now
+    pub stage : (given ≡ [])
+        ⊎ ((length x < wanted → reader_held now ≡ []) × IsSuffix x (reader_behind now) × (length (reader_behind now) < S))
+
+  module _ {x : List ℕ} {now : BufReader R S} {size : ℕ} (before : Below x now) (into : IsRest wanted (length x) size) where
+    -- the next inner read is as large as that
+    into_rest : {n : ℕ} → n ≡ max S size → reader_held now ≡ [] → asks (length before.given) n
+    into_rest is none =
+        let long = sym (length-append (reader_held old) before.given) ∙ ap length before.split ∙ length-append x (reader_held now) in
+        let rest : size ≡ wanted - (length (reader_held old) + length before.given) = omega (arith, long, ap length none, into.0) in
+        (omega (arith, long, ap length none, into.0, into.1), is ∙ ap (max S) rest)
+
+  module _ {x : List ℕ} {now new : BufReader R S} {size : ℕ} (before : Below x now) (into : IsRest wanted (length x) size) where
+    -- held bytes were given
+    gave_held : (y : List ℕ) → 0 < length (reader_held now) → GivesHeld now size (Ok y) new → Below (x ++ y) new
+    gave_held y some call =
+        let is : y ≡ take size (reader_held now) = ap bytes_given call.1.0 in
+        record {
+          given = before.given;
+          reads = subst (Reads inner asks (reader_inner old) before.given (Ok true)) (sym call.0) before.reads;
+          split = split_given (reader_held old) before.given x y (reader_held new) before.split
+              (grind (arith, common_steps, take-append-drop));
+          stage = elim before.stage [
+            | inl none ↦ inl none
+            | inr clear ↦ absurd (omega (arith, some, ap length (clear.0 (omega (arith, into.0, into.1)))))
+          ];
+        }
+
+    -- an inner read gave r, and y of it was given
+    gave_read : (y r : List ℕ) {n : ℕ} → n ≡ max S size → reader_held now ≡ [] → 0 < length y
+        → ReadCallLaw inner (reader_inner now) (Gave n (Ok r)) (reader_inner new) → r ≡ y ++ reader_held new
+        → (length (x ++ y) < wanted → reader_held new ≡ []) → IsSuffix (x ++ y) (reader_behind new) → length (reader_behind new) < S
+        → Below (x ++ y) new
+    gave_read y r is none some law whole clear front short = record {
+      given = before.given ++ r;
+      reads = Reads-more before.reads (into_rest before into is none) law
+          (omega (arith, some, ap length whole, length-append y (reader_held new)));
+      split = split_more (reader_held old) before.given x y (reader_held new) before.split none whole;
+      stage = inr (clear, front, short);
+    }
+
+    -- a read gave some bytes more
+    below_more : (y : List ℕ) → 0 < length y → ReadsBelow inner now size (Ok y) new → Below (x ++ y) new
+    below_more y some (of_held held call) = gave_held y held call
+    below_more y some (went_past none large law empty) =
+        gave_read y y (omega (arith, large)) none some law (sym (append-nil y) ∙ ap (λ l. y ++ l) (sym empty.1)) (λ less. empty.1)
+        (x ++ y, sym (append-nil (x ++ y)) ∙ ap (λ l. (x ++ y) ++ l) (sym empty.0)) (omega (arith, ap length empty.0, old.some_room))
+    below_more y some (was_filled none small (Ok r) law passes) =
+        let is : y ≡ take size r = ap bytes_given passes.0 in
+        gave_read y r (omega (arith, small)) none some law
+        (sym (take-append-drop size r) ∙ ap (λ l. l ++ drop size r) (sym is) ∙ ap (λ l. y ++ l) (sym passes.1.1))
+        (λ less. nil_from_length (reader_held new)
+        (omega (arith, less, ap length passes.1.1, length-drop size r, length-append x y, into.0, ap length is, length-take size r)))
+        (x, ap (λ l. x ++ l) (is ∙ sym passes.1.0)) (omega (arith, ap length passes.1.0, length-take size r, small))
+    below_more y some (was_filled none small (Err e) law passes) = absurd (let no : ⊥ = cc in no)
+
+    -- a read gave nothing: nothing was held, and the inner read had the same result
+    stops : (answer : Result (List ℕ) Error) → bytes_given answer ≡ [] → ReadsBelow inner now size answer new
+        → (n : ℕ) × (n ≡ max S size) × (reader_held now ≡ []) × HasNoBuffer new
+        × ReadCallLaw inner (reader_inner now) (Gave n answer) (reader_inner new)
+    stops answer nothing (of_held some call) =
+        absurd (omega (arith, some, into.1, ap length (sym nothing ∙ ap bytes_given call.1.0), length-take size (reader_held now)))
+    stops answer nothing (went_past none large law empty) =
+        (size, omega (arith, large), none, empty, law)
+    stops answer nothing (was_filled none small (Ok r) law passes) =
+        let gone : take size r ≡ [] = sym (ap bytes_given passes.0) ∙ nothing in
+        let unread : r ≡ [] = nil_from_length r (omega (arith, ap length gone, length-take size r, into.1)) in
+        let rest : length (reader_held new) ≡ 0 = omega (arith, ap length passes.1.1, length-drop size r, ap length unread) in
+        (S, omega (arith, small), none, (passes.1.0 ∙ gone, nil_from_length (reader_held new) rest), rw (passes.0, gone, ← unread) law)
+    stops answer nothing (was_filled none small (Err e) law passes) =
+        (S, omega (arith, small), none, passes.1, rw passes.0 law)
+
+    -- a read was interrupted
+    below_again : (e : Error) → IsInterruption e → ReadsBelow inner now size (Err e) new → Below x new
+    below_again e again read =
+        let (n, is, none, empty, law) = stops (Err e) refl read in
+        record {
+          given = before.given;
+          reads = Reads-again before.reads (into_rest before into is none) law again;
+          split = before.split ∙ ap (λ l. x ++ l) (none ∙ sym empty.1);
+          stage = inr (
+            λ less. empty.1,
+            (x, sym (append-nil x) ∙ ap (λ l. x ++ l) (sym empty.0)),
+            omega (arith, ap length empty.0, old.some_room),
+          );
+        }
+
+  -- any reads
+  below : {C : List ReadCall} {x : List ℕ} → Gathers (IsRest wanted) C x → (now : BufReader R S)
+      → Made (ReadCallLaw (buf_reader inner)) old C now → Below x now
+  below no_read now made = rw made (record {
+    given = [];
+    reads = Reads-none (reader_inner old);
+    split = append-nil (reader_held old);
+    stage = inl refl;
+  })
+  below (and_gave C x y size gathers into some) now made =
+      let parts = made_split (ReadCallLaw (buf_reader inner)) C old (Gave size (Ok y) ∷ []) now made in
+      rw parts.2.2 (below_more (below gathers parts.0 parts.1) into y some parts.2.1.call)
+  below (and_again C x size e gathers into again) now made =
+      let parts = made_split (ReadCallLaw (buf_reader inner)) C old (Gave size (Err e) ∷ []) now made in
+      rw parts.2.2 (below_again (below gathers parts.0 parts.1) into e again parts.2.1.call)
+
+  -- and then one that gave nothing
+  below_until : {C : List ReadCall} {x : List ℕ} {now : BufReader R S} (answer : Result (List ℕ) Error) (how : Result Bool Error)
+      → bytes_given answer ≡ [] → GathersUntil (IsRest wanted) C x answer → Made (ReadCallLaw (buf_reader inner)) old C now
+      → (length x < wanted → HasTo wanted how (length x)) → (HasNoBuffer now → LeavesThrough old wanted x how now)
+      → ((given : List ℕ) (mid : R) (room : ℕ) → Reads inner asks (reader_inner old) given (Ok true) mid → asks (length given) room
+      → GaveLaw inner mid room answer (reader_inner now) → Reads inner asks (reader_inner old) given how (reader_inner now))
+      → ReadsThrough inner old wanted x how now
+  below_until {x = x} {now} answer how nothing (D, size, gathers, into, is) made enough leaves last =
+      let parts = made_split (ReadCallLaw (buf_reader inner)) D old (Gave size answer ∷ []) now (rw is at made) in
+      let before = below gathers parts.0 parts.1 in
+      let (n, is, none, empty, law) = stops before into answer nothing (rw (← parts.2.2) at parts.2.1.call) in
+      record {
+        given = before.given;
+        reads = last before.given (reader_inner parts.0) _ before.reads (into_rest before into is none) law;
+        split = before.split ∙ ap (λ l. x ++ l) (none ∙ sym empty.1);
+        enough = enough (omega (arith, into.0, into.1));
+        leaves = leaves empty;
+      }
+
+  -- they gave all that is wanted
+  through_whole : {C : List ReadCall} {x : List ℕ} {now : BufReader R S} → Gathers (IsRest wanted) C x
+      → Made (ReadCallLaw (buf_reader inner)) old C now → length x ≡ wanted → ReadsThrough inner old wanted x (Ok true) now
+  through_whole {x = x} {now} gathers made all =
+      let b = below gathers now made in
+      let long = sym (length-append (reader_held old) b.given) ∙ ap length b.split ∙ length-append x (reader_held now) in
+      record {
+        given = b.given;
+        reads = b.reads;
+        split = b.split;
+        enough = omega (arith, all);
+        leaves = λ past. elim b.stage [
+          | inl none ↦ absurd (omega (arith, past, all, ap length none, long))
+          | inr clear ↦ (clear.1, clear.2)
+        ];
+      }
+
+-- the inner reads of a `read_full`, by its law
+pub full_through : {R : Type 0} {S : ℕ} {inner : Reader R} {old new : BufReader R S} {buf buf' : List ℕ} {filled filled' : ℕ}
+    (reply : Result (Unit {0}) Error) → ReadFullLaw (buf_reader inner) old buf filled reply buf' filled' new → length buf' ≡ length buf
+    → (x : List ℕ) × (take filled' buf' ≡ take filled buf ++ x)
+    × ReadsThrough inner old (length buf - filled) x (full_ended reply (nat_le (length buf') filled')) new
+full_through {inner = inner} {old} {new} {buf} {buf'} {filled} {filled'} reply law long =
+    (bytes law.taken, law.fills, by reply law.calls.2)
+  where
+    by : (reply : Result (Unit {0}) Error) → FullCalls law.calls.0 (length buf - filled) (bytes law.taken) reply
+        → ReadsThrough inner old (length buf - filled) (bytes law.taken) (full_ended reply (nat_le (length buf') filled')) new
+    by (Ok u) (inl (reads, all)) =
+        rw (le-leb (length buf') filled' (omega (arith, long, law.counts, all))) (through_whole inner old _ reads law.calls.1 all)
+    by (Ok u) (inr until) =
+        rw (lt-leb (length buf') filled' (omega (arith, long, law.counts, until.3.0, until.3.1)))
+        (below_until inner old _ (Ok []) (Ok false) refl until law.calls.1 (λ less. less) (λ empty. empty)
+        (λ x mid room before into last. Reads-end before into last))
+    by (Err e) (fault, until) =
+        below_until inner old _ (Err e) (Err e) refl until law.calls.1 (λ less. less) (λ empty. empty)
+        (λ x mid room before into last. Reads-fault before into last fault)
+
+-- what a `read_exact` of more than the held bytes leaves, by its `read_full`: these are the bytes of its buffer, up to `at`
+module _ {R : Type 0} {S : ℕ} {inner : Reader R} {old new : BufReader R S} {x : List ℕ} (buf buf' : List ℕ) (at : ℕ)
+    (past : length (reader_held old) < length buf) where
+  whole : {how : Result Bool Error} → ReadsThrough inner old (length buf - 0) x how new → ReadsThrough inner old (length buf) x how new
+  whole through = let same : length buf - 0 ≡ length buf = omega arith in rw same at through
+
+  -- after a fault
+  pub leaves_fault : {e : Error} → take at buf' ≡ take 0 buf ++ x → ReadsThrough inner old (length buf - 0) x (Err e) new
+      → LeavesExact inner old (length buf) (Err e) buf' new
+  leaves_fault fills through =
+      read_to_fault past (drop at buf', sym (take-append-drop at buf') ∙ ap (λ l. l ++ drop at buf') fills) (whole through)
+
+  -- at the end
+  pub leaves_end : {u : Unit {0}} {e : Error} → IsUnexpectedEnd e → take at buf' ≡ take 0 buf ++ x → at < length buf'
+      → ReadsThrough inner old (length buf - 0) x (full_ended (Ok u) (nat_le (length buf') at)) new
+      → LeavesExact inner old (length buf) (Err e) buf' new
+  leaves_end end fills short through =
+      read_to_end past end (drop at buf', sym (take-append-drop at buf') ∙ ap (λ l. l ++ drop at buf') fills)
+      (whole (rw (lt-leb (length buf') at short) at through))
+
+  -- when all were given
+  pub leaves_whole : {u : Unit {0}} → take at buf' ≡ take 0 buf ++ x → length buf' ≤ at
+      → ReadsThrough inner old (length buf - 0) x (full_ended (Ok u) (nat_le (length buf') at)) new
+      → LeavesExact inner old (length buf) (Ok u) buf' new
+  leaves_whole fills all through =
+      let is : x ≡ buf' = sym fills ∙ take_all at buf' all in
+      read_whole past
+      (subst (λ l. ReadsThrough inner old (length buf) l (Ok true) new) is (whole (rw (le-leb (length buf') at all) at through)))
+
+-- only held bytes were given
+pub exact_held : {R : Type 0} {S : ℕ} {inner : Reader R} {old new : BufReader R S} {buf buf' : List ℕ}
+    → length buf ≤ length (reader_held old)
+    → reader_inner new ≡ reader_inner old → buf' ≡ take (length buf) (reader_held old)
+    → reader_held new ≡ drop (length buf) (reader_held old)
+    → reader_behind new ≡ reader_behind old ++ buf' → (length buf ≡ 0 → new ≡ old)
+    → ReadExactLaw (buf_reader inner) old buf (Ok tt) buf' new × LeavesExact inner old (length buf) (Ok tt) buf' new
+exact_held {S = S} {inner} {old} {new} {buf} {buf'} fits same gave left front none =
+    let held = reader_held old in
+    let same_length : length buf' ≡ length buf = ap length gave ∙ length-take-le (length buf) held fits in
+    let gives : GivesHeld old (length buf) (Ok buf') new =
+    (same, (ap Ok gave, (front ∙ ap (λ l. reader_behind old ++ l) gave, left))) in
+    let takes : Takes (tells (buf_reader inner) old) (events_of buf') (tells (buf_reader inner) new) =
+    rw same (takes_held S held _ buf' _ (sym (take-append-drop (length buf) held)
+    ∙ ap (λ l. l ++ drop (length buf) held) (sym gave) ∙ ap (λ l. buf' ++ l) (sym left)) (held-le old)) in
+    let ends : FillsOrEnds (length buf') (events_of buf') (Ok buf') (tells (buf_reader inner) new) =
+    (gives_whole buf' (le_refl _), refl) in (
+      record {
+        taken = events_of buf';
+        takes = takes;
+        ends = ends;
+        empty = λ nothing. (refl, none nothing);
+        calls = exact_own (
+          (omega (arith, same_length, fits), subst (λ n. GivesHeld old n (Ok buf') new) (sym same_length) gives),
+          (events_of buf', takes, ends),
+        );
+      },
+      only_held fits gives,
+    )
