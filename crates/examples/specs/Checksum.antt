@@ -1,19 +1,14 @@
 -- What a checksum of a reader says.
-use Rattle.std.specs.Prelude.{◌≡◌, ◌%◌, ◌^◌, ℕ, List, sum}
+use Rattle.std.specs.Prelude.{◌≡◌, ◌%◌, ◌^◌, ℕ, List, sum, Ok, Err, false}
 use Rattle.no_std_io2.specs.declared.io.Error.{Error}
-use Rattle.no_std_io2.specs.Events.{Event, bytes, EndsInFault, HasNoFault}
-use Rattle.no_std_io2.specs.Takes.{Tells, Takes, IsAtEnd}
+use Rattle.no_std_io2.specs.{Reads.{Took}, Takes.{Tells}}
 
--- Events without a fault were taken, up to the end, and s is the sum of their bytes.
+-- Bytes were taken, without a fault, up to the end, and s is their sum.
 pub record SumsAll (old new : Tells) (s : ℕ) : Type 0 where
-  pub taken : List Event
-  pub takes : Takes old taken new
-  pub no_fault : HasNoFault taken
-  pub end : IsAtEnd new
-  pub is : s % 2 ^ 64 ≡ sum (bytes taken) % 2 ^ 64
+  pub bytes : List ℕ
+  pub took : Took old bytes (Ok false) new
+  pub is : s % 2 ^ 64 ≡ sum bytes % 2 ^ 64
 
 -- The events up to the first fault, which is e, were taken.
-pub record MeetsFault (old new : Tells) (e : Error) : Type 0 where
-  pub taken : List Event
-  pub takes : Takes old taken new
-  pub ends : EndsInFault taken e
+abbrev pub MeetsFault : Tells → Tells → Error → Type 0
+MeetsFault old new e = (bytes : List ℕ) × Took old bytes (Err e) new

@@ -1,7 +1,6 @@
 -- The law of a call of an object is named whole; the search does not join its turns of the loop.
-use Rattle.no_std_io2.proofs.Words.{◌+◌, ◌%◌, ◌^◌, ◌∙◌, ap, arith, refl, ◌++◌, err_from_is_err_and}
-use Rattle.std.proofs.Common.{sum}
-use Rattle.no_std_io2.proofs.{GivenPieces.{piece_spends}, TakesLemmas.{takes_then, EndsInFault-behind}}
+use Rattle.no_std_io2.proofs.Words.{◌+◌, ◌%◌, ◌^◌, ◌∙◌, ap, arith, refl, ◌++◌, err_from_is_err_and, sum, bytes}
+use Rattle.no_std_io2.proofs.{GivenPieces.{piece_spends}, TookLemmas.{Took-then}}
 use Rattle.examples.proofs.ChecksumLemmas.{sums_none, sums_more}
 use Rattle.examples.proofs.checksum.checksum_of.Goals as goal
 
@@ -13,7 +12,14 @@ pieces-preserved g c =
     let before = c.pieces.invariant in
     let law = c.in_ok-read_full.ensures in
     let next = c.add_all-total.ensures ∙ ap (λ l. (c.pieces.total + sum l) % 2 ^ 64) law.fills in
-    record { sums = sums_more before.sums law.takes law.ends.0 next; room = c.read_full.auto.buf ∙ before.room }
+    record {
+      sums = record {
+        bytes = before.sums.bytes ++ bytes law.taken;
+        took = Took-then before.sums.took (record { taken = law.taken; takes = law.takes; are = refl; ends = law.ends.0 });
+        is = sums_more _ (bytes law.taken) before.sums next;
+      };
+      room = c.read_full.auto.buf ∙ before.room;
+    }
 
 -- a full buffer took some bytes
 pub pieces-smaller : goal.pieces-smaller
@@ -23,30 +29,27 @@ pieces-smaller g c =
 
 pub returns-then-filled-buf : goal.returns-then-filled-buf
 returns-then-filled-buf g c =
+    let before = c.pieces.invariant.sums in
     let law = c.in_ok-read_full.ensures in
     let next = c.add_all-total.ensures ∙ ap (λ l. (c.pieces.total + sum l) % 2 ^ 64) law.fills in
-    let sums = sums_more c.pieces.invariant.sums law.takes law.ends.0 next in
+    let end = law.ends.2 (omega (arith, law.counts, c.if-filled-buf.true, c.read_full.auto.buf)) in
     record {
       all = record {
-        taken = sums.taken;
-        takes = sums.takes;
-        no_fault = sums.no_fault;
-        end = law.ends.2 (omega (arith, law.counts, c.if-filled-buf.true, c.read_full.auto.buf));
-        is = sums.is;
+        bytes = before.bytes ++ bytes law.taken;
+        took = Took-then before.took (record { taken = law.taken; takes = law.takes; are = refl; ends = (law.ends.0, end) });
+        is = sums_more _ (bytes law.taken) before next;
       };
       fault = tt;
     }
 
 pub returns-in_err-read_full : goal.returns-in_err-read_full
 returns-in_err-read_full g c =
-    let before = c.pieces.invariant.sums in
     let law = c.in_err-read_full.ensures in
     let p = err_from_is_err_and c.from_residual.result c.from_residual.ensures.1 in
     rw (p.1, p.2) (record {
       all = tt;
-      fault = record {
-        taken = before.taken ++ law.taken;
-        takes = takes_then before.takes law.takes;
-        ends = EndsInFault-behind before.taken law.taken before.no_fault law.ends.0;
-      };
+      fault = (
+        _,
+        Took-then c.pieces.invariant.sums.took (record { taken = law.taken; takes = law.takes; are = refl; ends = law.ends.0 }),
+      );
     })
