@@ -1,4 +1,4 @@
--- What a call does with its act, and the acts that are left.
+-- For `Faulty`: what a call does with its act, and the acts that are left.
 use Rattle.no_std_io2.proofs.Words.{CallOf, Writer, common_steps, ◌≡◌, ℕ, ◌<◌, List, [], ◌∷◌, ◌++◌, drop, Option, None, Some, ap, ◌∙◌}
 use Rattle.no_std_io2.proofs.Words.{subst, arith, append-nil, ◌≤◌, min, length, take, Result, IfOk, length-take, Told, Moves, Wrote}
 use Rattle.std.proofs.Common.{take-take, take_all}

@@ -1,4 +1,4 @@
--- Asks in a row.
+-- For `run_reads`: asks in a row, and what they take.
 use Rattle.no_std_io2.proofs.Words.{◌≡◌, ℕ, zero, suc, ◌+◌, ◌<◌, Bool, if◌then◌else◌, List, [], ◌∷◌, ◌++◌, length, get_or, Result, refl}
 use Rattle.no_std_io2.proofs.Words.{sym, subst, arith, Event, Takes, Lender, as_reader, lender_tells}
 use Rattle.std.proofs.Common.{is_err}

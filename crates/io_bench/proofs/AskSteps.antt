@@ -1,4 +1,4 @@
--- Asks of a buffer in front of a filling reader: no ask fails, each takes its step, and the inner reads are few.
+-- For `run_reads` over a filling reader: no ask fails, each takes its step, and the inner reads are few.
 use Rattle.no_std_io2.proofs.Words.{◌≡◌, ℕ, ◌+◌, ◌-◌, ◌/◌, ◌<◌, ◌≤◌, min, nat_eq, nat_lt, Bool, true, false, if◌then◌else◌, List, [], ◌∷◌}
 use Rattle.no_std_io2.proofs.Words.{◌++◌, length, take, drop, Some, Result, Ok, Err, refl, sym, ap, ap₂, subst, ◌∙◌, arith, ⊎_elim, inl}
 use Rattle.no_std_io2.proofs.Words.{inr, append_assoc, append-nil, length-append, length-drop, length-take-le, le_refl, take-append-drop}
@@ -9,20 +9,21 @@ use Rattle.no_std_io2.proofs.Words.{LendCallLaw, reader_held, reader_behind, rea
 use Rattle.no_std_io2.proofs.Words.{went_past, was_filled, FillsBelow, lent_held, lent_read}
 use Rattle.std.proofs.Common.{◌&&◌, IfSome, is_err, add-zero, drop_of_length-le}
 use Rattle.no_std_io2.specs.{declared.io.Error.{Error}, BufRead.{FilledLaw, ConsumeLaw}, declared.buffered.buf_reader.BufReader.{BufReader}}
+use Rattle.no_std_io2.specs.{Read.{ReadExactLaw}}
 use Rattle.no_std_io2.proofs.{TakesLemmas.{stays_at_end}, EventLemmas.{bytes-append, bytes-events_of, events_of-append}}
 use Rattle.no_std_io2.proofs.{CallsLemmas.{made_split}, BufReaderRoom.{some_room, held-le}, BufferedReads.{told_behind}}
 use Rattle.no_std_io2.proofs.{BufReaderCalls.{buf_lender}}
-use Rattle.io_bench.proofs.{BufReaderCounts.{drawn}}
+use Rattle.io_bench.proofs.{BufReaderCounts.{drawn}, RunLemmas.{made_one}}
 use Rattle.io_bench.proofs.{ReadsPaid.{ReadsPaid, OneCall, no_read as no_inner_read, one_read, paid_none, paid_held, paid_call, paid_bound}}
 use Rattle.io_bench.specs.{declared.asks.Ask.{Ask}, declared.asks.Ask.TheVariants.{Read, Exact, Fill}}
 use Rattle.io_bench.specs.Asks.{read_answer, end_or_error, exact_answer, fill_answer, fill_calls, Answered, met_end, CameTo, left_behind}
 use Rattle.io_bench.specs.Asks.{DropsFront, AskStep}
 use Rattle.io_bench.specs.{Asks.{meets_end, Steps}}
 
--- bytes are no error
-none_fails : (x y : List ℕ) (e : Error) → events_of x ≡ fails e ∷ events_of y → ⊥
-none_fails [] y e is = cc
-none_fails (b ∷ x) y e is = cc
+-- no error is among bytes
+none_fails : (x : List ℕ) (e : Error) (rest : List Event) → events_of x ≡ fails e ∷ rest → ⊥
+none_fails [] e rest is = cc
+none_fails (b ∷ x) e rest is = cc
 
 -- the held bytes are no more than those that were read
 passes_fits : {R : Type 0} {S : ℕ} (behind : List ℕ) (read : Result (List ℕ) Error) (room : ℕ) (answer : Result (List ℕ) Error)
@@ -49,10 +50,6 @@ read_ends : {S h e h' e' r : ℕ} (k all : ℕ) → 0 < S → OneCall S h e h' e
     → (nat_eq k 0 && nat_eq h' 0) ≡ nat_lt all 1
 read_ends k all some (no_inner_read held fits same) split is = grind (arith, nat_tests)
 read_ends k all some (one_read t none got kept short) split is = grind (arith, nat_tests)
-
--- the only call that was made
-made_one : {X A : Type 0} (may : X → A → X → Type 0) {call : A} {C : List A} (a b : X) → C ≡ call ∷ [] → Made may a C b → may a call b
-made_one may {call} a b is made = grind (arith, common_steps)
 
 -- the last of some calls
 made_last : {X A : Type 0} (may : X → A → X → Type 0) (C : List A) {call : A} (a b : X) → Made may a (C ++ call ∷ []) b
@@ -113,17 +110,20 @@ module _ {R : Type 0} {S : ℕ} (I : Reader R) (fills : FillsRoom I) (start : Bu
       ∙ ap (behind_held (reader_held r)) (fills.told (reader_inner r))
       ∙ ap Some (sym (events_of-append (reader_held r) (fills.left (reader_inner r))))
 
-  -- of the bytes to come these were taken
+  -- what was taken of that
   taken : (a b : BufReader R S) (P : List Event) → Takes (lender_tells L a) P (lender_tells L b)
       → events_of (all a) ≡ P ++ events_of (all b)
   taken a b P takes = grind (arith, common_steps, told)
 
+  drew : (a b : BufReader R S) (P : List Event) → Takes (lender_tells L a) P (lender_tells L b) → all a ≡ bytes P ++ all b
+  drew a b P takes = simp (bytes-append, bytes-events_of) at (ap bytes (taken a b P takes))
+
   took : (a b : BufReader R S) (x : List ℕ) → Takes (lender_tells L a) (events_of x) (lender_tells L b) → all a ≡ x ++ all b
-  took a b x takes = simp (bytes-append, bytes-events_of) at (ap bytes (taken a b (events_of x) takes))
+  took a b x takes = drew a b (events_of x) takes ∙ ap (λ l. l ++ all b) (bytes-events_of x)
 
   -- no call fails
   no_error : {T : Type 0} (a b : BufReader R S) (e : Error) → Takes (lender_tells L a) (fails e ∷ []) (lender_tells L b) → T
-  no_error a b e takes = absurd (none_fails (all a) (all b) e (taken a b (fails e ∷ []) takes))
+  no_error a b e takes = absurd (none_fails (all a) e (events_of (all b)) (taken a b (fails e ∷ []) takes))
 
   -- at the end no byte is to come
   ended : (b : BufReader R S) → IsAtEnd (lender_tells L b) → all b ≡ []
@@ -149,25 +149,17 @@ module _ {R : Type 0} {S : ℕ} (I : Reader R) (fills : FillsRoom I) (start : Bu
     paid_held fits (ap (λ r. length (fills.left r)) same) paid.2,
   )
 
-  -- one read
-  read_paid : (z z' room : ℕ) (x : List ℕ) (a b : BufReader R S) → z ≤ z' → (length (all a) ≡ 0 → z < z')
-      → GaveLaw (as_reader L) a room (Ok x) b → Paid z a → Paid z' b × (all a ≡ x ++ all b)
-  read_paid z z' room x a b more end law paid =
-      (once_paid z z' a b more end (once_read I fills a b room (Ok x) law.call) paid, took a b x law.takes)
-
   -- reads that gave some bytes each
   gathers_paid : {asks : ℕ → ℕ → Type 0} {C : List ReadCall} {x : List ℕ} → Gathers asks C x → (z : ℕ) (a b : BufReader R S)
-      → Made (ReadCallLaw (as_reader L)) a C b → Paid z a → Paid z b × (all a ≡ x ++ all b)
-  gathers_paid no_read z a b made paid = (subst (Paid z) (sym made) paid, ap all (sym made))
+      → Made (ReadCallLaw (as_reader L)) a C b → Paid z a → Paid z b
+  gathers_paid no_read z a b made paid = subst (Paid z) (sym made) paid
   gathers_paid (and_gave C x y room before asked some) z a b made paid =
-      let parts = made_last (ReadCallLaw (as_reader L)) C a b made in
-      let first = gathers_paid before z a parts.0 parts.1 paid in
-      let gave = took parts.0 b y parts.2.takes in
-      let next = read_paid z z room y parts.0 b (le_refl z)
-      (λ none. absurd (omega (arith, none, some, ap length gave, length-append y (all b)))) parts.2 first.0 in
-      (next.0, first.1 ∙ ap (λ l. x ++ l) gave ∙ sym (append_assoc x y (all b)))
+      let (mid, first, last) = made_last (ReadCallLaw (as_reader L)) C a b made in
+      let gave = took mid b y last.takes in
+      once_paid z z mid b (le_refl z) (λ none. absurd (omega (arith, none, some, ap length gave, length-append y (all b))))
+      (once_read I fills mid b room (Ok y) last.call) (gathers_paid before z a mid first paid)
   gathers_paid (and_again C x room e before asked interrupted) z a b made paid =
-      let parts = made_last (ReadCallLaw (as_reader L)) C a b made in no_error parts.0 b e parts.2.takes
+      let (mid, first, last) = made_last (ReadCallLaw (as_reader L)) C a b made in no_error mid b e last.takes
 
   -- what one ask does: it does not fail, and meets the end where it has to
   abbrev Went : Ask → ℕ → BufReader R S → Result Bool Error → BufReader R S → Type 0
@@ -195,43 +187,41 @@ module _ {R : Type 0} {S : ℕ} (I : Reader R) (fills : FillsRoom I) (start : Bu
         once_paid z _ a b (omega arith) (λ none. grind (arith, nat_tests, none)) once paid,
       )
 
-  -- a `read_exact`
-  exact_went : (len z : ℕ) (a b : BufReader R S) (reply : Result (Unit {0}) Error) (answer : Result Bool Error) (buf : List ℕ)
-      → length buf ≡ len → answer ≡ exact_answer reply → (C : List ReadCall) → Made (ReadCallLaw (as_reader L)) a C b
-      → ExactCalls C reply buf → Paid z a → Went (Exact len) z a answer b
-  exact_went len z a b (Ok u) answer buf long is C made (inl own) paid =
+  -- a `read_exact` that gave all bytes
+  exact_paid : (z : ℕ) (a b : BufReader R S) (buf : List ℕ) (C : List ReadCall) → Made (ReadCallLaw (as_reader L)) a C b
+      → ExactCalls C (Ok tt) buf → Paid z a → Paid z b
+  exact_paid z a b buf C made (inl own) paid =
       let call = (made_one (ReadCallLaw (as_reader L)) a b own made).0 in
-      let gave : all a ≡ take (length buf) (reader_held a) ++ all b =
-      sym (ap (λ l. l ++ fills.left (reader_inner a)) (take-append-drop (length buf) (reader_held a)))
-      ∙ append_assoc (take (length buf) (reader_held a)) (drop (length buf) (reader_held a)) (fills.left (reader_inner a))
-      ∙ ap₂ (λ l r. take (length buf) (reader_held a) ++ (l ++ fills.left r)) (sym call.1.1.1.1) (sym call.1.0) in
-      let many = length-take-le (length buf) (reader_held a) call.0 in
-      let met : false ≡ nat_lt (length (all a)) len =
-      grind (arith, nat_tests, long, many, ap length gave, length-append (take (length buf) (reader_held a)) (all b)) in
-      let kept = kept_paid z a b (omega (arith, ap length call.1.1.1.1, length-drop (length buf) (reader_held a))) call.1.0 paid in
-      (is ∙ ap Ok met, rest_is (take (length buf) (reader_held a)) (all a) (all b) gave (many ∙ long), paid_as z b met (rw add-zero kept))
-  exact_went len z a b (Err e) answer buf long is C made (inl own) paid =
-      let call = (made_one (ReadCallLaw (as_reader L)) a b own made).0 in absurd (let no : ⊥ = cc call.1.1.0 in no)
-  exact_went len z a b (Ok u) answer buf long is C made (inr reads) paid =
-      let gave = gathers_paid reads z a b made paid in
-      let met : false ≡ nat_lt (length (all a)) len = grind (arith, nat_tests, long, ap length gave.1, length-append buf (all b)) in
-      (is ∙ ap Ok met, rest_is buf (all a) (all b) gave.1 long, paid_as z b met (rw add-zero gave.0))
-  exact_went len z a b (Err e) answer buf long is C made (inr (x, front, inl end)) paid =
-      let until = end.1 in
-      let parts = made_last (ReadCallLaw (as_reader L)) until.0 a b (subst (λ K. Made (ReadCallLaw (as_reader L)) a K b) until.4 made) in
-      let first = gathers_paid until.2 z a parts.0 parts.1 paid in
-      let last = read_paid z (z + 1) until.1 [] parts.0 b (omega arith) (λ none. omega arith) parts.2 first.0 in
-      let over = ended b (parts.2.end refl until.3.1) in
-      let whole : all a ≡ x = first.1 ∙ ap (λ l. x ++ l) (last.1 ∙ over) ∙ append-nil x in
-      let met : true ≡ nat_lt (length (all a)) len = grind (arith, nat_tests, ap length whole, until.3, long) in (
-        is ∙ ap (λ k. end_or_error k e) end.0.0 ∙ ap Ok met,
-        over ∙ sym (drop_of_length-le (all a) (omega (arith, ap length whole, until.3, long))),
-        paid_as z b met last.0,
+      kept_paid z a b (omega (arith, ap length call.1.1.1.1, length-drop (length buf) (reader_held a))) call.1.0 paid
+  exact_paid z a b buf C made (inr reads) paid = gathers_paid reads z a b made paid
+
+  -- any `read_exact`
+  exact_went : (len z : ℕ) (a b : BufReader R S) (reply : Result (Unit {0}) Error) (answer : Result Bool Error) (buf buf' : List ℕ)
+      → length buf' ≡ len → answer ≡ exact_answer reply → (law : ReadExactLaw (as_reader L) a buf reply buf' b)
+      → ExactCalls law.calls.calls reply buf' → Paid z a → Went (Exact len) z a answer b
+  exact_went len z a b (Ok u) answer buf buf' long is law calls paid =
+      let gave : all a ≡ buf' ++ all b = drew a b law.taken law.takes ∙ ap (λ l. l ++ all b) law.ends.0.given in
+      let met : false ≡ nat_lt (length (all a)) len = grind (arith, nat_tests, long, ap length gave, length-append buf' (all b)) in
+      let kept = exact_paid z a b buf' law.calls.calls law.calls.made calls paid in
+      (is ∙ ap Ok met, rest_is buf' (all a) (all b) gave long, paid_as z b met (rw add-zero kept))
+  exact_went len z a b (Err e) answer buf buf' long is law (inl own) paid =
+      let call = (made_one (ReadCallLaw (as_reader L)) a b own law.calls.made).0 in absurd (let no : ⊥ = cc call.1.1.0 in no)
+  exact_went len z a b (Err e) answer buf buf' long is law (inr (x, front, inl (end, (D, room, before, asked, are)))) paid =
+      let (mid, first, last) =
+      made_last (ReadCallLaw (as_reader L)) D a b (subst (λ K. Made (ReadCallLaw (as_reader L)) a K b) are law.calls.made) in
+      let over = ended b (last.end refl asked.1) in
+      let whole = ap length (drew a b law.taken law.takes) ∙ length-append (bytes law.taken) (all b) in
+      let short : length (all a) < len = omega (arith, whole, ap length over, law.ends.0, long) in
+      let met : true ≡ nat_lt (length (all a)) len = grind (arith, nat_tests, short) in (
+        is ∙ ap (λ k. end_or_error k e) end.0 ∙ ap Ok met,
+        over ∙ sym (drop_of_length-le (all a) (omega (arith, short))),
+        paid_as z b met (once_paid z (z + 1) mid b (omega arith) (λ none. omega arith) (once_read I fills mid b room (Ok []) last.call)
+            (gathers_paid before z a mid first paid)),
       )
-  exact_went len z a b (Err e) answer buf long is C made (inr (x, front, inr fault)) paid =
-      let until = fault.1 in
-      let parts = made_last (ReadCallLaw (as_reader L)) until.0 a b (subst (λ K. Made (ReadCallLaw (as_reader L)) a K b) until.4 made) in
-      no_error parts.0 b e parts.2.takes
+  exact_went len z a b (Err e) answer buf buf' long is law (inr (x, front, inr (fault, (D, room, before, asked, are)))) paid =
+      let (mid, first, last) =
+      made_last (ReadCallLaw (as_reader L)) D a b (subst (λ K. Made (ReadCallLaw (as_reader L)) a K b) are law.calls.made) in
+      no_error mid b e last.takes
 
   -- a `fill_buf` and a `consume`
   fill_went : (most z : ℕ) (a b : BufReader R S) (reply : Result (List ℕ) Error) (answer : Result Bool Error) → answer ≡ fill_answer reply
@@ -266,7 +256,7 @@ module _ {R : Type 0} {S : ℕ} (I : Reader R) (fills : FillsRoom I) (start : Bu
       → Went ask z a answer b
   answered_went (Read len) z a b answer (reply, is, law) paid = read_went len z a b reply answer is law paid
   answered_went (Exact len) z a b answer (reply, is, (buf, buf', long, law)) paid =
-      exact_went len z a b reply answer buf' long is law.calls.calls law.calls.made law.calls.are paid
+      exact_went len z a b reply answer buf buf' long is law law.calls.are paid
   answered_went (Fill most) z a b answer (reply, is, made) paid = fill_went most z a b reply answer is made paid
 
   -- asks in a row

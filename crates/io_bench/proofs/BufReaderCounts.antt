@@ -1,4 +1,4 @@
--- How many inner reads a `BufReader` makes, and how much it holds then.
+-- For counts over a filling reader: how many inner reads a call of a `BufReader` makes, and how much it holds then.
 use Rattle.no_std_io2.proofs.Words.{nat_tests, ◌≡◌, ℕ, ◌+◌, ◌-◌, ◌<◌, ◌≤◌, min, if◌then◌else◌, List, [], Result, Ok, Err, length, refl, sym}
 use Rattle.no_std_io2.proofs.Words.{ap, subst, ◌∙◌, arith, Some, length-append, length-take, length-take-le, IfOk, events_of, AreTaken}
 use Rattle.no_std_io2.proofs.Words.{to_come, Reader, tells, GaveLaw, bytes_given, IsReadMeter, FillsRoom, reader_held, reader_inner}

@@ -1,10 +1,11 @@
--- A run through a new buffer that is then closed, over a writer that takes all.
-use Rattle.no_std_io2.proofs.Words.{◌≡◌, ◌+◌, ◌*◌, ◌/◌, ℕ, ◌<◌, List, [], ◌∷◌, ◌++◌, length, Ok, refl, sym, ap, subst, ◌∙◌, arith, Made}
+-- For `run_closed`: a run through a new buffer that is then closed, over a writer that takes all.
+use Rattle.no_std_io2.proofs.Words.{◌≡◌, ◌+◌, ◌*◌, ◌/◌, ℕ, ◌<◌, List, [], ◌∷◌, ◌++◌, length, Ok, refl, sym, ap, subst, ◌∙◌, arith, CallOf}
+use Rattle.no_std_io2.proofs.Words.{WriteCall}
 use Rattle.no_std_io2.proofs.Words.{Moves, Wrote, WroteAll, Flushed, Writer, TakesAll, IsMeter, BufferMay, InnerCalls, writer_buffer}
 use Rattle.no_std_io2.proofs.Words.{writer_inner, writer_told}
 use Rattle.std.proofs.Common.{take_all}
 use Rattle.no_std_io2.specs.{Meter.{CostsAtMost}, declared.buffered.buf_writer.BufWriter.{BufWriter}, BufWriter.{Unwraps}}
-use Rattle.no_std_io2.proofs.{MovesLemmas.{Moves-ends}, BufWriterLemmas.{Moves-device, buffer-le}}
+use Rattle.no_std_io2.proofs.{CallsLemmas.{made_map, law_may}, MovesLemmas.{Moves-ends}, BufWriterLemmas.{Moves-device, buffer-le}}
 use Rattle.io_bench.specs.{declared.runs.Op.{Op}, declared.runs.Op.TheVariants.{Write, WriteAll, Flush}, declared.runs.Reply.{Reply}}
 use Rattle.io_bench.specs.{declared.runs.Reply.TheVariants.{Took, Done}, Runs.{Accepts, AreWhole, IsWhole, Ran, Run, RunCalls}}
 use Rattle.io_bench.specs.{declared.tally.Tally.{Tally}, Tally.{TallyMay, tally_inner, tally_writes}}
@@ -33,16 +34,19 @@ module _ {W : Type 0} (I : Writer W) {S : ℕ} (some : 0 < S) (w : W) (ops : Lis
     pub bound : CostsAtMost I w (2 * (length (given_bytes ops) / (S + 1)) + flushes ops + 1) t
 
   -- It did it, by the laws of `run_writes` and of `into_inner`.
-  pub closes : {J : Writer (BufWriter W S)} (start last : BufWriter W S) → writer_inner start ≡ w → writer_buffer start ≡ []
-      → TakesAll I w → Ran (writer_told I.told start) ops replies (writer_told I.told last) → AreWhole ops replies
-      → (run : RunCalls J start ops replies last) → Made (BufferMay I (InnerCalls S) writer_inner writer_buffer) start run.calls last
+  pub closes : {J : Writer (BufWriter W S)}
+      → ((a b : BufWriter W S) (call : WriteCall) → J.may a call b → BufferMay I (InnerCalls S) writer_inner writer_buffer a call b)
+      → (start last : BufWriter W S) → writer_inner start ≡ w → writer_buffer start ≡ [] → TakesAll I w
+      → Ran (writer_told I.told start) ops replies (writer_told I.told last) → AreWhole ops replies → RunCalls J start ops replies last
       → Unwraps I writer_inner writer_buffer last (Ok t) → Closes
-  closes start last is empty all ran whole run made ends = record {
+  closes {J = J} may start last is empty all ran whole run ends = record {
     bytes =
         Moves-device I.told start w is empty refl
         (subst (λ l. Moves (writer_told I.told start) l [] (I.told t)) (whole_run ops replies ran.accepted whole ran.run)
         (Moves-ends ran.moves ends.ok));
     bound = λ cost meter takes.
+        let made = made_map (CallOf J) (BufferMay I (InnerCalls S) writer_inner writer_buffer) (λ b. b)
+        (λ a b call law. may a b call (law_may J a b call law)) run.calls start last run.made in
         let bound = closed_bound I cost meter S some writer_inner writer_buffer buffer-le start last t ops replies run.calls
         run.joined whole
         made empty (subst (TakesAll I) (sym is) all) ends.calls in

@@ -1,9 +1,10 @@
--- Mishaps that were told are enough for the calls that failed.
+-- For `run_writes`: at most as many calls of a run failed as mishaps were told.
 use Rattle.no_std_io2.proofs.Words.{common_steps, ◌≡◌, ℕ, true, if◌then◌else◌, List, [], ◌∷◌, length, Option, Some, refl, arith}
+use Rattle.no_std_io2.proofs.Words.{Moves, Told}
 use Rattle.std.proofs.{Common.{count_by}, lemmas.List.{length-append}, lemmas.List.Sums.{sum_by-cons}}
 use Rattle.no_std_io2.specs.{declared.io.ErrorKind.{ErrorKind}, Write.{HasSpent}}
 use Rattle.io_bench.specs.{declared.runs.Op.{Op}, declared.runs.Reply.{Reply}}
-use Rattle.io_bench.specs.{Runs.{mishap_of, mishaps_of, is_failure, failures, failures_of, IsShorterBy, HasFewer}}
+use Rattle.io_bench.specs.Runs.{EndsFlushed, HasFewer, IsShorterBy, Ran, Run, failures, failures_of, is_failure, mishap_of, mishaps_of}
 
 -- if every element is counted, the count is the length
 count_by-all : {X : Type 0} (xs : List X) → count_by (λ _. true) xs ≡ length xs
@@ -26,7 +27,7 @@ shorter : (old : Option (List ErrorKind)) (happened : List ErrorKind) (new : Opt
 shorter old happened new h = grind (arith, common_steps, count_by-all)
 
 -- so there are fewer of them by at least as many as calls of a run failed
-pub failures_told : (ops : List Op) (replies : List Reply) (old new : Option (List ErrorKind))
+failures_told : (ops : List Op) (replies : List Reply) (old new : Option (List ErrorKind))
     → HasSpent old (mishaps_of ops replies) new → IsShorterBy (failures ops replies) old new
 failures_told ops replies old new h = grind (arith, common_steps, failures-length, shorter)
 
@@ -34,13 +35,25 @@ failures_told ops replies old new h = grind (arith, common_steps, failures-lengt
 none_left : (n : ℕ) (new : Option (List ErrorKind)) → IsShorterBy n (Some []) new → n ≡ 0
 none_left n new h = grind (arith, common_steps)
 
--- over no mishap to come no call fails
-pub failures_none : (ops : List Op) (replies : List Reply) {old : Option (List ErrorKind)} (new : Option (List ErrorKind))
-    → HasSpent old (mishaps_of ops replies) new → old ≡ Some [] → failures ops replies ≡ 0
-failures_none ops replies {old = old} new h e = grind (arith, common_steps, none_left, failures_told)
-
 -- and of each kind there are fewer to come by those that failed with it
-pub fewer_of : (kind : ErrorKind) (ops : List Op) (replies : List Reply) (old new : Option (List ErrorKind))
+fewer_of : (kind : ErrorKind) (ops : List Op) (replies : List Reply) (old new : Option (List ErrorKind))
     → HasSpent old (mishaps_of ops replies) new
     → HasFewer kind (failures_of kind ops replies) old new
 fewer_of kind ops replies old new h = grind (arith, common_steps)
+
+-- these facts are enough for a run
+pub ran_by : {old new : Told} {ops : List Op} {replies : List Reply} (accepted : List ℕ) → Run ops replies accepted
+    → Moves old accepted (mishaps_of ops replies) new → (EndsFlushed ops replies → new.held ≡ []) → Ran old ops replies new
+ran_by {old} {new} {ops} {replies} accepted run moves flushed = record {
+  accepted = accepted;
+  run = run;
+  moves = moves;
+  flushed = flushed;
+  failed = failures_told ops replies old.mishaps new.mishaps moves.mishaps;
+  kinds = λ kind. fewer_of kind ops replies old.mishaps new.mishaps moves.mishaps;
+}
+
+-- over no mishap to come no call fails
+pub none_failed : {old new : Told} {ops : List Op} {replies : List Reply} → Ran old ops replies new → old.mishaps ≡ Some []
+    → failures ops replies ≡ 0
+none_failed {new = new} ran none = grind (arith, common_steps, none_left, ran.failed, none)

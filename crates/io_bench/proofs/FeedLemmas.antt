@@ -1,4 +1,4 @@
--- What a feed's events give to a reader.
+-- For `Feed`: what its script's events give to a reader.
 use Rattle.no_std_io2.proofs.Words.{common_steps, ◌≡◌, ℕ, zero, suc, ◌+◌, ◌<◌, ◌≤◌, List, [], ◌∷◌, ◌++◌, length, take, drop, true, false}
 use Rattle.no_std_io2.proofs.Words.{◌==◌, nat_lt, if◌then◌else◌, Some, None, Ok, refl, sym, ap, ap₂, ◌∙◌, arith, length-drop}
 use Rattle.no_std_io2.proofs.Words.{length-take-le, nat_tests, byte, events_of, Reader, ReadLaw}

@@ -1,4 +1,4 @@
--- A run whose replies say what was accepted, call by call.
+-- For `joined`: a run whose replies say what was accepted, call by call.
 use Rattle.no_std_io2.proofs.Words.{◌≡◌, ℕ, zero, suc, arith, ◌+◌, ◌<◌, ◌≤◌, length, take, get_or, List, [], ◌∷◌, ◌++◌, refl, sym, ap, ap₂}
 use Rattle.no_std_io2.proofs.Words.{◌∙◌, subst, append-nil, inl, inr, common_steps, take_more, nil_from_length}
 use Rattle.std.proofs.{Common.{take_all}, lemmas.List.{length-append, append_cancel_left}}

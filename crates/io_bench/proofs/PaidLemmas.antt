@@ -1,4 +1,4 @@
--- The count of inner writes: two in a row carry more than S bytes, unless a flush made the first.
+-- For `run_closed`, the count of inner writes: two in a row carry more than S bytes, unless a flush made the first.
 use Rattle.no_std_io2.proofs.Words.{common_steps, ◌≡◌, ℕ, ◌+◌, ◌*◌, ◌/◌, ◌<◌, ◌≤◌, min, List, length, ⊎_elim, refl, arith, writing_calls}
 use Rattle.no_std_io2.proofs.Words.{buffer_after, calls_for, nat_tests, cases_lt}
 use Rattle.std.proofs.{lemmas.Nat.{le-div}, lemmas.List.{length-append}}

@@ -1,6 +1,7 @@
--- How the items of a run of `split` or `lines` come to be all pieces, by what one `next` says of the events to come.
+-- For `run_split` and `run_lines`: how the items of a run come to be all pieces, by what each `next` says.
 use Rattle.no_std_io2.proofs.Words.{◌≡◌, ℕ, true, false, Bool, if◌then◌else◌, Option, Some, None, Result, Ok, Err, List, [], ◌∷◌, ◌++◌, map}
-use Rattle.no_std_io2.proofs.Words.{refl, ap, ◌∙◌, subst, sym, inl, inr, ◌<◌, ◌⊎◌, length, arith, length-append, append-nil, append_assoc}
+use Rattle.no_std_io2.proofs.Words.{refl, ap, ap₂, ◌∙◌, subst, sym, inl, inr, ◌<◌, ◌⊎◌, length, arith, length-append, append-nil}
+use Rattle.no_std_io2.proofs.Words.{append_assoc}
 use Rattle.no_std_io2.proofs.Words.{IfErr, concat, common_steps, error_kind, IsFault, IsOutOfMemory, Event, byte, fails, bytes, HasNoFault}
 use Rattle.no_std_io2.proofs.Words.{bytes_to_fault, first_fault, Tells, to_come, Lender, lender_tells, Made, newline, without, split_reader}
 use Rattle.no_std_io2.proofs.Words.{split_delim}
@@ -13,17 +14,12 @@ use Rattle.io_bench.specs.{Appended.{appended}, PieceRuns.{AllPieces, GathersPie
 use Rattle.io_bench.proofs.AppendedLemmas.{appended-one}
 
 -- the first pieces were gathered, trimmed, and the others are to come
-pub record GatheredSoFar (trim : List ℕ → List ℕ) (d : ℕ) (E : List Event) (items : List (List ℕ)) (after : List Event) : Type 0 where
-  pub before : List (List ℕ)
-  pub given : pieces_given d E ≡ before ++ pieces_given d after
-  pub fault : first_fault E ≡ first_fault after
-  pub bytes : bytes_to_fault E ≡ concat before ++ bytes_to_fault after
-  pub are : items ≡ map trim before
-
--- the same, if events were told: they still are
-abbrev pub GatheredToldSoFar : (List ℕ → List ℕ) → ℕ → Tells → List (List ℕ) → Tells → Type 0
-GatheredToldSoFar trim d old items now =
-    (E : List Event) → to_come old ≡ Some E → (after : List Event) × (to_come now ≡ Some after) × GatheredSoFar trim d E items after
+record GatheredSoFar (trim : List ℕ → List ℕ) (d : ℕ) (E : List Event) (items : List (List ℕ)) (after : List Event) : Type 0 where
+  before : List (List ℕ)
+  given : pieces_given d E ≡ before ++ pieces_given d after
+  fault : first_fault E ≡ first_fault after
+  bytes : bytes_to_fault E ≡ concat before ++ bytes_to_fault after
+  are : items ≡ map trim before
 
 -- what holds of the events if they are told
 pub if_told : (told : Option (List Event)) {P : List Event → Type 0} → ((E : List Event) → told ≡ Some E → P E) → IfSome told P
@@ -50,26 +46,10 @@ refused_fault : (piece : List ℕ) (e : Error) → RefusesLine piece e → IsFau
 refused_fault piece e refused = ap is_interruption refused.1.0
 
 -- the law of a `next`, by an equal delimiter and an equal result
-pub law_at : {X T : Type 0} {R : Lender X} {old new : X} {view : T → List ℕ} (trim : ℕ → List ℕ → List ℕ)
+law_at : {X T : Type 0} {R : Lender X} {old new : X} {view : T → List ℕ} (trim : ℕ → List ℕ → List ℕ)
     {refuses : List ℕ → Error → Type 0} {d' d : ℕ} {result r : Option (Result T Error)} → d' ≡ d → result ≡ r
     → NextPieceLaw R old view (trim d') refuses d' result new → NextPieceLaw R old view (trim d) refuses d r new
 law_at trim same is law = rw (same, is) at law
-
--- at the start no piece was gathered, and all are to come
-pub none_gathered : (trim : List ℕ → List ℕ) (d : ℕ) (t : Tells) → GatheredToldSoFar trim d t [] t
-none_gathered trim d t = λ E is. (E, is, record { before = []; given = refl; fault = refl; bytes = refl; are = refl })
-
--- one item more
-pub one_gathered : (trim : List ℕ → List ℕ) (d : ℕ) {E : List Event} {items shown : List (List ℕ)} {item : List ℕ} {mid : List Event}
-    (piece : List ℕ) {after : List Event} → shown ≡ items ++ item ∷ [] → GatheredSoFar trim d E items mid → item ≡ trim piece
-    → GivesNext d mid piece after → GatheredSoFar trim d E shown after
-one_gathered trim d {item = item} piece {after} same t trimmed next = record {
-  before = t.before ++ piece ∷ [];
-  given = grind (arith, common_steps, t.given, next.pieces);
-  fault = t.fault ∙ next.fault;
-  bytes = grind (arith, common_steps, concat-append, t.bytes, next.bytes);
-  are = grind (arith, common_steps, t.are);
-}
 
 -- if there is no first fault, there is no fault
 fault_free : (E : List Event) → first_fault E ≡ None → HasNoFault E × (bytes_to_fault E ≡ bytes E)
@@ -77,71 +57,41 @@ fault_free [] h = (tt, refl)
 fault_free (byte b ∷ E) h = let rest = fault_free E h in (rest.0, ap (λ l. b ∷ l) rest.1)
 fault_free (fails e ∷ E) h = grind (arith, common_steps, fault_free E)
 
--- if e is the first fault, E is a front without a fault, then e, then the rest; and the bytes before the first fault
--- are those of that front
-fault_first : (E : List Event) (e : Error) → first_fault E ≡ Some e
-    → (before : List Event) × (behind : List Event) × (E ≡ before ++ fails e ∷ behind) × HasNoFault before × IsFault e
-    × (bytes_to_fault E ≡ bytes before)
-fault_first [] e h = cc
-fault_first (byte b ∷ E) e h =
-    let (before, behind, split, clean, fault, shown) = fault_first E e h in
-    (byte b ∷ before, behind, ap (λ l. byte b ∷ l) split, clean, fault, ap (λ l. b ∷ l) shown)
-fault_first (fails f ∷ E) e h = by_kind (is_interruption (error_kind f)) refl h (fault_first E e)
-  where
-    by_kind : (t : Bool) → is_interruption (error_kind f) ≡ t → (if t then first_fault E else Some f) ≡ Some e
-        → (first_fault E ≡ Some e → (before : List Event) × (behind : List Event) × (E ≡ before ++ fails e ∷ behind) × HasNoFault before
-        × IsFault e × (bytes_to_fault E ≡ bytes before))
-        → (before : List Event) × (behind : List Event) × (fails f ∷ E ≡ before ++ fails e ∷ behind) × HasNoFault before × IsFault e
-        × (bytes_to_fault (fails f ∷ E) ≡ bytes before)
-    by_kind true is h rest =
-        let (before, behind, split, clean, fault, shown) = rest h in
-        (fails f ∷ before, behind, ap (λ l. fails f ∷ l) split, (is, clean), fault, grind (arith, is, shown))
-    by_kind false is h rest =
-        let same : f ≡ e = cc in ([], E, ap (λ x. fails x ∷ E) same, tt, subst IsFault same is, grind (arith, is))
-
 -- at the end all pieces were gathered
-pub all_gathered : (trim : List ℕ → List ℕ) (d : ℕ) {E : List Event} {items shown : List (List ℕ)} {mid : List Event}
-    → shown ≡ items → GatheredSoFar trim d E items mid → GivesNone d mid → AllPieces trim d E shown
-all_gathered trim d {E} same t end =
+all_gathered : (trim : List ℕ → List ℕ) (d : ℕ) {E : List Event} {items : List (List ℕ)} {mid : List Event}
+    → GatheredSoFar trim d E items mid → GivesNone d mid → AllPieces trim d E items
+all_gathered trim d {E} t end =
     let none : first_fault E ≡ None = t.fault ∙ end.1 in
     let free = fault_free E none in
     record { no_fault = free.0; are = grind (arith, common_steps, none, free.1, t.given, t.are, end.0) }
 
 -- an error ends it
-pub gathered_to : (A : Type 0) (trim : List ℕ → List ℕ) (refuses : List ℕ → Error → Type 0) (full : Type 0) (d : ℕ) {E : List Event}
-    {items shown : List (List ℕ)} {mid : List Event} {e : Error} → shown ≡ items → GatheredSoFar trim d E items mid
+gathered_to : (A : Type 0) (trim : List ℕ → List ℕ) (refuses : List ℕ → Error → Type 0) (full : Type 0) (d : ℕ) {E : List Event}
+    {items : List (List ℕ)} {mid : List Event} {e : Error} → GatheredSoFar trim d E items mid
     → ((pieces_given d mid ≡ []) × (first_fault mid ≡ Some e))
     ⊎ (((piece : List ℕ) × (after : List Event) × GivesNext d mid piece after × refuses piece e)
     ⊎ (IsOutOfMemory e × (0 < length (bytes_to_fault mid))))
-    → GathersPieces {A = A} trim refuses full d E (Err e) shown
-gathered_to A trim refuses full d {E} {e = e} same t (inl end) =
-    let first = t.fault ∙ end.1 in
-    let (before, behind, split, clean, fault, shown) = fault_first E e first in
-    inl (record {
-      before = before;
-      behind = behind;
-      split = split;
-      no_fault = clean;
-      fault = fault;
-      are = grind (arith, common_steps, shown, first, t.given, t.are, end.0);
-    })
-gathered_to A trim refuses full d same t (inr (inl (piece, after, next, refused))) =
+    → GathersPieces {A = A} trim refuses full d E (Err e) items
+gathered_to A trim refuses full d t (inl end) =
+    let given = t.given ∙ ap (λ l. t.before ++ l) end.0 ∙ append-nil t.before in
+    inl (record { fault = t.fault ∙ end.1; are = t.are ∙ ap (map trim) (sym given) })
+gathered_to A trim refuses full d t (inr (inl (piece, after, next, refused))) =
     inr (inl (record {
       before = t.before;
       piece = piece;
       behind = pieces_given d after;
       given = t.given ∙ ap (λ l. t.before ++ l) next.pieces;
       refused = refused;
-      are = same ∙ t.are;
+      are = t.are;
     }))
-gathered_to A trim refuses full d {mid = mid} same t (inr (inr memory)) =
+gathered_to A trim refuses full d {mid = mid} t (inr (inr memory)) =
     inr (inr (record {
       before = t.before;
       behind = pieces_given d mid;
       given = t.given;
       refused = memory.0;
       short = inr (omega (arith, ap length t.bytes, length-append (concat t.before) (bytes_to_fault mid), memory.1));
-      are = same ∙ t.are;
+      are = t.are;
     }))
 
 -- What one `next` of an iterator over a lender does, if it has not ended: it takes the next piece, and after an item it
@@ -159,39 +109,39 @@ module _ {S X T : Type 0} (R : Lender X) (reader : S → X) (view : T → List �
   still_lives [] s now lives made = subst live (sym made) lives
   still_lives (x ∷ xs) s now lives made = still_lives xs made.0 now (takes.lives s made.0 x lives made.1) made.2
 
-  -- and they are the next pieces
-  gathers : (xs : List T) (s now : S) (E : List Event) (items : List (List ℕ)) (mid : List Event) → live s
-      → Made (λ s x t. next s (Some (Ok x)) t) s xs now → to_come (lender_tells R (reader s)) ≡ Some mid
-      → GatheredSoFar trim d E items mid
-      → (after : List Event) × (to_come (lender_tells R (reader now)) ≡ Some after) × GatheredSoFar trim d E (items ++ map view xs) after
-  gathers [] s now E items mid lives made told so_far = (
-    mid,
-    ap (λ s. to_come (lender_tells R (reader s))) made ∙ told,
-    subst (λ l. GatheredSoFar trim d E l mid) (sym (append-nil items)) so_far,
-  )
-  gathers (x ∷ xs) s now E items mid lives made told so_far =
-      let (behind, still, (piece, trimmed, gives)) = next_item told (takes.law s made.0 (Some (Ok x)) lives made.1) in
-      let one = one_gathered trim d piece refl so_far trimmed gives in
-      let (after, left, all) =
-      gathers xs made.0 now E (items ++ view x ∷ []) behind (takes.lives s made.0 x lives made.1) made.2 still one in
-      (after, left, subst (λ l. GatheredSoFar trim d E l after) (append_assoc items (view x ∷ []) (map view xs)) all)
-
+  -- and they are the first pieces
   first_pieces : (xs : List T) (s now : S) (E : List Event) → live s → Made (λ s x t. next s (Some (Ok x)) t) s xs now
       → to_come (lender_tells R (reader s)) ≡ Some E
       → (after : List Event) × (to_come (lender_tells R (reader now)) ≡ Some after) × GatheredSoFar trim d E (map view xs) after
-  first_pieces xs s now E lives made told =
-      let (mid, still, none) = none_gathered trim d (lender_tells R (reader s)) E told in
-      gathers xs s now E [] mid lives made still none
+  first_pieces [] s now E lives made told = (
+    E,
+    ap (λ s. to_come (lender_tells R (reader s))) made ∙ told,
+    record { before = []; given = refl; fault = refl; bytes = refl; are = refl },
+  )
+  first_pieces (x ∷ xs) s now E lives made told =
+      let (mid, still, (piece, trimmed, gives)) = next_item told (takes.law s made.0 (Some (Ok x)) lives made.1) in
+      let (after, left, rest) = first_pieces xs made.0 now mid (takes.lives s made.0 x lives made.1) made.2 still in (
+        after,
+        left,
+        record {
+          before = piece ∷ rest.before;
+          given = gives.pieces ∙ ap (λ l. piece ∷ l) rest.given;
+          fault = gives.fault ∙ rest.fault;
+          bytes =
+              gives.bytes ∙ ap (λ l. piece ++ l) rest.bytes ∙ sym (append_assoc piece (concat rest.before) (bytes_to_fault after));
+          are = ap₂ (λ y l. y ∷ l) trimmed rest.are;
+        },
+      )
 
   -- so a whole run gives all pieces, or those before its error
   pub run_gathers : (A full : Type 0) (xs : List T) (s now : S) (reply : Result A Error) → live s → RunsNexts next full s xs reply now
       → IfSome (to_come (lender_tells R (reader s))) (λ E. GathersPieces {A = A} trim refuses full d E reply (map view xs))
   run_gathers A full xs s now (Ok u) lives (mid, made, last) = if_told _ (λ E told.
       let (after, left, all) = first_pieces xs s mid E lives made told in
-      all_gathered trim d refl all (next_none left (takes.law mid now None (still_lives xs s mid lives made) last)))
+      all_gathered trim d all (next_none left (takes.law mid now None (still_lives xs s mid lives made) last)))
   run_gathers A full xs s now (Err e) lives (mid, made, inl last) = if_told _ (λ E told.
       let (after, left, all) = first_pieces xs s mid E lives made told in
-      gathered_to A trim refuses full d refl all
+      gathered_to A trim refuses full d all
       (next_error left (takes.law mid now (Some (Err e)) (still_lives xs s mid lives made) last)))
   run_gathers A full xs s now (Err e) lives (mid, made, inr (memory, is_full, same)) = if_told _ (λ E told.
       let (after, left, all) = first_pieces xs s mid E lives made told in

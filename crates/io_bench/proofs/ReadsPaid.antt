@@ -1,4 +1,4 @@
--- The count of inner reads: all but one get S bytes at least, or find the end.
+-- For `run_reads`, the count of inner reads: all but one get S bytes at least, or find the end.
 use Rattle.no_std_io2.proofs.Words.{◌≡◌, ℕ, zero, suc, ◌+◌, ◌-◌, ◌*◌, ◌/◌, ◌<◌, ◌≤◌, ⊎_elim, arith, cases_lt}
 use Rattle.std.proofs.lemmas.Nat.{le-div}
 

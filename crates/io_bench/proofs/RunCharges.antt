@@ -1,4 +1,4 @@
--- The count of a whole run through a buffer, and its closing, from the calls that it made.
+-- For `run_closed`: the count of a whole run through a buffer, and its closing, from the calls that it made.
 use Rattle.no_std_io2.proofs.Words.{common_steps, ◌≡◌, ◌+◌, ◌*◌, ◌/◌, ℕ, ◌<◌, ◌≤◌, List, [], ◌∷◌, ◌++◌, length, take, Result, Ok, Err, OnOk}
 use Rattle.no_std_io2.proofs.Words.{IsOk, refl, sym, subst, ap, ap₂, ◌∙◌, arith, inl, inr, length-append, append-nil, le_refl}
 use Rattle.no_std_io2.proofs.Words.{take-append-drop, Writer, TakesAll, CallOf, WriteCall, Wrote, WroteAll, Flushed, Made, Writes, none}
@@ -7,13 +7,12 @@ use Rattle.no_std_io2.proofs.Words.{InnerCalls, writing_calls, buffer_after}
 use Rattle.std.specs.List.{flat_map}
 use Rattle.std.proofs.{lemmas.Grind.{flat_map-append}, Common.{take_all}}
 use Rattle.no_std_io2.specs.{declared.io.Error.{Error}, Write.{taken}}
-use Rattle.no_std_io2.proofs.{CallsLemmas.{made_map, law_may}}
 use Rattle.no_std_io2.proofs.BufWriterCalls.{send_does, write_does, write_all_does, flush_does, write_takes}
 use Rattle.no_std_io2.proofs.{StepLemmas.{does}, MeterLemmas.{meter_made}}
 use Rattle.io_bench.proofs.{StepCosts.{step_cost, writing_all-is}}
 use Rattle.io_bench.proofs.{PaidLemmas.{Paid, Paid-same, Paid-write, Paid-flush, Paid-bound, Paid-start, calls_for-min}}
 use Rattle.io_bench.specs.{declared.runs.Op.{Op}, declared.runs.Op.TheVariants.{Write, WriteAll, Flush}, declared.runs.Reply.{Reply}}
-use Rattle.io_bench.specs.{declared.runs.Reply.TheVariants.{Took, Done}, Runs.{OpCalls, JoinsEach, RunCalls, IsWhole, AreWhole}}
+use Rattle.io_bench.specs.{declared.runs.Reply.TheVariants.{Took, Done}, Runs.{OpCalls, JoinsEach, IsWhole, AreWhole}}
 use Rattle.io_bench.specs.{Closed.{op_bytes, given_bytes, op_flushes, flushes}}
 
 -- the bytes that a call took
@@ -144,8 +143,3 @@ module _ {W B : Type 0} (I : Writer W) (cost : W → ℕ) (meter : IsMeter I.may
       (Paid-same refl (omega (arith, took.1)) (omega (arith, ap length took.0)) refl run.1.2) in
       let last_one = (does (send_does I) sent).counts run.0 in
       omega (arith, meter_made I cost meter sent.0 (inner last) w sent.1, last_one.2, run.1.1, calls_for-min (buffer last), bound)
-
--- the calls of a run are calls that its writer may make
-pub run_made : {B : Type 0} {J : Writer B} {old new : B} {ops : List Op} {replies : List Reply} (run : RunCalls J old ops replies new)
-    → Made J.may old run.calls new
-run_made {J = J} {old} {new} run = made_map (CallOf J) J.may (λ w. w) (λ a b call law. law_may J a b call law) run.calls old new run.made

@@ -1,11 +1,14 @@
--- A run and one more call.
-use Rattle.no_std_io2.proofs.Words.{CallOf, Writer, ◌≡◌, ℕ, List, [], ◌∷◌, ◌++◌, refl, sym, ap, ◌∙◌, append_assoc, append-nil, Told}
-use Rattle.no_std_io2.proofs.Words.{WriteCall, Made, Through}
+-- For `run_writes`: the law of a run follows from its calls. And runs through buffers.
+use Rattle.no_std_io2.proofs.Words.{CallOf, TakesAll, Writer, ◌≡◌, List, [], ◌∷◌, ◌++◌, ℕ, refl, sym, ap, ◌∙◌, append_assoc, append-nil}
+use Rattle.no_std_io2.proofs.Words.{common_steps, arith, Moves, WriteCall, Made, Through, take}
 use Rattle.std.specs.List.{AllZip}
-use Rattle.no_std_io2.proofs.{CallsLemmas.{made_then}, TowerCalls.{through}, MovesLemmas.{Moves-trans}}
-use Rattle.io_bench.specs.{declared.runs.Op.{Op}, declared.runs.Reply.{Reply}}
-use Rattle.io_bench.specs.Runs.{Accepts, Run, mishap_of, mishaps_of, IsFlushed, EndsFlushed, CallReplies, Ran, JoinsEach, OpCalls, RunCalls}
-use Rattle.io_bench.specs.Runs.{RunBelow}
+use Rattle.no_std_io2.proofs.{AllFacts.{all_calls}, CallsLemmas.{made_then, made_split}, TowerCalls.{through}}
+use Rattle.no_std_io2.proofs.MovesLemmas.{Moves-refl, Moves-steady, Moves-trans}
+use Rattle.io_bench.specs.{declared.runs.Op.{Op}, declared.runs.Op.TheVariants.{Write, WriteAll, Flush}, declared.runs.Reply.{Reply}}
+use Rattle.io_bench.specs.declared.runs.Reply.TheVariants.{Took, Done, Failed}
+use Rattle.io_bench.specs.Runs.{Accepts, AreWhole, EndsFlushed, IsFlushed, IsWhole, JoinsEach, OpCalls, Ran, RunBelow, RunCalls, RunLaw}
+use Rattle.io_bench.specs.Runs.{mishap_of}
+use Rattle.io_bench.proofs.FailureLemmas.{ran_by}
 
 -- one call more
 pub JoinsEach-more : {A : Type 0} (gives : Op → Reply → List A → Type 0) (ops : List Op) (replies : List Reply) (xs : List A)
@@ -16,38 +19,12 @@ JoinsEach-more gives (o ∷ ops) (q ∷ replies) xs op reply ys r a =
     (r.0, r.1 ++ ys, r.2, JoinsEach-more gives ops replies r.1 op reply ys r.3 a, ap (λ l. l ++ ys) r.4 ∙ append_assoc r.0 r.1 ys)
 JoinsEach-more gives _ _ xs op reply ys r a = absurd r
 
--- the mishap of one more call, if it has one, follows those of the run
-mishaps_of-more : (ops : List Op) (replies : List Reply) (xs : List ℕ) (op : Op) (reply : Reply) → Run ops replies xs
-    → mishaps_of (ops ++ op ∷ []) (replies ++ reply ∷ []) ≡ mishaps_of ops replies ++ mishap_of op reply
-mishaps_of-more [] [] xs op reply r = append-nil (mishap_of op reply)
-mishaps_of-more (o ∷ ops) (q ∷ replies) xs op reply r =
-    simp (mishaps_of-more ops replies r.1 op reply r.3, append_assoc)
-mishaps_of-more _ _ xs op reply r = absurd r
-
--- if a run with one more call ends in a flush that succeeded, that call is this flush
-pub EndsFlushed-more : (ops : List Op) (replies : List Reply) (xs : List ℕ) (op : Op) (reply : Reply) → Run ops replies xs
-    → EndsFlushed (ops ++ op ∷ []) (replies ++ reply ∷ []) → IsFlushed op reply
-EndsFlushed-more [] [] xs op reply r e = e
-EndsFlushed-more (o ∷ []) (q ∷ []) xs op reply r e = e
-EndsFlushed-more (o ∷ p ∷ ops) (q ∷ s ∷ replies) xs op reply r e = EndsFlushed-more (p ∷ ops) (s ∷ replies) r.1 op reply r.3 e
-EndsFlushed-more (o ∷ _) (q ∷ _) xs op reply r e = absurd r.3
-EndsFlushed-more _ _ xs op reply r e = absurd r
-
 -- what holds of each call and its reply, and of one more
 pub AllZip-more : (P : Op → Reply → Type 0) (ops : List Op) (replies : List Reply) (op : Op) (reply : Reply) → AllZip P ops replies
     → P op reply → AllZip P (ops ++ op ∷ []) (replies ++ reply ∷ [])
 AllZip-more P [] [] op reply r a = (a, tt)
 AllZip-more P (o ∷ ops) (q ∷ replies) op reply r a = (r.0, AllZip-more P ops replies op reply r.1 a)
 AllZip-more P _ _ op reply r a = absurd r
-
--- a run, and one more call from the state that it left, are a run together
-pub Ran-more : {a b c : Told} {op : Op} {reply : Reply} (ops : List Op) (replies : List Reply) → Ran a ops replies b
-    → CallReplies b op reply c → Ran a (ops ++ op ∷ []) (replies ++ reply ∷ []) c
-Ran-more ops replies r s = record {
-  accepted = r.accepted ++ s.accepted;
-  run = JoinsEach-more Accepts ops replies _ _ _ _ r.run s.accepts;
-  moves = rw (mishaps_of-more ops replies _ _ _ r.run) (Moves-trans r.moves s.moves);
-}
 
 -- the calls of one more
 pub RunCalls-more : {W : Type 0} {I : Writer W} {a b c : W} (ops : List Op) (op : Op) (replies : List Reply) (reply : Reply)
@@ -59,12 +36,111 @@ RunCalls-more {I = I} {a} {b} {c} ops op replies reply r s = record {
   joined = JoinsEach-more OpCalls ops replies r.calls op reply s.0 r.joined s.2;
 }
 
--- a run is one of the writer itself
-pub below_none : {W : Type 0} {I : Writer W} {a b : W} {ops : List Op} {replies : List Reply} → RunCalls I a ops replies b
-    → RunBelow I (λ calls below. below ≡ calls) a ops replies b
-below_none r = record { calls = r.calls; joined = r.joined; below = r.calls; made = r.made; is = refl }
+-- what the calls did that one call of a run made
+record OpLaw {W : Type 0} (I : Writer W) (old : W) (op : Op) (reply : Reply) (new : W) : Type 0 where
+  accepted : List ℕ
+  accepts : Accepts op reply accepted
+  moves : Moves (I.told old) accepted (mishap_of op reply) (I.told new)
+  flushed : IsFlushed op reply → (I.told new).held ≡ []
+  all : TakesAll I old → TakesAll I new × IsWhole op reply
 
--- and one of what is below its buffer
+-- the only call that was made
+pub made_one : {X A : Type 0} (may : X → A → X → Type 0) {call : A} {C : List A} (a b : X) → C ≡ call ∷ [] → Made may a C b → may a call b
+made_one may {call} a b is made = grind (arith, common_steps)
+
+module _ {W : Type 0} (I : Writer W) where
+  -- it follows from the laws of these calls
+  op_law : (op : Op) (reply : Reply) (C : List WriteCall) → OpCalls op reply C → (a b : W) → Made (CallOf I) a C b → OpLaw I a op reply b
+  op_law (Write x) (Took n) C is a b made =
+      let law = made_one (CallOf I) a b is made in
+      record {
+        accepted = take n x.now;
+        accepts = (law.bound, refl);
+        moves = law.moves;
+        flushed = λ ends. absurd ends;
+        all = λ t. let (now, whole) = law.all t in (now, cc whole);
+      }
+  op_law (Write x) (Failed e) C is a b made =
+      let law = made_one (CallOf I) a b is made in
+      record {
+        accepted = [];
+        accepts = refl;
+        moves = law.moves;
+        flushed = λ ends. absurd ends;
+        all = λ t. absurd (Moves-steady t.1 law.moves);
+      }
+  op_law (WriteAll x) Done C is a b made =
+      let (_, front, all) = all_calls I is a b made in
+      record {
+        accepted = front.accepted;
+        accepts = front.whole;
+        moves = front.moves;
+        flushed = λ ends. absurd ends;
+        all = λ t. ((all t).0, tt);
+      }
+  op_law (WriteAll x) (Failed e) C is a b made =
+      let (_, front, all) = all_calls I is a b made in
+      record {
+        accepted = front.accepted;
+        accepts = front.front;
+        moves = front.moves;
+        flushed = λ ends. absurd ends;
+        all = λ t. absurd (let no : ⊥ = cc (all t).1 in no);
+      }
+  op_law Flush Done C is a b made =
+      let law = made_one (CallOf I) a b is made in
+      record { accepted = []; accepts = refl; moves = law.moves; flushed = λ ends. law.empty; all = λ t. (law.all t, tt) }
+  op_law Flush (Failed e) C is a b made =
+      let law = made_one (CallOf I) a b is made in
+      record {
+        accepted = [];
+        accepts = refl;
+        moves = law.moves;
+        flushed = λ ends. absurd ends;
+        all = λ t. absurd (Moves-steady t.1 law.moves);
+      }
+  op_law _ _ C is a b made = absurd is
+
+  -- after the last call nothing is held if it is a flush that succeeded
+  last_flushed : (op : Op) (ops : List Op) (reply : Reply) (replies : List Reply) (mid b : W)
+      → (IsFlushed op reply → (I.told mid).held ≡ []) → (ops ≡ [] → b ≡ mid) → (EndsFlushed ops replies → (I.told b).held ≡ [])
+      → EndsFlushed (op ∷ ops) (reply ∷ replies) → (I.told b).held ≡ []
+  last_flushed op [] reply [] mid b now same later ends = ap (λ w. (I.told w).held) (same refl) ∙ now ends
+  last_flushed op [] reply (r ∷ replies) mid b now same later ends = absurd ends
+  last_flushed op (next ∷ ops) reply replies mid b now same later ends = later ends
+
+  -- so does what a run did
+  joined_law : (ops : List Op) (replies : List Reply) (C : List WriteCall) → JoinsEach OpCalls ops replies C → (a b : W)
+      → Made (CallOf I) a C b
+      → Ran (I.told a) ops replies (I.told b) × (TakesAll I a → TakesAll I b × AreWhole ops replies)
+  joined_law [] [] C none a b made = grind (arith, common_steps, ran_by, Moves-refl)
+  joined_law (op ∷ ops) (reply ∷ replies) C (first, rest, one, more, is) a b made =
+      let (mid, now, later) = made_split (CallOf I) first a rest b (rw is at made) in
+      let law = op_law op reply first one a mid now in
+      let (ran, all) = joined_law ops replies rest more mid b later in (
+        ran_by (law.accepted ++ ran.accepted) (law.accepted, ran.accepted, law.accepts, ran.run, refl) (Moves-trans law.moves ran.moves)
+            (last_flushed op ops reply replies mid b law.flushed (λ none. grind (arith, common_steps, none)) ran.flushed),
+        λ t. let now = law.all t in let later = all now.0 in (later.0, (now.1, later.1)),
+      )
+  joined_law _ _ C joined a b made = absurd joined
+
+  -- the law of a run follows from the laws of its calls
+  pub run_law : {a b : W} {ops : List Op} {replies : List Reply} → RunCalls I a ops replies b → RunLaw I a ops replies b
+  run_law {a} {b} {ops} {replies} run =
+      let (ran, all) = joined_law ops replies run.calls run.joined a b run.made in record { calls = run; ran = ran; all = all }
+
+-- a run through a buffer is a run of what is below it
+pub below_first : {W B : Type 0} (I : Writer W) {K : Writer B} (inner : B → W) (buffer : B → List ℕ)
+    (level : List ℕ → WriteCall → List WriteCall → List ℕ → Type 0)
+    → ((a b : B) (call : WriteCall) → K.may a call b
+    → (D : List WriteCall) × Made (CallOf I) (inner a) D (inner b) × level (buffer a) call D (buffer b))
+    → {a b : B} {ops : List Op} {replies : List Reply} → RunCalls K a ops replies b
+    → RunBelow I (λ calls below. Through level (buffer a) calls below (buffer b)) (inner a) ops replies (inner b)
+below_first I {K = K} inner buffer level each {a = a} {b = b} r =
+    let (below, made, is) = through I K inner buffer level each r.calls a b r.made in
+    record { calls = r.calls; joined = r.joined; below = below; made = made; is = is }
+
+-- and one through two buffers
 pub below_more : {W B : Type 0} (I : Writer W) {K : Writer B} (inner : B → W) (buffer : B → List ℕ)
     (level : List ℕ → WriteCall → List WriteCall → List ℕ → Type 0)
     → ((a b : B) (call : WriteCall) → K.may a call b
@@ -74,5 +150,11 @@ pub below_more : {W B : Type 0} (I : Writer W) {K : Writer B} (inner : B → W) 
     → RunBelow I (λ calls below. (mid : List WriteCall) × tower calls mid × Through level (buffer a) mid below (buffer b))
     (inner a) ops replies (inner b)
 below_more I {K = K} inner buffer level each {a = a} {b = b} r =
-    let below = through I K inner buffer level each r.below a b r.made in
-    record { calls = r.calls; joined = r.joined; below = below.0; made = below.1; is = (r.below, r.is, below.2) }
+    let (below, made, is) = through I K inner buffer level each r.below a b r.made in
+    record { calls = r.calls; joined = r.joined; below = below; made = made; is = (r.below, r.is, is) }
+
+-- such a run, if the calls of the device are related otherwise too
+pub below_map : {W : Type 0} {I : Writer W} {tower tower' : List WriteCall → List WriteCall → Type 0} {a b : W} {ops : List Op}
+    {replies : List Reply} → ((calls below : List WriteCall) → tower calls below → tower' calls below) → RunBelow I tower a ops replies b
+    → RunBelow I tower' a ops replies b
+below_map each r = record { calls = r.calls; joined = r.joined; below = r.below; made = r.made; is = each r.calls r.below r.is }

@@ -13,21 +13,22 @@ use Rattle.no_std_io2.specs.BufReader.{reader_held, reader_inner}
 use Rattle.io_bench.specs.declared.asks.Ask.{Ask}
 use Rattle.io_bench.specs.declared.asks.Ask.TheVariants.{Read, Exact, Fill}
 
--- Whether an ask met the end, by the result of its call. A read did if it gave no byte and nothing is held,
+-- whether a read met the end, by its result: it gave no byte, and nothing is held
 abbrev pub read_answer : Result (List ℕ) Error → List ℕ → Result Bool Error
 read_answer (Ok x) held = Ok (nat_eq (length x) 0 && nat_eq (length held) 0)
 read_answer (Err e) held = Err e
 
--- an error of an exact read if it is of this kind,
+-- an error of this kind is the end, and any other stays an error
 abbrev pub end_or_error : ErrorKind → Error → Result Bool Error
 end_or_error UnexpectedEof e = Ok true
 end_or_error _ e = Err e
 
+-- whether an exact read met the end, by its result: it failed for want of bytes
 abbrev pub exact_answer : Result (Unit {0}) Error → Result Bool Error
 exact_answer (Ok u) = Ok false
 exact_answer (Err e) = end_or_error (error_kind e) e
 
--- and a fill if it lent nothing.
+-- whether a `fill_buf` met the end, by its result: it lent nothing
 abbrev pub fill_answer : Result (List ℕ) Error → Result Bool Error
 fill_answer (Ok x) = Ok (nat_eq (length x) 0)
 fill_answer (Err e) = Err e

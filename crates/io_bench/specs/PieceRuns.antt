@@ -1,11 +1,11 @@
 -- The items of a whole `split` or `lines`.
-use Rattle.std.specs.Prelude.{◌≡◌, ℕ, ◌⊎◌, ◌<◌, List, ◌∷◌, ◌++◌, length, map, filter, Option, None, Some, Result, Ok, Err}
+use Rattle.std.specs.Prelude.{◌≡◌, ℕ, ◌⊎◌, ◌<◌, List, ◌∷◌, ◌++◌, length, map, Option, None, Some, Result, Ok, Err}
 use Rattle.std.specs.List.{concat}
 use Rattle.no_std_io2.specs.declared.io.Error.{Error}
-use Rattle.no_std_io2.specs.Errors.{IsFault, IsOutOfMemory}
-use Rattle.no_std_io2.specs.Events.{Event, fails, bytes, bytes_to_fault, HasNoFault}
+use Rattle.no_std_io2.specs.Errors.{IsOutOfMemory}
+use Rattle.no_std_io2.specs.Events.{Event, bytes, bytes_to_fault, first_fault, HasNoFault}
 use Rattle.no_std_io2.specs.Write.{Made}
-use Rattle.no_std_io2.specs.Pieces.{ends_in, pieces, pieces_given}
+use Rattle.no_std_io2.specs.Pieces.{pieces, pieces_given}
 
 -- no fault was to come, and these are the pieces of all bytes, trimmed
 pub record AllPieces (trim : List ℕ → List ℕ) (d : ℕ) (E : List Event) (items : List (List ℕ)) : Type 0 where
@@ -14,12 +14,8 @@ pub record AllPieces (trim : List ℕ → List ℕ) (d : ℕ) (E : List Event) (
 
 -- e is the first fault, and these are the pieces that a d ended before it, trimmed
 pub record PiecesToFault (trim : List ℕ → List ℕ) (d : ℕ) (E : List Event) (e : Error) (items : List (List ℕ)) : Type 0 where
-  pub before : List Event
-  pub behind : List Event
-  pub split : E ≡ before ++ fails e ∷ behind
-  pub no_fault : HasNoFault before
-  pub fault : IsFault e
-  pub are : items ≡ map trim (filter (ends_in d) (pieces d (bytes before)))
+  pub fault : first_fault E ≡ Some e
+  pub are : items ≡ map trim (pieces_given d E)
 
 -- these are the pieces, trimmed, before one that is refused with the error e
 pub record PiecesToRefused (trim : List ℕ → List ℕ) (refuses : List ℕ → Error → Type 0) (d : ℕ) (E : List Event)

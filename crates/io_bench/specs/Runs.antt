@@ -1,5 +1,5 @@
 -- The bytes that replies accept, the calls that failed, and whole runs.
-use Rattle.no_std_io2.specs.Writers.{CallOf, Writer}
+use Rattle.no_std_io2.specs.Writers.{CallOf, TakesAll, Writer}
 use Rattle.std.specs.Prelude.{◌≡◌, ℕ, ◌+◌, ◌≤◌, ◌==◌, ◌&&◌, nat_lt, Bool, true, false, if◌then◌else◌, List, [], ◌∷◌}
 use Rattle.std.specs.Prelude.{◌++◌, length, take, count_by, ⊤, Option, None, Some, Ok, Err}
 use Rattle.std.specs.List.{AllZip}
@@ -71,12 +71,6 @@ abbrev pub mishaps_of : List Op → List Reply → List ErrorKind
 mishaps_of (op ∷ ops) (reply ∷ replies) = mishap_of op reply ++ mishaps_of ops replies
 mishaps_of _ _ = []
 
--- calls in a row and their replies, from old to new
-pub record Ran (old : Told) (ops : List Op) (replies : List Reply) (new : Told) : Type 0 where
-  pub accepted : List ℕ
-  pub run : Run ops replies accepted
-  pub moves : Moves old accepted (mishaps_of ops replies) new
-
 -- whether a call failed: with an error, or because a write took none of its bytes
 abbrev pub is_failure : Op → Reply → Bool
 is_failure (Write x) (Took n) = (n == 0) && nat_lt 0 (length x.now)
@@ -130,9 +124,23 @@ IsWhole _ _ = ⊥
 abbrev pub AreWhole : List Op → List Reply → Type 0
 AreWhole ops replies = AllZip IsWhole ops replies
 
--- one call and its reply, from old to new
-pub record CallReplies (old : Told) (op : Op) (reply : Reply) (new : Told) : Type 0 where
+-- From old to new a writer got these calls, and gave these replies.
+pub record Ran (old : Told) (ops : List Op) (replies : List Reply) (new : Told) : Type 0 where
+  -- exactly what the replies say was accepted
   pub accepted : List ℕ
-  pub accepts : Accepts op reply accepted
-  pub moves : Moves old accepted (mishap_of op reply) new
-  pub flushed : IsFlushed op reply → new.held ≡ []
+  pub run : Run ops replies accepted
+  pub moves : Moves old accepted (mishaps_of ops replies) new
+  -- if the last call is a flush that succeeded, nothing is held
+  pub flushed : EndsFlushed ops replies → new.held ≡ []
+  -- at most as many calls failed as mishaps were told, in all and of each kind
+  pub failed : IsShorterBy (failures ops replies) old.mishaps new.mishaps
+  pub kinds : (kind : ErrorKind) → HasFewer kind (failures_of kind ops replies) old.mishaps new.mishaps
+
+-- what a run of calls does to a writer
+pub record RunLaw {W : Type 0} (I : Writer W) (old : W) (ops : List Op) (replies : List Reply) (new : W) : Type 0 where
+  -- each call was made once, in order, and no other call; its reply is its result
+  pub calls : RunCalls I old ops replies new
+  -- exactly what the replies say was accepted, and at most as many calls failed as mishaps were told
+  pub ran : Ran (I.told old) ops replies (I.told new)
+  -- if the writer takes all, each call succeeded and accepted all its bytes
+  pub all : TakesAll I old → TakesAll I new × AreWhole ops replies

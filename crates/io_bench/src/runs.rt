@@ -1,12 +1,10 @@
 // [`run_writes`], a list of calls on any writer.
-ghost use Rattle.no_std_io2.specs.Writers.{TakesAll, CallOf};
-ghost use Rattle.std.specs.Prelude.{◌≡◌, ◌+◌, ◌<◌, List, [], ◌++◌, Some, OnOk, OnErr, IfErr, length, vec_len, vec_capacity};
+ghost use Rattle.std.specs.Prelude.{◌≡◌, ◌+◌, ◌<◌, List, ◌++◌, OnOk, OnErr, IfErr, length, vec_len, vec_capacity};
 ghost use Rattle.no_std_io2.specs.Errors.{IsOutOfMemory};
 ghost use Rattle.no_std_io2.specs.Write.{WriteCall, Made};
-ghost use Rattle.no_std_io2.specs.declared.io.ErrorKind.{ErrorKind};
+ghost use Rattle.no_std_io2.specs.Writers.{CallOf};
 ghost use Rattle.io_bench.specs.Appended.{appended};
-ghost use Rattle.io_bench.specs.Runs.{CallReplies, Ran, EndsFlushed, failures, failures_of, IsShorterBy};
-ghost use Rattle.io_bench.specs.Runs.{HasFewer, AreWhole, IsWhole, OpCalls, RunCalls};
+ghost use Rattle.io_bench.specs.Runs.{OpCalls, RunLaw};
 
 use no_std_io2::io::{Error, Result, Write};
 use std::alloc::Allocator;
@@ -35,9 +33,7 @@ pub enum Reply {
 
 // Makes one call.
 fn make_call<W: Write>(w: &mut W, op: Op<'_>) -> Reply
-    ensures answers { CallReplies (W.told w.old) op.entry result (W.told w.new) }
-    ensures all { TakesAll W.Write w.old → TakesAll W.Write w.new × IsWhole op.entry result }
-    ensures calls { (calls : List WriteCall) × Made (CallOf W.Write) w.old calls w.new × OpCalls op.entry result calls }
+    ensures { (calls : List WriteCall) × Made (CallOf W.Write) w.old calls w.new × OpCalls op.entry result calls }
 {
     match op {
         Op::Write(x) => match w.write(x) {
@@ -72,25 +68,8 @@ pub fn run_writes<W: Write>(
 ) -> Result<()>
     ensures appends { OnOk result (replies.new.items
         ≡ replies.old.items ++ appended replies.old.items replies.new.items) }
-    // There is one reply for each call, and exactly what the replies say was accepted.
-    ensures ran { OnOk result (Ran (W.told w.old) ops.now
-        (appended replies.old.items replies.new.items) (W.told w.new)) }
-    // Each call was made once, in order, and no other call; its reply is its result.
-    ensures calls { OnOk result (RunCalls W.Write w.old ops.now
-        (appended replies.old.items replies.new.items) w.new) }
-    ensures flushed { OnOk result (EndsFlushed ops.now (appended replies.old.items replies.new.items)
-        → (W.told w.new).held ≡ []) }
-    // At most as many calls failed as mishaps were told.
-    ensures failures { OnOk result (IsShorterBy
-        (failures ops.now (appended replies.old.items replies.new.items))
-        (W.told w.old).mishaps (W.told w.new).mishaps) }
-    ensures kinds { OnOk result ((kind : ErrorKind) → HasFewer kind
-        (failures_of kind ops.now (appended replies.old.items replies.new.items))
-        (W.told w.old).mishaps (W.told w.new).mishaps) }
-    ensures steady { OnOk result ((W.told w.old).mishaps ≡ Some []
-        → failures ops.now (appended replies.old.items replies.new.items) ≡ 0) }
-    ensures all { OnOk result (TakesAll W.Write w.old → TakesAll W.Write w.new
-        × AreWhole ops.now (appended replies.old.items replies.new.items)) }
+    // There is one reply for each call. Each call was made once, in order, and no other call; its reply is its result.
+    ensures law { OnOk result (RunLaw W.Write w.old ops.now (appended replies.old.items replies.new.items) w.new) }
     ensures kind { IfErr result IsOutOfMemory }
     // It does not fail if there is room for the replies.
     ensures full { OnErr result (vec_capacity replies.old < vec_len replies.old + length ops.now) }

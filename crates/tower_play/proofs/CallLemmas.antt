@@ -1,4 +1,4 @@
--- The calls of a script, one after another.
+-- For `Calls::ops`: the calls of a script, one after another.
 use Rattle.no_std_io2.proofs.Words.{ℕ, ◌+◌, ◌<◌, List, [], ◌∷◌, ◌++◌, length, get_or, take, refl, subst, sym, take_more}
 use Rattle.io_bench.specs.declared.runs.Op.{Op}
 use Rattle.tower_play.specs.{declared.script.Step.{Step}, Calls.{IsNext, AreOps}}

@@ -1,4 +1,4 @@
--- A text that is shown run by run.
+-- For `push_escaped`: a text that is shown run by run.
 use Rattle.no_std_io2.proofs.Words.{◌≡◌, ℕ, ◌+◌, ◌≤◌, ◌<◌, List, [], ◌∷◌, ◌++◌, length, take, drop, get_or, arith, append-nil, take_more}
 use Rattle.no_std_io2.proofs.Words.{common_steps}
 use Rattle.std.proofs.lemmas.Grind.{flat_map-append}

@@ -1,4 +1,4 @@
--- The text after the letter of a line that makes a call.
+-- For `parse_line`: the text after the letter of a line that makes a call.
 use Rattle.no_std_io2.proofs.Words.{◌≡◌, ℕ, List, ◌∷◌, get_or, subst, ap, arith}
 use Rattle.io_bench.specs.declared.faulty.Act.TheVariants.{Take, Zero, Fail}
 use Rattle.tower_play.specs.{declared.script.Line.{Line}, declared.script.Line.TheVariants.{Empty, Act, Write, WriteAll, Flush, Bad}}

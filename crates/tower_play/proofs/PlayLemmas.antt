@@ -1,11 +1,13 @@
--- What a play writes.
-use Rattle.no_std_io2.proofs.Words.{CallOf, ◌≡◌, ℕ, List, [], ◌∷◌, ◌++◌, subst, ap, refl, append_assoc, Ok, Err, Result, IfOk, ◌∙◌}
+-- For `play`: what it writes, and which calls its tower made of the device.
+use Rattle.no_std_io2.proofs.Words.{CallOf, Vec, told_out, arith, common_steps, ◌≡◌, ℕ, List, [], ◌∷◌, ◌++◌, subst, ap, ap₂, refl}
+use Rattle.no_std_io2.proofs.Words.{append_assoc, Ok, Err, Result, IfOk, ◌∙◌}
 use Rattle.no_std_io2.proofs.Words.{error_kind, Told, Moves, MovesFront, Writer, WriteCall, Made, InnerCalls, with_buffer, Through}
 use Rattle.no_std_io2.specs.{declared.io.Error.{Error}, Faults.{MayFail}}
 use Rattle.no_std_io2.proofs.{MovesLemmas.{Moves-ends}, FaultLemmas.{may_fail}}
-use Rattle.io_bench.specs.{declared.faulty.Act.{Act}, declared.faulty.Faulty.{Faulty}, declared.runs.Op.{Op}, Faulty.{acts_left}}
-use Rattle.io_bench.specs.{Runs.{Ran}}
-use Rattle.io_bench.proofs.RunLemmas.{below_none, below_more}
+use Rattle.io_bench.specs.{declared.faulty.Act.{Act}, declared.faulty.Faulty.{Faulty}}
+use Rattle.io_bench.specs.{declared.runs.Op.{Op}, Faulty.{acts_left, faulty_inner, with_acts}}
+use Rattle.io_bench.specs.{Runs.{Ran, RunBelow}}
+use Rattle.io_bench.proofs.RunLemmas.{below_first, below_map, below_more}
 use Rattle.tower_play.specs.{declared.playing.Shape.{Shape}, Report.{printed_report}}
 use Rattle.tower_play.specs.{Play.{WritesText, Shows, ShowsRun, TowerCalls, TwoLevels, fresh_told}}
 
@@ -28,89 +30,67 @@ abbrev pub Each : {W B : Type 0} → Writer W → Writer B → (B → W) → (B 
 Each {B = B} I K inner buffer level = (a b : B) (call : WriteCall) → K.may a call b
     → (D : List WriteCall) × Made (CallOf I) (inner a) D (inner b) × level (buffer a) call D (buffer b)
 
+-- an empty vector with these acts in front has taken nothing
+pub fresh_at : {Z : Type 0} {v : Vec ℕ Z} (base : Faulty (Vec ℕ Z)) {acts : List Act} → faulty_inner base ≡ v → v.items ≡ []
+    → acts_left base ≡ acts → with_acts (told_out (faulty_inner base).items) (acts_left base) ≡ fresh_told acts
+fresh_at base inner empty are = grind (arith, common_steps)
+
 module _ {W : Type 0} (I : Writer (Faulty W)) (none : (w : Faulty W) → (I.told w).held ≡ []) {acts : List Act} {base : Faulty W}
-    (left : acts_left base ≡ acts) (fresh : I.told base ≡ fresh_told acts) {ops : List Op} {text : List ℕ} where
-  -- a run on one level over a fresh device
-  pub one_level : (shape : Shape) {B : Type 0} {K : Writer B} (inner : B → Faulty W) (buffer : B → List ℕ) (level : Level)
-      → Each I K inner buffer level → ((b : B) → K.told b ≡ with_buffer (I.told (inner b)) (buffer b))
-      → ((calls below : List WriteCall) (held : List ℕ) → Through level [] calls below held → TowerCalls shape calls below held)
-      → (old : B) → inner old ≡ base → buffer old ≡ [] → ShowsRun K old ops text → Shows I shape acts ops text
-  one_level shape {K = K} inner buffer level each told is old at empty run =
-      let r = below_more I inner buffer level each (below_none run.calls) in
+    (left : acts_left base ≡ acts) (fresh : I.told base ≡ fresh_told acts) {ops : List Op} {text : List ℕ} (shape : Shape) where
+  -- a run on a tower over a fresh device
+  shows : {B : Type 0} {K : Writer B} (device : B → Faulty W) (held : B → List ℕ)
+      → ((b : B) → K.told b ≡ with_buffer (I.told (device b)) (held b)) → (old : B) → device old ≡ base → held old ≡ []
+      → (run : ShowsRun K old ops text)
+      → RunBelow I (λ calls below. TowerCalls shape calls below (held run.new)) (device old) ops run.replies (device run.new)
+      → Shows I shape acts ops text
+  shows {K = K} device held told old at empty run calls =
       let start : K.told old ≡ fresh_told acts =
-      told old ∙ ap (λ h. with_buffer (I.told (inner old)) h) empty ∙ ap (λ w. with_buffer (I.told w) []) at
-      ∙ ap (λ t. with_buffer t []) fresh in
+      told old ∙ ap₂ (λ w h. with_buffer (I.told w) h) at empty ∙ ap (λ t. with_buffer t []) fresh in
+      let end = told run.new in
       record {
         replies = run.replies;
-        old = inner old;
+        old = device old;
         fresh = (ap acts_left at ∙ left, ap I.told at ∙ fresh);
-        new = inner run.new;
-        held = buffer run.new;
+        new = device run.new;
+        held = held run.new;
         ran =
-            subst (λ t. Ran (fresh_told acts) ops run.replies t) (told run.new)
-            (subst (λ t. Ran t ops run.replies (K.told run.new)) start run.ran);
-        calls = record {
-          calls = r.calls;
-          joined = r.joined;
-          below = r.below;
-          made = r.made;
-          is = is r.calls r.below (buffer run.new)
-              (subst (λ h. Through level h r.calls r.below (buffer run.new)) empty
-              (subst (λ c. Through level (buffer old) c r.below (buffer run.new)) r.is.1 r.is.2));
-        };
+            subst (λ t. Ran (fresh_told acts) ops run.replies t) end
+            (subst (λ t. Ran t ops run.replies (K.told run.new)) start run.law.ran);
+        calls = calls;
         shown =
-            run.shown ∙ ap (λ t. printed_report run.replies t.out t.held) (told run.new)
-            ∙ ap (λ h. printed_report run.replies (I.told (inner run.new)).out (h ++ buffer run.new)) (none (inner run.new));
+            run.shown ∙ ap (λ t. printed_report run.replies t.out t.held) end
+            ∙ ap (λ h. printed_report run.replies (I.told (device run.new)).out (h ++ held run.new)) (none (device run.new));
       }
 
-  -- a run on a level over a buffer over a fresh device
-  pub two_levels : (shape : Shape) {B C : Type 0} {J : Writer B} {K : Writer C} (inner : B → Faulty W) (buffer : B → List ℕ)
-      (outer : C → B) (above : C → List ℕ) (level : Level)
-      → Each I J inner buffer (InnerCalls 8) → Each J K outer above level
+  -- a run on one level
+  pub one_level : {B : Type 0} {K : Writer B} (inner : B → Faulty W) (buffer : B → List ℕ) (level : Level) → Each I K inner buffer level
+      → ((b : B) → K.told b ≡ with_buffer (I.told (inner b)) (buffer b))
+      → ((calls below : List WriteCall) (held : List ℕ) → Through level [] calls below held → TowerCalls shape calls below held)
+      → (old : B) → inner old ≡ base → buffer old ≡ [] → ShowsRun K old ops text → Shows I shape acts ops text
+  one_level inner buffer level each told is old at empty run = shows inner buffer told old at empty run
+      (below_map (λ calls below t. is calls below _ (subst (λ h. Through level h calls below (buffer run.new)) empty t))
+      (below_first I inner buffer level each run.law.calls))
+
+  -- a run on a level over a buffer
+  pub two_levels : {B C : Type 0} {J : Writer B} {K : Writer C} (inner : B → Faulty W) (buffer : B → List ℕ)
+      (outer : C → B) (above : C → List ℕ) (level : Level) → Each I J inner buffer (InnerCalls 8) → Each J K outer above level
       → ((c : C) → K.told c ≡ with_buffer (with_buffer (I.told (inner (outer c))) (buffer (outer c))) (above c))
       → ((calls below : List WriteCall) (held : List ℕ) → TwoLevels level calls below held → TowerCalls shape calls below held)
       → (old : C) → inner (outer old) ≡ base → buffer (outer old) ≡ [] → above old ≡ []
       → ShowsRun K old ops text → Shows I shape acts ops text
-  two_levels shape {J = J} {K} inner buffer outer above level each each' told is old at empty empty' run =
-      let q = below_more J outer above level each' (below_none run.calls) in
-      let r = below_more I inner buffer (InnerCalls 8) each q in
-      let new = run.new in
-      let held = buffer (outer new) ++ above new in
-      let start : K.told old ≡ fresh_told acts =
-      told old ∙ ap (λ h. with_buffer (with_buffer (I.told (inner (outer old))) (buffer (outer old))) h) empty'
-      ∙ ap (λ h. with_buffer (with_buffer (I.told (inner (outer old))) h) []) empty
-      ∙ ap (λ w. with_buffer (with_buffer (I.told w) []) []) at ∙ ap (λ t. with_buffer (with_buffer t []) []) fresh in
-      let end : K.told new ≡ with_buffer (I.told (inner (outer new))) held =
-      told new ∙ ap (λ h. record (I.told (inner (outer new))) { held = h })
-      (append_assoc (I.told (inner (outer new))).held (buffer (outer new)) (above new)) in
-      record {
-        replies = run.replies;
-        old = inner (outer old);
-        fresh = (ap acts_left at ∙ left, ap I.told at ∙ fresh);
-        new = inner (outer new);
-        held = held;
-        ran =
-            subst (λ t. Ran (fresh_told acts) ops run.replies t) end
-            (subst (λ t. Ran t ops run.replies (K.told new)) start run.ran);
-        calls = record {
-          calls = r.calls;
-          joined = r.joined;
-          below = r.below;
-          made = r.made;
-          is = is r.calls r.below held (
-            r.is.0,
-            above new,
-            buffer (outer new),
-            subst (λ h. Through level h r.calls r.is.0 (above new)) empty'
-                (subst (λ c. Through level (above old) c r.is.0 (above new)) r.is.1.1 r.is.1.2),
-            subst (λ h. Through (InnerCalls 8) h r.is.0 r.below (buffer (outer new))) empty r.is.2,
-            refl,
-          );
-        };
-        shown =
-            run.shown ∙ ap (λ t. printed_report run.replies t.out t.held) end
-            ∙ ap (λ h. printed_report run.replies (I.told (inner (outer new))).out (h ++ held)) (none (inner (outer new)));
-      }
+  two_levels {J = J} inner buffer outer above level each each' told is old at empty empty' run =
+      shows (λ c. inner (outer c)) (λ c. buffer (outer c) ++ above c)
+      (λ c. told c ∙ ap (λ h. record (I.told (inner (outer c))) { held = h })
+      (append_assoc (I.told (inner (outer c))).held (buffer (outer c)) (above c)))
+      old at (ap₂ (λ l m. l ++ m) empty empty') run
+      (below_map (λ calls below (mid, upper, lower). is calls below _ (
+        mid,
+        above run.new,
+        buffer (outer run.new),
+        subst (λ h. Through level h calls mid (above run.new)) empty' upper,
+        subst (λ h. Through (InnerCalls 8) h mid below (buffer (outer run.new))) empty lower,
+        refl,
+      )) (below_more I inner buffer (InnerCalls 8) each (below_first J outer above level each' run.law.calls)))
 
 -- one text is written and flushed
 pub writes_text : {P : List ℕ → Type 0} {a b c : Told} {x shown : List ℕ} → P x → shown ≡ x

@@ -1,18 +1,27 @@
--- How the lines that were read so far make a script.
-use Rattle.no_std_io2.proofs.Words.{◌≡◌, ℕ, ◌+◌, ◌-◌, ◌^◌, List, [], ◌∷◌, ◌++◌, false, Option, None, Some, refl, sym, subst, ap, ◌∙◌, arith}
-use Rattle.no_std_io2.proofs.Words.{◌<◌, length, length-append, append_assoc, Err, inl, inr, ◌⊎◌, common_steps, is_some, IsOutOfMemory}
-use Rattle.no_std_io2.proofs.Words.{Event, fails, bytes_to_fault, first_fault, Tells, without}
+-- For `Script::read`: how the lines that were read so far make a script.
+use Rattle.no_std_io2.proofs.Words.{◌≡◌, ℕ, ◌+◌, ◌-◌, ◌^◌, List, [], ◌∷◌, ◌++◌, false, true, Option, None, Some, refl, sym, subst, ap, ◌∙◌}
+use Rattle.no_std_io2.proofs.Words.{arith}
+use Rattle.no_std_io2.proofs.Words.{length, length-append, map, Result, Ok, Err, inl, inr, ◌⊎◌, common_steps, is_some}
+use Rattle.no_std_io2.proofs.Words.{append_assoc, IsFault, IsOutOfMemory, Event, byte, fails, first_fault, HasNoFault, Made, Lender}
+use Rattle.no_std_io2.proofs.Words.{lender_tells}
+use Rattle.no_std_io2.proofs.Words.{split_delim, split_reader, to_come, without}
 use Rattle.std.specs.{Prelude.{min}, Option.{IfSome}}
-use Rattle.no_std_io2.specs.{declared.io.Error.{Error}, Pieces.{pieces_given}, Faults.{HasFirstFault}}
-use Rattle.no_std_io2.proofs.GivenPieces.{GivesNext}
-use Rattle.io_bench.specs.PieceRuns.{GathersPieces}
-use Rattle.io_bench.proofs.PieceRunLemmas.{GatheredSoFar, GatheredToldSoFar, gathered_to}
-use Rattle.tower_play.specs.{declared.script.Script.{Script}, Reading.{Adds, AddsAll, IsFreshScript, IsBadLine, IsFirstBad}}
+use Rattle.no_std_io2.specs.{declared.io.Error.{Error}, declared.io.Split.{Split}, Pieces.{split_is_ended}, Faults.{HasFirstFault}}
+use Rattle.no_std_io2.proofs.Words.{Bool, error_kind, if◌then◌else◌}
+use Rattle.no_std_io2.specs.Errors.{is_interruption}
+use Rattle.no_std_io2.proofs.CallsLemmas.{made_more}
+use Rattle.io_bench.specs.PieceRuns.{AllPieces, GathersPieces, RunsNexts}
+use Rattle.io_bench.proofs.PieceRunLemmas.{run_gathers, split_next, split_takes}
+use Rattle.tower_play.specs.{declared.script.Script.{Script}, Reading.{Adds, AddsAll, IsBadAt, IsBadLine, IsFirstBad, IsFreshScript}}
+use Rattle.tower_play.specs.{Reading.{IsRead}}
 
 -- so many lines were read, and made the script, unless one of them was bad: then its number is known
-pub record ReadSoFar (d : ℕ) (old : Tells) (number : ℕ) (bad : Option ℕ) (script : Script) (now : Tells) : Type 0 where
+pub record ReadSoFar {S T : Type 0} (next : S → Option (Result T Error) → S → Type 0) (view : T → List ℕ) (old : S) (number : ℕ)
+    (bad : Option ℕ) (script : Script) (now : S) : Type 0 where
+  pub items : List T
+  pub made : Made (λ s x t. next s (Some (Ok x)) t) old items now
   pub lines : List (List ℕ)
-  pub gathered : GatheredToldSoFar (without d) d old lines now
+  pub are : map view items ≡ lines
   pub start : Script
   pub fresh : IsFreshScript start
   pub adds : bad ≡ None → AddsAll lines start script
@@ -20,13 +29,13 @@ pub record ReadSoFar (d : ℕ) (old : Tells) (number : ℕ) (bad : Option ℕ) (
   pub first : IfSome bad (IsFirstBad lines)
 
 -- one line more
-pub adds_more : (lines : List (List ℕ)) (line : List ℕ) (old mid new : Script) → AddsAll lines old mid → Adds line mid new
+adds_more : (lines : List (List ℕ)) (line : List ℕ) (old mid new : Script) → AddsAll lines old mid → Adds line mid new
     → AddsAll (lines ++ line ∷ []) old new
 adds_more [] line old mid new all one = (new, subst (λ s. Adds line s new) all one, refl)
 adds_more (l ∷ lines) line old mid new all one = (all.0, all.1, adds_more lines line all.0 mid new all.2 one)
 
 -- a first bad line stays the first
-pub first_more : (o : Option ℕ) (lines : List (List ℕ)) (line : List ℕ) → IfSome o (IsFirstBad lines)
+first_more : (o : Option ℕ) (lines : List (List ℕ)) (line : List ℕ) → IfSome o (IsFirstBad lines)
     → IfSome o (IsFirstBad (lines ++ line ∷ []))
 first_more None lines line first = tt
 first_more (Some n) lines line first = record {
@@ -43,7 +52,7 @@ first_more (Some n) lines line first = record {
 }
 
 -- a bad line after lines that made a script is the first
-pub first_here : (lines : List (List ℕ)) (line : List ℕ) (n next : ℕ) (start script : Script) → IsFreshScript start
+first_here : (lines : List (List ℕ)) (line : List ℕ) (n next : ℕ) (start script : Script) → IsFreshScript start
     → AddsAll lines start script → IsBadLine line script → n ≡ min (length lines) (2 ^ 64 - 1)
     → next ≡ min (n + 1) (2 ^ 64 - 1) → IsFirstBad (lines ++ line ∷ []) next
 first_here lines line n next start script fresh adds is count more = record {
@@ -59,30 +68,113 @@ first_here lines line n next start script fresh adds is count more = record {
   number = omega arith;
 }
 
--- a line that could not be read: the reader had its first fault, or an allocation failed
-pub stopped : {d : ℕ} {E mid : List Event} {lines : List (List ℕ)} {e : Error} → GatheredSoFar (without d) d E lines mid
-    → ((pieces_given d mid ≡ []) × (first_fault mid ≡ Some e))
-    ⊎ (((piece : List ℕ) × (after : List Event) × GivesNext d mid piece after × ⊥)
-    ⊎ (IsOutOfMemory e × (0 < length (bytes_to_fault mid))))
-    → HasFirstFault E e ⊎ IsOutOfMemory e
-stopped {d} {E} {lines = lines} {e} so no_line = why (gathered_to (Unit {0}) (without d) (λ _ _. ⊥) ⊥ d refl so no_line)
-  where
-    why : GathersPieces {A = Unit {0}} (without d) (λ _ _. ⊥) ⊥ d E (Err e) lines → HasFirstFault E e ⊎ IsOutOfMemory e
-    why (inl fault) = inl (record {
-      front = fault.before ++ fails e ∷ [];
-      rest = fault.behind;
-      split = fault.split ∙ sym (append_assoc fault.before (fails e ∷ []) fault.behind);
-      ends = (fault.before, refl, fault.no_fault, fault.fault);
-    })
-    why (inr (inl refused)) = absurd refused.refused
-    why (inr (inr memory)) = inr memory.refused
-
--- the same, if events were told
-pub if_stopped : (told : Option (List Event)) {e : Error} → ((E : List Event) → told ≡ Some E → HasFirstFault E e ⊎ IsOutOfMemory e)
-    → IfSome told (λ E. HasFirstFault E e) ⊎ IsOutOfMemory e
-if_stopped None why = inl tt
-if_stopped (Some E) why = why E refl
-
 -- what is not there
 pub is_none : (o : Option ℕ) → is_some o ≡ false → o ≡ None
 is_none o none = grind (arith, common_steps)
+
+module _ {S T : Type 0} {next : S → Option (Result T Error) → S → Type 0} {view : T → List ℕ} {old mid now : S} {number number' : ℕ}
+    {bad bad' : Option ℕ} {script : Script} (script' : Script) (item : T) (so : ReadSoFar next view old number bad script mid)
+    (gave : next mid (Some (Ok item)) now) (count : number' ≡ min (number + 1) (2 ^ 64 - 1)) where
+  -- one line more was read
+  read_more : (bad' ≡ None → AddsAll (so.lines ++ view item ∷ []) so.start script')
+      → IfSome bad' (IsFirstBad (so.lines ++ view item ∷ [])) → ReadSoFar next view old number' bad' script' now
+  read_more adds first = record {
+    items = so.items ++ item ∷ [];
+    made = made_more (λ s x t. next s (Some (Ok x)) t) so.items old so.made gave;
+    lines = so.lines ++ view item ∷ [];
+    are = grind (arith, common_steps, so.are);
+    start = so.start;
+    fresh = so.fresh;
+    adds = adds;
+    count = omega (arith, so.count, count, length-append so.lines (view item ∷ []));
+    first = first;
+  }
+
+  -- it was good,
+  pub read_good : bad ≡ None → bad' ≡ bad → Adds (view item) script script' → ReadSoFar next view old number' bad' script' now
+  read_good none same line = read_more
+      (λ _. adds_more so.lines (view item) so.start script script' (so.adds none) line)
+      (subst (λ b. IfSome b (IsFirstBad (so.lines ++ view item ∷ []))) (sym (same ∙ none)) tt)
+
+  -- or the first bad one,
+  pub read_bad : bad ≡ None → bad' ≡ Some number' → IsBadLine (view item) script → ReadSoFar next view old number' bad' script' now
+  read_bad none is line = read_more
+      (λ none. absurd (cc (is, none)))
+      (subst (λ b. IfSome b (IsFirstBad (so.lines ++ view item ∷ []))) (sym is)
+      (first_here so.lines (view item) number number' so.start script so.fresh (so.adds none) line so.count count))
+
+  -- or one after a bad one
+  pub read_after : is_some bad ≡ true → bad' ≡ bad → ReadSoFar next view old number' bad' script' now
+  read_after some same = read_more
+      (λ none. absurd (cc (ap is_some (sym same ∙ none), some)))
+      (subst (λ b. IfSome b (IsFirstBad (so.lines ++ view item ∷ []))) (sym same) (first_more bad so.lines (view item) so.first))
+
+-- what holds if events are told
+if_map : (P Q : List Event → Type 0) (told : Option (List Event)) → ((E : List Event) → P E → Q E) → IfSome told P → IfSome told Q
+if_map P Q None each h = tt
+if_map P Q (Some E) each h = each E h
+
+-- events before the first fault
+later_fault : {E : List Event} {e : Error} (x : Event) → HasNoFault (x ∷ []) → HasFirstFault E e → HasFirstFault (x ∷ E) e
+later_fault x free f = record {
+  front = x ∷ f.front;
+  rest = f.rest;
+  split = ap (λ l. x ∷ l) f.split;
+  ends = (x ∷ f.ends.0, ap (λ l. x ∷ l) f.ends.1, grind (arith, common_steps, free, f.ends.2), f.ends.3);
+}
+
+-- it is the first event
+fault_now : (E : List Event) (e : Error) → IsFault e → HasFirstFault (fails e ∷ E) e
+fault_now E e fault = record { front = fails e ∷ []; rest = E; split = refl; ends = ([], refl, tt, fault) }
+
+-- the first fault of events
+first_is : (E : List Event) (e : Error) → first_fault E ≡ Some e → HasFirstFault E e
+first_is [] e is = cc
+first_is (byte b ∷ E) e is = later_fault (byte b) tt (first_is E e is)
+first_is (fails f ∷ E) e is = by_kind (is_interruption (error_kind f)) refl is (first_is E e)
+  where
+    by_kind : (t : Bool) → is_interruption (error_kind f) ≡ t → (if t then first_fault E else Some f) ≡ Some e
+        → (first_fault E ≡ Some e → HasFirstFault E e) → HasFirstFault (fails f ∷ E) e
+    by_kind true again is rest = later_fault (fails f) (again, tt) (rest is)
+    by_kind false fault is rest =
+        let same : f ≡ e = cc in subst (λ x. HasFirstFault (fails x ∷ E) e) (sym same) (fault_now E e (subst IsFault same fault))
+
+-- a line that could not be read: the reader had its first fault, or an allocation failed
+stopped : (d : ℕ) (lines : List (List ℕ)) (e : Error) (told : Option (List Event))
+    → IfSome told (λ E. GathersPieces {A = Unit {0}} (without d) (λ _ _. ⊥) ⊥ d E (Err e) lines)
+    → IfSome told (λ E. HasFirstFault E e) ⊎ IsOutOfMemory e
+stopped d lines e None h = inl tt
+stopped d lines e (Some E) (inl fault) = inl (first_is E e fault.fault)
+stopped d lines e (Some E) (inr (inl refused)) = absurd refused.refused
+stopped d lines e (Some E) (inr (inr memory)) = inr memory.refused
+
+module _ {X T : Type 0} (R : Lender X) (view : T → List ℕ) {old mid : Split X} (now : Split X) {number : ℕ} {bad : Option ℕ}
+    {script : Script} (so : ReadSoFar (split_next R view) view old number bad script mid) (fresh : split_is_ended old ≡ false) where
+  abbrev d : ℕ
+  d = split_delim old
+
+  abbrev told : Option (List Event)
+  told = to_come (lender_tells R (split_reader old))
+
+  -- what this result of a whole run says of the lines
+  gathers : (reply : Result (Unit {0}) Error) → RunsNexts (split_next R view) ⊥ old so.items reply now
+      → IfSome told (λ E. GathersPieces {A = Unit {0}} (without d) (λ _ _. ⊥) ⊥ d E reply so.lines)
+  gathers reply run =
+      subst (λ lines. IfSome told (λ E. GathersPieces {A = Unit {0}} (without d) (λ _ _. ⊥) ⊥ d E reply lines)) so.are
+      (run_gathers R split_reader view (without d) (λ _ _. ⊥) d (split_next R view) _ (split_takes R view d) (Unit {0}) ⊥ so.items old now
+      reply (fresh, refl) run)
+
+  -- after the last line the script is read, or the first bad line is known
+  pub read_all : split_next R view mid None now → bad ≡ None → IfSome told (λ E. IsRead d E script)
+  read_all last none = if_map (λ E. AllPieces (without d) d E so.lines) (λ E. IsRead d E script) told
+      (λ E all. record { lines = so.lines; all = all; start = so.start; fresh = so.fresh; adds = so.adds none })
+      (gathers (Ok tt) (mid, so.made, last))
+
+  pub read_first : {n : ℕ} → split_next R view mid None now → bad ≡ Some n → IfSome told (λ E. IsBadAt d E n)
+  read_first {n} last some = if_map (λ E. AllPieces (without d) d E so.lines) (λ E. IsBadAt d E n) told
+      (λ E all. record { lines = so.lines; all = all; first = subst (λ b. IfSome b (IsFirstBad so.lines)) some so.first })
+      (gathers (Ok tt) (mid, so.made, last))
+
+  -- a line that cannot be read ends it
+  pub read_stops : {e : Error} → split_next R view mid (Some (Err e)) now → IfSome told (λ E. HasFirstFault E e) ⊎ IsOutOfMemory e
+  read_stops {e} last = stopped d so.lines e told (gathers (Err e) (mid, so.made, inl last))

@@ -1,4 +1,4 @@
--- What the lines of a script are made of.
+-- For `parse_kind`: the name of each kind is a text.
 use Rattle.no_std_io2.proofs.Words.{◌≡◌, ℕ, zero, suc, true, nat_lt, List, [], ◌∷◌, arith, common_steps, nat_tests}
 use Rattle.std.specs.{List.{list_all}, Str.{IsUtf8, IsAscii}}
 use Rattle.std.proofs.lemmas.Str.{IsUtf8-from_ascii}

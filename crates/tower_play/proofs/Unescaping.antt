@@ -1,4 +1,4 @@
--- The bytes that an escaped text stands for, byte by byte.
+-- For `unescape`: the bytes that an escaped text stands for, byte by byte.
 use Rattle.no_std_io2.proofs.Words.{◌≡◌, ◌≢◌, ℕ, ◌+◌, ◌<◌, Bool, true, false, List, [], ◌∷◌, ◌++◌, length, get_or, drop, Option, Some, None}
 use Rattle.no_std_io2.proofs.Words.{refl, sym, arith, append-nil, common_steps}
 use Rattle.tower_play.specs.Script.{before, unescaped, IsAppended}

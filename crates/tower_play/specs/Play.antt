@@ -10,7 +10,7 @@ use Rattle.io_bench.specs.declared.faulty.Faulty.{Faulty}
 use Rattle.io_bench.specs.declared.runs.Op.{Op}
 use Rattle.io_bench.specs.declared.runs.Reply.{Reply}
 use Rattle.io_bench.specs.Faulty.{with_acts, acts_left}
-use Rattle.io_bench.specs.Runs.{Ran, RunCalls, RunBelow}
+use Rattle.io_bench.specs.Runs.{Ran, RunBelow, RunLaw}
 use Rattle.no_std_io2.specs.Events.{Event}
 use Rattle.no_std_io2.specs.Pieces.{newline}
 use Rattle.tower_play.specs.declared.playing.Shape.{Shape}
@@ -41,8 +41,7 @@ TowerCalls LineBuf calls below held = TwoLevels (LineCalls 8) calls below held
 pub record ShowsRun {T : Type 0} (I : Writer T) (old : T) (ops : List Op) (text : List ℕ) : Type 0 where
   pub replies : List Reply
   pub new : T
-  pub ran : Ran (I.told old) ops replies (I.told new)
-  pub calls : RunCalls I old ops replies new
+  pub law : RunLaw I old ops replies new
   pub shown : text ≡ printed_report replies (I.told new).out (I.told new).held
 
 -- These calls were made of a tower of this shape, over an empty device that fails as these acts say, and the text shows the run.

@@ -1,7 +1,7 @@
 // The functions that allocate. Only this module makes a `Refused`, and only if an allocation failed. So no other code of the
 // program can report a failed allocation.
 ghost use Rattle.std.specs.Prelude.{◌≡◌, ℕ, List, ◌++◌, ◌+◌, ◌≤◌, ◌<◌, length, vec_len, vec_capacity, Some, OnOk, OnErr, IfOk};
-ghost use Rattle.io_bench.specs.Runs.{Ran, RunCalls};
+ghost use Rattle.io_bench.specs.Runs.{RunLaw};
 
 use io_bench::{Op, Reply, run_writes};
 use std::alloc::{Allocator, Global};
@@ -54,8 +54,7 @@ pub fn replies_of<W: no_std_io2::io::Write>(
     w: &mut W,
     ops: &[Op<'_>],
 ) -> Result<Vec<Reply>, Refused>
-    ensures ran { IfOk result (λ replies. Ran (W.told w.old) ops.now replies.items (W.told w.new)) }
-    ensures calls { IfOk result (λ replies. RunCalls W.Write w.old ops.now replies.items w.new) }
+    ensures law { IfOk result (λ replies. RunLaw W.Write w.old ops.now replies.items w.new) }
     ensures err { OnErr result (w.new ≡ w.old) }
     // It does not fail if there are no calls.
     ensures full { OnErr result (0 < length ops.now) }
