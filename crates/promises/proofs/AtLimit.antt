@@ -1,4 +1,4 @@
--- At limit 0 a `Take` gives nothing, over every reader.
+-- For `adaptors`: at limit 0 a `Take` gives nothing, over every reader.
 use Rattle.no_std_io2.proofs.Words.{◌≡◌, ℕ, ◌<◌, ◌⊎◌, List, [], ◌∷◌, ◌++◌, Result, Ok, Err, OnOk, IfOk, IfErr, length, refl, sym, ap, subst}
 use Rattle.no_std_io2.proofs.Words.{◌∙◌, arith, inl, inr, append-nil, Vec, Event, bytes, Reader, ReadCall, Gave, GaveAll, Filled, Consumed}
 use Rattle.no_std_io2.proofs.Words.{ReadCallLaw, Lender, as_reader, lender_tells, LendCallLaw, newline, Made}

@@ -1,19 +1,20 @@
--- Which errors a writer with a buffer returns, if each call of its inner writer fails with such errors only.
+-- For `towers`: which errors a writer with a buffer returns, if each call of its inner writer fails with such errors only.
 use Rattle.no_std_io2.proofs.Words.{common_steps, ◌≡◌, ℕ, ◌<◌, List, ◌∷◌, [], Result, Ok, Err, IfErr, IfOk, length, arith, subst, sym, inl}
-use Rattle.no_std_io2.proofs.Words.{inr, WriteCall, Wrote, WroteAll, Flushed, Made, AllCalls, Writer, Step, Then, stops, goes_on, SendCalls}
+use Rattle.no_std_io2.proofs.Words.{inr, WriteCall, Wrote, WroteAll, Flushed, Made, AllCalls, Writer, CallOf, Step, TakesStep, Then, stops}
+use Rattle.no_std_io2.proofs.Words.{goes_on, SendCalls}
 use Rattle.no_std_io2.proofs.Words.{WayCalls, Buffered, WriteCalls, Only, WriteAllCalls, FlushCalls, InnerCalls, BufferMay, lines_of}
 use Rattle.no_std_io2.proofs.Words.{unfinished_line, SendLinesCalls, LineWriteCalls, LineWriteAllCalls}
 use Rattle.no_std_io2.specs.{declared.io.Error.{Error}, BufWriter.{PastEmpty, PutCalls}}
 use Rattle.no_std_io2.specs.{LineWriter.{SendLineCalls, LinesCalls, HoldsTail, LineCalls}}
 use Rattle.promises.specs.Fails.{FailsBy, FailsOnly}
 use Rattle.no_std_io2.proofs.{CallsLemmas.{made_split}, LineLemmas.{lines_some}}
-use Rattle.promises.proofs.FailsLemmas.{bare, writes_fail, all_fails}
+use Rattle.promises.proofs.FailsLemmas.{call_fails, writes_fail, all_fails}
 
 module _ {W : Type 0} (I : Writer W) (Q : Error → Type 0) (fails : FailsOnly Q I.may) where
   -- a step has such results, if its calls were made
   abbrev Gives : {A : Type 0} → (Result A Error → Type 0) → Step A → Type 0
   Gives {A} P step = (held : List ℕ) (C : List WriteCall) (reply : Result A Error) (left : List ℕ) → step held C reply left
-      → (a b : W) → Made I.may a C b → P reply
+      → (a b : W) → Made (CallOf I) a C b → P reply
 
   -- it fails with such errors only
   abbrev Fails : {A : Type 0} → Step A → Type 0
@@ -24,20 +25,20 @@ module _ {W : Type 0} (I : Writer W) (Q : Error → Type 0) (fails : FailsOnly Q
   then_gives P first next of_error of_first of_next = λ held C reply left both a b made. split both a b made
     where
       split : {held left : List ℕ} {C : List WriteCall} {reply : Result _ Error} → Then first next held C reply left
-          → (a b : W) → Made I.may a C b → P reply
+          → (a b : W) → Made (CallOf I) a C b → P reply
       split (stops {e = e} p) a b made = of_error e (of_first _ _ _ _ p a b made)
       split (goes_on {C = C} {D = D} p q) a b made =
-          let parts = made_split I.may C a D b made in of_next _ _ _ _ q parts.0 b parts.2
+          let parts = made_split (CallOf I) C a D b made in of_next _ _ _ _ q parts.0 b parts.2
 
   send_fails : Fails SendCalls
-  send_fails = λ held C reply left writes a b made. writes_fail Q I.may fails writes a b made
+  send_fails = λ held C reply left writes a b made. writes_fail I Q fails writes a b made
 
   way_fails : (S n : ℕ) → Fails (WayCalls S n)
   way_fails S n = grind (arith, common_steps, send_fails)
 
   buffered_gives : {A : Type 0} (P : Result A Error → Type 0) (S : ℕ) (x : List ℕ) (v : A) (past : List WriteCall → Result A Error → Type 0)
       → ((e : Error) → Q e → P (Err e)) → P (Ok v)
-      → ((C : List WriteCall) (reply : Result A Error) → past C reply → (a b : W) → Made I.may a C b → P reply)
+      → ((C : List WriteCall) (reply : Result A Error) → past C reply → (a b : W) → Made (CallOf I) a C b → P reply)
       → Gives P (Buffered S x v past)
   buffered_gives P S x v past of_error kept of_past =
       then_gives P (WayCalls S (length x)) (PutCalls S x v past) of_error (way_fails S (length x))
@@ -47,8 +48,8 @@ module _ {W : Type 0} (I : Writer W) (Q : Error → Type 0) (fails : FailsOnly Q
       ])
 
   -- the one call that was made
-  one : {call : WriteCall} {C : List WriteCall} (a b : W) → C ≡ call ∷ [] → Made I.may a C b → FailsBy Q call
-  one {call = call} a b is made = let first = subst (λ K. Made I.may a K b) is made in fails a first.0 call first.1
+  one : {call : WriteCall} {C : List WriteCall} (a b : W) → C ≡ call ∷ [] → Made (CallOf I) a C b → FailsBy Q call
+  one {call = call} a b is made = let first = subst (λ K. Made (CallOf I) a K b) is made in call_fails I Q fails a first.0 call first.1
 
   -- a `write` of some bytes takes some, or fails
   abbrev Some : List ℕ → Result ℕ Error → Type 0
@@ -60,20 +61,22 @@ module _ {W : Type 0} (I : Writer W) (Q : Error → Type 0) (fails : FailsOnly Q
 
   write_all_fails : (S : ℕ) (x : List ℕ) → Fails (WriteAllCalls S x)
   write_all_fails S x = buffered_gives (λ reply. IfErr reply Q) S x tt (λ C. AllCalls C x) (λ e q. q) tt
-      (λ C reply calls a b made. all_fails Q I.may fails reply calls a b made)
+      (λ C reply calls a b made. all_fails I Q fails reply calls a b made)
 
   flush_fails : Fails FlushCalls
   flush_fails = then_gives (λ reply. IfErr reply Q) SendCalls (PastEmpty (Only Flushed)) (λ e q. q) send_fails
       (λ held C reply left gone a b made. one {call = Flushed reply} a b gone.2 made)
 
+  -- such a step of a writer with a buffer
+  by_step : {A B : Type 0} {P : Result A Error → Type 0} {step : Step A} (inner : B → W) (buffer : B → List ℕ) (old new : B)
+      (reply : Result A Error) → Gives P step → TakesStep I inner buffer step old reply new → P reply
+  by_step inner buffer old new reply gives (C, made, is) = gives _ C reply _ is (inner old) (inner new) made
+
   -- A writer with a buffer fails with the errors of its inner writer only.
   pub buffer_fails : {B : Type 0} (S : ℕ) (inner : B → W) (buffer : B → List ℕ) → FailsOnly Q (BufferMay I (InnerCalls S) inner buffer)
-  buffer_fails S inner buffer old new (Wrote x reply) may =
-      write_some S x _ _ _ _ may.2 (inner old) (inner new) (bare I may.0 (inner old) (inner new) may.1)
-  buffer_fails S inner buffer old new (WroteAll x reply) may =
-      write_all_fails S x _ _ _ _ may.2 (inner old) (inner new) (bare I may.0 (inner old) (inner new) may.1)
-  buffer_fails S inner buffer old new (Flushed reply) may =
-      flush_fails _ _ _ _ may.2 (inner old) (inner new) (bare I may.0 (inner old) (inner new) may.1)
+  buffer_fails S inner buffer old new (Wrote x reply) may = by_step inner buffer old new reply (write_some S x) may
+  buffer_fails S inner buffer old new (WroteAll x reply) may = by_step inner buffer old new reply (write_all_fails S x) may
+  buffer_fails S inner buffer old new (Flushed reply) may = by_step inner buffer old new reply flush_fails may
 
   -- and so does a line writer
   send_line_fails : Fails SendLineCalls
@@ -88,7 +91,7 @@ module _ {W : Type 0} (I : Writer W) (Q : Error → Type 0) (fails : FailsOnly Q
 
   send_lines_fails : (S : ℕ) (y : List ℕ) → Fails (SendLinesCalls S y)
   send_lines_fails S y = λ held C reply left sends a b made. elim sends [
-    | inl past ↦ all_fails Q I.may fails reply past.2 a b made
+    | inl past ↦ all_fails I Q fails reply past.2 a b made
     | inr behind ↦
         then_gives (λ reply. IfErr reply Q) (WriteAllCalls S y) SendCalls (λ e q. q) (write_all_fails S y) send_fails
         held C reply left behind.1 a b made
@@ -118,9 +121,6 @@ module _ {W : Type 0} (I : Writer W) (Q : Error → Type 0) (fails : FailsOnly Q
   ]
 
   pub line_fails : {B : Type 0} (S : ℕ) (inner : B → W) (buffer : B → List ℕ) → FailsOnly Q (BufferMay I (LineCalls S) inner buffer)
-  line_fails S inner buffer old new (Wrote x reply) may =
-      line_write_some S x _ _ _ _ may.2 (inner old) (inner new) (bare I may.0 (inner old) (inner new) may.1)
-  line_fails S inner buffer old new (WroteAll x reply) may =
-      line_write_all_fails S x _ _ _ _ may.2 (inner old) (inner new) (bare I may.0 (inner old) (inner new) may.1)
-  line_fails S inner buffer old new (Flushed reply) may =
-      flush_fails _ _ _ _ may.2 (inner old) (inner new) (bare I may.0 (inner old) (inner new) may.1)
+  line_fails S inner buffer old new (Wrote x reply) may = by_step inner buffer old new reply (line_write_some S x) may
+  line_fails S inner buffer old new (WroteAll x reply) may = by_step inner buffer old new reply (line_write_all_fails S x) may
+  line_fails S inner buffer old new (Flushed reply) may = by_step inner buffer old new reply flush_fails may

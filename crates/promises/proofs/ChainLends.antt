@@ -1,4 +1,4 @@
--- What the reader that a `Chain` is at lends, the chain lends.
+-- For `adaptors`: what the reader that a `Chain` is at lends, the chain lends.
 use Rattle.no_std_io2.proofs.Words.{◌+◌, None, Lender, as_reader}
 use Rattle.no_std_io2.specs.{declared.io.Chain.{Chain}, Chain.{chain_first, chain_second, chain_held, ChainMay}}
 use Rattle.no_std_io2.proofs.ChainLemmas.{chain_reader}

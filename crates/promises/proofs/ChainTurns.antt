@@ -1,4 +1,4 @@
--- The calls of a `Chain` use one reader after the other.
+-- For `adaptors`: the calls of a `Chain` use one reader after the other.
 use Rattle.no_std_io2.proofs.Words.{common_steps, arith, Reader, ReadCallLaw}
 use Rattle.no_std_io2.specs.Chain.{InTurn}
 use Rattle.no_std_io2.proofs.{ReadsAdd.{EachAdds}, ChainLemmas.{chain_reader}}

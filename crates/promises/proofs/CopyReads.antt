@@ -1,4 +1,4 @@
--- How many reads a copy makes of a reader that fills its room.
+-- For `counts`: how many reads a copy makes of a reader that fills its room.
 use Rattle.no_std_io2.proofs.Words.{common_steps, ◌≡◌, ℕ, ◌+◌, ◌<◌, min, List, [], ◌∷◌, length, Result, Ok, Err, Some, sym, ap, subst, ◌∙◌}
 use Rattle.no_std_io2.proofs.Words.{arith, length-append, OnOk, events_of, Reader, ReadCall, Gave, GaveLaw, ReadCallLaw, Gathers, no_read}
 use Rattle.no_std_io2.proofs.Words.{and_gave, and_again, IsReadMeter, FillsRoom, Made, Writer, Copied}

@@ -1,4 +1,4 @@
--- How many inner reads an exact read of a `BufReader` makes over a filling reader, and how much is held then.
+-- For `counts`: how many inner reads an exact read of a `BufReader` makes over a filling reader, and how much is held then.
 use Rattle.no_std_io2.proofs.Words.{nat_tests, cases_lt, ◌≡◌, ℕ, ◌+◌, ◌-◌, ◌<◌, ◌≤◌, ◌⊎◌, min, List, [], ◌∷◌, ◌++◌, Result, Ok, Err, length}
 use Rattle.no_std_io2.proofs.Words.{true, false, refl, sym, ap, subst, ◌∙◌, arith, inl, inr, ⊎_elim, length-append, length-drop, Made}
 use Rattle.no_std_io2.proofs.Words.{Reader, ReadCall, ReadCallLaw, GaveLaw, Gave, Gathers, no_read, and_gave, and_again, bytes_given}

@@ -1,4 +1,4 @@
--- A piece at the front of the held bytes, and what lies behind after a piece was taken.
+-- For `reads`: a piece at the front of the held bytes, and what lies behind after a piece was taken.
 use Rattle.no_std_io2.proofs.Words.{common_steps, ◌≡◌, ℕ, ◌<◌, Bool, true, List, [], ◌∷◌, ◌++◌, length, take, drop, refl, sym, ap, ap₂}
 use Rattle.no_std_io2.proofs.Words.{subst, ◌∙◌, arith, Result, Ok, Err, ⊎_elim, inl, inr, append_assoc, append-nil, length-append}
 use Rattle.no_std_io2.proofs.Words.{length-take-le, take-append-drop, Vec, IfOk, IsOutOfMemory, Made, bytes, Reader, ReadCall, Filled}

@@ -1,4 +1,4 @@
--- What a `read_to_end` gave.
+-- For `memory`: what a `read_to_end` gave.
 use Rattle.no_std_io2.proofs.Words.{◌≡◌, ℕ, List, ◌++◌, Vec, Some, Result, Ok, Err, OnOk, ap, ◌∙◌, Event, bytes, to_come, Reader, tells}
 use Rattle.no_std_io2.specs.{declared.io.Error.{Error}, Read.{ToEndLaw}}
 use Rattle.no_std_io2.proofs.CopyLemmas.{took_told}

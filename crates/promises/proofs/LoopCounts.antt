@@ -1,4 +1,4 @@
--- How many reads a `Tally` counts in the trait's loops.
+-- For `counts`: how many reads a `Tally` counts in the trait's loops.
 use Rattle.no_std_io2.proofs.Words.{common_steps, ◌≡◌, ℕ, ◌+◌, ◌-◌, ◌<◌, ◌≤◌, List, [], ◌∷◌, ◌++◌, Result, Ok, Err, min, length, arith}
 use Rattle.no_std_io2.proofs.Words.{refl, sym, subst, ◌∙◌, inl, inr, Made, Reader, ReadCall, Gave, GaveAll, answered, Gathers, no_read}
 use Rattle.no_std_io2.proofs.Words.{and_gave, and_again, GathersUntil, ExactCalls}

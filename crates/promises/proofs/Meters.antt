@@ -1,4 +1,4 @@
--- A `Tally` counts its reads.
+-- For `counts`: a `Tally` counts its reads.
 use Rattle.no_std_io2.proofs.Words.{Reader, IsReadMeter, FillsRoom}
 use Rattle.io_bench.specs.{declared.tally.Tally.{Tally}, Tally.{tally_inner, tally_reads, ReadsCounted}}
 

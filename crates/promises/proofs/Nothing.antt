@@ -1,4 +1,4 @@
--- Two lists that are nothing together.
+-- For `delivery` and `calls`: two lists that are nothing together.
 use Rattle.no_std_io2.proofs.Words.{◌≡◌, ℕ, List, [], ◌∷◌, ◌++◌, refl, Result, Ok, Err, OnOk}
 use Rattle.no_std_io2.specs.declared.io.Error.{Error}
 

@@ -1,4 +1,4 @@
--- The store after a call, if it was told before; and the events.
+-- For `reads`: the store after a call, if it was told before; and the events.
 use Rattle.no_std_io2.proofs.Words.{◌≡◌, ◌+◌, ◌-◌, ◌<◌, ◌++◌, ℕ, zero, suc, List, [], Option, None, Some, Result, Ok, Err, IfOk, length}
 use Rattle.no_std_io2.proofs.Words.{refl, subst, sym, ap, ap₂, ◌∙◌, drop, arith, drop-append_seam, step_back, store_before, store_if, Event}
 use Rattle.no_std_io2.proofs.Words.{answered, KeepsContent, Store}
