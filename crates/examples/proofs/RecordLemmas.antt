@@ -1,6 +1,6 @@
 -- Records that are skipped one after another.
-use Rattle.no_std_io2.proofs.Words.{◌≡◌, ℕ, ◌<◌, List, [], ◌∷◌, ◌++◌, length, take, get_or, Ok, Err, true, false, refl, sym, ap, subst, ◌∙◌, arith}
-use Rattle.no_std_io2.proofs.Words.{inl, inr, append-nil, IsInterruption, IsFault, events_of, bytes, Takes, Lender, lender_tells}
+use Rattle.no_std_io2.proofs.Words.{◌≡◌, ℕ, ◌<◌, List, [], ◌∷◌, ◌++◌, length, take, get_or, Ok, Err, true, refl, sym, ap, subst, ◌∙◌, arith}
+use Rattle.no_std_io2.proofs.Words.{false, inl, inr, append-nil, IsInterruption, IsFault, events_of, bytes, Takes, Lender, lender_tells}
 use Rattle.no_std_io2.specs.{declared.io.Error.{Error}, Reads.{Took}, BufRead.{FilledLaw, ConsumeLaw}, Passing.{Skipped}}
 use Rattle.no_std_io2.proofs.TookLemmas.{Took-none, Took-then, Took-bytes, Took-again, Took-end, Took-fault}
 use Rattle.examples.specs.Lengths.{AreRecords, none, more, IsCutOff, SkipsRecords}

@@ -1,21 +1,13 @@
 -- A sum of no bytes is nothing, and a sum of bytes and then others is that of both.
-use Rattle.no_std_io2.proofs.Words.{◌≡◌, ℕ, ◌+◌, ◌%◌, ◌^◌, Ok, ap, sym, arith, ◌∙◌, sum, Reader, ReadCall, Gave, GaveAll, Filled}
-use Rattle.no_std_io2.proofs.Words.{ReadCallLaw}
+use Rattle.no_std_io2.proofs.Words.{◌^◌, Ok, refl, sum, Reader, ReadCall, Gave, GaveAll, Filled, ReadCallLaw}
 use Rattle.std.proofs.lemmas.List.Sums.{sum_by-append}
 use Rattle.no_std_io2.specs.Read.{GaveExactly}
-use Rattle.no_std_io2.proofs.{CallsAdd.{Joins}, ReadsAdd.{EachAdds}}
+use Rattle.no_std_io2.proofs.{CallsAdd.{Joins, joins_modulo}, ReadsAdd.{EachAdds}}
 use Rattle.examples.specs.{declared.summed.Summed.{Summed}, Summed.{summed_sum, Sums, ReadSums}}
 
-then : (s a b t u : ℕ) → t % 2 ^ 64 ≡ (s + a) % 2 ^ 64 → u % 2 ^ 64 ≡ (t + b) % 2 ^ 64 → u % 2 ^ 64 ≡ (s + (a + b)) % 2 ^ 64
-then s a b t u first next = omega arith
-
+-- sums modulo 2^64 join
 pub sums_join : {W : Type 0} → Joins {W = Summed W} Sums
-sums_join = record {
-  none = λ a. ap (λ n. n % 2 ^ 64) (omega arith);
-  more = λ a b c x y first next.
-      then (summed_sum a) (sum x) (sum y) (summed_sum b) (summed_sum c) first next
-      ∙ ap (λ n. (summed_sum a + n) % 2 ^ 64) (sym (sum_by-append (λ b. b) x y));
-}
+sums_join = joins_modulo summed_sum sum (2 ^ 64) refl (sum_by-append (λ b. b))
 
 -- each read adds what it gave
 pub reads_sum : {S : Type 0} (R : Reader (Summed S)) → ((a b : Summed S) (call : ReadCall) → R.may a call b → ReadSums a call b)
