@@ -24,7 +24,7 @@ resumed r {a = a} {b = b} before left after law gone =
     subst (λ l. Resumes before (waiting a) (resume_status r) l (waiting b)) (sym rest) (record {
       front = law.sends.moves.front;
       order = grind (arith, common_steps, law.sends.split, law.sends.moves.bytes);
-      ends = ends r a b law.done law.calls.1 law.calls.2;
+      ends = ends r a b law.done law.calls.made law.calls.are;
     })
 
 -- more bytes are kept between two sendings

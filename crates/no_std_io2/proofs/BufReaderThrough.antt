@@ -176,18 +176,18 @@ pub full_through : {R : Type 0} {S : ℕ} {inner : Reader R} {old new : BufReade
     → (x : List ℕ) × (take filled' buf' ≡ take filled buf ++ x)
     × ReadsThrough inner old (length buf - filled) x (full_ended reply (nat_le (length buf') filled')) new
 full_through {inner = inner} {old} {new} {buf} {buf'} {filled} {filled'} reply law long =
-    (bytes law.taken, law.fills, by reply law.calls.2)
+    (bytes law.taken, law.fills, by reply law.calls.are)
   where
-    by : (reply : Result (Unit {0}) Error) → FullCalls law.calls.0 (length buf - filled) (bytes law.taken) reply
+    by : (reply : Result (Unit {0}) Error) → FullCalls law.calls.calls (length buf - filled) (bytes law.taken) reply
         → ReadsThrough inner old (length buf - filled) (bytes law.taken) (full_ended reply (nat_le (length buf') filled')) new
     by (Ok u) (inl (reads, all)) =
-        rw (le-leb (length buf') filled' (omega (arith, long, law.counts, all))) (through_whole inner old _ reads law.calls.1 all)
+        rw (le-leb (length buf') filled' (omega (arith, long, law.counts, all))) (through_whole inner old _ reads law.calls.made all)
     by (Ok u) (inr until) =
         rw (lt-leb (length buf') filled' (omega (arith, long, law.counts, until.3.0, until.3.1)))
-        (below_until inner old _ (Ok []) (Ok false) refl until law.calls.1 (λ less. less) (λ empty. empty)
+        (below_until inner old _ (Ok []) (Ok false) refl until law.calls.made (λ less. less) (λ empty. empty)
         (λ x mid room before into last. Reads-end before into last))
     by (Err e) (fault, until) =
-        below_until inner old _ (Err e) (Err e) refl until law.calls.1 (λ less. less) (λ empty. empty)
+        below_until inner old _ (Err e) (Err e) refl until law.calls.made (λ less. less) (λ empty. empty)
         (λ x mid room before into last. Reads-fault before into last fault)
 
 -- what a `read_exact` of more than the held bytes leaves, by its `read_full`: these are the bytes of its buffer, up to `at`
@@ -241,7 +241,7 @@ exact_held {S = S} {inner} {old} {new} {buf} {buf'} fits same gave left front no
         takes = takes;
         ends = ends;
         empty = λ nothing. (refl, none nothing);
-        calls = exact_own (
+        calls = exact_own (Ok tt) _ (
           (omega (arith, same_length, fits), subst (λ n. GivesHeld old n (Ok buf') new) (sym same_length) gives),
           (events_of buf', takes, ends),
         );

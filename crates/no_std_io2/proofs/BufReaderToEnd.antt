@@ -3,10 +3,10 @@ use Rattle.no_std_io2.proofs.Words.{common_steps, ◌≡◌, ℕ, ◌+◌, ◌-�
 use Rattle.no_std_io2.proofs.Words.{arith, inl, inr, append_assoc, length-append, le_refl, Vec, vec_len, OnOk, IfOk, append-nil}
 use Rattle.no_std_io2.proofs.Words.{IsOutOfMemory, Event, events_of, bytes, Takes, Reader, tells, GaveAll, reader_held, reader_behind}
 use Rattle.no_std_io2.proofs.Words.{reader_inner}
-use Rattle.std.proofs.{Common.{le_trans, vec_capacity}, lemmas.List.{append_cancel_left, append_cancel_right}}
+use Rattle.std.proofs.{Common.{le_trans, vec_capacity}, lemmas.List.{append_cancel_right}}
 use Rattle.no_std_io2_base.specs.{declared.error.Error.{Error}, Cursor.{HasMoved}, Read.{ReadToEndLaw, DrainsOrStops, least_room, ended}}
 use Rattle.no_std_io2_base.proofs.{EventLemmas.{bytes-append, bytes-events_of, HasNoFault-append, HasNoFault-events_of}}
-use Rattle.no_std_io2_base.proofs.{ReadCalls.{to_end_by}, ReadToEndLoop.{recount}, TakesLemmas.{drains_ended}}
+use Rattle.no_std_io2_base.proofs.{ReadCalls.{to_end_own}, ReadToEndLoop.{recount}, TakesLemmas.{drains_ended}}
 use Rattle.no_std_io2.specs.{declared.buffered.buf_reader.BufReader.{BufReader}, BufReader.{HasNoBuffer, ReaderMay}}
 use Rattle.no_std_io2.proofs.{BufferedReads.{takes_held, takes_through, ends_unheld}, BufReaderCalls.{buf_reader}, BufReaderRoom.{held-le}}
 
@@ -31,8 +31,7 @@ module _ {R A : Type 0} {S : ℕ} {K : Reader R} {old new : BufReader R S} {buf 
       appends = (shown, counts reply is);
       ends = ends reply inner.ends;
       capacity = le_trans grown inner.capacity;
-      calls = to_end_by all (inner.appends.0 ∙ shown_all)
-          (call, (taken, takes, gave, drains_ended _ taken (recount reply k) _ (ends reply inner.ends)));
+      calls = to_end_own (call, (taken, takes, gave, drains_ended _ taken (recount reply k) _ (ends reply inner.ends))) gave;
     },
     (all, inner.appends.0 ∙ shown_all, call),
   )
@@ -88,7 +87,7 @@ module _ {R A : Type 0} {S : ℕ} {K : Reader R} {old new : BufReader R S} {buf 
       )
 
       call : ReaderMay K old (GaveAll all (ended (recount reply k))) new
-      call = grind (arith, common_steps, append_cancel_left, bytes, held, same, taken)
+      call = inr (bytes inner.taken, refl, rw (sym (same reply)) inner.calls, empty)
         where
           same : (reply : Result ℕ Error) → ended reply ≡ ended (recount reply k)
           same (Ok n) = refl
@@ -126,7 +125,7 @@ module _ {R A : Type 0} {S : ℕ} {K : Reader R} {old new : BufReader R S} {buf 
             omega (arith, full, buf'.ok.0, buf.ok.0, ap length shown, length-append buf.items part, ap length (bytes-events_of part)),
           );
           capacity = grown;
-          calls = to_end_by part shown (call, (events_of part, takes, bytes-events_of part, inr (none, refused, tt)));
+          calls = to_end_own (call, (events_of part, takes, bytes-events_of part, inr (none, refused, tt))) (bytes-events_of part);
         },
         (part, shown, call),
       )

@@ -114,7 +114,7 @@ module _ {R W : Type 0} {K : Lender R} {I : Writer W} {from : R} {old : W} where
       -- the writer's fault ends the loop; the piece stays with the reader
       pub lent_refused : {new : W} {e : Error} → WriteAllOf I now x (Err e) new → LentCopied K I from old (Err (Write e)) after new
       lent_refused {new} {e} wrote =
-          let (calls, made, are) = wrote.calls in
+          let record { calls = calls; made = made; are = are } = wrote.calls in
           record {
             taken = lent.taken;
             takes = lent.takes;
@@ -135,7 +135,7 @@ module _ {R W : Type 0} {K : Lender R} {I : Writer W} {from : R} {old : W} where
       pub lent_more : {new : W} {k n : ℕ} {next : R} {done : Unit {0}} → n ≡ length x → ConsumeLaw K after n next
           → WriteAllOf I now x (Ok done) new → k ≡ min (copied + n) (2 ^ 64 - 1) → LentSoFar K I from old k next new
       lent_more {new} {n = n} {next} whole dropped wrote is =
-          let (calls, made, are) = wrote.calls in
+          let record { calls = calls; made = made; are = are } = wrote.calls in
           let piece : take n (K.held after) ≡ x = ap (take n) filled.lends ∙ take_all n x (omega (arith, whole)) in
           let fits : n ≤ length (K.held after) = omega (arith, whole, ap length filled.lends) in
           record {

@@ -80,9 +80,9 @@ module _ {R W : Type 0} {K : Reader R} {I : Writer W} {S : ℕ} {from : R} {old 
         → WriteAllOf I now x reply new → HandsOn K I S [] from old reply mid' new
     hands_more x {new} reply law some wrote = record {
       pieces = before.pieces ++ x ∷ [];
-      calls = before.calls ++ wrote.calls.0;
-      handed = handed_more reply before.handed refl some law.bound wrote.calls.2;
-      made = made_then (CallOf I) before.calls old wrote.calls.0 now new before.made wrote.calls.1;
+      calls = before.calls ++ wrote.calls.calls;
+      handed = handed_more reply before.handed refl some law.bound wrote.calls.are;
+      made = made_then (CallOf I) before.calls old wrote.calls.calls now new before.made wrote.calls.made;
       reads = before.reads ++ Gave S (Ok x) ∷ [];
       gathered = rw (← joined_more before.pieces x) (and_gave before.reads (concat before.pieces) x S before.gathered refl some);
       asked = rw append-nil (asked_more law);

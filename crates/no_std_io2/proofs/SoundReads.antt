@@ -63,8 +63,8 @@ module _ {R : Type 0} {S : ℕ} (I : Reader R) (old new : BufReader R S) where
       given_sound (take room (reader_held old)) (drop room (reader_held old)) may.1.0
       (sym (take-append-drop room (reader_held old))) may.1.1.1
   call_stays_sound (GaveAll x answer) (inl (refused, same, (left, split, has))) = given_sound x left same split has
-  call_stays_sound (GaveAll x answer) (inr (drains, empty)) =
-      let took = made_takes I drains.2.calls (reader_inner old) (reader_inner new) drains.2.made in emptied_sound took.0 took.1 empty
+  call_stays_sound (GaveAll x answer) (inr (y, is, inner, empty)) =
+      let took = made_takes I inner.calls (reader_inner old) (reader_inner new) inner.made in emptied_sound took.0 took.1 empty
   call_stays_sound (Filled answer) may = fills_below_sound answer may
   call_stays_sound (Consumed n) may =
       given_sound (take n (reader_held old)) (drop n (reader_held old)) may.0 (sym (take-append-drop n (reader_held old))) may.1

@@ -36,6 +36,6 @@ pub use Rattle.no_std_io2_base.specs.Read.{ReadCallLaw, ReadLaw, Reader, and_aga
 pub use Rattle.no_std_io2_base.specs.ReadMeter.{FillsRoom, IsReadMeter}
 pub use Rattle.no_std_io2_base.specs.Reads.{Fetches}
 pub use Rattle.no_std_io2_base.specs.Takes.{AreTaken, IsAtEnd, KeepsContent, Store, Takes, Tells, to_come}
-pub use Rattle.no_std_io2_base.specs.Write.{AllCalls, Flushed, IsFront, Made, Moves, MovesFront, Told, WriteCall, Writes, Wrote, WroteAll}
-pub use Rattle.no_std_io2_base.specs.Write.{again, call_mishap, calls_for, fault, none, stuck, told_out, took}
+pub use Rattle.no_std_io2_base.specs.Write.{AllCalls, ByCalls, Flushed, IsFront, Made, Moves, MovesFront, Told, WriteCall, Writes, Wrote}
+pub use Rattle.no_std_io2_base.specs.Write.{WroteAll, again, call_mishap, calls_for, fault, none, stuck, told_out, took}
 pub use Rattle.no_std_io2_base.specs.Writers.{CallOf, TakesAll, Writer}

@@ -9,7 +9,7 @@ use Rattle.no_std_io2_base.specs.{declared.{error.Error.{Error}, traits.seek.See
 use Rattle.no_std_io2_base.specs.{Errors.{IsUnexpectedEnd, IsOutOfMemory}, Events.{Event, events_of}, Takes.{Store, Tells, Takes, to_come}}
 use Rattle.no_std_io2_base.specs.{Write.{IsFront}, Seek.{Seeker, SeekCall, Sought, Measured, Moved, SeekLaw, StreamLenLaw}}
 use Rattle.no_std_io2_base.specs.{Seek.{WithoutPosition}, Read.{Reader, ReadCall, Gave, GaveExactly, GaveAll, Filled, Consumed}}
-use Rattle.no_std_io2_base.specs.{Read.{ReadCallLaw, bytes_given, gave_whole, Drains}, Reads.{Reads}}
+use Rattle.no_std_io2_base.specs.{Read.{ReadCallLaw, bytes_given, gave_whole, ToEndCalls}, Reads.{Reads}, Write.{ByCalls}}
 use Rattle.no_std_io2.specs.contracts.buffered.buf_reader.BufReader.{the_row as reader-row}
 use Rattle.no_std_io2.specs.{declared.buffered.buf_reader.BufReader.{BufReader}, Buffer.{buffer_held, buffer_behind, IsInBuffer, IsCutOn}}
 use Rattle.no_std_io2.specs.Buffer.{IsSuffix}
@@ -136,7 +136,8 @@ abbrev pub ReaderMay : {R : Type 0} {S : ℕ} → Reader R → BufReader R S →
 ReaderMay inner old (Gave room answer) new = ReadsBelow inner old room answer new
 ReaderMay inner old (GaveExactly room answer) new = (room ≤ length (reader_held old)) × GivesHeld old room answer new
 ReaderMay inner old (GaveAll x answer) new = RefusesAll old x answer new
-    ⊎ (Drains (ReadCallLaw inner) (reader_inner old) (reader_held old) answer x (reader_inner new) × HasNoBuffer new)
+    ⊎ ((y : List ℕ) × (x ≡ reader_held old ++ y)
+    × ByCalls (ReadCallLaw inner) (reader_inner old) (λ C. ToEndCalls C y answer) (reader_inner new) × HasNoBuffer new)
 ReaderMay inner old (Filled answer) new = FillsBelow inner old answer new
 ReaderMay inner old (Consumed n) new = (reader_inner new ≡ reader_inner old)
     × HasBuffer new (reader_behind old ++ take n (reader_held old)) (drop n (reader_held old))

@@ -24,6 +24,6 @@ module _ {S : Type 0} (I : Writer S) where
         let law = subst (λ w. CallOf I a (WroteAll x reply) w) (sym one.2) one.1 in
         (law.1, law.2, λ t. (law.3 t, call_steady reply t.1 law.2.moves))
     | inr rest ↦
-        let law = writes_law I (C, made, rest.1) in
+        let law = writes_law I (record { calls = C; made = made; are = rest.1 }) in
         (law.never_interrupted, MovesFront-sends x rest.0 law.sends law.done, law.all)
   ]

@@ -1,10 +1,8 @@
 -- Calls one after another.
 use Rattle.std.proofs.{lemmas.Grind.{common_steps}, Common.{arith, ◌≡◌, ℕ, List, [], ◌∷◌, ◌++◌, Result, OnOk, refl, ap, subst}}
-use Rattle.std.proofs.Common.{append_assoc, inl}
-use Rattle.no_std_io2_base.specs.{declared.error.Error.{Error}, Write.{WriteCall, Made, WroteAll, Writes, none, took, again, stuck, fault}}
-use Rattle.no_std_io2_base.specs.{Write.{Told, CallLaw, WriteAllLaw}, Writers.{Writer, CallOf}}
-use Rattle.std.proofs.Math.Nat.{mod-add-mod}
-use Rattle.std.proofs.Common.{◌+◌, ◌%◌, length, sym, ◌∙◌}
+use Rattle.std.proofs.{Common.{append_assoc, inl, ◌+◌, ◌%◌, length, sym, ◌∙◌}, Math.Nat.{mod-add-mod}}
+use Rattle.no_std_io2_base.specs.{declared.error.Error.{Error}, Write.{WriteCall, Made, ByCalls, WroteAll, Writes, none, took, again}}
+use Rattle.no_std_io2_base.specs.{Write.{stuck, fault, Told, CallLaw, WriteAllLaw}, Writers.{Writer, CallOf}}
 
 -- one call more
 pub made_more : {W A : Type 0} (may : W → A → W → Type 0) (C : List A) (a : W) {b c : W} {call : A}
@@ -33,6 +31,38 @@ made_split may [] a D c made = (a, refl, made)
 made_split may (call ∷ C) a D c made =
     let rest = made_split may C made.0 D c made.2 in (rest.0, (made.0, made.1, rest.1), rest.2)
 
+module _ {S A : Type 0} {may : S → A → S → Type 0} {a b : S} {P : List A → Type 0} where
+  -- one call
+  pub by_call : (call : A) → may a call b → P (call ∷ []) → ByCalls may a P b
+  by_call call did is = record { calls = call ∷ []; made = (b, did, refl); are = is }
+
+  -- calls of a part are calls of the whole
+  pub by_map : {V : Type 0} {may' : V → A → V → Type 0} (put : S → V) → ((x y : S) (call : A) → may x call y → may' (put x) call (put y))
+      → ByCalls may a P b → ByCalls may' (put a) P (put b)
+  by_map {may' = may'} put each first =
+      record { calls = first.calls; made = made_map may may' put each first.calls a b first.made; are = first.are }
+
+  module _ (first : ByCalls may a P b) where
+    -- of which more is known
+    pub by_are : {Q : List A → Type 0} → ((C : List A) → P C → Q C) → ByCalls may a Q b
+    by_are each = record { calls = first.calls; made = first.made; are = each first.calls first.are }
+
+    -- and then one more
+    pub by_more : {c : S} {Q : List A → Type 0} (call : A) → may b call c → ((C : List A) → P C → Q (C ++ call ∷ [])) → ByCalls may a Q c
+    by_more {c} call did more = record {
+      calls = first.calls ++ call ∷ [];
+      made = made_more may first.calls a first.made did;
+      are = more first.calls first.are;
+    }
+
+    -- or others
+    pub by_then : {c : S} {Q R : List A → Type 0} → ByCalls may b Q c → ((C D : List A) → P C → Q D → R (C ++ D)) → ByCalls may a R c
+    by_then {c} next both = record {
+      calls = first.calls ++ next.calls;
+      made = made_then may first.calls a next.calls b c first.made next.made;
+      are = both first.calls next.calls first.are next.are;
+    }
+
 -- If each call raises a number by one, modulo m, the number counts the calls.
 pub made_counts : {W A : Type 0} (may : W → A → W → Type 0) (count : W → ℕ) (m : ℕ)
     → ((a b : W) (call : A) → may a call b → count b % m ≡ (count a + 1) % m)
@@ -59,11 +89,11 @@ law_may x1 old new x4 law = grind (arith, common_steps)
 -- the `write_all` of a type that has a body of its own for it is one call, with that call's law
 pub own_law : {W : Type 0} {told : W → Told} {takes_all : W → Type 0} {may : W → WriteCall → W → Type 0} {a b : W} {x : List ℕ}
     {reply : Result (Unit {0}) Error} → CallLaw told takes_all may a (WroteAll x reply) b → WriteAllLaw told takes_all may a x reply b
-own_law {b = b} {x} {reply} own = record {
+own_law {x = x} {reply} own = record {
   never_interrupted = own.1;
   moves = own.2;
   all = own.3;
-  calls = (WroteAll x reply ∷ [], (b, own, refl), inl refl);
+  calls = by_call (WroteAll x reply) own (inl refl);
 }
 
 -- So far the calls C were made to write `start`: with those that write `left` they write all of it.
@@ -71,17 +101,14 @@ abbrev WritesOn : List ℕ → List WriteCall → List ℕ → List ℕ → Type
 WritesOn text C start left = (D : List WriteCall) (reply : Result (Unit {0}) Error) (end : List ℕ)
     → Writes text D left reply end → Writes text (C ++ D) start reply end
 
--- The calls that were made so far.
-pub record CallsSoFar {W : Type 0} (may : W → WriteCall → W → Type 0) (text : List ℕ) (old : W) (start left : List ℕ) (now : W)
-    : Type 0 where
-  pub calls : List WriteCall
-  pub made : Made may old calls now
-  pub on : WritesOn text calls start left
+-- The calls that were made so far are such calls.
+abbrev pub CallsSoFar : {W : Type 0} → (W → WriteCall → W → Type 0) → List ℕ → W → List ℕ → List ℕ → W → Type 0
+CallsSoFar may text old start left now = ByCalls may old (λ C. WritesOn text C start left) now
 
 -- no call yet
 pub calls_none : {W : Type 0} {may : W → WriteCall → W → Type 0} {text : List ℕ} {old : W} {start : List ℕ}
     → CallsSoFar may text old start start old
-calls_none = record { calls = []; made = refl; on = λ D r e w. w }
+calls_none = record { calls = []; made = refl; are = λ D r e w. w }
 
 module _ {W : Type 0} {may : W → WriteCall → W → Type 0} {text : List ℕ} {old now : W} {start left : List ℕ}
     (before : CallsSoFar may text old start left now) where
@@ -90,11 +117,15 @@ module _ {W : Type 0} {may : W → WriteCall → W → Type 0} {text : List ℕ}
       → ((D : List WriteCall) (reply : Result (Unit {0}) Error) (end : List ℕ) → Writes text D rest reply end
       → Writes text (call ∷ D) left reply end)
       → CallsSoFar may text old start rest new
-  calls_more {call = call} last on = grind (arith, common_steps, made_more, append_assoc)
+  calls_more {call = call} {rest} last on = by_more before call last (λ C before D r e w.
+      subst (λ l. Writes text l start r e) (sym (append_assoc C (call ∷ []) D)) (before (call ∷ D) r e (on D r e w)))
 
   -- and these were the last ones
   pub calls_end : {new : W} (reply : Result (Unit {0}) Error) (end : List ℕ) (D : List WriteCall) → Made may now D new
       → Writes text D left reply end
-      → (C : List WriteCall) × Made may old C new × Writes text C start reply end
-  calls_end {new} reply end D made writes =
-      (before.calls ++ D, made_then may before.calls old D now new before.made made, before.on D reply end writes)
+      → ByCalls may old (λ C. Writes text C start reply end) new
+  calls_end {new} reply end D made writes = record {
+    calls = before.calls ++ D;
+    made = made_then may before.calls old D now new before.made made;
+    are = before.are D reply end writes;
+  }

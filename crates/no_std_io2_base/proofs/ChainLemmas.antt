@@ -1,13 +1,13 @@
 -- What the two readers of a `Chain` take, the chain takes.
 use Rattle.std.proofs.{lemmas.Grind.{common_steps}, Common.{◌≡◌, ℕ, ◌+◌, ◌<◌, ◌≤◌, Bool, true, false, true≢false, List, [], ◌++◌, Result}}
 use Rattle.std.proofs.Common.{Ok, Err, Option, None, ◌-◌, ◌⊎◌, IfOk, IfSome, OnOk, Vec, vec_len, vec_capacity, length-append, le_trans}
-use Rattle.std.proofs.{Common.{inl, inr, length, refl, sym, ap, subst, ◌∙◌, arith, append_assoc}, lemmas.List.{append_cancel_left}}
+use Rattle.std.proofs.Common.{inl, inr, length, refl, sym, ap, subst, ◌∙◌, arith, append_assoc}
 use Rattle.no_std_io2_base.specs.{declared.error.Error.{Error}, Errors.{IsOutOfMemory}, declared.traits.chain.Chain.{Chain}, Events.{Event}}
 use Rattle.no_std_io2_base.specs.{Events.{bytes, HasNoFault, EndsInFault}, Takes.{Tells, Takes, AreTaken, IsAtEnd}, Read.{Reader, tells}}
-use Rattle.no_std_io2_base.specs.Read.{GaveAll, ReadCallLaw, ToEndLaw, ReadToEndLaw, DrainsOrStops, Drains, ended, least_room}
+use Rattle.no_std_io2_base.specs.Read.{GaveAll, ToEndLaw, ReadToEndLaw, DrainsOrStops, ended, least_room}
 use Rattle.no_std_io2_base.specs.Chain.{chain_first, chain_second, chain_is_done, chain_events, chain_to_come, both_to_come, by_first}
 use Rattle.no_std_io2_base.specs.Chain.{by_both, by_second, ChainMay}
-use Rattle.no_std_io2_base.proofs.{EventLemmas.{bytes-append, HasNoFault-append}, ReadCalls.{to_end_by, drains}, ReadToEndLoop.{recount}}
+use Rattle.no_std_io2_base.proofs.{EventLemmas.{bytes-append, HasNoFault-append}, ReadCalls.{to_end_own}, ReadToEndLoop.{recount}}
 
 -- a chain, as the laws of its calls see it
 abbrev pub chain_reader : {T U : Type 0} → Reader T → Reader U → Reader (Chain T U)
@@ -58,12 +58,6 @@ module _ {T U : Type 0} (R : Reader T) (S : Reader U) where
   done_ends c done end =
       subst (λ m. IfSome (chain_to_come m (tells R (chain_first c)) (tells S (chain_second c))) (λ l. l ≡ [])) (sym done) end
 
--- what a `read_to_end` gave is what it took
-drained : {S A : Type 0} {lacks : ℕ → Type 0} {R : Reader S} {old new : S} {buf buf' : Vec ℕ A} {reply : Result ℕ Error}
-    {answer : Result (Unit {0}) Error} (x : List ℕ) (law : ToEndLaw lacks R old buf reply buf' new) → ended reply ≡ answer
-    → Drains (ReadCallLaw R) old x answer (x ++ bytes law.taken) new
-drained {R = R} {old} {new} {buf} {answer = answer} x law same = grind (arith, common_steps, append_cancel_left, drains)
-
 -- how it ended, of a reader that is at its end if the other is
 end_of_both : (l : Type 0) (P : List Event) (t t' : Tells) (reply : Result ℕ Error) → (IsAtEnd t → IsAtEnd t') → DrainsOrStops l P reply t
     → DrainsOrStops l P reply t'
@@ -87,7 +81,7 @@ module _ {T U A : Type 0} (R : Reader T) (S : Reader U) {old new : Chain T U} {b
     appends = (appended, count);
     ends = ends;
     capacity = grown;
-    calls = to_end_by (bytes P) appended (call, (P, takes, refl, by reply ends));
+    calls = to_end_own (call, (P, takes, refl, by reply ends)) refl;
   }
     where
       by : (reply : Result ℕ Error) → DrainsOrStops (lacks (length (bytes P))) P reply (tells (chain_reader R S) new)
@@ -99,7 +93,7 @@ module _ {T U A : Type 0} (R : Reader T) (S : Reader U) {old new : Chain T U} {b
   -- of the second alone
   pub end_second : (reply : Result ℕ Error) → chain_is_done old ≡ true → new ≡ record old { second = chain_second new }
       → ReadToEndLaw S (chain_second old) buf reply buf' (chain_second new) → ReadToEndLaw (chain_reader R S) old buf reply buf' new
-  end_second reply done same law = to_end_call reply law.taken ([], λ _. refl, by_second done same (drained [] law refl))
+  end_second reply done same law = to_end_call reply law.taken ([], bytes law.taken, refl, λ _. refl, by_second done same law.calls)
       (by_second_takes R S done same law.takes) law.appends.0 law.appends.1
       (end_of_both _ law.taken _ _ reply (done_ends R S new (ap chain_is_done same ∙ done)) law.ends) law.capacity
 
@@ -107,7 +101,7 @@ module _ {T U A : Type 0} (R : Reader T) (S : Reader U) {old new : Chain T U} {b
   pub end_first : {e : Error} → chain_is_done old ≡ false → new ≡ record old { first = chain_first new }
       → ReadToEndLaw R (chain_first old) buf (Err e) buf' (chain_first new) → ReadToEndLaw (chain_reader R S) old buf (Err e) buf' new
   end_first {e} going same law = to_end_call (Err e) law.taken
-      ([], λ done. absurd (true≢false (sym done ∙ going)), by_first going same (refl, drained [] law refl))
+      ([], bytes law.taken, refl, λ _. refl, by_first going same (refl, law.calls))
       (by_first_takes R S going same law.takes) law.appends.0 tt law.ends law.capacity
 
   -- of both: the first ended, and then the second went on
@@ -117,11 +111,10 @@ module _ {T U A : Type 0} (R : Reader T) (S : Reader U) {old new : Chain T U} {b
       → ReadToEndLaw (chain_reader R S) old buf (recount reply k) buf' new
   end_both {mid} {n} reply k going done first second is = to_end_call (recount reply k) P (
     bytes first.taken,
+    bytes second.taken,
+    joined,
     λ was. absurd (true≢false (sym was ∙ going)),
-    by_both going done (drained [] first refl)
-        (subst (λ l. Drains (ReadCallLaw S) (chain_second old) (bytes first.taken) (ended (recount reply k)) l (chain_second new))
-        (sym joined)
-        (drained (bytes first.taken) second (same reply))),
+    by_both going done first.calls (rw (sym (same reply)) second.calls),
   )
       (by_both_takes R S going done first.takes first.ends.1 second.takes) appended (count reply is) (ends reply second.ends)
       (le_trans first.capacity second.capacity)

@@ -8,7 +8,7 @@ use Rattle.no_std_io2_base.specs.Read.{no_read, and_gave, and_again}
 use Rattle.no_std_io2_base.specs.BufRead.{Lender, lender_tells, as_reader, FilledLaw, ConsumeLaw, LendCallLaw}
 use Rattle.no_std_io2_base.specs.Passing.{PortionCalls, PortionsUntil, no_portion, and_portion, and_waited}
 use Rattle.no_std_io2_base.specs.Write.{Made}
-use Rattle.no_std_io2_base.proofs.CallsLemmas.{made_then, made_split}
+use Rattle.no_std_io2_base.proofs.CallsLemmas.{made_split, by_call, by_then}
 use Rattle.no_std_io2_base.specs.Reads.{AllGoOn, Asked, Fetches}
 use Rattle.no_std_io2_base.proofs.TookLemmas.{Took-none, Took-then, Took-bytes, Took-again, Took-end, Took-fault}
 
@@ -31,39 +31,35 @@ asked_then C D (Err e) on (E, call, p, is, met) =
 module _ {X : Type 0} {R : Lender X} where
   -- no call
   pub fetches_none : {a b : X} → b ≡ a → Fetches R a [] (Ok true) b
-  fetches_none {a} same = rw same (record { took = Took-none (lender_tells R a); calls = ([], refl, tt) })
+  fetches_none {a} same = rw same (record { took = Took-none (lender_tells R a); calls = record { calls = []; made = refl; are = tt } })
 
   -- calls, and then others
   pub fetches_then : {a b c : X} {x y : List ℕ} {how : Result Bool Error} → Fetches R a x (Ok true) b → Fetches R b y how c
       → Fetches R a (x ++ y) how c
   fetches_then {a} {b} {c} {how = how} f g = record {
     took = Took-then f.took g.took;
-    calls = (
-      f.calls.0 ++ g.calls.0,
-      made_then (LendCallLaw R) f.calls.0 a g.calls.0 b c f.calls.1 g.calls.1,
-      asked_then f.calls.0 g.calls.0 how f.calls.2 g.calls.2,
-    );
+    calls = by_then f.calls g.calls (λ C D on asked. asked_then C D how on asked);
   }
 
   -- one read
   pub fetches_gave : {a b : X} (room : ℕ) (y : List ℕ) → GaveLaw (as_reader R) a room (Ok y) b → 0 < length y → Fetches R a y (Ok true) b
   fetches_gave {b = b} room y law some =
-      record { took = Took-bytes y law.takes; calls = (Gave room (Ok y) ∷ [], (b, law, refl), (some, tt)) }
+      record { took = Took-bytes y law.takes; calls = by_call (Gave room (Ok y)) law (some, tt) }
 
   pub fetches_again : {a b : X} (room : ℕ) {e : Error} → GaveLaw (as_reader R) a room (Err e) b → IsInterruption e
       → Fetches R a [] (Ok true) b
   fetches_again {b = b} room {e = e} law again =
-      record { took = Took-again law.takes again; calls = (Gave room (Err e) ∷ [], (b, law, refl), (again, tt)) }
+      record { took = Took-again law.takes again; calls = by_call (Gave room (Err e)) law (again, tt) }
 
   pub fetches_end : {a b : X} (room : ℕ) → GaveLaw (as_reader R) a room (Ok []) b → 0 < room → Fetches R a [] (Ok false) b
   fetches_end {b = b} room law some = record {
     took = Took-end law.takes (law.end refl some);
-    calls = (Gave room (Ok []) ∷ [], (b, law, refl), ([], _, tt, refl, inr (room, refl)));
+    calls = by_call (Gave room (Ok [])) law ([], _, tt, refl, inr (room, refl));
   }
 
   pub fetches_fault : {a b : X} (room : ℕ) {e : Error} → GaveLaw (as_reader R) a room (Err e) b → IsFault e → Fetches R a [] (Err e) b
   fetches_fault {b = b} room law fault =
-      record { took = Took-fault law.takes fault; calls = (Gave room (Err _) ∷ [], (b, law, refl), ([], _, tt, refl, inr (room, refl))) }
+      record { took = Took-fault law.takes fault; calls = by_call (Gave room (Err _)) law ([], _, tt, refl, inr (room, refl)) }
 
   -- one `fill_buf`, and perhaps a `consume`
   pub fetches_lent : {a b c : X} (y : List ℕ) (n : ℕ) → FilledLaw R a (Ok y) b → 0 < length y → (n ≤ length (R.held b)) × ConsumeLaw R b n c
@@ -71,22 +67,22 @@ module _ {X : Type 0} {R : Lender X} where
   fetches_lent {b = b} {c} y n filled some dropped = record {
     took = Took-then (record { taken = []; takes = filled.takes; are = refl; ends = tt })
         (Took-bytes (take n y) (rw filled.lends at dropped.1.takes));
-    calls = (Filled (Ok y) ∷ Consumed n ∷ [], (b, filled, (c, dropped, refl)), (some, tt));
+    calls = record { calls = Filled (Ok y) ∷ Consumed n ∷ []; made = (b, filled, (c, dropped, refl)); are = (some, tt) };
   }
 
   pub fetches_waited : {a b : X} {e : Error} → FilledLaw R a (Err e) b → IsInterruption e → Fetches R a [] (Ok true) b
   fetches_waited {b = b} {e = e} filled again =
-      record { took = Took-again filled.takes again; calls = (Filled (Err e) ∷ [], (b, filled, refl), (again, tt)) }
+      record { took = Took-again filled.takes again; calls = by_call (Filled (Err e)) filled (again, tt) }
 
   pub fetches_lent_end : {a b : X} → FilledLaw R a (Ok []) b → Fetches R a [] (Ok false) b
   fetches_lent_end {b = b} filled = record {
     took = Took-end filled.takes (filled.end refl);
-    calls = (Filled (Ok []) ∷ [], (b, filled, refl), ([], _, tt, refl, inl refl));
+    calls = by_call (Filled (Ok [])) filled ([], _, tt, refl, inl refl);
   }
 
   pub fetches_lent_fault : {a b : X} {e : Error} → FilledLaw R a (Err e) b → IsFault e → Fetches R a [] (Err e) b
   fetches_lent_fault {b = b} filled fault =
-      record { took = Took-fault filled.takes fault; calls = (Filled (Err _) ∷ [], (b, filled, refl), ([], _, tt, refl, inl refl)) }
+      record { took = Took-fault filled.takes fault; calls = by_call (Filled (Err _)) filled ([], _, tt, refl, inl refl) }
 
   -- the calls of a `skip`
   pub fetches_portions : {a : X} {n : ℕ} {C : List ReadCall} {x : List ℕ} → PortionCalls n C x → (b : X) → Made (LendCallLaw R) a C b

@@ -3,7 +3,7 @@ use Rattle.std.proofs.{Common.{rules, arith, ◌≡◌, ℕ, List, Result, refl,
 use Rattle.std.specs.Borrow.{Bor}
 use Rattle.no_std_io2_base.specs.{declared.error.Error.{Error}, Events.{Event}, Takes.{Store, Tells}, Read.{Reader, tells, ReadCall}}
 use Rattle.no_std_io2_base.specs.{Read.{ReadCallLaw, ReadLaw, ReadExactLaw, ToEndLaw}, BufRead.{Lender, as_reader, AfterLoan, ConsumeLaw}}
-use Rattle.no_std_io2_base.specs.{BufRead.{LendCallLaw, ReadUntilLaw, ReadLineLaw}, Write.{Told, WriteCall, Made, CallLaw, WriteAllLaw}}
+use Rattle.no_std_io2_base.specs.{BufRead.{LendCallLaw, ReadUntilLaw, ReadLineLaw}, Write.{Told, WriteCall, ByCalls, CallLaw, WriteAllLaw}}
 use Rattle.no_std_io2_base.specs.Write.{AllCalls, PartMay}
 use Rattle.no_std_io2_base.proofs.CallsLemmas.{made_map}
 
@@ -93,7 +93,7 @@ module _ {W V : Type 0} {told : V → Told} {takes_all : V → Type 0} {may : W 
       → WriteAllLaw (λ w. told (put old w)) (λ w. takes_all (put old w)) may (get old) x reply (get new)
       → put old (get old) ≡ old → put old (get new) ≡ new → ((w : W) → get (put old w) ≡ w)
       → ((w u : W) → put (put old w) u ≡ put old u)
-      → (C : List WriteCall) × Made (CallLaw told takes_all (PartMay may get put)) old C new × AllCalls C x reply
+      → ByCalls (CallLaw told takes_all (PartMay may get put)) old (λ C. AllCalls C x reply) new
   passes_write_all {old} {new} {x} {reply} law was is back twice =
       let all : WriteAllLaw told takes_all (PartMay may get put) old x reply new =
       subst (λ v. WriteAllLaw told takes_all (PartMay may get put) v x reply new) was

@@ -1,13 +1,13 @@
 -- Bytes that a reader in memory gives, as its laws say it.
 use Rattle.std.proofs.{lemmas.Grind.{common_steps}, Common.{◌≡◌, ℕ, ◌+◌, ◌<◌, ◌≤◌, min, List, [], ◌++◌, Result, Ok, Err, length, take}}
-use Rattle.std.proofs.Common.{drop, refl, sym, ap, subst, ◌∙◌, arith, le_refl, None, Some, IfOk, IfErr, IfSome, Vec, vec_len}
-use Rattle.std.proofs.Common.{vec_capacity, length-append, take-append-drop, length-take, IsOkAnd}
-use Rattle.no_std_io2_base.specs.{declared.error.Error.{Error}, Errors.{IsUnexpectedEnd, IsOutOfMemory}, Events.{events_of}, Takes.{Tells}}
-use Rattle.no_std_io2_base.specs.{Takes.{Takes, to_come, IsAtEnd}, Read.{Reader, tells, ReadCall, Gave, GaveExactly, GaveAll, ended}}
-use Rattle.no_std_io2_base.specs.{Read.{ReadLaw, ReadExactLaw, ReadToEndLaw, least_room, FillsOrEnds}, InMemory.{GivesLeft}}
+use Rattle.std.proofs.Common.{drop, refl, sym, ap, subst, ◌∙◌, arith, le_refl, None, Some, IfOk, IfErr, IfSome, Vec, vec_len, vec_capacity}
+use Rattle.std.proofs.Common.{length-append, take-append-drop, length-take, IsOkAnd}
+use Rattle.no_std_io2_base.specs.{declared.error.Error.{Error}, Errors.{IsUnexpectedEnd, IsOutOfMemory}, Events.{events_of, bytes}}
+use Rattle.no_std_io2_base.specs.{Takes.{Tells, Takes, to_come, IsAtEnd}, Read.{Reader, tells, ReadCall, Gave, GaveExactly, GaveAll, ended}}
+use Rattle.no_std_io2_base.specs.{Read.{ReadLaw, ReadExactLaw, ReadToEndLaw, DrainsOrStops, least_room, FillsOrEnds}, InMemory.{GivesLeft}}
 use Rattle.no_std_io2_base.specs.ReadMeter.{FillsRoom}
 use Rattle.no_std_io2_base.proofs.EventLemmas.{events_of-append, length-events_of, bytes-events_of, HasNoFault-events_of}
-use Rattle.no_std_io2_base.proofs.{ReadCalls.{exact_own, to_end_by}, TakesLemmas.{gives_whole, drains_ended}}
+use Rattle.no_std_io2_base.proofs.{ReadCalls.{exact_own, to_end_own}, TakesLemmas.{gives_whole, drains_ended}}
 
 -- what a reader tells that has these bytes left, and no store
 abbrev tells_left : List ℕ → Tells
@@ -49,7 +49,17 @@ module _ {S : Type 0} {R : Reader S} {left : S → List ℕ} {old new : S} {part
       → IfErr reply (λ e. IsOutOfMemory e × (vec_capacity buf < vec_len buf' + least_room)) → vec_capacity buf ≤ vec_capacity buf'
       → R.may old (GaveAll part (ended reply)) new → ReadToEndLaw R old buf reply buf' new
   memory_drained {buf = buf} {buf'} reply grown done failed capacity call =
-      grind (arith, common_steps, ends, to_end_by, drains_ended, bytes-events_of, HasNoFault-events_of, length-append)
+      let stops : DrainsOrStops (vec_capacity buf < vec_len buf + (length (bytes (events_of part)) + least_room)) (events_of part) reply
+      (tells R new) = grind (arith, common_steps, ends, bytes-events_of, HasNoFault-events_of, length-append) in
+      record {
+        taken = events_of part;
+        takes = gives.takes;
+        appends = grind (arith, common_steps, bytes-events_of);
+        ends = stops;
+        capacity = capacity;
+        calls = to_end_own (call, (events_of part, gives.takes, bytes-events_of part, drains_ended _ (events_of part) reply _ stops))
+            (bytes-events_of part);
+      }
 
 module _ {S : Type 0} {R : Reader S} {left : S → List ℕ} where
   module _ (may : (old new : S) (call : ReadCall) → GivesLeft left old call new → R.may old call new) {old : S} where
@@ -61,7 +71,7 @@ module _ {S : Type 0} {R : Reader S} {left : S → List ℕ} where
     -- a `read_exact` fills the buffer
     pub exact_part : {new : S} {buf buf' : List ℕ} {u : Unit {0}} → GivesPart R left old buf' new → (length buf ≡ 0 → new ≡ old)
         → ReadExactLaw R old buf (Ok u) buf' new
-    exact_part {new} {buf' = buf'} gives empty =
+    exact_part {new} {buf' = buf'} {u} gives empty =
         let room = length buf' in
         let long = ap length gives.split ∙ length-append buf' (left new) in
         let front = fitting_part (left old) buf' (left new) room gives.split (omega (arith, long)) in
@@ -73,7 +83,7 @@ module _ {S : Type 0} {R : Reader S} {left : S → List ℕ} where
           takes = gives.takes;
           ends = fills;
           empty = λ none. (refl, empty none);
-          calls = exact_own (may old new _ given, (events_of buf', gives.takes, fills));
+          calls = exact_own (Ok u) buf' (may old new _ given, (events_of buf', gives.takes, fills));
         }
 
     -- too few bytes were left

@@ -2,10 +2,10 @@
 use Rattle.std.proofs.{lemmas.Grind.{common_steps}, Common.{◌≡◌, ℕ, ◌+◌, ◌≤◌, min, List, [], ◌++◌, Result, Ok, Err, OnOk, length, refl}}
 use Rattle.std.proofs.Common.{sym, ap, subst, ◌∙◌, arith, Option, None, Some, inl, inr, ◌⊎◌, length-append, length-take-le, Vec, String}
 use Rattle.std.proofs.{Common.{string_bytes}, lemmas.List.{append_cancel_right}}
-use Rattle.no_std_io2_base.specs.{declared.error.Error.{Error}, declared.traits.take.Take.{Take}, Events.{Event, events_of, bytes, cut}}
+use Rattle.no_std_io2_base.specs.{declared.{error.Error.{Error}, traits.take.Take.{Take}}, Events.{Event, events_of, bytes, cut}}
 use Rattle.no_std_io2_base.specs.{Takes.{Tells, Takes, to_come, AreTaken}, Read.{Reader, tells, ReadCallLaw, ReadExactLaw, ToEndLaw}}
-use Rattle.no_std_io2_base.specs.{Read.{answered, fault_of}, BufRead.{Lender, as_reader, ReadUntilLaw, ReadLineLaw}, Take.{limit_inner}}
-use Rattle.no_std_io2_base.specs.Take.{limit_left, cut_to_come, LimitTakes}
+use Rattle.no_std_io2_base.specs.{Read.{answered, fault_of, ended}, BufRead.{Lender, as_reader, ReadUntilLaw, ReadLineLaw}}
+use Rattle.no_std_io2_base.specs.Take.{limit_inner, limit_left, cut_to_come, LimitTakes}
 use Rattle.no_std_io2_base.proofs.{EventLemmas.{bytes-append, bytes-events_of, length-events_of}, GivenPieces.{few_bytes}}
 use Rattle.no_std_io2_base.proofs.{ReadLoop.{ReadsSoFar}, ReadsAdd.{EachAdds, each_of, gathers_add, exact_adds, to_end_adds, piece_adds}}
 use Rattle.no_std_io2_base.proofs.{ReadsAdd.{line_appended}, TakesLemmas.{cut-fitting, lend_law}, LimitLemmas.{limit_reader, limit_lender}}
@@ -92,32 +92,25 @@ pub limit_exact : {T : Type 0} {inner : Reader T} {old new : Take T} {buf buf' :
     → ReadExactLaw (limit_reader inner) old buf reply buf' new
     → (P : List Event) × OnOk reply (bytes P ≡ buf') × LimitTakes inner old P new
 limit_exact {old = old} {new} (Ok u) law =
-    let calls = exact_adds limit_each (Ok u) old new law.calls in
+    let calls = exact_adds limit_each _ (Ok u) old new law.calls in
     let given = law.ends.0.given in
     let took = limit_taken law.taken calls.2.0 law.takes calls.2.2 (calls.2.1 ∙ ap length (calls.1 ∙ sym given)) in
     (took.0, took.1 ∙ given, took.2)
-limit_exact {old = old} {new} (Err e) law = let calls = exact_adds limit_each (Err e) old new law.calls in (calls.2.0, tt, calls.2.2)
+limit_exact {old = old} {new} (Err e) law = let calls = exact_adds limit_each _ (Err e) old new law.calls in (calls.2.0, tt, calls.2.2)
 
 pub limit_to_end : {T A : Type 0} {lacks : ℕ → Type 0} {inner : Reader T} {old new : Take T} {buf buf' : Vec ℕ A} {reply : Result ℕ Error}
     → ToEndLaw lacks (limit_reader inner) old buf reply buf' new
     → (P : List Event) × (buf'.items ≡ buf.items ++ bytes P) × LimitTakes inner old P new
 limit_to_end {old = old} {new} {buf} {buf'} {reply} law =
-    let calls = to_end_adds limit_each reply old new law.calls in
-    let same : length (bytes calls.2.0) ≡ length (bytes law.taken) = omega (
-      arith,
-      calls.2.1,
-      ap length (sym calls.1 ∙ law.appends.0),
-      length-append buf.items calls.0,
-      length-append buf.items (bytes law.taken),
-    ) in
-    let took = limit_taken law.taken calls.2.0 law.takes calls.2.2 same in
+    let calls = to_end_adds limit_each (ended reply) old new law.calls in
+    let took = limit_taken law.taken calls.0 law.takes calls.2 calls.1 in
     (took.0, law.appends.0 ∙ ap (λ l. buf.items ++ l) (sym took.1), took.2)
 
 pub limit_until : {T A : Type 0} (inner : Lender T) {old new : Take T} {d : ℕ} {buf buf' : Vec ℕ A} {reply : Result ℕ Error}
     → ReadUntilLaw (limit_lender inner) old d buf reply buf' new
     → (P : List Event) × (buf'.items ≡ buf.items ++ bytes P) × LimitTakes (as_reader inner) old P new
 limit_until inner {old} {new} {buf = buf} {reply = reply} law =
-    let calls = piece_adds (each_of (lend_law (limit_lender inner)) limit_each) reply old new law.calls in
+    let calls = piece_adds (each_of (lend_law (limit_lender inner)) limit_each) _ _ reply old new law.calls in
     let took = limit_taken law.taken calls.0 law.takes calls.2 calls.1 in
     (took.0, law.appends ∙ ap (λ l. buf.items ++ l) (sym took.1), took.2)
 
@@ -125,7 +118,7 @@ pub limit_line : {T A : Type 0} (inner : Lender T) {old new : Take T} {buf buf' 
     → ReadLineLaw (limit_lender inner) old buf reply buf' new
     → (P : List Event) × OnOk reply (string_bytes buf' ≡ string_bytes buf ++ bytes P) × LimitTakes (as_reader inner) old P new
 limit_line inner {old} {new} {buf} {buf'} {reply} law =
-    let calls = piece_adds (each_of (lend_law (limit_lender inner)) limit_each) law.read old new law.calls in
+    let calls = piece_adds (each_of (lend_law (limit_lender inner)) limit_each) _ _ law.read old new law.calls in
     let took = limit_taken law.taken calls.0 law.takes calls.2 calls.1 in
     let appended = line_appended _ _ (bytes law.taken) _ _ reply law.read law.answers in
     (took.0, subst (λ l. OnOk reply (string_bytes buf' ≡ string_bytes buf ++ l)) (sym took.1) appended, took.2)

@@ -4,11 +4,11 @@ use Rattle.std.proofs.Common.{Result, Ok, Err, Vec, vec_len, vec_capacity, lengt
 use Rattle.std.proofs.Common.{append-nil, le_refl, le_trans, inl, inr, length-append, length-take-le, take_all}
 use Rattle.std.specs.Borrow.{Bor}
 use Rattle.no_std_io2_base.specs.{declared.error.Error.{Error}, Errors.{IsInterruption, IsFault, IsOutOfMemory}, Events.{Event, byte}}
-use Rattle.no_std_io2_base.specs.{Events.{fails, events_of, bytes, HasNoFault}, Takes.{Tells, Takes, IsAll}, Read.{ReadCall, Filled}}
+use Rattle.no_std_io2_base.specs.{Events.{fails, events_of, bytes, HasNoFault}, Takes.{Tells, Takes, IsAll}, Read.{Filled}}
 use Rattle.no_std_io2_base.specs.{Read.{Consumed}, BufRead.{Lender, lender_tells, FillBufLaw, AfterLoan, ConsumeLaw, FilledLaw}}
 use Rattle.no_std_io2_base.specs.{BufRead.{LendCallLaw, ReadUntilLaw, lent_bytes}, Pieces.{Lacks, EndsPiece, EndsAt, FindsPiece, PieceEnds}}
-use Rattle.no_std_io2_base.specs.{Pieces.{PartCalls, no_part, and_part, and_waited, PieceMade}, Write.{Made}}
-use Rattle.no_std_io2_base.proofs.{CallsLemmas.{made_more, made_then}, EventLemmas.{events_of-append, HasNoFault-append}}
+use Rattle.no_std_io2_base.specs.{Pieces.{PartCalls, no_part, and_part, and_waited, PieceCalls}, Write.{ByCalls}}
+use Rattle.no_std_io2_base.proofs.{CallsLemmas.{by_more, by_then}, EventLemmas.{events_of-append, HasNoFault-append}}
 use Rattle.no_std_io2_base.proofs.{EventLemmas.{HasNoFault-events_of, length-events_of}, PieceLemmas.{bytes-more, bytes-fails}}
 use Rattle.no_std_io2_base.proofs.{PieceLemmas.{Lacks-append, found_part, comes_behind}, TakesLemmas.{takes_none, takes_then, takes_still}}
 use Rattle.no_std_io2_base.proofs.TakesLemmas.{takes_turns, takes_all, spends, stays_at_end}
@@ -32,21 +32,24 @@ pub record PartTaken {X : Type 0} (R : Lender X) (d : ℕ) (old : X) (P : List E
   pub takes : Takes (lender_tells R old) P (lender_tells R now)
   pub no_fault : HasNoFault P
   pub lacks : Lacks d (bytes P)
-  pub calls : List ReadCall
-  pub made : Made (LendCallLaw R) old calls now
-  pub are : PartCalls d calls (bytes P)
+  pub calls : ByCalls (LendCallLaw R) old (λ C. PartCalls d C (bytes P)) now
 
 -- It took P, and ended with this result.
 pub record PieceTaken {X : Type 0} (R : Lender X) (lacks : ℕ → Type 0) (may_refuse : Type 0) (d : ℕ) (old : X) (P : List Event)
     (read : Result ℕ Error) (new : X) : Type 0 where
   pub takes : Takes (lender_tells R old) P (lender_tells R new)
   pub ends : PieceEnds lacks d (lender_tells R old) P read
-  pub calls : PieceMade may_refuse (LendCallLaw R) old d read (bytes P) new
+  pub calls : ByCalls (LendCallLaw R) old (λ C. PieceCalls may_refuse d C (bytes P) read) new
 
 -- at the start nothing is taken
 pub part_none : {X : Type 0} (R : Lender X) (d : ℕ) (old : X) → PartTaken R d old [] old
 part_none R d old =
-    record { takes = takes_none (lender_tells R old); no_fault = tt; lacks = tt; calls = []; made = refl; are = no_part }
+    record {
+      takes = takes_none (lender_tells R old);
+      no_fault = tt;
+      lacks = tt;
+      calls = record { calls = []; made = refl; are = no_part };
+    }
 
 module _ {X : Type 0} {R : Lender X} {d : ℕ} {old now after : X} {P : List Event} (before : PartTaken R d old P now) where
   module _ {e : Error} (filled : FilledLaw R now (Err e) after) where
@@ -54,14 +57,12 @@ module _ {X : Type 0} {R : Lender X} {d : ℕ} {old now after : X} {P : List Eve
     pub part_waited : IsInterruption e → PartTaken R d old (P ++ fails e ∷ []) after
     part_waited again =
         let same = sym (bytes-fails P e) in
-        let calls = before.calls ++ Filled (Err e) ∷ [] in
         record {
           takes = takes_then before.takes filled.takes;
           no_fault = HasNoFault-append P (fails e ∷ []) before.no_fault (again, tt);
           lacks = subst (Lacks d) same before.lacks;
-          calls = calls;
-          made = made_more (LendCallLaw R) before.calls old before.made filled;
-          are = subst (PartCalls d calls) same (and_waited _ _ _ before.are again);
+          calls = by_more before.calls (Filled (Err e)) filled
+              (λ C parts. subst (PartCalls d (C ++ Filled (Err e) ∷ [])) same (and_waited C (bytes P) e parts again));
         }
 
     -- a fault ends it
@@ -72,11 +73,7 @@ module _ {X : Type 0} {R : Lender X} {d : ℕ} {old now after : X} {P : List Eve
         record {
           takes = takes_then before.takes filled.takes;
           ends = (subst (Lacks d) same before.lacks, inl (P, refl, before.no_fault, fault));
-          calls = record {
-            calls = before.calls ++ Filled (Err e) ∷ [];
-            made = made_more (LendCallLaw R) before.calls old before.made filled;
-            are = (before.calls, subst (PartCalls d before.calls) same before.are, inl (fault, refl));
-          };
+          calls = by_more before.calls (Filled (Err e)) filled (λ C parts. (C, subst (PartCalls d C) same parts, inl (fault, refl)));
         }
 
   module _ {lent : List ℕ} {n : ℕ} {is_whole : Bool} (filled : FilledLaw R now (Ok lent) after) (found : FindsPiece d lent n is_whole) where
@@ -89,16 +86,8 @@ module _ {X : Type 0} {R : Lender X} {d : ℕ} {old now after : X} {P : List Eve
         record {
           takes = takes_still before.takes filled.takes;
           ends = (before.lacks, inr (before.no_fault, refused, (take n lent, part, comes, short)));
-          calls = record {
-            calls = before.calls ++ Filled (Ok lent) ∷ [];
-            made = made_more (LendCallLaw R) before.calls old before.made filled;
-            are = (
-              before.calls,
-              before.are,
-              inr
-                  (tt, refused, lent, omega (arith, some, found.within, length-take-le n lent found.within), refl),
-            );
-          };
+          calls = by_more before.calls (Filled (Ok lent)) filled (λ C parts.
+              (C, parts, inr (tt, refused, lent, omega (arith, some, found.within, length-take-le n lent found.within), refl)));
         }
 
     module _ {new : X} (dropped : ConsumeLaw R after n new) where
@@ -109,11 +98,10 @@ module _ {X : Type 0} {R : Lender X} {d : ℕ} {old now after : X} {P : List Eve
       takes : Takes (lender_tells R old) (P ++ events_of (take n lent)) (lender_tells R new)
       takes = takes_then (takes_still before.takes filled.takes) taken
 
-      made : Made (LendCallLaw R) old (before.calls ++ Filled (Ok lent) ∷ Consumed n ∷ []) new
-      made =
+      lend : ByCalls (LendCallLaw R) now (λ C. C ≡ Filled (Ok lent) ∷ Consumed n ∷ []) new
+      lend =
           let within = subst (λ l. n ≤ length l) (sym filled.lends) found.within in
-          let calls = Filled (Ok lent) ∷ Consumed n ∷ [] in
-          made_then (LendCallLaw R) before.calls old calls now new before.made (after, filled, (new, (within, dropped), refl))
+          record { calls = _; made = (after, filled, (new, (within, dropped), refl)); are = refl }
 
       no_fault : HasNoFault (P ++ events_of (take n lent))
       no_fault = HasNoFault-append P _ before.no_fault (HasNoFault-events_of (take n lent))
@@ -124,16 +112,14 @@ module _ {X : Type 0} {R : Lender X} {d : ℕ} {old now after : X} {P : List Eve
           let (some, lacks, all) = found.open_ended going in
           let whole : take n lent ≡ lent = take_all n lent (omega (arith, all)) in
           let more = sym (bytes-more P (take n lent)) in
-          let calls = before.calls ++ Filled (Ok lent) ∷ Consumed n ∷ [] in
           record {
             takes = takes;
             no_fault = no_fault;
             lacks = subst (Lacks d) more (Lacks-append d (bytes P) (take n lent) before.lacks lacks);
-            calls = calls;
-            made = made;
-            are = subst (PartCalls d calls) (ap (λ l. bytes P ++ l) (sym whole) ∙ more)
-                (subst (λ k. PartCalls d (before.calls ++ Filled (Ok lent) ∷ Consumed k ∷ []) (bytes P ++ lent)) (sym all)
-                (and_part before.calls (bytes P) lent before.are (omega (arith, some, all)) (subst (Lacks d) whole lacks)));
+            calls = by_then before.calls lend (λ C D parts is. rw is
+                (subst (λ k. PartCalls d (C ++ Filled (Ok lent) ∷ Consumed k ∷ []) (bytes (P ++ events_of (take n lent)))) (sym all)
+                (subst (PartCalls d (C ++ Filled (Ok lent) ∷ Consumed (length lent) ∷ [])) (ap (λ l. bytes P ++ l) (sym whole) ∙ more)
+                (and_part C (bytes P) lent parts (omega (arith, some, all)) (subst (Lacks d) whole lacks)))));
           }
 
       -- and a turn is spent
@@ -165,11 +151,8 @@ module _ {X : Type 0} {R : Lender X} {d : ℕ} {old now after : X} {P : List Eve
       piece_whole whole counts = record {
         takes = takes;
         ends = (no_fault, counts, ended (found.whole whole));
-        calls = record {
-          calls = before.calls ++ Filled (Ok lent) ∷ Consumed n ∷ [];
-          made = made;
-          are = (before.calls, bytes P, lent, n, before.are, subst (FindsPiece d lent n) whole found, bytes-more P (take n lent), refl);
-        };
+        calls = by_then before.calls lend (λ C D parts is.
+            (C, bytes P, lent, n, parts, subst (FindsPiece d lent n) whole found, bytes-more P (take n lent), ap (λ l. C ++ l) is));
       }
 
 -- What a loop took so far was appended.

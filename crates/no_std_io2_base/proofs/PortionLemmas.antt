@@ -2,10 +2,10 @@
 use Rattle.std.proofs.{lemmas.Grind.{common_steps}, Common.{◌≡◌, ℕ, ◌+◌, ◌-◌, ◌<◌, ◌≤◌, List, [], ◌∷◌, ◌++◌, Ok, Err, min, length, take}}
 use Rattle.std.proofs.Common.{refl, sym, ap, subst, ◌∙◌, arith, inl, inr, length-append, length-take-le}
 use Rattle.no_std_io2_base.specs.{declared.error.Error.{Error}, Errors.{IsFault, IsInterruption, IsUnexpectedEnd}, Events.{Event, fails}}
-use Rattle.no_std_io2_base.specs.{Events.{events_of, bytes, HasNoFault}, Takes.{Takes}, Read.{ReadCall, Filled, Consumed}, BufRead.{Lender}}
-use Rattle.no_std_io2_base.specs.{BufRead.{lender_tells, ConsumeLaw, FilledLaw, LendCallLaw}, Write.{Made}, Passing.{PortionCalls}}
+use Rattle.no_std_io2_base.specs.{Events.{events_of, bytes, HasNoFault}, Takes.{Takes}, Read.{Filled, Consumed}, BufRead.{Lender}}
+use Rattle.no_std_io2_base.specs.{BufRead.{lender_tells, ConsumeLaw, FilledLaw, LendCallLaw}, Write.{ByCalls}, Passing.{PortionCalls}}
 use Rattle.no_std_io2_base.specs.Passing.{no_portion, and_portion, and_waited, Skipped}
-use Rattle.no_std_io2_base.proofs.{CallsLemmas.{made_more, made_then}, EventLemmas.{HasNoFault-append, HasNoFault-events_of}}
+use Rattle.no_std_io2_base.proofs.{CallsLemmas.{by_more, by_then}, EventLemmas.{HasNoFault-append, HasNoFault-events_of}}
 use Rattle.no_std_io2_base.proofs.{EventLemmas.{length-events_of}, PieceLemmas.{bytes-more, bytes-fails}, TakesLemmas.{takes_none}}
 use Rattle.no_std_io2_base.proofs.TakesLemmas.{takes_then, takes_still, takes_turns, spends}
 
@@ -15,9 +15,7 @@ pub record PortionsTaken {X : Type 0} (R : Lender X) (old : X) (n left : ℕ) (n
   pub takes : Takes (lender_tells R old) taken (lender_tells R now)
   pub no_fault : HasNoFault taken
   pub count : length (bytes taken) + left ≡ n
-  pub calls : List ReadCall
-  pub made : Made (LendCallLaw R) old calls now
-  pub are : PortionCalls n calls (bytes taken)
+  pub calls : ByCalls (LendCallLaw R) old (λ C. PortionCalls n C (bytes taken)) now
 
 -- at the start all are wanted
 pub portions_none : {X : Type 0} {R : Lender X} {old : X} {n : ℕ} → PortionsTaken R old n n old
@@ -26,9 +24,7 @@ portions_none {R = R} {old} = record {
   takes = takes_none (lender_tells R old);
   no_fault = tt;
   count = omega arith;
-  calls = [];
-  made = refl;
-  are = no_portion;
+  calls = record { calls = []; made = refl; are = no_portion };
 }
 
 -- all were skipped
@@ -52,9 +48,8 @@ module _ {X : Type 0} {R : Lender X} {old now : X} {n left : ℕ} (before : Port
       takes = takes_then before.takes filled.takes;
       no_fault = HasNoFault-append before.taken (fails e ∷ []) before.no_fault (again, tt);
       count = ap (λ l. length l + left) (sym same) ∙ before.count;
-      calls = before.calls ++ Filled (Err e) ∷ [];
-      made = made_more (LendCallLaw R) before.calls old before.made filled;
-      are = subst (PortionCalls n _) same (and_waited _ _ _ before.are wanted again);
+      calls = by_more before.calls (Filled (Err e)) filled
+          (λ C so_far. subst (PortionCalls n (C ++ Filled (Err e) ∷ [])) same (and_waited C _ e so_far wanted again));
     }
 
     -- a fault ends a `skip`
@@ -64,14 +59,8 @@ module _ {X : Type 0} {R : Lender X} {old now : X} {n left : ℕ} (before : Port
       takes = takes_then before.takes filled.takes;
       count = ap (λ l. length l + left) (sym same) ∙ before.count;
       ends = (more, inl (before.taken, refl, before.no_fault, fault));
-      calls = (
-        before.calls ++ Filled (Err e) ∷ [],
-        made_more (LendCallLaw R) before.calls old before.made filled,
-        inl (
-          fault,
-          (before.calls, subst (PortionCalls n before.calls) same before.are, subst (λ l. length l < n) same wanted, refl),
-        ),
-      );
+      calls = by_more before.calls (Filled (Err e)) filled
+          (λ C so_far. inl (fault, (C, subst (PortionCalls n C) same so_far, subst (λ l. length l < n) same wanted, refl)));
     }
 
   module _ {after : X} {lent : List ℕ} (filled : FilledLaw R now (Ok lent) after) where
@@ -82,11 +71,8 @@ module _ {X : Type 0} {R : Lender X} {old now : X} {n left : ℕ} (before : Port
       takes = takes_still before.takes filled.takes;
       count = before.count;
       ends = (more, inr (end, before.no_fault, filled.end (ap Ok none)));
-      calls = (
-        before.calls ++ Filled (Ok lent) ∷ [],
-        made_more (LendCallLaw R) before.calls old before.made filled,
-        inr (end, (before.calls, before.are, wanted, ap (λ l. before.calls ++ Filled (Ok l) ∷ []) none)),
-      );
+      calls = by_more before.calls (Filled (Ok lent)) filled
+          (λ C so_far. inr (end, (C, so_far, wanted, ap (λ l. C ++ Filled (Ok l) ∷ []) none)));
     }
 
     module _ {len : ℕ} {new : X} (dropped : ConsumeLaw R after len new) (some : 0 < length lent)
@@ -103,17 +89,16 @@ module _ {X : Type 0} {R : Lender X} {old now : X} {n left : ℕ} (before : Port
       portions_took =
           let grown = bytes-more before.taken (take len lent) in
           let fits = subst (λ l. len ≤ length l) (sym filled.lends) (omega (arith, least)) in
-          let calls = Filled (Ok lent) ∷ Consumed len ∷ [] in
+          let lend : ByCalls (LendCallLaw R) now (λ C. C ≡ Filled (Ok lent) ∷ Consumed len ∷ []) new =
+          record { calls = _; made = (after, filled, (new, (fits, dropped), refl)); are = refl } in
           record {
             taken = before.taken ++ events_of (take len lent);
             takes = takes_then (takes_still before.takes filled.takes) taken;
             no_fault = HasNoFault-append before.taken _ before.no_fault (HasNoFault-events_of (take len lent));
             count =
                 omega (arith, before.count, least, within, ap length grown, length-append (bytes before.taken) (take len lent));
-            calls = before.calls ++ calls;
-            made = made_then (LendCallLaw R) before.calls old calls now new before.made (after, filled, (new, (fits, dropped), refl));
-            are = subst (PortionCalls n _) (sym grown)
-                (and_portion _ _ _ _ before.are wanted some (omega (arith, least, before.count)));
+            calls = by_then before.calls lend (λ C D so_far is. rw is (subst (PortionCalls n (C ++ Filled (Ok lent) ∷ Consumed len ∷ []))
+                (sym grown) (and_portion C _ lent len so_far wanted some (omega (arith, least, before.count)))));
           }
 
       -- and a turn is spent

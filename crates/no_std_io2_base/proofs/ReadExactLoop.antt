@@ -3,7 +3,7 @@ use Rattle.std.proofs.{lemmas.Grind.{common_steps}, Common.{◌≡◌, ℕ, ◌<
 use Rattle.std.proofs.Common.{arith, inl, inr, take-append-drop}
 use Rattle.no_std_io2_base.specs.{declared.error.Error.{Error}, Errors.{IsUnexpectedEnd}, Events.{bytes}, Write.{IsFront}, Read.{Reader}}
 use Rattle.no_std_io2_base.specs.Read.{ReadCall, ReadFullLaw, ReadExactLaw, FullCalls, ExactCalls, GathersUntil, IsRest}
-use Rattle.no_std_io2_base.proofs.TakesLemmas.{all_taken}
+use Rattle.no_std_io2_base.proofs.{CallsLemmas.{by_are}, TakesLemmas.{all_taken}}
 
 -- a buffer begins with its first bytes
 begins : {x : List ℕ} (at : ℕ) (buf : List ℕ) → take at buf ≡ x → IsFront x buf
@@ -25,12 +25,12 @@ module _ {S : Type 0} {R : Reader S} {old new : S} {buf buf' : List ℕ} {at : �
       inr (kind, full.ends.0, all_taken _ _ _ (full.ends.2 (omega (arith, full.counts, short, long)))),
     );
     empty = λ none. absurd (omega (arith, none, short, long));
-    calls = record { calls = full.calls.0; made = full.calls.1; are = by full.calls.2 };
+    calls = by_are full.calls by;
   }
     where
-      by : {C : List ReadCall} → FullCalls C (length buf - 0) (bytes full.taken) (Ok u) → ExactCalls C (Err e) buf'
-      by {C} (inl (reads, all)) = absurd (omega (arith, all, full.counts, short, long))
-      by {C} (inr until) =
+      by : (C : List ReadCall) → FullCalls C (length buf - 0) (bytes full.taken) (Ok u) → ExactCalls C (Err e) buf'
+      by C (inl (reads, all)) = absurd (omega (arith, all, full.counts, short, long))
+      by C (inr until) =
           let room : length buf - 0 ≡ length buf' = omega (arith, long) in
           let reads = subst (λ k. GathersUntil (IsRest k) C (bytes full.taken) (Ok [])) room until in
           inr (bytes full.taken, begins at buf' full.fills, inl (kind, reads))
@@ -39,15 +39,14 @@ module _ {S : Type 0} {R : Reader S} {old new : S} {buf buf' : List ℕ} {at : �
   pub exact_fault : {e : Error} → ReadFullLaw R old buf 0 (Err e) buf' at new → ReadExactLaw R old buf (Err e) buf' new
   exact_fault {e} full =
       let room : length buf - 0 ≡ length buf' = omega (arith, long) in
-      let reads = subst (λ k. GathersUntil (IsRest k) full.calls.0 (bytes full.taken) (Err e)) room full.calls.2.1 in
       record {
         taken = full.taken;
         takes = full.takes;
         ends = (omega (arith, full.ends.1, room), inl full.ends.0);
         empty = λ none. absurd (let no = (full.full (omega (arith, none))).0 in let bad : ⊥ = cc in bad);
-        calls = record {
-          calls = full.calls.0;
-          made = full.calls.1;
-          are = inr (bytes full.taken, begins at buf' full.fills, inr (full.calls.2.0, reads));
-        };
+        calls = by_are full.calls (λ C reads. inr (
+          bytes full.taken,
+          begins at buf' full.fills,
+          inr (reads.0, subst (λ k. GathersUntil (IsRest k) C (bytes full.taken) (Err e)) room reads.1),
+        ));
       }

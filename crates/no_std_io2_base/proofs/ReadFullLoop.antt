@@ -1,15 +1,14 @@
 -- What a loop that fills a buffer by reads has done so far, and what it has done at each of its ends.
 use Rattle.std.proofs.Common.{◌≡◌, ℕ, ◌+◌, ◌-◌, ◌<◌, ◌≤◌, List, [], ◌∷◌, ◌++◌, Result, Ok, Err, length, take, drop, refl, sym, ap, subst}
-use Rattle.std.proofs.Common.{◌∙◌, arith, le_refl, inl, inr, length-take-le, length-take, length-drop}
-use Rattle.std.proofs.Common.{append_assoc, append-nil, length-append}
-use Rattle.std.proofs.lemmas.Slice.{take-put_mid_below}
+use Rattle.std.proofs.Common.{◌∙◌, arith, le_refl, inl, inr, length-take-le, length-take, length-drop, append_assoc, append-nil}
+use Rattle.std.proofs.{Common.{length-append}, lemmas.Slice.{take-put_mid_below}}
 use borrow.Rule.Slice.PartMut.{put_mid}
 use Rattle.no_std_io2_base.specs.{declared.error.Error.{Error}, Errors.{IsInterruption, IsFault}, Events.{fails, bytes}, Read.{Reader}}
-use Rattle.no_std_io2_base.specs.{Read.{ReadLaw, ReadCall, ReadFullLaw, FullCalls, ReadCallLaw, IsRest, Gives}, Write.{Made}}
-use Rattle.no_std_io2_base.proofs.{ReadParts.{take-put_mid}, ReadExactExits.{length_stays, some_part, some_bytes}}
-use Rattle.no_std_io2_base.proofs.{EventLemmas.{bytes-append}, ReadLoop.{ReadsSoFar, reads_none, reads_more, reads_again, reads_until}}
-use Rattle.no_std_io2_base.proofs.TakesLemmas.{takes_then, takes_still, nothing_read, read_law, gives_none, gives_bytes, gives_still}
-use Rattle.no_std_io2_base.proofs.TakesLemmas.{bytes_more, bytes_still}
+use Rattle.no_std_io2_base.specs.{Read.{ReadLaw, ReadFullLaw, FullCalls, GathersUntil, ReadCallLaw, IsRest, Gives}, Write.{ByCalls}}
+use Rattle.no_std_io2_base.proofs.{CallsLemmas.{by_are}, ReadParts.{take-put_mid}, ReadExactExits.{length_stays, some_part, some_bytes}}
+use Rattle.no_std_io2_base.proofs.{EventLemmas.{bytes-append}, ReadLoop.{ReadsSoFar, reads_made, reads_none, reads_more, reads_again}}
+use Rattle.no_std_io2_base.proofs.{ReadLoop.{reads_until}, TakesLemmas.{takes_then, takes_still, nothing_read, read_law, gives_none}}
+use Rattle.no_std_io2_base.proofs.TakesLemmas.{gives_bytes, gives_still, bytes_more, bytes_still}
 
 -- behind the first `start` bytes of the buffer stand those that were taken, up to `at`
 pub record FullSoFar {S : Type 0} (R : Reader S) (old : S) (buf : List ℕ) (start at : ℕ) (buf' : List ℕ) (now : S) : Type 0 where
@@ -95,7 +94,6 @@ module _ {S : Type 0} {R : Reader S} {old now : S} {buf xs : List ℕ} {start at
       → ReadFullLaw R old buf start (Ok tt) (put_mid at (length xs - at) xs ys) at new
   full_end {new} read is zero =
       let end = nothing_read read is zero in
-      let calls = reads_until before.reads end into in
       record {
         taken = before.taken;
         takes = takes_still before.takes end.takes;
@@ -103,8 +101,8 @@ module _ {S : Type 0} {R : Reader S} {old now : S} {buf xs : List ℕ} {start at
         counts = omega (arith, before.counts, ap length before.are);
         ends = (before.no_fault, before.gives.within, λ less. end.end refl into.1);
         full = not_full;
-        calls = subst (λ x. (C : List ReadCall) × Made (ReadCallLaw R) old C new × FullCalls C (length buf - start) x (Ok tt))
-            (sym before.are) (calls.0, calls.1, inr calls.2);
+        calls = by_are (reads_until before.reads end into)
+            (λ C until. inr (subst (λ x. GathersUntil (IsRest (length buf - start)) C x (Ok [])) (sym before.are) until));
       }
 
   -- a fault came first
@@ -113,7 +111,6 @@ module _ {S : Type 0} {R : Reader S} {old now : S} {buf xs : List ℕ} {start at
   full_fault {new} {e = e} read fault =
       let same : bytes (before.taken ++ fails e ∷ []) ≡ bytes before.taken =
       bytes-append before.taken (fails e ∷ []) ∙ append-nil (bytes before.taken) in
-      let calls = reads_until before.reads (read_law (Err e) read) into in
       record {
         taken = before.taken ++ fails e ∷ [];
         takes = takes_then before.takes read.takes;
@@ -121,8 +118,8 @@ module _ {S : Type 0} {R : Reader S} {old now : S} {buf xs : List ℕ} {start at
         counts = omega (arith, before.counts, ap length before.are, ap length same);
         ends = ((before.taken, refl, before.no_fault, fault), omega (arith, ap length same, ap length before.are, into.0, into.1));
         full = not_full;
-        calls = subst (λ x. (C : List ReadCall) × Made (ReadCallLaw R) old C new × FullCalls C (length buf - start) x (Err e))
-            (sym (same ∙ before.are)) (calls.0, calls.1, (fault, calls.2));
+        calls = by_are (reads_until before.reads (read_law (Err e) read) into)
+            (λ C until. (fault, subst (λ x. GathersUntil (IsRest (length buf - start)) C x (Err e)) (sym (same ∙ before.are)) until));
       }
 
 -- all of it is filled
@@ -137,6 +134,6 @@ full_all {R = R} {old} {now} {buf} {xs} {start} {at} before past =
       counts = omega (arith, before.counts, ap length before.are);
       ends = (before.no_fault, before.gives.within, λ less. absurd (omega (arith, less, ap length before.are, whole)));
       full = λ none. (refl, before.untouched none);
-      calls = subst (λ x. (C : List ReadCall) × Made (ReadCallLaw R) old C now × FullCalls C (length buf - start) x (Ok tt))
-          (sym before.are) (before.calls, before.made, inl (before.gathers, whole));
+      calls = subst (λ x. ByCalls (ReadCallLaw R) old (λ C. FullCalls C (length buf - start) x (Ok tt)) now) (sym before.are)
+          (by_are (reads_made before.reads) (λ C gathers. inl (gathers, whole)));
     }

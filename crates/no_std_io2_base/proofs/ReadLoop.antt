@@ -2,9 +2,9 @@
 use Rattle.std.proofs.Common.{◌≡◌, ℕ, List, [], ◌∷◌, ◌++◌, Result, Ok, Err, length, take, refl, arith, length-take-le}
 use Rattle.no_std_io2_base.specs.{declared.error.Error.{Error}, Errors.{IsInterruption}, Takes.{TakesBytes}, Read.{Reader, tells, ReadLaw}}
 use Rattle.no_std_io2_base.specs.Read.{GaveLaw, ReadCallLaw, ReadCall, Gave, Gathers, no_read, and_gave, and_again, GathersUntil}
-use Rattle.no_std_io2_base.specs.Write.{Made}
-use Rattle.no_std_io2_base.proofs.{CallsLemmas.{made_more}, ReadExactExits.{some_bytes}, TakesLemmas.{takes_none, bytes_more, bytes_still}}
-use Rattle.no_std_io2_base.proofs.TakesLemmas.{read_law}
+use Rattle.no_std_io2_base.specs.Write.{Made, ByCalls}
+use Rattle.no_std_io2_base.proofs.{CallsLemmas.{made_more, by_more}, ReadExactExits.{some_bytes}, TakesLemmas.{takes_none, bytes_more}}
+use Rattle.no_std_io2_base.proofs.TakesLemmas.{bytes_still, read_law}
 
 -- the bytes x were taken, by these reads
 pub record ReadsSoFar {S : Type 0} (R : Reader S) (asks : ℕ → ℕ → Type 0) (old : S) (x : List ℕ) (now : S) : Type 0 where
@@ -22,6 +22,11 @@ reads_none {R = R} old = record {
   made = refl;
   gathers = no_read;
 }
+
+-- these reads
+pub reads_made : {S : Type 0} {R : Reader S} {asks : ℕ → ℕ → Type 0} {old now : S} {x : List ℕ} → ReadsSoFar R asks old x now
+    → ByCalls (ReadCallLaw R) old (λ C. Gathers asks C x) now
+reads_made so_far = record { calls = so_far.calls; made = so_far.made; are = so_far.gathers }
 
 module _ {S : Type 0} {R : Reader S} {asks : ℕ → ℕ → Type 0} {old now new : S} {x : List ℕ}
     (before : ReadsSoFar R asks old x now) where
@@ -48,9 +53,6 @@ module _ {S : Type 0} {R : Reader S} {asks : ℕ → ℕ → Type 0} {old now ne
 
   -- a read ended the loop
   pub reads_until : {answer : Result (List ℕ) Error} {room : ℕ} → GaveLaw R now room answer new → asks (length x) room
-      → (C : List ReadCall) × Made (ReadCallLaw R) old C new × GathersUntil asks C x answer
-  reads_until {answer} {room} law into = (
-    before.calls ++ Gave room answer ∷ [],
-    made_more (ReadCallLaw R) before.calls old before.made law,
-    (before.calls, room, before.gathers, into, refl),
-  )
+      → ByCalls (ReadCallLaw R) old (λ C. GathersUntil asks C x answer) new
+  reads_until {answer} {room} law into =
+      by_more (reads_made before) (Gave room answer) law (λ C gathers. (C, room, gathers, into, refl))

@@ -1,14 +1,14 @@
 -- What a loop that reads to the end into a vector has done so far, and what it has done at each of its ends.
 use Rattle.std.proofs.{lemmas.Grind.{common_steps}, Common.{◌≡◌, ℕ, ◌+◌, ◌-◌, ◌<◌, ◌≤◌, List, [], ◌∷◌, ◌++◌, Result, Ok, Err, length, take}}
-use Rattle.std.proofs.Common.{drop, refl, sym, ap, ◌∙◌, arith, le_refl, le_trans, length-take, length-take-le, length-drop, Vec, vec_len}
-use Rattle.std.proofs.Common.{vec_capacity, inl, inr, append_assoc, append-nil, take_all, OnOk, IfOk, length-append}
+use Rattle.std.proofs.Common.{drop, refl, sym, ap, subst, ◌∙◌, arith, le_refl, le_trans, length-take, length-take-le, length-drop, Vec}
+use Rattle.std.proofs.Common.{vec_len, vec_capacity, inl, inr, append_assoc, append-nil, take_all, OnOk, IfOk, length-append}
 use Rattle.no_std_io2_base.specs.{declared.error.Error.{Error}, Errors.{IsInterruption, IsFault, IsOutOfMemory}, Events.{Event, fails}}
-use Rattle.no_std_io2_base.specs.{Events.{bytes}, Read.{Reader, tells, ReadLaw, ToEndLaw, ReadToEndLaw, ReadCallLaw, IsRoom, no_read}}
+use Rattle.no_std_io2_base.specs.{Events.{bytes}, Read.{Reader, tells, ReadLaw, ToEndLaw, ReadToEndLaw, IsRoom, no_read, GathersUntil}}
 use Rattle.no_std_io2_base.specs.Read.{DrainsOrStops, least_room, ended}
-use Rattle.no_std_io2_base.proofs.{EventLemmas.{bytes-append, HasNoFault-append}, ReadCalls.{to_end_after}, ReadLoop.{ReadsSoFar}}
-use Rattle.no_std_io2_base.proofs.{ReadLoop.{reads_none, reads_more, reads_again, reads_until}, ReadParts.{written, take-written}}
-use Rattle.no_std_io2_base.proofs.{ReadParts.{take-written_below}, TakesLemmas.{takes_none, takes_then, takes_still, nothing_read}}
-use Rattle.no_std_io2_base.proofs.TakesLemmas.{read_law}
+use Rattle.no_std_io2_base.proofs.{CallsLemmas.{by_are, by_then}, EventLemmas.{bytes-append, HasNoFault-append}, ReadCalls.{to_end_then}}
+use Rattle.no_std_io2_base.proofs.{ReadLoop.{ReadsSoFar, reads_made, reads_none, reads_more, reads_again, reads_until}, ReadParts.{written}}
+use Rattle.no_std_io2_base.proofs.{ReadParts.{take-written, take-written_below}, TakesLemmas.{takes_none, takes_then, takes_still}}
+use Rattle.no_std_io2_base.proofs.TakesLemmas.{nothing_read, read_law}
 
 -- the bytes up to `filled` are what was taken
 pub record ToEndSoFar {S A : Type 0} (R : Reader S) (old : S) (buf : Vec ℕ A) (filled : ℕ) (buf' : Vec ℕ A) (now : S) : Type 0 where
@@ -50,14 +50,13 @@ to_end_none {buf = buf} {mid} {start} is same len grown = record {
 pub to_end_no_room : {S A : Type 0} {lacks : ℕ → Type 0} {R : Reader S} {old : S} {buf mid : Vec ℕ A} {e : Error} → IsOutOfMemory e
     → mid.items ≡ buf.items → vec_capacity buf ≤ vec_capacity mid → lacks 0 → ToEndLaw lacks R old buf (Err e) mid old
 to_end_no_room {buf = buf} refused same grown why =
-    let whole = same ∙ sym (append-nil buf.items) in
     record {
       taken = [];
       takes = takes_none _;
-      appends = (whole, tt);
+      appends = (same ∙ sym (append-nil buf.items), tt);
       ends = inr (tt, refused, why);
       capacity = grown;
-      calls = record { calls = []; given = []; made = refl; appended = whole; are = inr (inr (refused, no_read)) };
+      calls = record { calls = []; made = refl; are = inr (inr (refused, no_read)) };
     }
 
 -- the result with another count
@@ -85,12 +84,15 @@ module _ {S A : Type 0} {R : Reader S} {old now : S} {buf xs : Vec ℕ A} {fille
     appends = (gave, counts reply is);
     ends = ends reply last.ends;
     capacity = le_trans before.capacity last.capacity;
-    calls =
-        to_end_after (ReadCallLaw R) before.calls before.given before.made (whole ∙ before.shown) before.gathers last.calls (same reply);
+    calls = by_then (reads_made before.reads) last.calls
+        (λ C D first all. rw (joined, sym (same reply)) (to_end_then (ended reply) first all));
   }
     where
       taken : List Event
       taken = before.taken ++ last.taken
+
+      joined : bytes taken ≡ before.given ++ bytes last.taken
+      joined = bytes-append before.taken last.taken ∙ ap (λ l. l ++ bytes last.taken) before.are
 
       whole : xs.items ≡ take filled xs.items
       whole = sym (take_all filled xs.items (omega (arith, past, xs.ok.0)))
@@ -146,41 +148,28 @@ module _ {S A : Type 0} {R : Reader S} {old now : S} {buf xs : Vec ℕ A} {fille
         → start ≡ vec_len buf → ToEndLaw lacks R old buf (Ok (filled - start)) v new
     to_end_done read is zero some same grown from =
         let end = nothing_read read is zero in
-        let calls = reads_until before.reads end some in
         record {
           taken = before.taken;
           takes = takes_still before.takes end.takes;
           appends = (given_bytes same, omega (arith, from, before.count, ap length before.are));
           ends = (before.no_fault, end.end refl some);
           capacity = le_trans before.capacity grown;
-          calls = record {
-            calls = calls.0;
-            given = before.given;
-            made = calls.1;
-            appended = same ∙ before.shown;
-            are = inr calls.2;
-          };
+          calls = by_are (reads_until before.reads end some)
+              (λ C until. inr (subst (λ x. GathersUntil IsRoom C x (Ok [])) (sym before.are) until));
         }
 
     -- a read met a fault
     pub to_end_fault : {lacks : ℕ → Type 0} {v : Vec ℕ A} {e : Error} → ReadLaw R now room (Err e) part new → IsFault e → 0 < length part
         → v.items ≡ take filled xs.items → vec_capacity xs ≤ vec_capacity v → ToEndLaw lacks R old buf (Err e) v new
     to_end_fault {e = e} read fault some same grown =
-        let calls = reads_until before.reads (read_law (Err e) read) some in
+        let bare : bytes (before.taken ++ fails e ∷ []) ≡ bytes before.taken =
+        bytes-append before.taken (fails e ∷ []) ∙ append-nil (bytes before.taken) in
         record {
           taken = before.taken ++ fails e ∷ [];
           takes = takes_then before.takes read.takes;
-          appends = (
-            given_bytes same ∙ ap (λ l. buf.items ++ l) (sym (bytes-append before.taken (fails e ∷ []) ∙ append-nil (bytes before.taken))),
-            tt,
-          );
+          appends = (given_bytes same ∙ ap (λ l. buf.items ++ l) (sym bare), tt);
           ends = inl (before.taken, refl, before.no_fault, fault);
           capacity = le_trans before.capacity grown;
-          calls = record {
-            calls = calls.0;
-            given = before.given;
-            made = calls.1;
-            appended = same ∙ before.shown;
-            are = inr (inl (fault, calls.2));
-          };
+          calls = by_are (reads_until before.reads (read_law (Err e) read) some)
+              (λ C until. inr (inl (fault, subst (λ x. GathersUntil IsRoom C x (Err e)) (sym (bare ∙ before.are)) until)));
         }

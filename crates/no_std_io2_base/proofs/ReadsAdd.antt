@@ -1,9 +1,9 @@
 -- If each call adds something to a reader's own state, the calls of a loop add it together.
 use Rattle.std.proofs.{lemmas.Grind.{common_steps}, Common.{arith, ◌≡◌, ℕ, List, [], ◌∷◌, ◌++◌, Result, Ok, Err, OnOk, IfOk, ◌≤◌, length}}
 use Rattle.std.proofs.{Common.{take, le_refl, refl, sym, subst, append-nil, inl, inr}, lemmas.List.{take_all}}
-use Rattle.no_std_io2_base.specs.{declared.error.Error.{Error}, Write.{Made}, Read.{ReadCall, Gave, GaveExactly, GaveAll, Filled, Consumed}}
-use Rattle.no_std_io2_base.specs.Read.{Gathers, no_read, and_gave, and_again, bytes_given, gave_whole, FillCalls, GathersUntil, ExactMade}
-use Rattle.no_std_io2_base.specs.{Read.{ToEndCalls, ToEndMade}, Pieces.{PartCalls, no_part, and_part, and_waited, PieceMade, AnswersLine}}
+use Rattle.no_std_io2_base.specs.{declared.error.Error.{Error}, Write.{Made, ByCalls}, Read.{ReadCall, Gave, GaveExactly, GaveAll, Filled}}
+use Rattle.no_std_io2_base.specs.Read.{Consumed, Gathers, no_read, and_gave, and_again, bytes_given, gave_whole, FillCalls, GathersUntil}
+use Rattle.no_std_io2_base.specs.{Read.{ExactCalls, ToEndCalls}, Pieces.{PartCalls, no_part, and_part, and_waited, PieceCalls, AnswersLine}}
 use Rattle.no_std_io2_base.proofs.{CallsLemmas.{made_split}, CallsAdd.{Joins}}
 
 -- Each call adds the bytes that it gave. A failed `read_exact`, of a type with a body of its own for it, may have taken bytes that it does
@@ -69,21 +69,21 @@ module _ {R : Type 0} {may : R → ReadCall → R → Type 0} {Adds : R → List
   fill_adds C buf (Err e) a b (x, front, inr fault) made = (x, tt, until_add (Err e) refl fault.1 a b made)
 
   -- those of a `read_exact`: all of the buffer after `Ok`, and the bytes that were taken after an error
-  pub exact_adds : {buf : List ℕ} (reply : Result (Unit {0}) Error) (a b : R) → ExactMade may a reply buf b
+  pub exact_adds : (buf : List ℕ) (reply : Result (Unit {0}) Error) (a b : R) → ByCalls may a (λ C. ExactCalls C reply buf) b
       → (x : List ℕ) × OnOk reply (x ≡ buf) × Adds a x b
-  exact_adds {buf} reply a b m = grind (arith, common_steps, exactly_adds, fill_adds)
+  exact_adds buf reply a b m = grind (arith, common_steps, exactly_adds, fill_adds)
 
   -- those of a `read_to_end`
-  calls_add : {C : List ReadCall} {x : List ℕ} (reply : Result ℕ Error) → ToEndCalls C x reply → (a b : R) → Made may a C b → Adds a x b
-  calls_add reply (inl own) a b made = grind (arith, common_steps, and_last, gathers_add)
-  calls_add (Ok n) (inr until) a b made = until_add (Ok []) refl until a b made
+  calls_add : {C : List ReadCall} {x : List ℕ} (answer : Result (Unit {0}) Error) → ToEndCalls C x answer → (a b : R) → Made may a C b
+      → Adds a x b
+  calls_add answer (inl own) a b made = grind (arith, common_steps, and_last, gathers_add)
+  calls_add (Ok u) (inr until) a b made = until_add (Ok []) refl until a b made
   calls_add (Err e) (inr (inl fault)) a b made = until_add (Err e) refl fault.1 a b made
   calls_add (Err e) (inr (inr refused)) a b made = gathers_add refused.1 a b made
 
-  -- those of a `read_to_end`, also before an error: the appended bytes
-  pub to_end_adds : {buf buf' : List ℕ} (reply : Result ℕ Error) (a b : R) → ToEndMade may a buf reply buf' b
-      → (x : List ℕ) × (buf' ≡ buf ++ x) × Adds a x b
-  to_end_adds reply a b m = (m.given, m.appended, calls_add reply m.are a b m.made)
+  -- those of a `read_to_end`, also before an error: x was given
+  pub to_end_adds : {x : List ℕ} (answer : Result (Unit {0}) Error) (a b : R) → ByCalls may a (λ C. ToEndCalls C x answer) b → Adds a x b
+  to_end_adds answer a b m = calls_add answer m.are a b m.made
 
   -- a loop that has found no end of its piece yet
   parts_add : {d : ℕ} {C : List ReadCall} {x : List ℕ} → PartCalls d C x → (a b : R) → Made may a C b → Adds a x b
@@ -96,10 +96,10 @@ module _ {R : Type 0} {may : R → ReadCall → R → Type 0} {Adds : R → List
       (and_last C (Filled (Err e)) a b (λ mid m. parts_add before a mid m) (λ c d call. each.lent c d (Err e) call) made)
 
   -- those of a `read_until` or a `skip_until`, also before an error: x was taken
-  pub piece_adds : {may_refuse : Type 0} {d : ℕ} {x : List ℕ} (reply : Result ℕ Error) (a b : R) → PieceMade may_refuse may a d reply x b
-      → Adds a x b
-  piece_adds (Ok n) a b m = grind (arith, common_steps, then_took, parts_add)
-  piece_adds {x = x} (Err e) a b m =
+  pub piece_adds : (may_refuse : Type 0) (d : ℕ) {x : List ℕ} (reply : Result ℕ Error) (a b : R)
+      → ByCalls may a (λ C. PieceCalls may_refuse d C x reply) b → Adds a x b
+  piece_adds may_refuse d (Ok n) a b m = grind (arith, common_steps, then_took, parts_add)
+  piece_adds may_refuse d {x} (Err e) a b m =
       let are = m.are in
       let last : (answer : Result (List ℕ) Error) × (m.calls ≡ are.0 ++ Filled answer ∷ []) =
       elim are.2 [ inl fault ↦ (Err e, fault.1) | inr refused ↦ (Ok refused.2, refused.4) ] in
@@ -110,6 +110,7 @@ module _ {R : Type 0} {may : R → ReadCall → R → Type 0} {Adds : R → List
   -- those of a `read_line`, which appends the line after `Ok`
   pub line_adds : {old old' : List ℕ} {len capacity : ℕ} (reply : Result ℕ Error) (a b : R)
       → (made : (line : List ℕ) × (read : Result ℕ Error)
-      × PieceMade (Unit {0}) may a 10 read line b × AnswersLine line read len capacity reply old old')
+      × ByCalls may a (λ C. PieceCalls (Unit {0}) 10 C line read) b × AnswersLine line read len capacity reply old old')
       → (line : List ℕ) × OnOk reply (old' ≡ old ++ line) × Adds a line b
-  line_adds reply a b (line, read, made, answers) = (line, line_appended _ _ line _ _ reply read answers, piece_adds read a b made)
+  line_adds reply a b (line, read, made, answers) =
+      (line, line_appended _ _ line _ _ reply read answers, piece_adds (Unit {0}) 10 read a b made)

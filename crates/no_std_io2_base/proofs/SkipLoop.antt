@@ -45,7 +45,7 @@ module _ {X : Type 0} {R : Lender X} {d : ℕ} {old now after : X} {skipped : �
 
     -- after a part of the piece the loop continues
     pub skip_more : is_whole ≡ false → SkipSoFar R d old total new
-    skip_more going = grind (arith, common_steps, part_more, counted)
+    skip_more going = record { taken = _; part = part_more before.part filled found dropped going; count = counted }
 
     -- the end of the piece ends it
     pub skip_piece : is_whole ≡ true → SkipUntilLaw R old d (Ok total) new

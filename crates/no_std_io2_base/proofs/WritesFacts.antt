@@ -3,8 +3,8 @@ use Rattle.std.proofs.{lemmas.Grind.{common_steps}, Common.{◌≡◌, ℕ, ◌<
 use Rattle.std.proofs.Common.{codes, refl, sym, ap, subst, ◌∙◌, arith, append_assoc, take-append-drop, length-drop}
 use Rattle.std.proofs.lemmas.Bool.Decides.{nat_tests}
 use Rattle.no_std_io2_base.specs.{declared.error.Error.{Error}, Errors.{is_interruption, IsNoInterruption}, Write.{Sends, calls_for}}
-use Rattle.no_std_io2_base.specs.{Write.{WriteCall, Made, Writes, none, took, again, stuck, fault}, Writers.{Writer, TakesAll, WriteRestOf}}
-use Rattle.no_std_io2_base.specs.Writers.{CallOf}
+use Rattle.no_std_io2_base.specs.{Write.{WriteCall, Made, ByCalls, Writes, none, took, again, stuck, fault}, Writers.{Writer, TakesAll}}
+use Rattle.no_std_io2_base.specs.Writers.{WriteRestOf, CallOf}
 use Rattle.no_std_io2_base.proofs.{CallsLemmas.{writes_whole}, MovesLemmas.{Moves-then}}
 
 one_write : (x : List ℕ) → 0 < length x → calls_for x ≡ 1
@@ -81,7 +81,6 @@ module _ {S : Type 0} (I : Writer S) where
 
   -- the law of `write_rest` follows from its writes
   pub writes_law : {x left : List ℕ} {reply : Result (Unit {0}) Error} {a b : S}
-      → (C : List WriteCall) × Made (CallOf I) a C b
-      × Writes (codes "failed to write whole buffer") C x reply left
+      → ByCalls (CallOf I) a (λ C. Writes (codes "failed to write whole buffer") C x reply left) b
       → WriteRestOf I a x reply b left
   writes_law {x} {left} {reply} {a} {b} calls = grind (arith, common_steps, writes_fault, writes_sends, writes_whole, writes_all)

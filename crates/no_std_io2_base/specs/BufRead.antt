@@ -5,16 +5,11 @@ use Rattle.std.specs.{Prelude.{Option}, Borrow.{follows_so, Fml, RattleType, Mut
 use mathlib.Core.Option.{none}
 use Rattle.no_std_io2_base.specs.{declared.error.Error.{Error}, Events.{Event, events_of, bytes, BeginsWith}, Takes.{Store, Tells, Takes}}
 use Rattle.no_std_io2_base.specs.{Takes.{to_come, IsAtEnd}, Read.{Reader, tells, ReadCall, Filled, Consumed, ReadCallLaw, bytes_given}}
-use Rattle.no_std_io2_base.specs.{Read.{fault_of}, Pieces.{newline, PieceEnds, AnswersLine, PieceMade, YieldsRead}}
+use Rattle.no_std_io2_base.specs.{Read.{fault_of}, Pieces.{newline, PieceEnds, AnswersLine, PieceCalls, YieldsRead}, Write.{ByCalls}}
 
 -- P holds for the value behind the `&mut` s after the borrow of it by the result has ended
 abbrev pub Rests : (R : RattleType) → MutBor R.Denot → (R.Denot → Type 0) → Fml
 Rests R s P = follows_so R R s.ghost_name none (λ _ _. ⊤) P
-
--- the held bytes are the lent bytes, and none after an error
-abbrev pub Lends : Result (Bor (List ℕ)) Error → List ℕ → Type 0
-Lends (Ok s) held = held ≡ s.now
-Lends (Err e) held = held ≡ []
 
 -- the bytes that were lent, or the error
 abbrev pub lent_bytes : Result (Bor (List ℕ)) Error → Result (List ℕ) Error
@@ -51,8 +46,8 @@ pub record FillBufLaw {X : Type 0} (R : Lender X) (old : X) (reply : Result (Bor
 -- `fill_buf()`: the state once the borrow has ended
 abbrev pub AfterLoan : {X : Type 0} → Lender X → X → Result (Bor (List ℕ)) Error → X → Type 0
 AfterLoan R old reply new = record {
-  -- the lent bytes are held
-  lends : Lends reply (R.held new);
+  -- the lent bytes are held, and none after an error
+  lends : R.held new ≡ bytes_given (lent_bytes reply);
   -- nothing is taken, except the error that was returned
   takes : Takes (lender_tells R old) (fault_of (lent_bytes reply)) (lender_tells R new);
   -- if bytes were held, nothing has changed
@@ -104,7 +99,7 @@ pub record ReadUntilLaw {X A : Type 0} (R : Lender X) (old : X) (delim : ℕ) (b
   -- the capacity never shrinks
   pub capacity : vec_capacity buf ≤ vec_capacity buf'
   -- which calls it made
-  pub calls : PieceMade (Unit {0}) (LendCallLaw R) old delim reply (bytes taken) new
+  pub calls : ByCalls (LendCallLaw R) old (λ C. PieceCalls (Unit {0}) delim C (bytes taken) reply) new
 
 -- the result of a call that counts at most `usize::MAX` bytes
 abbrev pub at_most_max : Result ℕ Error → Result ℕ Error
@@ -121,7 +116,7 @@ pub record SkipUntilLaw {X : Type 0} (R : Lender X) (old : X) (delim : ℕ) (rep
   pub is : reply ≡ at_most_max read
   pub ends : PieceEnds (λ _. ⊥) delim (lender_tells R old) taken read
   -- which calls it made
-  pub calls : PieceMade ⊥ (LendCallLaw R) old delim read (bytes taken) new
+  pub calls : ByCalls (LendCallLaw R) old (λ C. PieceCalls ⊥ delim C (bytes taken) read) new
 
 -- the room for a line that is read for a text: an empty text lends its own memory
 abbrev pub line_room : {A : Type 0} → String A → ℕ
@@ -145,7 +140,7 @@ pub record ReadLineLaw {X A : Type 0} (R : Lender X) (old : X) (buf : String A) 
   -- the capacity never shrinks
   pub capacity : string_capacity buf ≤ string_capacity buf'
   -- which calls it made
-  pub calls : PieceMade (Unit {0}) (LendCallLaw R) old newline read (bytes taken) new
+  pub calls : ByCalls (LendCallLaw R) old (λ C. PieceCalls (Unit {0}) newline C (bytes taken) read) new
 
 -- A `next` of `Split` or `Lines` took one piece, as `read_until` takes it into a new vector, and yields it, trimmed, or an error. `view`
 -- gives the bytes of an item. A new vector has no room, so memory can be refused for the first byte of an item.
@@ -159,4 +154,4 @@ pub record NextPieceLaw {X T : Type 0} (R : Lender X) (old : X) (view : T → Li
   -- that is what it yields
   pub yields : YieldsRead view trim refuses (bytes taken) read result
   -- which calls it made
-  pub calls : PieceMade (Unit {0}) (LendCallLaw R) old d read (bytes taken) new
+  pub calls : ByCalls (LendCallLaw R) old (λ C. PieceCalls (Unit {0}) d C (bytes taken) read) new

@@ -1,7 +1,8 @@
 -- The two readers of a `Chain`, its mark, what it tells, and what its calls do.
 use Rattle.std.specs.Prelude.{◌≡◌, ℕ, ◌<◌, true, false, Bool, List, [], ◌++◌, if◌then◌else◌, Option, None, Some, Ok, IsErr}
 use Rattle.no_std_io2_base.specs.{declared.traits.chain.Chain.{Chain}, Events.{Event}, Takes.{Tells, to_come, IsAtEnd}, Read.{Reader}}
-use Rattle.no_std_io2_base.specs.Read.{tells, ReadCall, Gave, GaveExactly, GaveAll, Filled, Consumed, ReadCallLaw, Drains}
+use Rattle.no_std_io2_base.specs.Read.{tells, ReadCall, Gave, GaveExactly, GaveAll, Filled, Consumed, ReadCallLaw, ToEndCalls}
+use Rattle.no_std_io2_base.specs.Write.{ByCalls}
 
 -- `c.into_inner().0`
 abbrev pub chain_first : {T U : Type 0} → Chain T U → T
@@ -57,13 +58,14 @@ pub data InParts {T U : Type 0} (of_first ends_first : T → T → Type 0) (of_s
       → InParts of_first ends_first of_second old new
 
 -- What a call may do to a chain. The first reader is done after a `read` into some room that gives nothing, after a `fill_buf` that lends
--- nothing, and after a `read_to_end`, which appends y; the second reader then appends more.
+-- nothing, and after a `read_to_end`, which gives y; the second reader then gives z.
 abbrev pub ChainMay : {T U : Type 0} → Reader T → Reader U → Chain T U → ReadCall → Chain T U → Type 0
 ChainMay R S old (Gave room answer) new = InParts (λ a b. ReadCallLaw R a (Gave room answer) b × (0 < room → answer ≡ Ok [] → ⊥))
     (λ a b. (0 < room) × ReadCallLaw R a (Gave room (Ok [])) b) (λ a b. ReadCallLaw S a (Gave room answer) b) old new
-ChainMay R S old (GaveAll x answer) new = (y : List ℕ) × (chain_is_done old ≡ true → y ≡ [])
-    × InParts (λ a b. IsErr answer × Drains (ReadCallLaw R) a [] answer x b) (λ a b. Drains (ReadCallLaw R) a [] (Ok tt) y b)
-    (λ a b. Drains (ReadCallLaw S) a y answer x b) old new
+ChainMay R S old (GaveAll x answer) new = (y : List ℕ) × (z : List ℕ) × (x ≡ y ++ z) × (chain_is_done old ≡ true → y ≡ [])
+    × InParts (λ a b. IsErr answer × ByCalls (ReadCallLaw R) a (λ C. ToEndCalls C x answer) b)
+    (λ a b. ByCalls (ReadCallLaw R) a (λ C. ToEndCalls C y (Ok tt)) b)
+    (λ a b. ByCalls (ReadCallLaw S) a (λ C. ToEndCalls C z answer) b) old new
 ChainMay R S old (Filled answer) new = InParts (λ a b. ReadCallLaw R a (Filled answer) b × (answer ≡ Ok [] → ⊥))
     (λ a b. ReadCallLaw R a (Filled (Ok [])) b × IsAtEnd (tells R a)) (λ a b. ReadCallLaw S a (Filled answer) b) old new
 ChainMay R S old (Consumed n) new =

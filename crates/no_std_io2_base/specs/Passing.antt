@@ -2,7 +2,7 @@
 use Rattle.std.specs.Prelude.{◌≡◌, ◌⊎◌, ℕ, ◌+◌, ◌-◌, ◌<◌, min, List, [], ◌∷◌, ◌++◌, length, take, Result, Ok, Err}
 use Rattle.no_std_io2_base.specs.{declared.error.Error.{Error}, Errors.{IsFault, IsInterruption, IsUnexpectedEnd}, Events.{Event, bytes}}
 use Rattle.no_std_io2_base.specs.{Events.{HasNoFault, EndsInFault}, Takes.{Tells, Takes, IsAtEnd}, Read.{ReadCall, Filled, Consumed}}
-use Rattle.no_std_io2_base.specs.{BufRead.{Lender, lender_tells, LendCallLaw}, Write.{Made}}
+use Rattle.no_std_io2_base.specs.{BufRead.{Lender, lender_tells, LendCallLaw}, Write.{ByCalls}}
 
 -- C are the calls of a loop that takes `want` bytes and has taken x: each `fill_buf` lent some bytes, and as many of them as were still
 -- wanted were consumed; or it was interrupted
@@ -37,4 +37,4 @@ pub record Skipped {X : Type 0} (R : Lender X) (old : X) (n : ℕ) (reply : Resu
   -- how it ended
   pub ends : SkipEnds taken reply left (lender_tells R new)
   -- which calls it made
-  pub calls : (C : List ReadCall) × Made (LendCallLaw R) old C new × SkipCalls n C (bytes taken) reply
+  pub calls : ByCalls (LendCallLaw R) old (λ C. SkipCalls n C (bytes taken) reply) new

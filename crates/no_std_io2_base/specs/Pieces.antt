@@ -4,7 +4,7 @@ use Rattle.std.specs.{Prelude.{if◌then◌else◌, ◌⊎◌, Option, None, Som
 use Rattle.std.specs.{List.{concat}, Prelude.{IsSomeAnd}}
 use Rattle.no_std_io2_base.specs.{declared.error.Error.{Error}, Errors.{error_kind, IsInterruption, IsFault, IsOutOfMemory, error_text}}
 use Rattle.no_std_io2_base.specs.Events.{Event, byte, events_of, bytes, HasNoFault, EndsInFault, bytes_to_fault, first_fault}
-use Rattle.no_std_io2_base.specs.{Takes.{Tells, to_come, IsAll}, Read.{ReadCall, Filled, Consumed}, Write.{Made, IsFront}}
+use Rattle.no_std_io2_base.specs.{Takes.{Tells, to_come, IsAll}, Read.{ReadCall, Filled, Consumed}, Write.{IsFront}}
 use Rattle.no_std_io2_base.specs.{declared.error.ErrorKind.TheVariants.{InvalidData, OutOfMemory}, declared.traits.split.Split.{Split}}
 use Rattle.no_std_io2_base.specs.declared.traits.lines.Lines.{Lines}
 
@@ -107,13 +107,6 @@ PieceCalls may_refuse d C x (Ok _) = (D : List ReadCall) × (y : List ℕ) × (l
     × FindsPiece d lent n true × (x ≡ y ++ take n lent) × (C ≡ D ++ Filled (Ok lent) ∷ Consumed n ∷ [])
 PieceCalls may_refuse d C x (Err e) = (D : List ReadCall) × PartCalls d D x × ((IsFault e × (C ≡ D ++ Filled (Err e) ∷ []))
     ⊎ (may_refuse × IsOutOfMemory e × (lent : List ℕ) × (0 < length lent) × (C ≡ D ++ Filled (Ok lent) ∷ [])))
-
--- The calls that were made to take a piece, and the bytes x that were taken.
-pub record PieceMade {X : Type 0} (may_refuse : Type 0) (may : X → ReadCall → X → Type 0) (old : X) (d : ℕ) (reply : Result ℕ Error)
-    (x : List ℕ) (new : X) : Type 0 where
-  pub calls : List ReadCall
-  pub made : Made may old calls new
-  pub are : PieceCalls may_refuse d calls x reply
 
 -- all pieces; or, if a fault comes after them, those that end in d
 abbrev pub pieces_before : ℕ → Option Error → List ℕ → List (List ℕ)

@@ -3,7 +3,7 @@ use Rattle.std.specs.Prelude.{◌≡◌, ℕ, ◌<◌, List, [], ◌∷◌, ◌+
 use Rattle.std.specs.Prelude.{vec_capacity, Some, IfOk, IsOk, Option, None, IfSome}
 use Rattle.no_std_io2_base.specs.{declared.error.Error.{Error}, Errors.{IsInterruption, IsFault, IsUnexpectedEnd, IsOutOfMemory}}
 use Rattle.no_std_io2_base.specs.{declared.traits.bytes.Bytes.{Bytes}, Events.{Event, byte, fails, events_of, bytes, HasNoFault, cut}}
-use Rattle.no_std_io2_base.specs.{Events.{EndsInFault, BeginsWith}, Takes.{Store, Tells, Takes, to_come, IsAtEnd}, Write.{Made, IsFront}}
+use Rattle.no_std_io2_base.specs.{Events.{EndsInFault, BeginsWith}, Takes.{Store, Tells, Takes, to_come, IsAtEnd}, Write.{ByCalls, IsFront}}
 
 -- A call of a reader, with its result.
 pub data ReadCall : Type 0 where
@@ -74,36 +74,16 @@ abbrev pub FullCalls : List ReadCall → ℕ → List ℕ → Result (Unit {0}) 
 FullCalls C room x (Ok u) = (Gathers (IsRest room) C x × (length x ≡ room)) ⊎ GathersUntil (IsRest room) C x (Ok [])
 FullCalls C room x (Err e) = IsFault e × GathersUntil (IsRest room) C x (Err e)
 
--- C are the reads of a `read_to_end` that appends x: up to the end, a fault, or a failed allocation
-abbrev DrainCalls : List ReadCall → List ℕ → Result ℕ Error → Type 0
-DrainCalls C x (Ok n) = GathersUntil IsRoom C x (Ok [])
+-- C are the reads of a `read_to_end` that gave x: up to the end, a fault, or a failed allocation
+abbrev DrainCalls : List ReadCall → List ℕ → Result (Unit {0}) Error → Type 0
+DrainCalls C x (Ok u) = GathersUntil IsRoom C x (Ok [])
 DrainCalls C x (Err e) = (IsFault e × GathersUntil IsRoom C x (Err e)) ⊎ (IsOutOfMemory e × Gathers IsRoom C x)
 
--- C are the calls of a `read_to_end` that appends x: these reads, or some reads and then the `read_to_end` of a type that has a body of its
+-- C are the calls of a `read_to_end` that gave x: these reads, or some reads and then the `read_to_end` of a type that has a body of its
 -- own for it
-abbrev pub ToEndCalls : List ReadCall → List ℕ → Result ℕ Error → Type 0
-ToEndCalls C x reply = ((D : List ReadCall) × (y : List ℕ) × (z : List ℕ) × Gathers IsRoom D y × (x ≡ y ++ z)
-    × (C ≡ D ++ GaveAll z (ended reply) ∷ [])) ⊎ DrainCalls C x reply
-
--- The calls that a `read_exact(buf)` made, and that they are what `ExactCalls` allows.
-pub record ExactMade {S : Type 0} (may : S → ReadCall → S → Type 0) (old : S) (reply : Result (Unit {0}) Error) (buf : List ℕ) (new : S)
-    : Type 0 where
-  pub calls : List ReadCall
-  pub made : Made may old calls new
-  pub are : ExactCalls calls reply buf
-
--- The calls that a `read_to_end` made, and the bytes that they gave, which were appended.
-pub record ToEndMade {S : Type 0} (may : S → ReadCall → S → Type 0) (old : S) (buf : List ℕ) (reply : Result ℕ Error) (buf' : List ℕ)
-    (new : S) : Type 0 where
-  pub calls : List ReadCall
-  pub given : List ℕ
-  pub made : Made may old calls new
-  pub appended : buf' ≡ buf ++ given
-  pub are : ToEndCalls calls given reply
-
--- a `read_to_end` made y of x, and ended with this result
-abbrev pub Drains : {S : Type 0} → (S → ReadCall → S → Type 0) → S → List ℕ → Result (Unit {0}) Error → List ℕ → S → Type 0
-Drains may old x answer y new = (reply : Result ℕ Error) × (ended reply ≡ answer) × ToEndMade may old x reply y new
+abbrev pub ToEndCalls : List ReadCall → List ℕ → Result (Unit {0}) Error → Type 0
+ToEndCalls C x answer = ((D : List ReadCall) × (y : List ℕ) × (z : List ℕ) × Gathers IsRoom D y × (x ≡ y ++ z)
+    × (C ≡ D ++ GaveAll z answer ∷ [])) ⊎ DrainCalls C x answer
 
 -- the ghost members of a reader, as `⟦<R as Read>⟧` names them: that of its store, and its own
 abbrev pub Reader : Type 0 → Type 1
@@ -199,7 +179,7 @@ pub record ReadExactLaw {S : Type 0} (R : Reader S) (old : S) (buf : List ℕ) (
   -- an empty buffer makes no call
   pub empty : length buf ≡ 0 → IsOk reply × (new ≡ old)
   -- which calls it made
-  pub calls : ExactMade (ReadCallLaw R) old reply buf' new
+  pub calls : ByCalls (ReadCallLaw R) old (λ C. ExactCalls C reply buf') new
 
 -- `read_full(buf, &mut filled)`, of a buffer whose first `filled` bytes stand already
 pub record ReadFullLaw {S : Type 0} (R : Reader S) (old : S) (buf : List ℕ) (filled : ℕ) (reply : Result (Unit {0}) Error) (buf' : List ℕ)
@@ -215,7 +195,7 @@ pub record ReadFullLaw {S : Type 0} (R : Reader S) (old : S) (buf : List ℕ) (f
   -- a full buffer makes no call
   pub full : length buf ≤ filled → IsOk reply × (new ≡ old)
   -- which calls it made
-  pub calls : (C : List ReadCall) × Made (ReadCallLaw R) old C new × FullCalls C (length buf - filled) (bytes taken) reply
+  pub calls : ByCalls (ReadCallLaw R) old (λ C. FullCalls C (length buf - filled) (bytes taken) reply) new
 
 -- the least room into which a read to the end reads
 abbrev pub least_room : ℕ
@@ -233,8 +213,8 @@ pub record ToEndLaw {S A : Type 0} (lacks : ℕ → Type 0) (R : Reader S) (old 
   pub ends : DrainsOrStops (lacks (length (bytes taken))) taken reply (tells R new)
   -- the capacity never shrinks
   pub capacity : vec_capacity buf ≤ vec_capacity buf'
-  -- which calls it made, and the bytes that they gave
-  pub calls : ToEndMade (ReadCallLaw R) old buf.items reply buf'.items new
+  -- which calls it made
+  pub calls : ByCalls (ReadCallLaw R) old (λ C. ToEndCalls C (bytes taken) (ended reply)) new
 
 -- `read_to_end(&mut buf)`: an allocation can fail only if buf had no room for the bytes that were taken and 32 more
 abbrev pub ReadToEndLaw : {S A : Type 0} → Reader S → S → Vec ℕ A → Result ℕ Error → Vec ℕ A → S → Type 0
@@ -271,4 +251,4 @@ pub record NextLaw {S : Type 0} (R : Reader S) (old : S) (result : Option (Resul
   -- they end in the byte or the fault that it yields
   pub ends : EndsNext taken result (tells R new)
   -- which reads it made
-  pub calls : (C : List ReadCall) × Made (ReadCallLaw R) old C new × GathersUntil (λ _ room. room ≡ 1) C [] (last_read result)
+  pub calls : ByCalls (ReadCallLaw R) old (λ C. GathersUntil (λ _ room. room ≡ 1) C [] (last_read result)) new

@@ -1,7 +1,8 @@
 -- The law of `read_to_string`.
-use Rattle.std.specs.Prelude.{◌≡◌, ℕ, ◌+◌, ◌<◌, ◌≤◌, List, [], length, Result, IfOk, String, string_len, string_capacity, string_bytes}
+use Rattle.std.specs.Prelude.{◌≡◌, ℕ, ◌+◌, ◌<◌, ◌≤◌, List, length, Result, IfOk, String, string_len, string_capacity, string_bytes}
 use Rattle.no_std_io2_base.specs.{declared.error.Error.{Error}, Events.{Event, bytes}, Takes.{Takes}, Read.{Reader, tells, ReadCallLaw}}
-use Rattle.no_std_io2_base.specs.{Read.{DrainsOrStops, ToEndMade, least_room}, Pieces.{AnswersLine}, BufRead.{line_room}}
+use Rattle.no_std_io2_base.specs.{Read.{DrainsOrStops, ToEndCalls, ended, least_room}, Write.{ByCalls}, Pieces.{AnswersLine}}
+use Rattle.no_std_io2_base.specs.BufRead.{line_room}
 
 -- `read_to_string(alloc, buf)`
 pub record ReadToStringLaw {S A : Type 0} (R : Reader S) (old : S) (buf : String A) (reply : Result ℕ Error) (buf' : String A) (new : S)
@@ -17,5 +18,5 @@ pub record ReadToStringLaw {S A : Type 0} (R : Reader S) (old : S) (buf : String
   pub answers : AnswersLine (bytes taken) read (string_len buf) (string_capacity buf) reply (string_bytes buf) (string_bytes buf')
   -- the capacity never shrinks
   pub capacity : string_capacity buf ≤ string_capacity buf'
-  -- which calls it made, and the bytes that they gave
-  pub calls : ToEndMade (ReadCallLaw R) old [] read (bytes taken) new
+  -- which calls it made
+  pub calls : ByCalls (ReadCallLaw R) old (λ C. ToEndCalls C (bytes taken) (ended read)) new

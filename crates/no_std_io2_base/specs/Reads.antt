@@ -2,9 +2,9 @@
 -- `Ok(false)` if it met the end, and an error if it met that fault.
 use Rattle.std.specs.Prelude.{◌≡◌, ◌⊎◌, ◌<◌, ℕ, List, [], ◌∷◌, ◌++◌, length, ⊤, Bool, true, false, Result, Ok, Err, IfErr}
 use Rattle.no_std_io2_base.specs.{declared.error.Error.{Error}, Errors.{IsFault, IsInterruption}, Events.{Event, bytes, HasNoFault}}
-use Rattle.no_std_io2_base.specs.{Events.{EndsInFault}, Takes.{Tells, Takes, IsAtEnd}, Write.{Made}, BufRead.{Lender, lender_tells}}
-use Rattle.no_std_io2_base.specs.{BufRead.{LendCallLaw}, Read.{Reader, ReadCall, Gave, GaveExactly, GaveAll, Filled, Consumed, ReadCallLaw}}
-use Rattle.no_std_io2_base.specs.Read.{Gathers, GathersUntil}
+use Rattle.no_std_io2_base.specs.{Events.{EndsInFault}, Takes.{Tells, Takes, IsAtEnd}, Write.{Made, ByCalls}, BufRead.{Lender}}
+use Rattle.no_std_io2_base.specs.{BufRead.{lender_tells, LendCallLaw}, Read.{Reader, ReadCall, Gave, GaveExactly, GaveAll, Filled}}
+use Rattle.no_std_io2_base.specs.Read.{Consumed, ReadCallLaw, Gathers, GathersUntil}
 
 -- how a reader that took P ended, and tells this now
 abbrev pub GathersTo : List Event → Result Bool Error → Tells → Type 0
@@ -61,7 +61,7 @@ Asked C (Err e) = (D : List ReadCall) × (call : ReadCall) × AllGoOn D × (C �
 -- and after that got no more calls.
 pub record Fetches {X : Type 0} (R : Lender X) (old : X) (x : List ℕ) (how : Result Bool Error) (new : X) : Type 0 where
   pub took : Took (lender_tells R old) x how (lender_tells R new)
-  pub calls : (C : List ReadCall) × Made (LendCallLaw R) old C new × Asked C how
+  pub calls : ByCalls (LendCallLaw R) old (λ C. Asked C how) new
 
 -- it was, and this holds for the bytes and for how that ended
 abbrev pub Fetched : {X : Type 0} → Lender X → X → (List ℕ → Result Bool Error → Type 0) → X → Type 0

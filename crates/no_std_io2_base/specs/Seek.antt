@@ -1,7 +1,7 @@
 -- Where a seek goes, and the law of each call of `Seek`.
 use Rattle.std.specs.Prelude.{◌≡◌, ◌≢◌, ℕ, ℤ, pos, negsuc, ◌+◌, ◌^◌, ◌<◌, Ok, Err, Result, List, [], ◌∷◌, IfOk, IsOk, Option, IfSome, ◌⊎◌}
 use Rattle.no_std_io2_base.specs.{declared.error.Error.{Error}, declared.traits.seek.SeekFrom.{SeekFrom}}
-use Rattle.no_std_io2_base.specs.{declared.traits.seek.SeekFrom.TheVariants.{Start, End, Current}, Errors.{IsInvalidSeek}, Write.{Made}}
+use Rattle.no_std_io2_base.specs.{declared.traits.seek.SeekFrom.TheVariants.{Start, End, Current}, Errors.{IsInvalidSeek}, Write.{ByCalls}}
 use Rattle.no_std_io2_base.specs.Takes.{Store, KeepsContent}
 
 -- n is `base + offset`
@@ -98,7 +98,7 @@ pub record StreamLenLaw {X : Type 0} (S : Seeker X) (old : X) (reply : Result �
   -- a sound store stays sound
   pub sound : S.sound old → S.sound new
   -- which calls it made
-  pub calls : (C : List SeekCall) × Made S.may old C new × LenCalls C reply
+  pub calls : ByCalls S.may old (λ C. LenCalls C reply) new
 
 -- `seek_relative(offset)`
 pub record SeekRelativeLaw {X : Type 0} (S : Seeker X) (old : X) (offset : ℤ) (reply : Result (Unit {0}) Error) (new : X) : Type 0 where

@@ -97,6 +97,12 @@ abbrev pub Made : {S A : Type 0} → (S → A → S → Type 0) → S → List A
 Made may old [] new = new ≡ old
 Made {S} may old (call ∷ C) new = (mid : S) × may old call mid × Made may mid C new
 
+-- From old to new calls were made, one after another, and this holds for their list.
+pub record ByCalls {S A : Type 0} (may : S → A → S → Type 0) (old : S) (Are : List A → Type 0) (new : S) : Type 0 where
+  pub calls : List A
+  pub made : Made may old calls new
+  pub are : Are calls
+
 -- A call may do to a boxed object what it may do to the value in the box, by `may`.
 abbrev pub BoxMay : {I A C : Type 0} {V : I → Type 0} → (old : DynBox I A V) → (V old.vtable → C → V old.vtable → Type 0)
     → C → DynBox I A V → Type 0
@@ -191,7 +197,7 @@ pub record WriteAllLaw {W : Type 0} (told : W → Told) (takes_all : W → Type 
   -- a writer that takes all still takes all
   pub all : AcceptsAll told takes_all old → AcceptsAll told takes_all new
   -- which calls it made
-  pub calls : (C : List WriteCall) × Made (CallLaw told takes_all may) old C new × AllCalls C x reply
+  pub calls : ByCalls (CallLaw told takes_all may) old (λ C. AllCalls C x reply) new
 
 -- `write_rest(&mut x)`
 pub record WriteRestLaw {W : Type 0} (told : W → Told) (takes_all : W → Type 0) (may : W → WriteCall → W → Type 0)
@@ -205,5 +211,4 @@ pub record WriteRestLaw {W : Type 0} (told : W → Told) (takes_all : W → Type
   -- if the writer takes all, it accepted all of x, and it still takes all
   pub all : AcceptsAll told takes_all old → AcceptsAll told takes_all new × IsOk reply
   -- which writes it made
-  pub calls : (C : List WriteCall) × Made (CallLaw told takes_all may) old C new
-      × Writes (codes "failed to write whole buffer") C x reply left
+  pub calls : ByCalls (CallLaw told takes_all may) old (λ C. Writes (codes "failed to write whole buffer") C x reply left) new

@@ -5,7 +5,7 @@ use Rattle.no_std_io2.proofs.Words.{ReadCallLaw, Lender, as_reader, lender_tells
 use Rattle.std.proofs.{Common.{IsUtf8, String, string_bytes, string_len, string_capacity}, lemmas.Str.{IsUtf8-nil}}
 use Rattle.no_std_io2.specs.{declared.io.Error.{Error}, declared.io.Take.{Take}, Errors.{IsUnexpectedEnd}, Events.{cut}}
 use Rattle.no_std_io2.specs.{Read.{GaveExactly, ReadExactLaw, FillCalls, gave_whole}, BufRead.{ReadUntilLaw, ReadLineLaw, line_room}}
-use Rattle.no_std_io2.specs.{Pieces.{PieceMade, PieceEnds, AnswersLine}, Take.{limit_left, LimitTakes}}
+use Rattle.no_std_io2.specs.{Pieces.{PieceCalls, PieceEnds, AnswersLine}, Write.{ByCalls}, Take.{limit_left, LimitTakes}}
 use Rattle.no_std_io2.proofs.{CallsLemmas.{made_split}, ReadsAdd.{each_of, piece_adds}, TakesLemmas.{lend_law, made_lend}}
 use Rattle.no_std_io2.proofs.{LimitLemmas.{limit_reader, limit_lender}, LimitLoops.{limit_each, limit_exact}}
 
@@ -67,9 +67,10 @@ module _ {T : Type 0} (inner : Lender T) where
 
   -- so no piece is taken
   pub piece_at_limit : {old new : Take T} {d : ℕ} {x : List ℕ} (read : Result ℕ Error)
-      → PieceMade (Unit {0}) (LendCallLaw (limit_lender inner)) old d read x new → limit_left old ≡ 0 → IfErr read (λ _. ⊥) × (x ≡ [])
+      → ByCalls (LendCallLaw (limit_lender inner)) old (λ C. PieceCalls (Unit {0}) d C x read) new → limit_left old ≡ 0
+      → IfErr read (λ _. ⊥) × (x ≡ [])
   piece_at_limit {old} {new} {x = x} (Ok n) m low =
-      let took = piece_adds (each_of (lend_law (limit_lender inner)) (limit_each {inner = as_reader inner})) (Ok n) old new m in
+      let took = piece_adds (each_of (lend_law (limit_lender inner)) (limit_each {inner = as_reader inner})) _ _ (Ok n) old new m in
       (tt, nothing x (sym took.1 ∙ ap (λ P. length (bytes P)) (took_nothing took.2 low)))
     where
       nothing : (x : List ℕ) → length x ≡ 0 → x ≡ []

@@ -37,7 +37,7 @@ module _ {W : Type 0} (I : Writer W) (Q : Error → Type 0) (fails : FailsOnly Q
 
   -- so the laws say which errors are returned
   pub write_all_fails : {old new : W} {x : List ℕ} (reply : Result (Unit {0}) Error) → WriteAllOf I old x reply new → IfErr reply Q
-  write_all_fails {old} {new} reply law = all_fails reply law.calls.2 old new law.calls.1
+  write_all_fails {old} {new} reply law = all_fails reply law.calls.are old new law.calls.made
 
   pub flush_fails : {old new : W} (reply : Result (Unit {0}) Error) → FlushOf I old reply new → IfErr reply Q
   flush_fails {old} {new} reply law = fails old new (Flushed reply) law.call

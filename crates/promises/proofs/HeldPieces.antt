@@ -6,7 +6,8 @@ use Rattle.no_std_io2.proofs.Words.{Consumed, LendCallLaw, lender_tells, newline
 use Rattle.no_std_io2.proofs.Words.{FillsBelow, lent_held, lent_read}
 use Rattle.std.proofs.Common.{take_all, String, string_bytes}
 use Rattle.no_std_io2.specs.{declared.io.Error.{Error}, BufRead.{ReadUntilLaw, ReadLineLaw, line_room}}
-use Rattle.no_std_io2.specs.Pieces.{AnswersLine, Lacks, EndsPiece, FindsPiece, PartCalls, no_part, and_part, and_waited, PieceMade}
+use Rattle.no_std_io2.specs.Pieces.{AnswersLine, Lacks, EndsPiece, FindsPiece, PartCalls, no_part, and_part, and_waited}
+use Rattle.no_std_io2.specs.Write.{ByCalls}
 use Rattle.no_std_io2.specs.Pieces.{PieceEnds, PieceCalls}
 use Rattle.no_std_io2.specs.{declared.buffered.buf_reader.BufReader.{BufReader}, BufReader.{HasBuffer, TakesHeld, TakesHeldLine}}
 use Rattle.no_std_io2.proofs.{CallsLemmas.{made_split}, BufReaderCalls.{buf_lender}}
@@ -78,7 +79,8 @@ module _ {R : Type 0} {S : ℕ} (K : Reader R) (old : BufReader R S) (d : ℕ) w
     Took x (Ok n) new = (x ≡ piece) × HasBuffer new (reader_behind old ++ piece) rest × (reader_inner new ≡ reader_inner old)
     Took x (Err e) new = IsOutOfMemory e × (x ≡ []) × (new ≡ old)
 
-    piece_held : {x : List ℕ} {new : BufReader R S} (reply : Result ℕ Error) → PieceMade (Unit {0}) law old d reply x new → Took x reply new
+    piece_held : {x : List ℕ} {new : BufReader R S} (reply : Result ℕ Error)
+        → ByCalls law old (λ C. PieceCalls (Unit {0}) d C x reply) new → Took x reply new
     piece_held {new = new} (Ok n) m =
         let (D, y, lent, k, parts, found, x, calls) = m.are in
         let split = made_split law D old (Filled (Ok lent) ∷ Consumed k ∷ []) new (subst (λ C. Made law old C new) calls m.made) in
@@ -186,7 +188,8 @@ module _ {R : Type 0} {S : ℕ} (K : Reader R) (old : BufReader R S) (d : ℕ) w
 
   -- The bytes behind after a piece was taken are a suffix of those behind before, followed by the piece.
   pub piece_behind : {x : List ℕ} {new : BufReader R S} {may_refuse : Type 0} (reply : Result ℕ Error)
-      → PieceMade may_refuse (LendCallLaw (buf_lender K)) old d reply x new → IsSuffix (reader_behind old ++ x) (reader_behind new)
+      → ByCalls (LendCallLaw (buf_lender K)) old (λ C. PieceCalls may_refuse d C x reply) new
+      → IsSuffix (reader_behind old ++ x) (reader_behind new)
   piece_behind {x} {new} {may_refuse} reply m = by reply m.are
     where
       made : (C : List ReadCall) → m.calls ≡ C → Made (LendCallLaw (buf_lender K)) old C new

@@ -86,7 +86,7 @@ module _ {T : Type 0} (I : Reader T) where
       × ((l m : ℕ) × Counted I l m a b)
 
   -- the reads of a `read_to_end`
-  pub drain_counts : (C : List ReadCall) (x : List ℕ) (reply : Result ℕ Error) (a b : Tally T) → ToEndCalls C x reply
+  pub drain_counts : (C : List ReadCall) (x : List ℕ) (reply : Result ℕ Error) (a b : Tally T) → ToEndCalls C x (ended reply)
       → Made (ReadsCounted I) a C b → DrainCounts reply a b
   drain_counts C x reply a b (inl own) made =
       absurd (no_other own.0 (GaveAll own.2 (ended reply)) a b (λ c d no. no) (subst (λ K. Made (ReadsCounted I) a K b) own.5 made))

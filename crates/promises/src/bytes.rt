@@ -1,6 +1,6 @@
 // No accepted byte is lost, repeated or moved.
 ghost use Rattle.std.specs.Prelude.{◌≡◌, List, [], ℕ, ◌++◌, IfErr, OnOk};
-ghost use Rattle.no_std_io2.specs.Write.{AllCalls, Flushed, IsFront, Made, Moves, Wrote, WriteCall, taken, write_mishap};
+ghost use Rattle.no_std_io2.specs.Write.{AllCalls, ByCalls, Flushed, IsFront, Moves, Wrote, taken, write_mishap};
 ghost use Rattle.no_std_io2.specs.Writers.{CallOf};
 ghost use Rattle.io_bench.specs.Tally.{tally_inner};
 ghost use Rattle.promises.specs.Promises.{EndsIn, bytes_in, in_tower};
@@ -30,7 +30,7 @@ pub fn keeps_every_byte_of_a_flush<W: Write>(w: &mut W) -> Result<()>
 pub fn keeps_every_byte_of_a_write_all<W: Write>(w: &mut W, x: &[u8]) -> Result<()>
     ensures bytes { (front : List ℕ) × IsFront front x.now × OnOk result (front ≡ x.now)
         × (bytes_in (W.told w.new) ≡ bytes_in (W.told w.old) ++ front) }
-    ensures calls { (C : List WriteCall) × Made (CallOf W.Write) w.old C w.new × AllCalls C x.now result }
+    ensures calls { ByCalls (CallOf W.Write) w.old (λ C. AllCalls C x.now result) w.new }
 {
     w.write_all(x)
 }
@@ -40,7 +40,7 @@ pub fn keeps_every_byte_of_a_write_all<W: Write>(w: &mut W, x: &[u8]) -> Result<
 pub fn keeps_what_is_out<W: Write>(w: &mut W, x: &[u8]) -> Result<()>
     ensures front { IsFront (W.told w.old).out (W.told w.new).out }
     ensures all { OnOk result ((W.told w.new).out ≡ bytes_in (W.told w.old) ++ x.now) }
-    ensures calls { (C : List WriteCall) × Made (CallOf W.Write) w.old C w.new × IfErr result (EndsIn C) }
+    ensures calls { ByCalls (CallOf W.Write) w.old (λ C. IfErr result (EndsIn C)) w.new }
 {
     w.write_all(x)?;
     w.flush()
@@ -64,7 +64,7 @@ pub fn continues_with_the_rest<W: Write>(w: &mut W, rest: &mut &[u8]) -> Result<
     ensures bytes { (sent : List ℕ) × (rest.old.now ≡ sent ++ rest.new.now)
         × (bytes_in (W.told w.new) ≡ bytes_in (W.told w.old) ++ sent) }
     ensures all { OnOk result (rest.new.now ≡ []) }
-    ensures calls { (C : List WriteCall) × Made (CallOf W.Write) w.old C w.new × IfErr result (EndsIn C) }
+    ensures calls { ByCalls (CallOf W.Write) w.old (λ C. IfErr result (EndsIn C)) w.new }
 {
     if w.write_rest(rest).is_ok() {
         return Ok(());

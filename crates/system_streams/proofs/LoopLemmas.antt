@@ -6,7 +6,7 @@ use Rattle.no_std_io2.proofs.Words.{ExactCalls, Made, IsFront}
 use Rattle.std.specs.{Prelude.{min}, Result.{IsErrAnd}, Io.KnownBytes.{Consumes, Keeps, ReadConsumes}}
 use Rattle.std.proofs.KnownBytes.{Consumes-nil, Consumes-trans}
 use lib.Seq.{take-append_seam}
-use Rattle.no_std_io2.specs.{declared.io.Error.{Error}, Errors.{is_interruption}, Read.{gave, ExactMade}}
+use Rattle.no_std_io2.specs.{declared.io.Error.{Error}, Errors.{is_interruption}, Read.{gave}, Write.{ByCalls}}
 use Rattle.no_std_io2.proofs.{CallsLemmas.{made_split}, EventLemmas.{length-events_of}, ReadsAdd.{EachAdds, gathers_add}}
 use Rattle.system_streams.specs.{declared.patient.Patient.{Patient}, declared.system.SystemRead.{Ghosts as Source}}
 use Rattle.system_streams.specs.Patient.{patient_device, patient_turns, patient_taken, patient_error, PatientReads, AsksOnce, AsksDevice}
@@ -180,7 +180,7 @@ module _ {D : Type 0} (I : Source D) where
 
   -- a `read_exact`
   pub fills : {old new : Patient D} {buf : List ℕ} (reply : Result (Unit {0}) Error)
-      → ExactMade (ReadCallLaw (patient_reader I)) old reply buf new → Fills I.known reply buf old new
+      → ByCalls (ReadCallLaw (patient_reader I)) old (λ C. ExactCalls C reply buf) new → Fills I.known reply buf old new
   fills {old} {new} {buf} reply exact = by reply exact.are
     where
       by : (reply : Result (Unit {0}) Error) → ExactCalls exact.calls reply buf → Fills I.known reply buf old new

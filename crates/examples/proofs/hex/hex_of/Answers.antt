@@ -10,7 +10,7 @@ pub returns : goal.returns
 returns c =
     let told : Vec ℕ Global → Told = λ v. told_out v.items in
     let made = c.in_ok-write_all.ensures.law.calls in
-    let wrote = all_adds (encodes_join told) (law_may _) made.0 _ _ c.new-w.result c.write_all.new.self made.1 made.2 in
+    let wrote = all_adds (encodes_join told) (law_may _) made.calls _ _ c.new-w.result c.write_all.new.self made.made made.are in
     let flushed = c.in_ok-flush.ensures.law in
     let all = hexed told c.new-w.result c.write_all.new.self c.flush.new.self c.args.bytes.now c.new-w.ensures.none wrote flushed.call
     flushed.empty in

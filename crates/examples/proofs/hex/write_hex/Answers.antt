@@ -7,4 +7,4 @@ use Rattle.examples.proofs.hex.write_hex.Goals as goal
 pub returns : goal.returns
 returns g c =
     let made = c.write_rest.ensures.law.calls in
-    writes_add (encodes_join g.W.Write.told) (law_may _) made.2 _ _ made.1
+    writes_add (encodes_join g.W.Write.told) (law_may _) made.are _ _ made.made

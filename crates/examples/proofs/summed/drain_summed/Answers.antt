@@ -4,4 +4,6 @@ use Rattle.examples.proofs.SumLemmas.{reads_sum}
 use Rattle.examples.proofs.summed.drain_summed.Goals as goal
 
 pub returns : goal.returns
-returns g c = to_end_adds (reads_sum _ (λ a b call may. may)) c.read_to_end.result _ _ c.read_to_end.ensures.law.calls
+returns g c =
+    let law = c.read_to_end.ensures.law in
+    (_, law.appends.0, to_end_adds (reads_sum _ (λ a b call may. may)) _ _ _ law.calls)

@@ -4,4 +4,4 @@ use Rattle.examples.proofs.SumLemmas.{reads_sum}
 use Rattle.examples.proofs.summed.read_summed.Goals as goal
 
 pub returns : goal.returns
-returns g c = exact_adds (reads_sum _ (λ a b call may. may)) c.read_exact.result _ _ c.read_exact.ensures.law.calls
+returns g c = exact_adds (reads_sum _ (λ a b call may. may)) _ c.read_exact.result _ _ c.read_exact.ensures.law.calls

@@ -6,5 +6,4 @@ use Rattle.promises.proofs.adaptors.drains_in_turn.Goals as goal
 
 pub returns : goal.returns
 returns g c =
-    (to_end_adds (chain_each (reader g.T.Stored g.T.Read) (reader g.U.Stored g.U.Read)) c.read_to_end.result _ _
-    c.read_to_end.ensures.law.calls).2
+    to_end_adds (chain_each (reader g.T.Stored g.T.Read) (reader g.U.Stored g.U.Read)) _ _ _ c.read_to_end.ensures.law.calls

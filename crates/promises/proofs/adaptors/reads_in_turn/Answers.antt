@@ -6,5 +6,5 @@ use Rattle.promises.proofs.adaptors.reads_in_turn.Goals as goal
 
 pub returns : goal.returns
 returns g c =
-    (exact_adds (chain_each (reader g.T.Stored g.T.Read) (reader g.U.Stored g.U.Read)) c.read_exact.result _ _
+    (exact_adds (chain_each (reader g.T.Stored g.T.Read) (reader g.U.Stored g.U.Read)) _ c.read_exact.result _ _
     c.read_exact.ensures.law.calls).2

@@ -10,4 +10,4 @@ pub returns : goal.returns
 returns g c =
     let chain = chain_lender (lends g.T.Stored g.T.Read g.T.BufRead) (lends g.U.Stored g.U.Read g.U.BufRead) in
     let each = chain_each (reader g.T.Stored g.T.Read) (reader g.U.Stored g.U.Read) in
-    piece_adds (each_of (lend_law chain) each) c.read_until.result _ _ c.read_until.ensures.law.calls
+    piece_adds (each_of (lend_law chain) each) _ _ c.read_until.result _ _ c.read_until.ensures.law.calls

@@ -1,6 +1,6 @@
 -- What the call did to the inner reader, it did to this one.
 use Rattle.std.proofs.Common.{refl, ap}
-use Rattle.no_std_io2.proofs.CallsLemmas.{made_map}
+use Rattle.no_std_io2.proofs.CallsLemmas.{by_map}
 use Rattle.rows_play.proofs.NotedReads.{noted_read}
 use Rattle.rows_play.proofs.noted.NotedRead.read_full.Goals as goal
 
@@ -16,13 +16,7 @@ returns g c =
         counts = full.counts;
         ends = full.ends;
         full = λ h. ((full.full h).0, ap put (full.full h).1);
-        calls = (
-          full.calls.0,
-          made_map _ _ put (λ a b. noted_read (record {
-            told = λ x. refl;
-            may = λ x y call may. record { part = y; rest = refl; does = may };
-          }) a b) full.calls.0 _ _ full.calls.1,
-          full.calls.2,
-        );
+        calls = by_map put
+            (noted_read (record { told = λ x. refl; may = λ x y call may. record { part = y; rest = refl; does = may } })) full.calls;
       };
     }

@@ -1,5 +1,5 @@
 -- What the call did to the inner stream, it did to this one.
-use Rattle.no_std_io2.proofs.CallsLemmas.{made_map}
+use Rattle.no_std_io2.proofs.CallsLemmas.{by_map}
 use Rattle.rows_play.proofs.noted.NotedSeek.stream_len.Goals as goal
 
 pub returns : goal.returns
@@ -10,6 +10,6 @@ returns g c =
       law = record {
         store = len.store;
         sound = len.sound;
-        calls = (len.calls.0, made_map g.T.Seek.may _ put (λ a b call made. made) len.calls.0 _ _ len.calls.1, len.calls.2);
+        calls = by_map put (λ a b call made. made) len.calls;
       };
     }

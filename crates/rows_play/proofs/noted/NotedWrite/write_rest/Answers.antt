@@ -1,6 +1,6 @@
 -- What the call did to the inner writer, it did to this one.
 use Rattle.std.proofs.Common.{refl}
-use Rattle.no_std_io2.proofs.CallsLemmas.{made_map}
+use Rattle.no_std_io2.proofs.CallsLemmas.{by_map}
 use Rattle.no_std_io2.proofs.Forwards.{wrote_through}
 use Rattle.rows_play.proofs.noted.NotedWrite.write_rest.Goals as goal
 
@@ -14,11 +14,7 @@ returns g c =
         sends = wrote.sends;
         done = wrote.done;
         all = wrote.all;
-        calls = (
-          wrote.calls.0,
-          made_map _ _ put (λ a b. wrote_through _ _ _ _ put (λ x y call may.
-              record { part = y; rest = refl; does = may }) a b) wrote.calls.0 _ _ wrote.calls.1,
-          wrote.calls.2,
-        );
+        calls = by_map put
+            (wrote_through _ _ _ _ put (λ x y call may. record { part = y; rest = refl; does = may })) wrote.calls;
       };
     }
