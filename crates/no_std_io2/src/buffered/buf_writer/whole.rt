@@ -22,7 +22,7 @@ impl<W: Write + Drop, const S: usize> BufWriter<W, S> {
         ensures never_interrupted { IsNoInterruption result }
         ensures room { n ≤ S → OnOk result (length (writer_buffer self.new) + n ≤ S) }
     {
-        self.core.make_room(n)
+        self.core.make_room(n, false)
     }
 
     /// Writes a record, `head` followed by `tail`, which has to be shorter than `S`. After `Ok` all of it

@@ -2,7 +2,7 @@
 use Rattle.no_std_io2.proofs.Words.{CallOf, ◌≡◌, ◌+◌, length, sender_buffer}
 use Rattle.std.proofs.Common.{codes}
 use Rattle.no_std_io2_base.proofs.CallsLemmas.{CallsSoFar}
-use Rattle.no_std_io2.proofs.buffered.sender.Sender.send_apart.Given as goal
+use Rattle.no_std_io2.proofs.buffered.sender.Sender.send_held.Given as goal
 
 abbrev pub invariant-sends : goal.invariant-sends
 invariant-sends g l =

@@ -4,7 +4,7 @@ use Rattle.no_std_io2.proofs.Words.{◌≡◌, ℕ, ◌+◌, ◌<◌, ◌≤◌,
 use Rattle.no_std_io2.proofs.Words.{sender_buffer, SendCalls}
 use Rattle.no_std_io2_base.specs.{declared.error.Error.{Error}, declared.error.ErrorKind.{ErrorKind}}
 use Rattle.no_std_io2_base.proofs.CallsLemmas.{calls_none, calls_more, calls_end}
-use Rattle.no_std_io2.proofs.buffered.sender.Sender.send_apart.Goals as goal
+use Rattle.no_std_io2.proofs.buffered.sender.Sender.send_held.Goals as goal
 
 pub sends-init : goal.sends-init
 sends-init g c = record { made = calls_none; unmoved = refl }
