@@ -1,7 +1,7 @@
 -- The payload goes through the borrow of a vector, and the search does not join the two calls.
 use Rattle.no_std_io2.proofs.Words.{◌≡◌, ◌≤◌, ◌++◌, length, take, drop, sym, ap, ◌∙◌, arith, length-drop, refl, ap₂, err_from_is_err_and}
 use Rattle.no_std_io2.proofs.Words.{events_of, take-append_seam, reader_held}
-use Rattle.no_std_io2.proofs.{EventLemmas.{bytes-append, bytes-events_of}, TakesLemmas.{takes_then}}
+use Rattle.no_std_io2.proofs.{EventLemmas.{bytes-append, bytes-events_of}, TakesLemmas.{takes_then}, BufReaderThrough.{gives_held}}
 use Rattle.examples.proofs.HeaderLemmas.{takes_loses}
 use Rattle.examples.proofs.records.read_payload.Goals as goal
 
@@ -10,7 +10,7 @@ returns-in_err-read_exact-clause-held g c = λ enough.
     let long : length c.deref_mut.result.now ≡ c.args.len = c.deref_mut.ensures.len ∙ c.in_ok-payload.ensures.len ∙ c.from.ensures in
     let room : length c.deref_mut.result.now ≤ length (reader_held c.consume.new.self) =
     omega (arith, enough, long, ap length c.consume.ensures.law.held, length-drop 2 (reader_held c.args.r.now)) in
-    let given = c.in_err-read_exact.ensures.leaves.0 room in
+    let given = gives_held c.in_err-read_exact.ensures.leaves room in
     absurd (let no : ⊥ = cc (given.1.0) in no)
 
 pub returns-in_err-read_exact-clause-failed : goal.returns-in_err-read_exact-clause-failed
@@ -24,7 +24,7 @@ returns-clause-held g c = λ enough.
     let long : length c.deref_mut.result.now ≡ c.args.len = c.deref_mut.ensures.len ∙ c.in_ok-payload.ensures.len ∙ c.from.ensures in
     let room : length c.deref_mut.result.now ≤ length (reader_held c.consume.new.self) =
     omega (arith, enough, long, ap length left, length-drop 2 (reader_held c.args.r.now)) in
-    let given = c.in_ok-read_exact.ensures.leaves.0 room in
+    let given = gives_held c.in_ok-read_exact.ensures.leaves room in
     let is : c.read_exact.new.buf ≡ take (length c.deref_mut.result.now) (reader_held c.consume.new.self) = cc (given.1.0) in (
       ap (λ m. take m (c.read_exact.new.buf ++ drop (length c.read_exact.new.buf) c.in_ok-payload.payload.items))
           (sym c.deref_mut.ensures.len ∙ sym c.read_exact.auto.buf)
