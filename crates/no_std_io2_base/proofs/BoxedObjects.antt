@@ -3,7 +3,7 @@ use Rattle.std.proofs.{lemmas.Grind.{common_steps}, Common.{arith, ◌≡◌, �
 use Rattle.std.specs.{declared.dyn_box.DynBox.{DynBox}, Borrow.{Bor}}
 use Rattle.no_std_io2_base.specs.{declared.error.Error.{Error}, Read.{Reader, ReadLaw, ReadExactLaw}, BufRead.{Lender, ConsumeLaw}}
 use Rattle.no_std_io2_base.specs.{BufRead.{FillBufLaw, AfterLoan}, Write.{WriteCall, BoxMay}, Writers.{Writer, CallOf, WriteAllOf}}
-use Rattle.no_std_io2_base.proofs.Forwards.{ReadsThrough, read_through, exact_through, LendsThrough, consume_through, loan_through}
+use Rattle.no_std_io2_base.proofs.Forwards.{PassesReads, read_through, exact_through, PassesLends, consume_through, loan_through}
 use Rattle.no_std_io2_base.proofs.Forwards.{wrote_through, write_all_through}
 
 module _ {I A : Type 0} {V : I → Type 0} (box : DynBox I A V) where
@@ -35,7 +35,7 @@ box_reader o = record {
 }
 
 module _ {I A : Type 0} {V : I → Type 0} (o : (p : (x : I) × V x) → Reader (V p.0)) (box : DynBox I A V) where
-  of_reader : ReadsThrough (value_reader o box.vtable) (box_reader o) (holding box box.vtable)
+  of_reader : PassesReads (value_reader o box.vtable) (box_reader o) (holding box box.vtable)
   of_reader = record { told = λ x. refl; may = λ x y call may. (y, refl, may) }
 
   -- what a call did to the value that was lent, it did to the box
@@ -72,7 +72,7 @@ box_lender o = record {
 }
 
 module _ {I A : Type 0} {V : I → Type 0} (o : (p : (x : I) × V x) → Lender (V p.0)) (box : DynBox I A V) where
-  of_lender : LendsThrough (value_lender o box.vtable) (box_lender o) (holding box box.vtable)
+  of_lender : PassesLends (value_lender o box.vtable) (box_lender o) (holding box box.vtable)
   of_lender = record { reads = record { told = λ x. refl; may = λ x y call may. (y, refl, may) }; held = λ x. refl }
 
   pub consume_box : {n : ℕ} (lent : (x : I) × V x) → lent ≡ (box.vtable, box.value)

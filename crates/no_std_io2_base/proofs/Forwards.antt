@@ -8,11 +8,11 @@ use Rattle.no_std_io2_base.specs.Write.{AllCalls, PartMay}
 use Rattle.no_std_io2_base.proofs.CallsLemmas.{made_map}
 
 -- R' tells what R tells, whose values are put into its own, and may make its calls
-pub record ReadsThrough {X Y : Type 0} (R : Reader X) (R' : Reader Y) (put : X → Y) : Type 0 where
+pub record PassesReads {X Y : Type 0} (R : Reader X) (R' : Reader Y) (put : X → Y) : Type 0 where
   pub told : (x : X) → tells R' (put x) ≡ tells R x
   pub may : (x y : X) (call : ReadCall) → R.may x call y → R'.may (put x) call (put y)
 
-module _ {X Y : Type 0} {R : Reader X} {R' : Reader Y} {put : X → Y} (through : ReadsThrough R R' put) (a b : X) where
+module _ {X Y : Type 0} {R : Reader X} {R' : Reader Y} {put : X → Y} (through : PassesReads R R' put) (a b : X) where
   -- what holds of that which was told before and after
   between : (P : Tells → Tells → Type 0) → P (tells R a) (tells R b) → P (tells R' (put a)) (tells R' (put b))
   between P holds =
@@ -22,7 +22,7 @@ module _ {X Y : Type 0} {R : Reader X} {R' : Reader Y} {put : X → Y} (through 
   call_through x1 law = grind (arith, common_steps)
 
 -- what a call did to a value, it did to that which the value was put into
-module _ {X Y : Type 0} {R : Reader X} {R' : Reader Y} (put : X → Y) (through : ReadsThrough R R' put) {a b : X} where
+module _ {X Y : Type 0} {R : Reader X} {R' : Reader Y} (put : X → Y) (through : PassesReads R R' put) {a b : X} where
   pub read_through : {buf buf' : List ℕ} {reply : Result ℕ Error} → ReadLaw R a buf reply buf' b → ReadLaw R' (put a) buf reply buf' (put b)
   read_through {buf' = buf'} {reply} law = grind (arith, common_steps)
 
@@ -36,11 +36,11 @@ module _ {X Y : Type 0} {R : Reader X} {R' : Reader Y} (put : X → Y) (through 
   drained_through {lacks = lacks} {reply = reply} law = grind (arith, common_steps, between, made_map, call_through)
 
 -- and R' holds what R holds
-pub record LendsThrough {X Y : Type 0} (R : Lender X) (R' : Lender Y) (put : X → Y) : Type 0 where
-  pub reads : ReadsThrough (as_reader R) (as_reader R') put
+pub record PassesLends {X Y : Type 0} (R : Lender X) (R' : Lender Y) (put : X → Y) : Type 0 where
+  pub reads : PassesReads (as_reader R) (as_reader R') put
   pub held : (x : X) → R'.held (put x) ≡ R.held x
 
-module _ {X Y : Type 0} {R : Lender X} {R' : Lender Y} {put : X → Y} (through : LendsThrough R R' put) (a b : X) where
+module _ {X Y : Type 0} {R : Lender X} {R' : Lender Y} {put : X → Y} (through : PassesLends R R' put) (a b : X) where
   lend_between : (P : Tells → Tells → Type 0) → P (tells (as_reader R) a) (tells (as_reader R) b)
       → P (tells (as_reader R') (put a)) (tells (as_reader R') (put b))
   lend_between P holds = between through.reads a b P holds
@@ -51,7 +51,7 @@ module _ {X Y : Type 0} {R : Lender X} {R' : Lender Y} {put : X → Y} (through 
   lend_through : (call : ReadCall) → LendCallLaw R a call b → LendCallLaw R' (put a) call (put b)
   lend_through x1 law = grind (arith, common_steps)
 
-module _ {X Y : Type 0} {R : Lender X} {R' : Lender Y} (put : X → Y) (through : LendsThrough R R' put) {a b : X} where
+module _ {X Y : Type 0} {R : Lender X} {R' : Lender Y} (put : X → Y) (through : PassesLends R R' put) {a b : X} where
   pub consume_through : {n : ℕ} → ConsumeLaw R a n b → ConsumeLaw R' (put a) n (put b)
   consume_through {n} law = consumed_through through a b n law
 
@@ -115,7 +115,7 @@ module _ {W V : Type 0} {store : V → Option Store} {turns : V → ℕ} {events
       let whole : Reader V = record { store = store; turns = turns; events = events; may = PartMay may get put } in
       let part : Reader W =
       record { store = λ w. store (put old w); turns = λ w. turns (put old w); events = λ w. events (put old w); may = may } in
-      let through : ReadsThrough part whole (put old) = record { told = λ w. refl; may = passed_on old back twice } in
+      let through : PassesReads part whole (put old) = record { told = λ w. refl; may = passed_on old back twice } in
       subst (λ v. ReadExactLaw whole v buf reply buf' new) was
       (subst (λ v. ReadExactLaw whole (put old (get old)) buf reply buf' v) is (exact_through {R = part} {R' = whole}
       (put old) through law))
@@ -131,7 +131,7 @@ module _ {W V : Type 0} {store : V → Option Store} {turns : V → ℕ} {events
       let whole : Reader V = record { store = store; turns = turns; events = events; may = PartMay may get put } in
       let part : Reader W =
       record { store = λ w. store (put old w); turns = λ w. turns (put old w); events = λ w. events (put old w); may = may } in
-      let through : ReadsThrough part whole (put old) = record { told = λ w. refl; may = passed_on old back twice } in
+      let through : PassesReads part whole (put old) = record { told = λ w. refl; may = passed_on old back twice } in
       subst (λ v. ToEndLaw lacks whole v buf reply buf' new) was
       (subst (λ v. ToEndLaw lacks whole (put old (get old)) buf reply buf' v) is (drained_through {R = part} {R' = whole}
       (put old) through law))

@@ -9,5 +9,6 @@ returns g c =
     let o = goal.Seek-dyn g in
     record {
       law = seeks_box (λ p. seeker (o p).Stored (o p).Seek) c.args.self.now (λ X S a b. StreamPositionLaw S a c.stream_position.result b)
-          (λ t new. stream_position_through _ t) c.deref_box_mut-1.result.now (search rules) c.stream_position.new.self c.stream_position.ensures;
+          (λ t new. stream_position_through _ t) c.deref_box_mut-1.result.now (search rules) c.stream_position.new.self
+          c.stream_position.ensures;
     }
