@@ -11,5 +11,6 @@ returns g c =
     let did = rw (to_z-of_z w64 c.args.offset c.ranges.offset) at c.seek_relative.ensures in
     record {
       law = seeks_box (λ p. seeker (o p).Stored (o p).Seek) c.args.self.now
-          (λ X S a b. SeekRelativeLaw S a c.args.offset c.seek_relative.result b) (λ t new. seek_relative_through _ t) c.deref_box_mut-1.result.now (search rules) c.seek_relative.new.self did;
+          (λ X S a b. SeekRelativeLaw S a c.args.offset c.seek_relative.result b) (λ t new. seek_relative_through _ t)
+          c.deref_box_mut-1.result.now (search rules) c.seek_relative.new.self did;
     }
