@@ -66,17 +66,17 @@ module _ {T : Type 0} (inner : Lender T) where
       last.3.0.1 last.2
 
   -- so no piece is taken
-  pub piece_at_limit : {old new : Take T} {d : ℕ} {x : List ℕ} (read : Result ℕ Error)
+  pub piece_at_limit : {old new : Take T} (d : ℕ) {x : List ℕ} (read : Result ℕ Error)
       → ByCalls (LendCallLaw (limit_lender inner)) old (λ C. PieceCalls (Unit {0}) d C x read) new → limit_left old ≡ 0
       → IfErr read (λ _. ⊥) × (x ≡ [])
-  piece_at_limit {old} {new} {x = x} (Ok n) m low =
+  piece_at_limit {old} {new} d {x} (Ok n) m low =
       let took = piece_adds (each_of (lend_law (limit_lender inner)) (limit_each {inner = as_reader inner})) _ _ (Ok n) old new m in
       (tt, nothing x (sym took.1 ∙ ap (λ P. length (bytes P)) (took_nothing took.2 low)))
     where
       nothing : (x : List ℕ) → length x ≡ 0 → x ≡ []
       nothing [] none = refl
       nothing (b ∷ x) none = absurd (omega (arith, none))
-  piece_at_limit {old} {new} (Err e) m low = absurd (elim m.are.2 [
+  piece_at_limit {old} {new} d (Err e) m low = absurd (elim m.are.2 [
     | inl fault ↦
         let is = lends_nothing m.are.0 old new (Err e) (subst (λ K. Made (LendCallLaw (limit_lender inner)) old K new) fault.1
         m.made) low in
@@ -91,15 +91,15 @@ module _ {T : Type 0} (inner : Lender T) where
 
   pub until_at_limit : {A : Type 0} {old new : Take T} {d : ℕ} {buf buf' : Vec ℕ A} (reply : Result ℕ Error)
       → ReadUntilLaw (limit_lender inner) old d buf reply buf' new → limit_left old ≡ 0 → reply ≡ Ok 0
-  until_at_limit (Ok n) law low = ap Ok (law.ends.1 ∙ ap length (piece_at_limit (Ok n) law.calls low).1)
-  until_at_limit (Err e) law low = absurd (piece_at_limit (Err e) law.calls low).0
+  until_at_limit (Ok n) law low = ap Ok (law.ends.1 ∙ ap length (piece_at_limit _ (Ok n) law.calls low).1)
+  until_at_limit (Err e) law low = absurd (piece_at_limit _ (Err e) law.calls low).0
 
   -- an empty line is appended, which needs no room
   pub line_at_limit : {A : Type 0} {old new : Take T} {buf buf' : String A} (reply : Result ℕ Error)
       → ReadLineLaw (limit_lender inner) old buf reply buf' new → limit_left old ≡ 0 → (reply ≡ Ok 0)
       × (string_bytes buf' ≡ string_bytes buf)
   line_at_limit {old = old} {buf = buf} {buf'} reply law low =
-      let (ok, none) = piece_at_limit law.read law.calls low in
+      let (ok, none) = piece_at_limit _ law.read law.calls low in
       by reply law.read (bytes law.taken) none ok (counts law.read law.ends) law.answers
     where
       counts : (read : Result ℕ Error) → PieceEnds (λ n. line_room buf < n) newline (lender_tells (limit_lender inner) old) law.taken read

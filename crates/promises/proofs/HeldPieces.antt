@@ -79,9 +79,9 @@ module _ {R : Type 0} {S : ℕ} (K : Reader R) (old : BufReader R S) (d : ℕ) w
     Took x (Ok n) new = (x ≡ piece) × HasBuffer new (reader_behind old ++ piece) rest × (reader_inner new ≡ reader_inner old)
     Took x (Err e) new = IsOutOfMemory e × (x ≡ []) × (new ≡ old)
 
-    piece_held : {x : List ℕ} {new : BufReader R S} (reply : Result ℕ Error)
+    piece_held : (x : List ℕ) {new : BufReader R S} (reply : Result ℕ Error)
         → ByCalls law old (λ C. PieceCalls (Unit {0}) d C x reply) new → Took x reply new
-    piece_held {new = new} (Ok n) m =
+    piece_held all {new} (Ok n) m =
         let (D, y, lent, k, parts, found, x, calls) = m.are in
         let split = made_split law D old (Filled (Ok lent) ∷ Consumed k ∷ []) new (subst (λ C. Made law old C new) calls m.made) in
         let first = no_part_first parts split.0 split.1 in
@@ -100,7 +100,7 @@ module _ {R : Type 0} {S : ℕ} (K : Reader R) (old : BufReader R S) (d : ℕ) w
           ),
           ap reader_inner end ∙ consumed.0 ∙ ap reader_inner same,
         )
-    piece_held {x} {new} (Err e) m = by m.are
+    piece_held x {new} (Err e) m = by m.are
       where
         by : PieceCalls (Unit {0}) d m.calls x (Err e) → Took x (Err e) new
         by (D, parts, inl (fault, calls)) =
@@ -118,10 +118,10 @@ module _ {R : Type 0} {S : ℕ} (K : Reader R) (old : BufReader R S) (d : ℕ) w
     pub until_held : {A : Type 0} {buf buf' : Vec ℕ A} {new : BufReader R S} (reply : Result ℕ Error)
         → ReadUntilLaw (buf_lender K) old d buf reply buf' new → TakesHeld piece rest old buf.items reply buf'.items new
     until_held {buf = buf} (Ok n) until =
-        let taken = piece_held (Ok n) until.calls in
+        let taken = piece_held (bytes until.taken) (Ok n) until.calls in
         (until.ends.1 ∙ ap length taken.0, until.appends ∙ ap (λ l. buf.items ++ l) taken.0, taken.1, taken.2)
     until_held {buf = buf} (Err e) until =
-        let taken = piece_held (Err e) until.calls in
+        let taken = piece_held (bytes until.taken) (Err e) until.calls in
         (taken.0, until.appends ∙ ap (λ l. buf.items ++ l) taken.1 ∙ append-nil buf.items, taken.2)
 
 -- by `read_line`
@@ -146,7 +146,7 @@ module _ {R : Type 0} {S : ℕ} (K : Reader R) (old : BufReader R S) (line rest 
       → TakesHeldLine line rest old (string_bytes text) reply (string_bytes text') new
   line_held {text = text} reply law =
       answered (bytes law.taken) _ _ _ _ _ law.read reply (counts law.read law.ends)
-      (piece_held K old newline line rest is ends law.read law.calls) law.answers
+      (piece_held K old newline line rest is ends (bytes law.taken) law.read law.calls) law.answers
     where
       counts : (read : Result ℕ Error) → PieceEnds (λ n. line_room text < n) newline (lender_tells (buf_lender K) old) law.taken read
           → IfOk read (λ n. n ≡ length (bytes law.taken))
@@ -187,10 +187,10 @@ module _ {R : Type 0} {S : ℕ} (K : Reader R) (old : BufReader R S) (d : ℕ) w
       (filled_behind (reader_behind old ++ x) split.0 split.2.0 split.2.1.call before)
 
   -- The bytes behind after a piece was taken are a suffix of those behind before, followed by the piece.
-  pub piece_behind : {x : List ℕ} {new : BufReader R S} {may_refuse : Type 0} (reply : Result ℕ Error)
+  pub piece_behind : (x : List ℕ) {new : BufReader R S} (may_refuse : Type 0) (reply : Result ℕ Error)
       → ByCalls (LendCallLaw (buf_lender K)) old (λ C. PieceCalls may_refuse d C x reply) new
       → IsSuffix (reader_behind old ++ x) (reader_behind new)
-  piece_behind {x} {new} {may_refuse} reply m = by reply m.are
+  piece_behind x {new} may_refuse reply m = by reply m.are
     where
       made : (C : List ReadCall) → m.calls ≡ C → Made (LendCallLaw (buf_lender K)) old C new
       made C is = subst (λ C. Made (LendCallLaw (buf_lender K)) old C new) is m.made

@@ -11,4 +11,4 @@ returns g c =
     subst (λ l. IsSuffix (reader_behind c.args.r.now ++ l) (reader_behind c.read_until.new.self))
     (sym (ap (drop (vec_len old)) law.appends ∙ ap (λ n. drop n (old.items ++ bytes law.taken)) old.ok.0
     ∙ drop-append_seam old.items (bytes law.taken)))
-    (piece_behind (reader g.R.Stored g.R.Read) c.args.r.now c.args.delim c.read_until.result law.calls)
+    (piece_behind (reader g.R.Stored g.R.Read) c.args.r.now c.args.delim (bytes law.taken) (Unit {0}) c.read_until.result law.calls)

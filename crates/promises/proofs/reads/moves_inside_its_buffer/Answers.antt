@@ -14,10 +14,10 @@ returns g c = λ within.
     let inner = tells (reader g.R.Stored g.R.Read) (reader_inner old) in
     elim own [
       | moved_within inside is kept cut ↦ rw is (
-          refl,
-          kept,
-          rw kept (steps_over g.row.S c.args.offset (reader_behind old) (reader_held old) (reader_behind new) (reader_held new) inner within
-              cut (held-le old) (held-le new)),
-        )
+        refl,
+        kept,
+        rw kept (steps_over g.row.S c.args.offset (reader_behind old) (reader_held old) (reader_behind new) (reader_held new) inner within
+            cut (held-le old) (held-le new)),
+      )
       | moved_far out seek ↦ absurd (out within)
     ]
