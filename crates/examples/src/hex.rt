@@ -1,6 +1,7 @@
 //! [`Hex`], an adaptor that writes other bytes than it accepts: two hexadecimal digits for each byte.
 ghost use Rattle.std.specs.Prelude.{◌≡◌, ◌<◌, [], None, OnOk, IfOk};
 ghost use Rattle.no_std_io2.specs.Write.{CallAdds, Moves, RestAdds, call_mishap};
+ghost use Rattle.no_std_io2.specs.Writers.{FlushOf};
 ghost use Rattle.examples.specs.Hex.{digit as digit_of, hex, hex_inner, half, hex_told, written, Encodes};
 
 use no_std_io2::ghost_bytes::GhostBytes;
@@ -83,7 +84,12 @@ impl<W: Write> Write for Hex<W> {
         Ok(1)
     }
 
-    fn flush(&mut self) -> Result<()> {
+    fn flush(&mut self) -> Result<()>
+        ensures law { FlushOf ⟦<Self as Write>⟧ self.old result self.new }
+
+        // The inner writer was flushed last.
+        ensures flushed { OnOk result ((sent : W) × FlushOf W.Write sent result (hex_inner self.new)) }
+    {
         self.finish()?;
         self.inner.flush()
     }

@@ -1,6 +1,7 @@
 //! [`Uart`], a port that waits until its hardware is ready.
-ghost use Rattle.std.specs.Prelude.{◌≡◌, ◌∷◌, [], ◌++◌, ℕ, List, Bool, true};
-ghost use Rattle.std.specs.Bool.{OnTrue};
+ghost use Rattle.std.specs.Prelude.{◌≡◌, ◌∷◌, [], ◌++◌, ℕ, List, Bool, true, false, ◌<◌};
+ghost use Rattle.std.specs.Bool.{OnTrue, OnFalse};
+ghost use Rattle.examples.specs.Serial.{if_taken};
 
 use crate::serial::Port;
 
@@ -37,6 +38,7 @@ pub struct Uart<R> {
 // clause, and all else of the port is as before.
 fn wait<R: Registers>(registers: &mut R, looks: u32) -> bool
     ensures ready { OnTrue result (R.ready registers.new ≡ true) }
+    ensures late { OnFalse result (0 < looks → R.ready registers.new ≡ false) }
     ensures sent { R.sent registers.new ≡ R.sent registers.old }
 {
     let mut left = looks;
@@ -52,7 +54,12 @@ fn wait<R: Registers>(registers: &mut R, looks: u32) -> bool
 impl<R: Registers> Port for Uart<R> {
     ghost taken = { λ u. R.sent u.registers };
 
-    fn send(&mut self, byte: u8) -> bool {
+    fn send(&mut self, byte: u8) -> bool
+        ensures taken { R.sent self.new.registers ≡ R.sent self.old.registers ++ if_taken result byte }
+
+        // A byte is refused only if the chip was not ready at the last look.
+        ensures refused { OnFalse result (0 < self.old.looks → R.ready self.new.registers ≡ false) }
+    {
         if !wait(&mut self.registers, self.looks) {
             return false;
         }
