@@ -1,7 +1,7 @@
 -- For `run_reads` over a filling reader: no ask fails, each takes its step, and the inner reads are few.
 use Rattle.no_std_io2.proofs.Words.{◌≡◌, ℕ, ◌+◌, ◌-◌, ◌/◌, ◌<◌, ◌≤◌, min, nat_eq, nat_lt, Bool, true, false, if◌then◌else◌, List, [], ◌∷◌}
 use Rattle.no_std_io2.proofs.Words.{◌++◌, length, take, drop, Some, Result, Ok, Err, refl, sym, ap, ap₂, subst, ◌∙◌, arith, ⊎_elim, inl}
-use Rattle.no_std_io2.proofs.Words.{inr, append_assoc, append-nil, length-append, length-drop, length-take-le, le_refl, take-append-drop}
+use Rattle.no_std_io2.proofs.Words.{inr, length-append, length-drop, length-take-le, le_refl}
 use Rattle.no_std_io2.proofs.Words.{drop-append_seam, common_steps, nil_from_length, cases_lt, nat_tests, Event, fails, events_of, bytes}
 use Rattle.no_std_io2.proofs.Words.{Takes, to_come, IsAtEnd, Reader, tells, ReadCall, bytes_given, GaveLaw, ReadCallLaw, Gathers, no_read}
 use Rattle.no_std_io2.proofs.Words.{and_gave, and_again, ExactCalls, FillsRoom, IsReadMeter, Made, Lender, as_reader, lender_tells}

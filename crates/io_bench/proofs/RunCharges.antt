@@ -1,8 +1,8 @@
 -- For `run_closed`: the count of a whole run through a buffer, and its closing, from the calls that it made.
 use Rattle.no_std_io2.proofs.Words.{common_steps, ◌≡◌, ◌+◌, ◌*◌, ◌/◌, ℕ, ◌<◌, ◌≤◌, List, [], ◌∷◌, ◌++◌, length, take, Result, Ok, Err, OnOk}
 use Rattle.no_std_io2.proofs.Words.{IsOk, refl, sym, subst, ap, ap₂, ◌∙◌, arith, inl, inr, length-append, append-nil, le_refl}
-use Rattle.no_std_io2.proofs.Words.{take-append-drop, Writer, TakesAll, CallOf, WriteCall, Wrote, WroteAll, Flushed, Made, Writes, none}
-use Rattle.no_std_io2.proofs.Words.{took, again, calls_for, AllCalls, IsMeter, BufferMay, SendCalls, Stepped}
+use Rattle.no_std_io2.proofs.Words.{take-append-drop, Writer, TakesAll, WriteCall, Wrote, WroteAll, Flushed, Made, Writes, none}
+use Rattle.no_std_io2.proofs.Words.{took, again, calls_for, IsMeter, BufferMay, SendCalls, Stepped}
 use Rattle.no_std_io2.proofs.Words.{InnerCalls, writing_calls, buffer_after}
 use Rattle.std.specs.List.{flat_map}
 use Rattle.std.proofs.{lemmas.Grind.{flat_map-append}, Common.{take_all}}

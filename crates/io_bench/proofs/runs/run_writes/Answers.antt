@@ -1,6 +1,6 @@
 -- The prover does not find that one more call and its reply join those before them.
-use Rattle.no_std_io2.proofs.Words.{take, drop, ◌≡◌, ◌++◌, ◌∷◌, [], length, rules, arith, common_steps, refl, ap, ◌∙◌, sym, append-nil}
-use Rattle.no_std_io2.proofs.Words.{take_more, drop-append_seam}
+use Rattle.no_std_io2.proofs.Words.{[], rules, arith, refl, ◌∙◌, sym, append-nil}
+use Rattle.no_std_io2.proofs.Words.{take_more}
 use Rattle.std.proofs.Common.{take_all}
 use Rattle.io_bench.specs.{declared.runs.Op.TheVariants.{Write}}
 use Rattle.io_bench.proofs.{AppendedLemmas.{appended-none, appended-one, appended-more}, RunLemmas.{RunCalls-more, run_law}}
