@@ -6,8 +6,8 @@ use Rattle.no_std_io2.proofs.Words.{IsInterruption, bytes, events_of, Takes, Mad
 use Rattle.no_std_io2.proofs.Words.{and_again, IsRest, GathersUntil, tells, ReadCallLaw, GaveLaw, bytes_given, IsSuffix, reader_held}
 use Rattle.no_std_io2.proofs.Words.{reader_behind, reader_inner, ReadsBelow, AsksExact, of_held, went_past, was_filled}
 use Rattle.std.proofs.{Common.{max, nat_le, take_all}, lemmas.Bool.{le-leb, lt-leb}}
-use Rattle.no_std_io2_base.specs.{declared.error.Error.{Error}, Errors.{IsUnexpectedEnd}, Read.{gave_whole, FullCalls, FillsOrEnds, ReadFullLaw}}
-use Rattle.no_std_io2_base.specs.{Read.{ReadExactLaw}, Reads.{Reads}}
+use Rattle.no_std_io2_base.specs.{declared.error.Error.{Error}, Errors.{IsUnexpectedEnd}}
+use Rattle.no_std_io2_base.specs.{Read.{gave_whole, FullCalls, FillsOrEnds, ReadFullLaw, ReadExactLaw}, Reads.{Reads}}
 use Rattle.no_std_io2_base.proofs.{CallsLemmas.{made_split}, ReadCalls.{exact_own}, TakesLemmas.{gives_whole}}
 use Rattle.no_std_io2_base.proofs.{ReadsLemmas.{Reads-none, Reads-more, Reads-again, Reads-end, Reads-fault}}
 use Rattle.no_std_io2.specs.{declared.buffered.buf_reader.BufReader.{BufReader}, BufReader.{HasNoBuffer, HasTo, LeavesThrough}}
@@ -220,8 +220,9 @@ module _ {R : Type 0} {S : ℕ} {inner : Reader R} {old new : BufReader R S} {x 
       (subst (λ l. ReadsThrough inner old (length buf) l (Ok true) new) is (whole (rw (le-leb (length buf') at all) at through)))
 
 -- a `read_exact` of no more than the held bytes gave them, and made no inner call
-pub gives_held : {R : Type 0} {S : ℕ} {inner : Reader R} {old new : BufReader R S} {room : ℕ} {reply : Result (Unit {0}) Error} {buf : List ℕ}
-    → LeavesExact inner old room reply buf new → room ≤ length (reader_held old) → GivesHeld old room (gave_whole reply buf) new
+pub gives_held : {R : Type 0} {S : ℕ} {inner : Reader R} {old new : BufReader R S} {room : ℕ} {reply : Result (Unit {0}) Error}
+    {buf : List ℕ} → LeavesExact inner old room reply buf new → room ≤ length (reader_held old)
+    → GivesHeld old room (gave_whole reply buf) new
 gives_held (only_held fits gives) enough = gives
 gives_held (read_whole past through) enough = absurd (omega (arith, past, enough))
 gives_held (read_to_end past end front through) enough = absurd (omega (arith, past, enough))
