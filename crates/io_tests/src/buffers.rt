@@ -5,10 +5,10 @@ use no_std_io2::io::{
     Write, copy, copy_lent, copy_sided, copy_with, flush_with_retries, read_exact_at, skip,
     write_with_retries,
 };
+use std::process::Abort;
 use std::test::Fail;
 
-#[test]
-fn buf_writer(rt: HostRuntime) -> Result<(), Fail> {
+fn buf_writer(rt: &(impl Abort + AllocGlobal)) -> Result<(), Fail> {
     let mut w = BufWriter::<Vec<u8>, 8>::new(Vec::new(rt.alloc()));
     w.write_all(b"abc")?;
     w.write_all(b"def")?;
@@ -49,8 +49,7 @@ fn buf_writer(rt: HostRuntime) -> Result<(), Fail> {
     Ok(())
 }
 
-#[test]
-fn line_writer(rt: HostRuntime) -> Result<(), Fail> {
+fn line_writer(rt: &(impl Abort + AllocGlobal)) -> Result<(), Fail> {
     let mut w = LineWriter::<Vec<u8>, 16>::new(Vec::new(rt.alloc()));
     w.write_all(b"one\ntw")?;
     assert!(rt; w.get_ref().as_slice() == b"one\n".as_slice());
@@ -66,8 +65,7 @@ fn line_writer(rt: HostRuntime) -> Result<(), Fail> {
     Ok(())
 }
 
-#[test]
-fn buf_reader(rt: HostRuntime) -> Result<(), Fail> {
+fn buf_reader(rt: &impl Abort) -> Result<(), Fail> {
     let mut r = BufReader::<_, 4>::new(Cursor::new(*b"abcdefgh"));
     let mut two = [0u8; 2];
     r.read_exact(&mut two)?; // one inner read, of four bytes
@@ -97,8 +95,7 @@ fn buf_reader(rt: HostRuntime) -> Result<(), Fail> {
     Ok(())
 }
 
-#[test]
-fn util(rt: HostRuntime) -> Result<(), Fail> {
+fn util(rt: &(impl Abort + AllocGlobal)) -> Result<(), Fail> {
     let mut from = Cursor::new(*b"abcde");
     let mut to = Vec::<u8>::new(rt.alloc());
     assert!(rt; copy::<_, _, 64>(&mut from, &mut to)? == 5);
@@ -113,8 +110,7 @@ fn util(rt: HostRuntime) -> Result<(), Fail> {
     Ok(())
 }
 
-#[test]
-fn sides(rt: HostRuntime) -> Result<(), Fail> {
+fn sides(rt: &(impl Abort + AllocGlobal)) -> Result<(), Fail> {
     let mut from = Cursor::new(*b"abcde");
     let mut full = Cursor::new([0u8; 2]);
     let side = copy_sided::<_, _, 64>(&mut from, &mut full);
@@ -133,8 +129,7 @@ fn sides(rt: HostRuntime) -> Result<(), Fail> {
     Ok(())
 }
 
-#[test]
-fn into_inner_error(rt: HostRuntime) -> Result<(), Fail> {
+fn into_inner_error(rt: &(impl Abort + AllocGlobal)) -> Result<(), Fail> {
     let taken = Vec::new(rt.alloc());
     let mut w = BufWriter::<_, 8>::new(Narrow { taken, most: 0 }); // a device that takes no byte
     w.write_all(b"abc")?;
@@ -157,8 +152,7 @@ fn into_inner_error(rt: HostRuntime) -> Result<(), Fail> {
     Ok(())
 }
 
-#[test]
-fn retries(rt: HostRuntime) -> Result<(), Fail> {
+fn retries(rt: &(impl Abort + AllocGlobal)) -> Result<(), Fail> {
     let mut w = BufWriter::<Vec<u8>, 64>::new(Vec::new(rt.alloc()));
     let mut rest = b"abc".as_slice();
     write_with_retries(&mut w, &mut rest, 3)?; // tries again after each of the first three faults
@@ -171,11 +165,25 @@ fn retries(rt: HostRuntime) -> Result<(), Fail> {
     Ok(())
 }
 
-#[test]
-fn read_at(rt: HostRuntime) -> Result<(), Fail> {
+fn read_at(rt: &impl Abort) -> Result<(), Fail> {
     let mut r = Cursor::new(*b"abcdef");
     let mut buf = [0u8; 2];
     read_exact_at(&mut r, SeekFrom::End(-3), &mut buf)?;
     assert!(rt; buf == *b"de");
+    Ok(())
+}
+
+// An example that is no longer what its call does.
+#[test]
+fn each_example(rt: HostRuntime) -> Result<(), Fail> {
+    let rt = &rt;
+    buf_writer(rt)?;
+    line_writer(rt)?;
+    buf_reader(rt)?;
+    util(rt)?;
+    sides(rt)?;
+    into_inner_error(rt)?;
+    retries(rt)?;
+    read_at(rt)?;
     Ok(())
 }
