@@ -20,6 +20,8 @@ mod devices;
 #[cfg(test)]
 mod kinds;
 #[cfg(test)]
+mod limits;
+#[cfg(test)]
 mod ports;
 #[cfg(test)]
 mod printing;

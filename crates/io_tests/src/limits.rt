@@ -1,0 +1,37 @@
+// Calls at a limit: a write of no bytes, and the longest record.
+use examples::records::read_record;
+use io_bench::{Act, Faulty, Op, run_writes};
+use no_std_io2::io::{BufReader, LineWriter, Read, Write};
+use std::test::Fail;
+
+// A run that passes over a `write_all` of no bytes, which sends a line that is held.
+#[test]
+fn a_run_makes_a_write_of_no_bytes(rt: HostRuntime) -> Result<(), Fail> {
+    let mut acts = Vec::new(rt.alloc());
+    acts.push(Act::Take(1))?;
+    let device = Faulty::new(Vec::<u8>::new(rt.alloc()), acts);
+    let mut w = LineWriter::<_, 8>::new(device);
+    assert!(rt; w.write(b"a\nb")? == 2);
+    assert!(rt; w.buffer() == b"\n".as_slice());
+    let mut replies = Vec::new(rt.alloc());
+    run_writes(&mut w, &[Op::WriteAll(b"")], &mut replies)?;
+    assert!(rt; w.buffer().is_empty());
+    assert!(rt; w.get_ref().get_ref().as_slice() == b"a\n".as_slice());
+    Ok(())
+}
+
+// A record that is refused although there is memory for it, and one that takes a byte of the next.
+#[test]
+fn the_longest_record_is_read(rt: HostRuntime) -> Result<(), Fail> {
+    let mut bytes = [b'x'; 258];
+    bytes[0] = b'a';
+    bytes[1] = 255;
+    bytes[257] = b'y';
+    let mut r = BufReader::<_, 8>::new(&bytes[..]);
+    let payload = read_record(rt.alloc(), &mut r, b'a')?.ok_or("another record")?;
+    assert!(rt; payload.as_slice() == &bytes[2..257]);
+    let mut next = [0u8; 2];
+    assert!(rt; r.read(&mut next)? == 1);
+    assert!(rt; next == *b"y\0");
+    Ok(())
+}
