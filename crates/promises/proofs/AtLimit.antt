@@ -71,7 +71,7 @@ module _ {T : Type 0} (inner : Lender T) where
       → IfErr read (λ _. ⊥) × (x ≡ [])
   piece_at_limit {old} {new} d {x} (Ok n) m low =
       let took = piece_adds (each_of (lend_law (limit_lender inner)) (limit_each {inner = as_reader inner})) (Unit {0}) d
-          (Ok n) old new m in
+      (Ok n) old new m in
       (tt, nothing x (sym took.1 ∙ ap (λ P. length (bytes P)) (took_nothing took.2 low)))
     where
       nothing : (x : List ℕ) → length x ≡ 0 → x ≡ []
