@@ -29,7 +29,7 @@ pub trait AsSlice<T> {
     // The elements of the slice.
     ghost slice: { Self → List T };
 
-    /// Lends the elements, in order.
+    /// Lends the elements, in order. Follows `AsRef::as_ref`.
     fn as_slice(&self) -> &[T]
         ensures { result.now ≡ slice self.now };
 }
@@ -131,8 +131,7 @@ impl<T> Cursor<T> {
         &self.inner
     }
 
-    /// Gets a mutable reference to the content. The position stays. Follows
-    /// `std::io::Cursor::get_mut`.
+    /// Gets a mutable reference to the content. The position stays. Follows `std::io::Cursor::get_mut`.
     pub fn get_mut(&mut self) -> &mut T
         ensures value { result.now ≡ cursor_inner self.old }
         ensures* writes_back { sem 𝓛 (Lends (cursor-row T.row) T.row self.entry result (λ x. record self.old { inner = x })) }

@@ -7,8 +7,8 @@ use crate::sinks::Sink;
 use crate::traits::{BufRead, Read, Seek, SeekFrom, Stored, Write};
 use std::fmt;
 
-/// A reader that is at its end, and a writer that takes every byte like a [`Sink`]. A seek leaves it where it
-/// is. Made by [`empty`](crate::makers::empty); follows `std::io::Empty`.
+/// A reader that is at its end, and a writer that takes every byte like a [`Sink`]. Each seek returns 0, and no
+/// call fails. Made by [`empty`](crate::makers::empty); follows `std::io::Empty`.
 #[derive(Drop)]
 pub struct Empty {
     sink: Sink,

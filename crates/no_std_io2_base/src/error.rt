@@ -61,8 +61,7 @@ pub enum ErrorKind {
     Uncategorized,
 }
 
-/// Prints the kind's text, as an error with only this kind does. Follows `std::io::ErrorKind`'s
-/// `Display`.
+/// Prints the kind's text, as an error with only this kind does. Follows `std::io::ErrorKind`'s `Display`.
 impl fmt::Display for ErrorKind {
     ghost output = { λ kind. Some (kind_text kind) };
 
@@ -153,8 +152,7 @@ impl Error {
         }
     }
 
-    /// Makes an error of kind [`ErrorKind::Other`], with this text. Follows
-    /// `std::io::Error::other`.
+    /// Makes an error of kind [`ErrorKind::Other`], with this text. Follows `std::io::Error::other`.
     ///
     /// ```rust
     /// let e = Error::other("no carrier");

@@ -5,7 +5,8 @@ ghost use Rattle.std.specs.Borrow.{ftrue};
 
 use std::marker::{Model, PhantomData};
 
-/// A list of bytes that only contracts see. It takes no memory, and its calls do nothing when they run.
+/// A list of bytes that only contracts see. It takes no memory, and its calls do nothing when they run. Rust's std
+/// has no such type.
 ///
 /// A device that does not store the bytes that it takes, such as a port, a socket or a sink, uses a
 /// `GhostBytes` to tell its `out`.

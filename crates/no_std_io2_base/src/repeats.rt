@@ -8,8 +8,8 @@ ghost use Rattle.no_std_io2_base.specs.Repeat.{repeat_left};
 use crate::error::Result;
 use crate::traits::{Read, Stored};
 
-/// A reader that gives one byte a number of times, and is then at its end. Made by [`repeat`](crate::makers::repeat); follows
-/// `std::io::Repeat`, which has no end.
+/// A reader that gives one byte a number of times, and is then at its end. Made by
+/// [`repeat`](crate::makers::repeat); follows `std::io::Repeat`, which has no end.
 #[derive(Debug, Drop)]
 pub struct Repeat {
     byte: u8,

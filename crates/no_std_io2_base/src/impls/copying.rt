@@ -36,8 +36,8 @@ fn copy_few(from: &[u8], to: &mut [u8])
     }
 }
 
-// Copies a slice of more than 64 bytes, in place up to 128. It is not inlined: LLVM does not know that the slices cannot overlap,
-// and compiles a copy to a test, a call and loops.
+// Copies a slice of more than 64 bytes, in place up to 128. It is not inlined: LLVM does not know that the slices
+// cannot overlap, and compiles a copy to a test, a call and loops.
 #[inline(never)]
 fn copy_long(to: &mut [u8], from: &[u8])
     requires same { length to.old ≡ length from.now }
@@ -51,8 +51,8 @@ fn copy_long(to: &mut [u8], from: &[u8])
     }
 }
 
-/// Copies bytes over as many others. Up to 128 bytes are moved without a call of `memcpy`, and up to 64 without any, since most pieces
-/// that go through a stream are short. Follows `copy_from_slice` of std's slices.
+/// Copies bytes over as many others. Up to 128 bytes are moved without a call of `memcpy`, and up to 64 without any,
+/// since most pieces that go through a stream are short. Follows `copy_from_slice` of std's slices.
 #[inline(always)]
 pub fn copy_bytes(from: &[u8], to: &mut [u8])
     requires { length from.now ≡ length to.old }

@@ -21,7 +21,7 @@ const FEW: usize = 8;
 // At least so many held bytes are moved in the time that it takes to push one.
 const MOVED: usize = 16;
 
-// Drops the first `n` bytes of the queue. It is not inlined, because to turn a queue takes much code.
+// Drops the first `n` bytes of the queue. It is not inlined, because `rotate_left` of a queue takes much code.
 #[inline(never)]
 fn drop_front<A: Allocator>(queue: &mut VecDeque<u8, A>, n: usize)
     requires { n ≤ deque_len queue.old }
@@ -62,7 +62,8 @@ fn appended<A: Allocator>(queue: VecDeque<u8, A>, bytes: &[u8]) -> (VecDeque<u8,
     (VecDeque::from_vec(content), ())
 }
 
-// Appends bytes one by one to a queue that has room for them. The queue is passed by value, so that LLVM keeps its fields in registers.
+// Appends bytes one by one to a queue that has room for them. The queue is passed by value, so that LLVM keeps its
+// fields in registers.
 fn pushed<A: Allocator>(mut queue: VecDeque<u8, A>, bytes: &[u8]) -> (VecDeque<u8, A>, ())
     requires { deque_len queue + length bytes.now ≤ deque_capacity queue }
     ensures items { result.0.items ≡ queue.items ++ bytes.now }
@@ -92,7 +93,7 @@ impl<A: Allocator> Read for VecDeque<u8, A> {
         // It never fails.
         ensures rest { IsOkAnd result (λ n. self.new.items ≡ drop n self.old.items) }
 
-        // It asks for no memory, and gives none back.
+        // It neither allocates nor frees memory.
         ensures room { deque_capacity self.new ≡ deque_capacity self.old }
     {
         let (front, _) = self.as_slices();

@@ -10,8 +10,8 @@ use crate::error::{Result, failed_to_fill};
 use crate::traits::{BufRead, LEAST_ROOM, Read, Stored, reserve_room};
 use std::alloc::Allocator;
 
-// Makes room for the `coming` bytes and 32 more at once if the vector would otherwise grow twice. If the allocation fails, the
-// vector is as it was.
+// Makes room for the `coming` bytes and 32 more at once if the vector would otherwise grow twice. If the allocation
+// fails, the vector is as it was.
 fn reserve_ahead<A: Allocator>(buf: &mut Vec<u8, A>, coming: usize)
     ensures items { buf.new.items ≡ buf.old.items }
     ensures len { vec_len buf.new ≡ vec_len buf.old }

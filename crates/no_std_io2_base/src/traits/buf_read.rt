@@ -33,16 +33,14 @@ pub trait BufRead: Read {
         ensures law { FillBufLaw ⟦<Self as BufRead>⟧ self.old result }
         ensures* after_borrow { sem 𝓛 (Rests Self.row self.entry (λ new. AfterLoan ⟦<Self as BufRead>⟧ self.old result new)) };
 
-    /// Drops the first `amount` of the held bytes, at most all of them. Follows
-    /// `std::io::BufRead::consume`.
+    /// Drops the first `amount` of the held bytes, at most all of them. Follows `std::io::BufRead::consume`.
     fn consume(&mut self, amount: usize)
         requires { amount ≤ length (held self.old) }
         ensures law { ConsumeLaw ⟦<Self as BufRead>⟧ self.old amount self.new };
 
-    /// Appends the bytes up to and including the first `delim`, and returns their number. If there
-    /// is no `delim`, it appends all bytes that are left. 0 means the end. It ignores
-    /// interruptions. If `buf` has room for these bytes, it never fails for lack of memory. Follows
-    /// `std::io::BufRead::read_until`.
+    /// Appends the bytes up to and including the first `delim`, and returns their number. If there is no
+    /// `delim`, it appends all bytes that are left. 0 means the end. It ignores interruptions. If `buf` has
+    /// room for these bytes, it never fails for lack of memory. Follows `std::io::BufRead::read_until`.
     ///
     /// # Errors
     /// Returns the first fault that comes before a `delim`; the reader is then right after it.
@@ -79,10 +77,9 @@ pub trait BufRead: Read {
         }
     }
 
-    /// Skips the bytes up to and including the first `delim`, and returns their number, or
-    /// `usize::MAX` if there are more. If there is no `delim`, it skips all bytes that are left. 0
-    /// means the end. It ignores interruptions, and allocates nothing. Follows
-    /// `std::io::BufRead::skip_until`.
+    /// Skips the bytes up to and including the first `delim`, and returns their number, or `usize::MAX`
+    /// if there are more. If there is no `delim`, it skips all bytes that are left. 0 means the end. It
+    /// ignores interruptions, and allocates nothing. Follows `std::io::BufRead::skip_until`.
     ///
     /// # Errors
     /// Returns the first fault that comes before a `delim`; the reader is then right after it.
@@ -157,8 +154,8 @@ pub trait BufRead: Read {
         put_line(buf, line, read)
     }
 
-    /// Turns this reader into an iterator over the pieces of its bytes, cut after each `delim` and
-    /// without it. The items are vectors from `alloc`. Follows `std::io::BufRead::split`.
+    /// Turns this reader into an iterator over the pieces of its bytes, cut after each `delim` and without it.
+    /// Each item is a vector from `alloc`, or an error, which is the last item. Follows `std::io::BufRead::split`.
     ///
     /// ```rust
     /// let mut lens = Vec::<usize>::new(rt.alloc());
@@ -177,8 +174,8 @@ pub trait BufRead: Read {
         Split::new(self, alloc, delim)
     }
 
-    /// Turns this reader into an iterator over the lines of its text, without their line ends. The
-    /// items are strings from `alloc`. Follows `std::io::BufRead::lines`.
+    /// Turns this reader into an iterator over the lines of its text, without their line ends. Each item
+    /// is a string from `alloc`, or an error, which is the last item. Follows `std::io::BufRead::lines`.
     ///
     /// ```rust
     /// let mut text = String::new(rt.alloc());

@@ -70,8 +70,8 @@ impl<T, U> Chain<T, U> {
         (&self.first, &self.second)
     }
 
-    /// Gets mutable references to the two readers. The mark of a done first reader stays. Follows
-    /// `std::io::Chain::get_mut`.
+    /// Gets mutable references to the two readers. The mark of a done first reader stays.
+    /// Follows `std::io::Chain::get_mut`.
     ///
     /// ```rust
     /// let mut r = Cursor::new(*b"ab").chain(Cursor::new(*b"cd"));

@@ -12,9 +12,9 @@ use std::alloc::Global;
 /// An iterator over a reader's lines, without the newline and a carriage return right before it.
 /// Made by [`BufRead::lines`]; follows Rust's `std::io::Lines`.
 ///
-/// A last line without a newline is an item too, and keeps its carriage return. A line that is not
-/// UTF-8 is the item `InvalidData`. After an error it returns `None` for good, unlike Rust's
-/// `Lines`; the bytes that were read for that item are lost.
+/// A last line without a newline is an item too, and keeps its carriage return. After an error, which is
+/// a fault of the reader, `InvalidData` for a line that is not UTF-8, or `OutOfMemory`, it returns `None`
+/// for good, unlike Rust's `Lines`; the bytes that were read for that item are lost.
 #[derive(Drop)]
 pub struct Lines<R> {
     inner: R,

@@ -39,13 +39,14 @@ impl<const N: usize> fmt::Write for Page<'_, N> {
     }
 }
 
-/// Prints a text of at most `N` bytes to an object: first into a buffer on the stack, and then by one `write_all`. What a `write!`
-/// does to a `&mut dyn Write` stands in no contract; what this call does, in its own. Like `std::io::Write::write_fmt`, but a text
-/// is sent whole or, if it does not fit, not at all.
+/// Prints a text of at most `N` bytes to an object: first into a buffer of `N` bytes on the stack, and then by one
+/// `write_all`. `N` is from 0 to 2^63 - 1. No contract says what a `write!` does to a `&mut dyn Write`; the contract of
+/// this call says what it does. Like `std::io::Write::write_fmt`, but a text that does not fit is not sent at all.
 ///
 /// # Errors
-/// Returns `WriteZero` if the text is longer than `N` bytes, and `formatter error` of kind `Other` if the text's own `fmt` fails. The
-/// device then got no call. Else it returns the error of the `write_all`; some first bytes of the text were then accepted.
+/// Returns `WriteZero` if the text is longer than `N` bytes, and `formatter error` of kind `Other` if the text's own
+/// `fmt` fails. The device then got no call. Returns the error of the `write_all` if that fails; some first bytes of
+/// the text, possibly none or all, were then accepted.
 pub fn print_to_object<D: Display + Drop, const N: usize>(w: &mut dyn Write, text: D) -> Result<()>
     requires { N < 2 ^ 63 }
     ensures { PrintsOrRefuses N (told w.old) (D.output text) result (told w.new) }

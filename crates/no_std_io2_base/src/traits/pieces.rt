@@ -112,7 +112,7 @@ fn append_line(buf: &mut String, line: &[u8], read: Result<usize>) -> Result<usi
 }
 
 /// Appends a line to a string if it is UTF-8 and the string has room for it, and returns whether it
-/// did. If not, the string is unchanged. For a reader with a `read_line` of its own.
+/// did. If not, the string is unchanged.
 pub fn append_text(buf: &mut String, line: &[u8]) -> bool
     ensures appended { OnTrue result (Follows line.now (string_bytes buf.old) (string_bytes buf.new)
         × (string_len buf.new ≡ string_len buf.old + length line.now)) }
@@ -131,8 +131,8 @@ pub fn append_text(buf: &mut String, line: &[u8]) -> bool
     true
 }
 
-/// Returns an empty vector. It has the memory of the string if the string is empty, and else room for a short line, if
-/// there is memory. For a reader with a `read_line` of its own.
+/// Returns an empty vector. It has the memory of the string if the string is empty. If not, it has room for a short
+/// line, unless the allocation fails.
 #[inline(always)]
 pub fn take_memory(alloc: Global, buf: &mut String) -> Vec<u8>
     ensures items { result.items ≡ [] }
@@ -150,8 +150,8 @@ pub fn take_memory(alloc: Global, buf: &mut String) -> Vec<u8>
 }
 
 /// Appends a line's bytes to a string if they are UTF-8, and returns the result of their read. If the
-/// string is empty, the line becomes the string, without a copy and without an allocation; if it is
-/// refused, the string gets the line's memory. For a reader with a `read_line` of its own.
+/// string is empty, the line becomes the string, without a copy and without an allocation; if the
+/// bytes are not UTF-8, the string gets only the line's memory.
 ///
 /// # Errors
 /// Returns the read's error if the read failed, `InvalidData` if the bytes are not UTF-8, and
@@ -189,7 +189,7 @@ fn empty_text(mut bytes: Vec<u8>) -> String
     String::from_utf8(bytes).unwrap()
 }
 
-// Returns whether memory was refused to the read.
+// Returns whether the read failed because an allocation failed.
 fn is_out_of_memory(read: &Result<usize>) -> bool
     ensures memory { result ≡ true → IsErrAnd read.now (λ e. error_kind e ≡ OutOfMemory) }
     ensures other { result ≡ false → IfErr read.now (λ e. error_kind e ≢ OutOfMemory) }

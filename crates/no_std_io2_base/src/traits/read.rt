@@ -34,7 +34,7 @@ pub trait Read: Stored {
     ghost turns: { Self → ℕ };
 
     // The events to come, if the reader tells them. If it tells a store, they are the bytes from the
-    // position on, and this member is not asked.
+    // position on, and this member is not used.
     ghost events: { Self → Option (List Event) } = { λ _. None };
 
     // What one call with its result may do to the reader. By default it may do anything.
@@ -50,8 +50,8 @@ pub trait Read: Stored {
     fn read(&mut self, buf: &mut [u8]) -> Result<usize>
         ensures law { ReadLaw ⟦<Self as Read>⟧ self.old buf.old result buf.new self.new };
 
-    /// Fills the whole of `buf`, and ignores interruptions. An empty buffer makes no call. Follows
-    /// `std::io::Read::read_exact`.
+    /// Fills the whole of `buf`, and ignores interruptions. An empty buffer makes no call.
+    /// Follows `std::io::Read::read_exact`.
     ///
     /// # Errors
     /// Returns the first fault that comes before `buf` is full; the reader is then right after it.
@@ -86,9 +86,8 @@ pub trait Read: Stored {
     /// std has no such call.
     ///
     /// # Errors
-    /// Returns the first fault that comes before `buf` is full; the reader is then right after it.
-    /// The bytes before it are in `buf` and counted, so the same call continues. Never returns
-    /// `Interrupted`.
+    /// Returns the first fault that comes before `buf` is full; the reader is then right after it. The
+    /// bytes before it are in `buf` and counted, so the same call continues. Never returns `Interrupted`.
     ///
     /// ```rust
     /// let mut r = Cursor::new(*b"abcde");
@@ -180,8 +179,7 @@ pub trait Read: Stored {
         put_line(buf, text, read)
     }
 
-    /// Lends the reader itself, for an adaptor that would take it by value. Follows
-    /// `std::io::Read::by_ref`.
+    /// Lends the reader itself, for an adaptor that would take it by value. Follows `std::io::Read::by_ref`.
     ///
     /// ```rust
     /// let mut r = Cursor::new(*b"abcde");
@@ -207,8 +205,7 @@ pub trait Read: Stored {
         Bytes::new(self)
     }
 
-    /// Returns a reader that reads this reader to its end, and then `next`. Follows
-    /// `std::io::Read::chain`.
+    /// Returns a reader that reads this reader to its end, and then `next`. Follows `std::io::Read::chain`.
     final fn chain<R: Read>(self, next: R) -> Chain<Self, R>
     where
         Self: Sized,
@@ -221,8 +218,7 @@ pub trait Read: Stored {
         Chain::new(self, next)
     }
 
-    /// Returns a reader of at most the first `limit` bytes of this one. Follows
-    /// `std::io::Read::take`.
+    /// Returns a reader of at most the first `limit` bytes of this one. Follows `std::io::Read::take`.
     ///
     /// ```rust
     /// let mut r = Cursor::new(*b"abcde").take(2);

@@ -11,7 +11,7 @@ use std::alloc::Allocator;
 /// a loop of its own.
 pub(crate) const LEAST_ROOM: usize = 32;
 
-// The least and the most zeros that it opens for reads at a time, if there is room for them.
+// The least and the most zeros by which `open_room` extends a vector at a time, if there is room for them.
 const FIRST_OPENED: usize = 8 * 1024;
 
 const MOST_OPENED: usize = 128 * 1024;

@@ -30,8 +30,8 @@ impl SeekFrom {
     /// `seek` in three lines. Rust's `std::io` has no such call.
     ///
     /// # Errors
-    /// Returns `InvalidInput`, `invalid seek to a negative or overflowing position`, if it would be
-    /// below 0 or above `u64::MAX`.
+    /// Returns `InvalidInput`, `invalid seek to a negative or overflowing position`, if that position
+    /// would be below 0 or above `u64::MAX`.
     ///
     /// ```rust
     /// assert!(rt; SeekFrom::Start(9).target(5, 2)? == 9); // past the end
@@ -63,7 +63,7 @@ pub trait Seek: Stored {
     ghost may: { Self → SeekCall → Self → Type 0 } = { λ _ _ _. Unit {0} };
 
     // Whether all bytes that a `seek_relative` can go back over without a call of the device are those of the store.
-    // By default there is no doubt about it.
+    // By default they always are.
     ghost sound: { Self → Type 0 } = { λ _. Unit {0} };
 
     /// Moves to `pos`, which may be past the end, and returns the new position, counted from the

@@ -15,8 +15,7 @@ use super::stored::Stored;
 use crate::error::Result;
 use std::alloc::Allocator;
 
-/// A reader of at most `limit` bytes of another reader. Made by [`Read::take`]; follows Rust's
-/// `std::io::Take`.
+/// A reader of at most `limit` bytes of another reader. Made by [`Read::take`]; follows Rust's `std::io::Take`.
 ///
 /// Each call lowers the limit by the bytes that it gives or drops; errors do not lower it. At limit
 /// 0 the stream is at its end. The inner reader is then not called, so its errors do not show.
@@ -41,8 +40,8 @@ impl<T> Take<T> {
         }
     }
 
-    /// Returns how many more bytes this reader may give; the inner reader may end earlier. Follows
-    /// `std::io::Take::limit`.
+    /// Returns how many more bytes this reader may give; the inner reader may end earlier.
+    /// Follows `std::io::Take::limit`.
     ///
     /// ```rust
     /// let mut r = Cursor::new(*b"abcde").take(2);
@@ -81,8 +80,7 @@ impl<T> Take<T> {
         &self.inner
     }
 
-    /// Gets a mutable reference to the inner reader. The limit stays. Follows
-    /// `std::io::Take::get_mut`.
+    /// Gets a mutable reference to the inner reader. The limit stays. Follows `std::io::Take::get_mut`.
     pub fn get_mut(&mut self) -> &mut T
         ensures value { result.now ≡ limit_inner self.old }
         ensures* writes_back { sem 𝓛 (Lends (take-row T.row) T.row self.entry result (limit_with_inner self.old)) }

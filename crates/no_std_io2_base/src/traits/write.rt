@@ -28,7 +28,7 @@ use std::marker::Brand;
 /// ```
 pub trait Write {
     // What the writer tells: the bytes out and held, the mishaps to come, and the turns. A writer of
-    // one's own has to define only this.
+    // your own has to define only this member.
     ghost told: { Self → Told };
 
     // Whether the writer accepts every write whole from now on, and never fails, if it tells that no
@@ -71,8 +71,8 @@ pub trait Write {
     fn flush(&mut self) -> Result<()>
         ensures law { FlushLaw told takes_all may self.old result self.new };
 
-    /// Writes the whole of `buf`, and ignores interruptions. An empty buffer makes no call. Follows
-    /// `std::io::Write::write_all`.
+    /// Writes the whole of `buf`, and ignores interruptions. An empty buffer makes no call.
+    /// Follows `std::io::Write::write_all`.
     ///
     /// # Errors
     /// Returns `WriteZero` if the device takes no byte, and the device's first fault if it fails.
@@ -94,10 +94,9 @@ pub trait Write {
     }
 
     /// Writes the bytes of `rest`, and removes those that were accepted from its front. So after an
-    /// error `rest` is exactly what is still to be written; the same call continues there, and no
-    /// byte goes out twice. It ignores interruptions; an empty `rest` makes no call. Rust's std has
-    /// no such call. Its law allows this loop of writes alone, also to a type with a `write_all` of
-    /// its own.
+    /// error `rest` is exactly what is still to be written; the same call continues there, and no byte
+    /// goes out twice. It ignores interruptions; an empty `rest` makes no call. Rust's std has no such
+    /// call. Its law allows only this loop of writes, also if the type has a `write_all` of its own.
     ///
     /// # Errors
     /// Returns `WriteZero` if the device takes no byte, and the device's first fault if it fails.
@@ -161,8 +160,7 @@ pub trait Write {
         <ErrorKind as Answers<E>>::answer(answer_of(formatted, met))
     }
 
-    /// Lends the writer itself, for an adaptor that would take it by value. Follows
-    /// `std::io::Write::by_ref`.
+    /// Lends the writer itself, for an adaptor that would take it by value. Follows `std::io::Write::by_ref`.
     ///
     /// ```rust
     /// let mut device = Vec::<u8>::new(rt.alloc());

@@ -81,7 +81,8 @@ impl<T: Seek> Take<T> {
 /// # Errors
 /// `seek` and `seek_relative` return `InvalidInput` if the target is below 0 or past the limit that was
 /// set; then no inner call is made. They return the error of an inner `seek_relative` that fails; the
-/// limit is then as it was, unless the target was too far for one `i64`.
+/// limit is then as it was. If the target is too far for one `i64`, a `seek` makes several inner calls, and
+/// the limit is then as the last one that succeeded left it.
 ///
 /// ```rust
 /// let mut r = Cursor::new(*b"-abc-").take(4);
