@@ -1,6 +1,6 @@
-//! Functions over streams: [`copy`] and [`copy_lent`] copy a reader to a writer, [`skip`] skips bytes, [`read_exact_at`]
-//! reads at a place, and [`write_with_retries`] and [`flush_with_retries`] try again after a fault. [`empty`],
-//! [`repeat`] and [`sink`] make streams without a device.
+//! Functions over streams: [`copy`] and [`copy_lent`] copy a reader to a writer, [`skip`] skips bytes,
+//! [`read_exact_at`] reads at a place, and [`write_with_retries`] and [`flush_with_retries`] try again after a fault.
+//! [`empty`], [`repeat`] and [`sink`] make streams without a device.
 ghost use Rattle.std.specs.Prelude.{◌<◌, ◌^◌};
 ghost use Rattle.no_std_io2.specs.Copy.{Copied};
 ghost use Rattle.no_std_io2_base.specs.Passing.{Skipped};

@@ -37,8 +37,8 @@ impl<R: Read, const S: usize> BufReader<R, S> {
     ghost use Rattle.no_std_io2_base.specs.Read.{tells};
     ghost use Rattle.no_std_io2.specs.BufReader.{reader_inner, HasNoBuffer};
 
-    /// Puts an empty buffer of `S` bytes in front of `inner`. `S` is from 1 to 2^63 -
-    /// 1. Follows `std::io::BufReader::with_capacity`.
+    /// Puts an empty buffer of `S` bytes in front of `inner`. `S` is from 1 to 2^63 - 1.
+    /// Follows `std::io::BufReader::with_capacity`.
     pub fn new(inner: R) -> BufReader<R, S>
         requires some_room { 0 < S }
         requires in_memory { S < 2 ^ 63 }

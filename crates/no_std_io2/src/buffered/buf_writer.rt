@@ -28,8 +28,7 @@ use std::fmt::{Debug, Formatter};
 /// so no byte goes out twice. With `S` = 0 each call goes to the inner writer.
 ///
 /// Dropping it tries once to send the held bytes. It ignores a fault, and does not flush the inner
-/// writer. To see the fault, first call [`flush`](Write::flush) or
-/// [`into_inner`](BufWriter::into_inner).
+/// writer. To see the fault, first call [`flush`](Write::flush) or [`into_inner`](BufWriter::into_inner).
 ///
 /// In contracts, it tells what its inner writer tells, and its `held` is the inner writer's `held`
 /// followed by its own buffer.
@@ -49,8 +48,7 @@ pub struct BufWriter<W: Write + Drop, const S: usize> {
 }
 
 impl<W: Write + Drop, const S: usize> BufWriter<W, S> {
-    /// Puts an empty buffer of `S` bytes in front of `inner`. Follows
-    /// `std::io::BufWriter::with_capacity`.
+    /// Puts an empty buffer of `S` bytes in front of `inner`. Follows `std::io::BufWriter::with_capacity`.
     ///
     /// ```rust
     /// let mut w = BufWriter::<_, 8>::new(Cursor::new(Vec::<u8>::new(rt.alloc())));
@@ -202,8 +200,9 @@ impl<W: Write + Drop, const S: usize> Write for BufWriter<W, S> {
     /// the held bytes and `buf` together are longer than `S`, the held bytes are sent first.
     ///
     /// # Errors
-    /// Returns the sending's fault if the sending fails, and the inner `write_all`'s error if that
-    /// fails. Bytes that were not sent are still held.
+    /// Returns the sending's fault if the sending fails; nothing of `buf` was accepted then. Returns the
+    /// inner `write_all`'s error if that fails; then some first bytes of `buf` were accepted, possibly
+    /// none or all. Bytes that were not sent are still held.
     #[inline(always)]
     fn write_all(&mut self, buf: &[u8]) -> Result<()>
         ensures law { WriteAllOf ⟦<Self as Write>⟧ self.old buf.now result self.new }

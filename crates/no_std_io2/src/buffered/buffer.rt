@@ -260,7 +260,7 @@ impl<const S: usize> Buffer<S> {
             × (buffer_held self.new ≡ buffer_held self.old ++ more.now)) }
         ensures same { OnFalse result (self.new ≡ self.old) }
     {
-        // Of a short buffer it follows anyway. It tells LLVM that no long copy is made.
+        // If this holds, so does the next test. It tells LLVM that a buffer of at most 32 bytes gets no longer copy.
         if S <= 32 && more.len() >= S {
             return false;
         }

@@ -59,8 +59,8 @@ impl<W> IntoInnerError<W> {
         self.writer
     }
 
-    /// Returns the error that stopped the sending, and the buffered writer. Follows
-    /// `std::io::IntoInnerError::into_parts`.
+    /// Returns the error that stopped the sending, and the buffered writer.
+    /// Follows `std::io::IntoInnerError::into_parts`.
     ///
     /// ```rust
     /// let taken = Vec::new(rt.alloc());

@@ -42,8 +42,7 @@ pub struct LineWriter<W: Write + Drop, const S: usize> {
 }
 
 impl<W: Write + Drop, const S: usize> LineWriter<W, S> {
-    /// Puts an empty buffer of `S` bytes in front of `inner`. Follows
-    /// `std::io::LineWriter::with_capacity`.
+    /// Puts an empty buffer of `S` bytes in front of `inner`. Follows `std::io::LineWriter::with_capacity`.
     pub fn new(inner: W) -> LineWriter<W, S>
         ensures inner { line_inner result ≡ inner }
         ensures empty { line_buffer result ≡ [] }

@@ -87,7 +87,8 @@ impl<W: Write + Drop, const S: usize> Sender<W, S> {
         self.send_held()
     }
 
-    /// Tries once to send the held bytes, ignores a fault, and drops the inner writer. The buffer is moved only if bytes are held.
+    /// Tries once to send the held bytes, ignores a fault, and drops the inner writer. The buffer is moved only if
+    /// bytes are held.
     #[inline(always)]
     pub(crate) fn send_last(self) {
         if self.buffer.len() > 0 {
@@ -125,8 +126,8 @@ impl<W: Write + Drop, const S: usize> Sender<W, S> {
         self.buffer.push(more);
     }
 
-    /// Sends the held bytes if `more` bytes do not fit beside them. If the caller is cold, the sending is inlined: a call of it
-    /// takes 31 instructions more. If not, only the test is.
+    /// Sends the held bytes if `more` bytes do not fit beside them. If the caller is cold, the sending is inlined: a
+    /// call of it takes 31 instructions more. If not, only the test is.
     ///
     /// # Errors
     /// Returns the error of `send`.
@@ -174,8 +175,8 @@ impl<W: Write + Drop, const S: usize> Sender<W, S> {
         self.write_out_of_line(buf)
     }
 
-    // Calls `write_cold`, which the hot path does not call: a function that makes a call zeroes the room for the result when it
-    // starts, which costs four instructions. This one is inlined, and only its path makes the room.
+    // Calls `write_cold`, which the hot path does not call: a function that makes a call zeroes the room for the result
+    // when it starts, which costs four instructions. This one is inlined, and only its path makes the room.
     #[inline(always)]
     fn write_out_of_line(&mut self, buf: &[u8]) -> Result<usize>
         ensures { TakesStep W.Write sender_inner sender_buffer (WriteCalls S buf.now) self.old result self.new }

@@ -13,9 +13,10 @@ use no_std_io2_base::traits::{BufRead, Write};
 /// few bytes at a time and each write is dear.
 ///
 /// # Errors
-/// Returns `Read` with the reader's first fault if there is one; the writer has then accepted all bytes before it.
-/// Returns `Write` with the writer's fault if a `write_all` fails. The piece of that call is not consumed: the reader still
-/// lends it, and the writer has accepted some first bytes of it, possibly none or all. Neither is an interruption.
+/// Returns `Read` with the reader's first fault if there is one; the writer has then accepted all bytes before
+/// it. Returns `Write` with the writer's fault if a `write_all` fails. The piece of that call is not consumed:
+/// the reader still lends it, and the writer has accepted some first bytes of it, possibly none or all. Neither
+/// is an interruption.
 ///
 /// ```rust
 /// let mut from = Cursor::new(*b"abcde");

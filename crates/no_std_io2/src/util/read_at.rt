@@ -8,8 +8,9 @@ use no_std_io2_base::traits::{Read, Seek, SeekFrom};
 /// these bytes. Follows `std::os::unix::fs::FileExt::read_exact_at`, which does not move the position.
 ///
 /// # Errors
-/// Returns the error of `seek` or of `read_exact` if that call fails. Over a told store, neither fails if the place
-/// exists and has enough bytes after it.
+/// Returns the error of `seek` if that fails; no byte was then read. Returns the error of `read_exact` if that fails;
+/// the stream is then as that call left it. Over a told store, neither fails if the place exists and has enough bytes
+/// after it.
 ///
 /// ```rust
 /// let mut r = Cursor::new(*b"abcdef");

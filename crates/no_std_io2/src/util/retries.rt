@@ -54,7 +54,8 @@ pub fn write_with_retries<W: Write>(writer: &mut W, rest: &mut &[u8], retries: u
 /// mishaps are to come, the call succeeds. Rust's std has no such function.
 ///
 /// # Errors
-/// Returns the fault of the last try if that try fails too. The same call continues.
+/// Returns the fault of the last try if that try fails too. The bytes that were not sent are still held, and the same
+/// call continues with them.
 ///
 /// ```rust
 /// let mut w = BufWriter::<Vec<u8>, 64>::new(Vec::new(rt.alloc()));

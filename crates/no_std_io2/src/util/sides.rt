@@ -8,12 +8,14 @@ use no_std_io2_base::traits::{Read, Write};
 use std::fmt;
 use std::fmt::Display;
 
-/// The side that ended a [`copy_sided`], with its error. Rust's std has no such type.
+/// The side that ended a [`copy_sided`], a [`copy_with`] or a [`copy_lent`](super::copy_lent), with its error. Rust's
+/// std has no such type.
 #[derive(Debug, Drop)]
 pub enum CopyError {
     /// The reader failed. The writer has accepted all bytes that were read.
     Read(Error),
-    /// The writer failed. Up to a buffer of bytes that were read are lost.
+    /// The writer failed. Up to a buffer of bytes that were read are lost, except in a
+    /// [`copy_lent`](super::copy_lent), which loses none.
     Write(Error),
 }
 
@@ -46,8 +48,8 @@ impl std::error::Error for CopyError {}
 ///
 /// # Errors
 /// Returns `Read` with the reader's first fault if there is one; the writer has then accepted all bytes before it.
-/// Returns `Write` with the writer's fault if a `write_all` fails; up to `S` bytes that were read are then not accepted, and
-/// are lost. Neither is an interruption.
+/// Returns `Write` with the writer's fault if a `write_all` fails; up to `S` bytes that were read are then not
+/// accepted, and are lost. Neither is an interruption.
 ///
 /// ```rust
 /// let mut from = Cursor::new(*b"abcde");
@@ -66,8 +68,9 @@ pub fn copy_sided<R: Read, W: Write, const S: usize>(
     copy_with(reader, writer, &mut buf[..])
 }
 
-/// Copies like [`copy_sided`], through the buffer `buf` of the caller, which nobody clears first. A program that copies many
-/// streams makes one buffer for all. If `buf` is empty, nothing is copied. Follows `std::io::copy`, which has a buffer of its own.
+/// Copies like [`copy_sided`], through the caller's buffer `buf`, which is not cleared first. A program that copies
+/// many streams makes one buffer for all. If `buf` is empty, nothing is copied. Follows `std::io::copy`, which has a
+/// buffer of its own.
 ///
 /// # Errors
 /// Returns the errors of [`copy_sided`]; after `Write`, up to `buf.len()` bytes that were read are lost.

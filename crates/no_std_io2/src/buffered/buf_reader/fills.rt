@@ -9,8 +9,8 @@ use no_std_io2_base::error::Result;
 use no_std_io2_base::traits::{Read, Stored};
 
 impl<R: Read, const S: usize> BufReader<R, S> {
-    /// Reads until `n` bytes are held, which is at most `S`, and returns `true`. Returns `false` if the end comes
-    /// first. It reads into all the room after the held bytes, and ignores interruptions. If `n` are held already, it
+    /// Reads until `n` bytes are held, and returns `true`. Returns `false` if the end comes first. `n` is at most `S`.
+    /// It reads into all the room after the held bytes, and ignores interruptions. If `n` are held already, it
     /// makes no call and changes nothing; if it reads, no byte lies [`behind`](BufReader::behind).
     /// [`buffer`](BufReader::buffer) shows the held bytes, so a record that is at most `S` bytes long can be taken
     /// whole or not at all. Like `std::io::BufReader::peek`, which lends the bytes.

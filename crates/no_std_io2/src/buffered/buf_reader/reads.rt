@@ -97,7 +97,7 @@ impl<R: Read, const S: usize> Read for BufReader<R, S> {
     fn read_to_end<A: Allocator>(&mut self, buf: &mut Vec<u8, A>) -> Result<usize>
         ensures law { ReadToEndLaw ⟦<Self as Read>⟧ self.old buf.old result buf.new self.new }
 
-        // It is a call of its own.
+        // It is one call of this type, as its `may` says, and not the reads of the trait's body.
         ensures own { (x : List ℕ) × (buf.new.items ≡ buf.old.items ++ x) × ReaderMay R.Read self.old (GaveAll x (ended result)) self.new }
     {
         if self.buffer().is_empty() {

@@ -56,8 +56,8 @@ impl<R: Seek, const S: usize> BufReader<R, S> {
 /// reader would give. The inner reader is ahead of that byte by the held bytes, so its seek is by `n`
 /// minus their number. If this does not fit an `i64`, there are two inner seeks: back by the number of
 /// held bytes, which drops them, and then by `n`. `Start` and `End` go to the inner reader. Success
-/// drops the held bytes and those that lie behind; if the first or only inner seek is refused, they
-/// are kept. Each error is the inner reader's, with its text.
+/// drops the held bytes and those that lie behind; if the first or only inner seek fails, they are
+/// kept. Each error is the inner reader's, with its text. Follows `std::io::Seek for BufReader`.
 impl<R: Seek, const S: usize> Seek for BufReader<R, S> {
     ghost may = { ReaderMaySeek R.Seek };
 
@@ -74,7 +74,7 @@ impl<R: Seek, const S: usize> Seek for BufReader<R, S> {
     fn stream_len(&mut self) -> Result<u64>
         ensures law { StreamLenLaw ⟦<Self as Seek>⟧ self.old result self.new }
 
-        // It is a call of its own.
+        // It is one call of this type, as its `may` says, and not the seeks of the trait's body.
         ensures own { ReaderMaySeek R.Seek self.old (Measured result) self.new }
     {
         self.inner.stream_len()
@@ -96,7 +96,7 @@ impl<R: Seek, const S: usize> Seek for BufReader<R, S> {
     fn seek_relative(&mut self, offset: i64) -> Result<()>
         ensures law { SeekRelativeLaw ⟦<Self as Seek>⟧ self.old offset result self.new }
 
-        // It is a call of its own.
+        // It is one call of this type, as its `may` says, and not the seek of the trait's body.
         ensures own { ReaderMaySeek R.Seek self.old (Moved offset result) self.new }
     {
         if self.buffer.shift(offset) {

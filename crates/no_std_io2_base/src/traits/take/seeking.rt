@@ -118,7 +118,7 @@ impl<T: Seek> Seek for Take<T> {
     fn stream_len(&mut self) -> Result<u64>
         ensures law { StreamLenLaw ⟦<Self as Seek>⟧ self.old result self.new }
 
-        // It is a call of its own.
+        // It is one call of this type, as its `may` says, and not the seeks of the trait's body.
         ensures own { LimitMaySeek T.Seek self.old (Measured result) self.new }
     {
         Ok(self.len)
@@ -127,7 +127,7 @@ impl<T: Seek> Seek for Take<T> {
     fn seek_relative(&mut self, offset: i64) -> Result<()>
         ensures law { SeekRelativeLaw ⟦<Self as Seek>⟧ self.old offset result self.new }
 
-        // It is a call of its own.
+        // It is one call of this type, as its `may` says, and not the seek of the trait's body.
         ensures own { LimitMaySeek T.Seek self.old (Moved offset result) self.new }
     {
         let at = self.target_within(SeekFrom::Current(offset))?;
