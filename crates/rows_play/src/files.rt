@@ -65,9 +65,9 @@ fn play_arguments<S: Streams>(rt: &HostRuntime) -> io::Result<bool> {
     Ok(is_met)
 }
 
-/// Plays the files that the arguments name. For each it prints how many tables, groups and rows it has, and each row that
-/// came out differently. The status is 1 if a row came out differently, if a line or a file cannot be read, if a file has
-/// no row, or if an allocation fails; the reason is printed to standard error.
+/// Plays the files that the arguments name. For each it prints how many tables, groups and rows it has, and each row
+/// that came out differently. The status is 1 if a row came out differently, if a line or a file cannot be read, if a
+/// file has no row, or if an allocation fails; the reason is printed to standard error.
 pub fn play_files<S: Streams>(rt: &HostRuntime) -> ExitCode {
     match play_arguments::<S>(rt) {
         Ok(true) => ExitCode::SUCCESS,

@@ -13,10 +13,11 @@
 //! flush | !BrokenPipe: gone | ab | cdef | write abcdef = 2, write cdef = !BrokenPipe: gone
 //! ```
 //!
-//! The results of a device are `all` (it takes all, as it does once no result is left), `take 2` (at most 2 bytes), `give abc` (a
-//! read gives these bytes), `end` (a read gives none), `at 5` (the position that a seek returns), and `fail KIND` or `fail KIND
-//! TEXT`. Bytes that cannot be printed are `\n`, `\\` and `\x0d`, no bytes are a dash, and `\*300a` are 300 bytes from `a` on: the
-//! letters from `a` to `w` over and over, or dots. An error is `!KIND`, or `!KIND: TEXT`.
+//! The results of a device are `all` (it takes all, as it does once no result is left), `take 2` (at most 2 bytes),
+//! `give abc` (a read gives these bytes), `end` (a read gives none), `at 5` (the position that a seek returns), and
+//! `fail KIND` or `fail KIND TEXT`. Bytes that cannot be printed are `\n`, `\\` and `\x0d`, no bytes are a dash, and
+//! `\*300a` are 300 bytes from `a` on: the letters from `a` to `w` over and over, or dots. An error is `!KIND`, or
+//! `!KIND: TEXT`.
 //!
 //! A program has [`player::Streams`] for its streams, and its `main` calls [`files::play_files`].
 #![tactic(auto)]

@@ -1,7 +1,7 @@
 // A row of a table as it is printed: a call, its result and the state afterwards, in columns.
 //
-// A run is a list of bytes of which each follows the one before it: dots, or the letters from `a` to `w`, over and over. A long
-// run is printed as `\*300a`: 300 bytes from `a` on.
+// A run is a list of bytes of which each follows the one before it: dots, or the letters from `a` to `w`, over and
+// over. A long run is printed as `\*300a`: 300 bytes from `a` on.
 use super::fault::{Fault, Made};
 use super::kinds::name_of_kind;
 use no_std_io2::io::{Error, Result};

@@ -8,8 +8,9 @@ use std::alloc::{Allocator, Global};
 use std::cell::RefCell;
 use std::rc::Rc;
 
-/// A stream in front of another one, whose journal it shares. It notes its own call, such as `write_all abc` or `read_exact
-/// 3`, before those that the other one notes. So rows show whether a call was passed on or made of other calls.
+/// A stream in front of another one, whose journal it shares. It notes its own call, such as `write_all abc` or
+/// `read_exact 3`, before those that the other one notes. So rows show whether a call was passed on or made of
+/// other calls.
 #[derive(Drop)]
 pub struct Noted<T> {
     inner: T,

@@ -1,4 +1,5 @@
-// The player of rows. A program makes the stream that a table names, a new one for each group, and lends it to the player.
+// The player of rows. A program makes the stream that a table names, a new one for each group, and lends it to
+// the player.
 use super::calls::Call;
 use super::count::{Count, lines_of, tell_fault};
 use super::fault::{Fault, Made};
@@ -14,8 +15,8 @@ pub trait Stream {
 
 /// The streams of a program's tables.
 pub trait Streams {
-    /// Makes the stream of this name, over a device with the results after `new`, and lends it to the player. It fails if
-    /// there is no such stream.
+    /// Makes the stream of this name, over a device with the results after `new`, and lends it to the player. It fails
+    /// if there is no such stream.
     fn lend(name: &str, words: &str, player: &mut Player<'_, '_>) -> Made<()>;
 }
 
@@ -30,8 +31,8 @@ pub struct Player<'r, 'a> {
 }
 
 impl<'r, 'a> Player<'r, 'a> {
-    /// Plays the rows on a stream. It stops at a row that cannot be played. The result is `Ok`, so that a stream's maker can end
-    /// with this call.
+    /// Plays the rows on a stream. It stops at a row that cannot be played. The result is `Ok`, so that a stream's
+    /// maker can end with this call.
     pub fn play<S: Stream>(&mut self, stream: &mut S) -> Made<()> {
         self.count.groups = self.count.groups.wrapping_add(1);
         'rows: for row in self.rows.lines() {

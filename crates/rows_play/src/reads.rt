@@ -1,5 +1,5 @@
-// The calls of rows on any reader. The columns of a call are its result and the bytes that it gave, with dots for bytes that
-// were not written.
+// The calls of rows on any reader. The columns of a call are its result and the bytes that it gave, with dots for bytes
+// that were not written.
 use super::calls::{Call, target};
 use super::fault::Fault;
 use super::line::{Line, cut};
@@ -118,9 +118,9 @@ fn call_read_line<R: BufRead>(alloc: Global, r: &mut R, old: &str, line: &mut Li
     show_given(&r.read_line(alloc, &mut text), text.as_bytes(), line);
 }
 
-/// Makes the call of a row on any reader, and prints its result: `read N`, `read_exact N`, `read_full N`, `read_to_end OLD`, which
-/// appends to these bytes, `read_into N`, which reads all into a vector of this capacity, or `take N`, which reads at most that many
-/// bytes through the borrowed reader.
+/// Makes the call of a row on any reader, and prints its result: `read N`, `read_exact N`, `read_full N`,
+/// `read_to_end OLD`, which appends to these bytes, `read_into N`, which reads all into a vector of this capacity, or
+/// `take N`, which reads at most that many bytes through the borrowed reader.
 pub fn make_read<R: Read>(alloc: Global, r: &mut R, call: &Call<'_>, line: &mut Line) {
     match call.word {
         "read" => call_read(alloc, r, call.number(line), line),
@@ -136,9 +136,9 @@ pub fn make_read<R: Read>(alloc: Global, r: &mut R, call: &Call<'_>, line: &mut 
     }
 }
 
-/// Makes the call of a row on any `BufRead`: besides those of [`make_read`], these are `fill_buf`, `pass N`, which lends and
-/// consumes at most that many bytes, `skip N`, `read_until DELIMITER` and `skip_until DELIMITER`, whose default is a newline,
-/// and `read_line OLD`, which appends to this text.
+/// Makes the call of a row on any `BufRead`: besides those of [`make_read`], these are `fill_buf`, `pass N`, which
+/// lends and consumes at most that many bytes, `skip N`, `read_until DELIMITER` and `skip_until DELIMITER`, whose
+/// default is a newline, and `read_line OLD`, which appends to this text.
 pub fn make_lend<R: BufRead>(alloc: Global, r: &mut R, call: &Call<'_>, line: &mut Line) {
     match call.word {
         "fill_buf" => call_fill_buf(r, line),

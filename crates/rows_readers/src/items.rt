@@ -1,7 +1,7 @@
 // Single bytes, pieces and lines of readers, played by rows `next`.
 //
-// The columns after a call are the item (a piece or a line with its kind in front), and the calls that reached the devices, or in
-// memory the capacity of a piece or a line.
+// The columns after a call are the item (a piece or a line with its kind in front), and the calls that reached the
+// devices, or in memory the capacity of a piece or a line.
 use crate::devices::Devices;
 use crate::in_memory::new_text;
 use crate::streams::show_byte;

@@ -1,8 +1,8 @@
 // A buffered reader over a recorder, which is sought, and from which records are read, played by rows
 // of calls.
 //
-// The columns after a call are its result, for a read the bytes that it gave, the bytes behind, the held bytes, and the calls
-// that reached the device.
+// The columns after a call are its result, for a read the bytes that it gave, the bytes behind, the held bytes, and the
+// calls that reached the device.
 use crate::devices::Devices;
 use examples::records::{peek_header, read_record};
 use no_std_io2::io::BufReader;

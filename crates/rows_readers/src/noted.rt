@@ -1,4 +1,5 @@
-// References, boxes, objects, a buffer, a limit, a chain and a tally in front of a device that notes the name of each call.
+// References, boxes, objects, a buffer, a limit, a chain and a tally in front of a device that notes the name of
+// each call.
 use crate::devices::Devices;
 use crate::streams::{play_chain, play_lending, play_reading, play_seeking};
 use io_bench::Tally;

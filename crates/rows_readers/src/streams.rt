@@ -1,5 +1,5 @@
-// Readers that are played by rows of calls. The columns after a call are its result, for a read the bytes that it gave, and
-// those of the table.
+// Readers that are played by rows of calls. The columns after a call are its result, for a read the bytes that it gave,
+// and those of the table.
 ghost use Rattle.no_std_io2.specs.BufReader.{BufReaderFits};
 ghost use Rattle.std.specs.Prelude.{◌<◌, ◌^◌};
 

@@ -1,8 +1,8 @@
 // `copy_through`, to an output that notes its calls.
 //
-// A row is a copy of the text after it, with a line buffer, `line`, or without, `buf`; then its result and the calls of the
-// output. With `from` a device is copied, whose calls are shown too; with `pieces` three reads give `ab\nc`, `d\ne\n` and
-// `f`.
+// A row is a copy of the text after it, with a line buffer, `line`, or without, `buf`; then its result and the calls of
+// the output. With `from` a device is copied, whose calls are shown too; with `pieces` three reads give `ab\nc`,
+// `d\ne\n` and `f`.
 ghost use Rattle.no_std_io2.specs.BufReader.{BufReaderFits};
 
 use io_bench::{Event, Feed};

@@ -1,7 +1,8 @@
 // Frames, and lines of a log, over devices that note their calls, through small buffers.
 //
-// A row of a sender is a call; then its result, for a log whether it is behind, the bytes out and the calls that reached the
-// device; `drop` and `into_inner` end the sender. A row of a reader is a call; then its result and the calls.
+// A row of a sender is a call; then its result, for a log whether it is behind, the bytes out and the calls that
+// reached the device; `drop` and `into_inner` end the sender. A row of a reader is a call; then its result and
+// the calls.
 use framing::{FrameReader, FrameWriter};
 use line_log::LineLog;
 use no_std_io2::io::Result as IoResult;
@@ -125,8 +126,8 @@ impl fmt::Display for Broken {
     }
 }
 
-// Makes the calls `log TEXT`, `log_text TEXT`, which prints the text in two pieces followed by a number, and
-// `log_broken`.
+// Makes the calls `log TEXT`, `log_text TEXT`, which prints the text in two pieces followed by a
+// number, and `log_broken`.
 fn log(to: &mut LineLog<Recorder, 12>, call: &Call<'_>, line: &mut Line) {
     match std::str::from_utf8(&call.bytes) {
         Ok(text) if call.word == "log_text" => {

@@ -1,7 +1,7 @@
 // `joined`, the bytes that a run accepted by its replies.
 //
-// A row is `joined`, the calls, `write ab, write_all c, flush`, an arrow and their replies, `2, ok, !BrokenPipe`; then the bytes, or
-// `none`.
+// A row is `joined`, the calls, `write ab, write_all c, flush`, an arrow and their replies, `2, ok, !BrokenPipe`; then
+// the bytes, or `none`.
 use io_bench::{Op, Reply, joined};
 use no_std_io2::io::Error;
 use rows_play::calls::Call;

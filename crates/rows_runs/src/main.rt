@@ -1,5 +1,5 @@
-//! Plays the rows of what no clause says of the clients: the calls of a `Patient` and of `copy_through`, what a drop sends, and
-//! two runs of frames, of lines of a log and of `joined`.
+//! Plays the rows of what no clause says of the clients: the calls of a `Patient` and of `copy_through`, what a drop
+//! sends, and two runs of frames, of lines of a log and of `joined`.
 #![tactic(auto)]
 
 mod copies;

@@ -1,5 +1,5 @@
-//! Plays the files of rows that its arguments name, as [`rows_play`] reads them: writers over devices that note each call, and
-//! over memory that runs out.
+//! Plays the files of rows that its arguments name, as [`rows_play`] reads them: writers over devices that note each
+//! call, and over memory that runs out.
 #![tactic(auto)]
 
 mod benches;

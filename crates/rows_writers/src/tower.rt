@@ -28,9 +28,9 @@ pub trait Tower: Write + Drop {
     /// Prints a column of each level that has this part, the outer one first.
     fn show(&self, _part: Part, _line: &mut Line) {}
 
-    /// Makes a call of the outer level that a device does not have: `below TEXT` writes to the level below, and `into_inner`
-    /// unwraps the outer level and puts an empty one in its place. If that fails, the tower is kept; for `into_error` only the
-    /// error is.
+    /// Makes a call of the outer level that a device does not have: `below TEXT` writes to the level below, and
+    /// `into_inner` unwraps the outer level and puts an empty one in its place. If that fails, the tower is kept; for
+    /// `into_error` only the error is.
     fn call_level(_tower: &mut Option<Self>, _alloc: Global, _call: &Call<'_>, line: &mut Line)
     where
         Self: Sized,

@@ -1,7 +1,7 @@
 // Towers of writers, played by rows of calls.
 //
-// The columns after a call are its result, the bytes that the device took, the held bytes of each level, the outer one first,
-// and over a recorder the calls that reached it.
+// The columns after a call are its result, the bytes that the device took, the held bytes of each level, the outer one
+// first, and over a recorder the calls that reached it.
 use crate::tower::{Part, Tower};
 use no_std_io2::io::{Seek, Write};
 use rows_play::calls::{Call, expect, make_call, make_seek, show_calls, show_out};

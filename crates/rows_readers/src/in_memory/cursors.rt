@@ -1,7 +1,7 @@
 // Cursors, and buffers over one, played by rows of calls.
 //
-// The columns after a call are its result, for a read the bytes that it gave, the content and the position; for a buffer the
-// state of each level.
+// The columns after a call are its result, for a read the bytes that it gave, the content and the position; for a
+// buffer the state of each level.
 use super::new_text;
 use super::vectors::Buffered;
 use crate::devices::Devices;
@@ -150,8 +150,8 @@ impl Stream for OnArray {
     }
 }
 
-// A buffer of 4 bytes over a text. Besides the calls of a reader and a seeker it has `place N`, which sets the position of the
-// text below.
+// A buffer of 4 bytes over a text. Besides the calls of a reader and a seeker it has `place N`, which sets the position
+// of the text below.
 #[derive(Drop)]
 struct Moving<'j> {
     reader: BufReader<Text, 4>,

@@ -1,7 +1,8 @@
 // How much room `read_to_end` and `read_until` make in a vector, and `read_line` in a string.
 //
-// A row says the capacity, how many bytes are in the vector, and how many are to come; a piece or a line that has some is followed
-// by 40 others. The columns after it are the result, the length and the capacity afterwards, and how many bytes are still to come.
+// A row says the capacity, how many bytes are in the vector, and how many are to come; a piece or a line that has some
+// is followed by 40 others. The columns after it are the result, the length and the capacity afterwards, and how many
+// bytes are still to come.
 ghost use Rattle.std.specs.Prelude.{◌<◌, ◌^◌};
 
 use io_bench::{Event, Feed, Tally};

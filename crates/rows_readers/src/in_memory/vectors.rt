@@ -29,8 +29,8 @@ impl Stream for Buffered {
     }
 }
 
-// A cursor on an empty vector with room, or just the vector, which is written at its end. The columns after a call are its
-// result, the content's length, and the capacity.
+// A cursor on an empty vector with room, or just the vector, which is written at its end. The columns after a call are
+// its result, the content's length, and the capacity.
 #[derive(Drop)]
 struct Grown {
     cursor: Cursor<Vec<u8>>,

@@ -1,5 +1,5 @@
-// Vectors in heaps. A heap has room for a number of bytes, in blocks whose lengths are rounded up to 16; an allocation that
-// does not fit fails. A block that grows is in the heap together with its copy until the copy is made.
+// Vectors in heaps. A heap has room for a number of bytes, in blocks whose lengths are rounded up to 16; an allocation
+// that does not fit fails. A block that grows is in the heap together with its copy until the copy is made.
 use linked_list_allocator::LocalHeap;
 use rows_play::fault::{Fault, Made};
 use rows_play::line::cut;

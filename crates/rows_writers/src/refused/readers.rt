@@ -67,8 +67,8 @@ fn read_feed(trial: Trial, line: &mut Line) -> Made<Outcome> {
     read_all(trial, &mut Feed::new(events, 7), line)
 }
 
-/// Reads from a slice, from a cursor by itself or below another reader, through a buffer of four bytes that may hold some,
-/// from a chain of two halves, or of nothing and then a cursor, or from a feed, which has the trait's body.
+/// Reads from a slice, from a cursor by itself or below another reader, through a buffer of four bytes that may hold
+/// some, from a chain of two halves, or of nothing and then a cursor, or from a feed, which has the trait's body.
 pub fn read_form(trial: Trial, form: &str, line: &mut Line) -> Made<Outcome> {
     let text = trial.text();
     let (first, second) = text.split_at(text.len() / 2);
