@@ -26,11 +26,11 @@ Lender X = record {
   held : X → List ℕ;
 }
 
--- the same without what it holds
+-- a reader that lends, without the bytes that it holds
 abbrev pub as_reader : {X : Type 0} → Lender X → Reader X
 as_reader R = record { store = R.store; turns = R.turns; events = R.events; may = R.may }
 
--- what it tells
+-- what a reader that lends tells
 abbrev pub lender_tells : {X : Type 0} → Lender X → X → Tells
 lender_tells R = tells (as_reader R)
 

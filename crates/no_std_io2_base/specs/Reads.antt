@@ -51,18 +51,18 @@ AllGoOn (GaveAll x answer ∷ C) = ⊥
 abbrev Met : ReadCall → Result (List ℕ) Error → Type 0
 Met call answer = (call ≡ Filled answer) ⊎ ((room : ℕ) × (call ≡ Gave room answer))
 
--- such calls were made, and then, at the end or a fault, one more, which met it
+-- calls that went on were made, and then, at the end or a fault, one more, which met it
 abbrev pub Asked : List ReadCall → Result Bool Error → Type 0
 Asked C (Ok true) = AllGoOn C
 Asked C (Ok false) = (D : List ReadCall) × (call : ReadCall) × AllGoOn D × (C ≡ D ++ call ∷ []) × Met call (Ok [])
 Asked C (Err e) = (D : List ReadCall) × (call : ReadCall) × AllGoOn D × (C ≡ D ++ call ∷ []) × Met call (Err e)
 
--- From old to new a reader that lends was asked for bytes, by reads or by loans. It gave x, and may go on; or it met the end or a fault,
--- and after that got no more calls.
+-- From old to new a reader that lends got calls of `read` and `fill_buf`. It gave x, and may go on; or it met the end or
+-- a fault, after which it got no more calls.
 pub record Fetches {X : Type 0} (R : Lender X) (old : X) (x : List ℕ) (how : Result Bool Error) (new : X) : Type 0 where
   pub took : Took (lender_tells R old) x how (lender_tells R new)
   pub calls : ByCalls (LendCallLaw R) old (λ C. Asked C how) new
 
--- it was, and this holds for the bytes and for how that ended
+-- bytes were fetched, and this holds for them and for how that ended
 abbrev pub Fetched : {X : Type 0} → Lender X → X → (List ℕ → Result Bool Error → Type 0) → X → Type 0
 Fetched R old Ends new = (x : List ℕ) × (how : Result Bool Error) × Fetches R old x how new × Ends x how

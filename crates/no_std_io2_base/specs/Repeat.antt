@@ -2,6 +2,6 @@
 use Rattle.std.specs.Prelude.{ℕ, List, replicate}
 use Rattle.no_std_io2_base.specs.declared.repeats.Repeat.{Repeat}
 
--- its byte, as often as it is still to come
+-- the bytes that a `Repeat` is still going to give
 abbrev pub repeat_left : Repeat → List ℕ
 repeat_left r = replicate r.left r.byte

@@ -2,7 +2,7 @@
 use Rattle.std.specs.Prelude.{◌≡◌, ℕ, List, [], ◌++◌, length, Some, Ok}
 use Rattle.no_std_io2_base.specs.{Seek.{SeekCall, Sought}, Write.{Told, WriteCall, Wrote, WroteAll, Flushed}, declared.sinks.Sink.{Sink}}
 
--- the bytes that it took
+-- the bytes that a sink took
 abbrev pub sink_taken : Sink → List ℕ
 sink_taken s = s.taken.bytes
 

@@ -14,9 +14,11 @@ pub record Store : Type 0 where
 abbrev pub fits_u64 : List ℕ → ℕ → Bool
 fits_u64 content position = nat_lt (length content) (2 ^ 64) && nat_lt position (2 ^ 64)
 
+-- the proof that both fit, from that test
 pub fits_by : (content : List ℕ) (position : ℕ) → fits_u64 content position ≡ true → (length content < 2 ^ 64) × (position < 2 ^ 64)
 fits_by content position = (Decides-and _ _ (Decides-ltb (length content) (2 ^ 64)) (Decides-ltb position (2 ^ 64))).0
 
+-- the store of this content and this position, if this test is true, which says that both fit
 abbrev pub store_by : (t : Bool) (content : List ℕ) (position : ℕ) → (t ≡ true → (length content < 2 ^ 64) × (position < 2 ^ 64))
     → Option Store
 store_by true content position fits = Some (record { content = content; position = position; fits = fits refl })

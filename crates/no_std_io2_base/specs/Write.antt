@@ -127,7 +127,7 @@ CallAdds Adds old (WroteAll x reply) new =
     (accepted : List ℕ) × IsFront accepted x × OnOk reply (accepted ≡ x) × Adds old accepted new
 CallAdds Adds old (Flushed reply) new = Adds old [] new
 
--- So did a loop that wrote x and left `left`: with exactly the bytes that are gone from the front of x.
+-- A loop that wrote x and left `left` did what `Adds` says with exactly the bytes that are gone from the front of x.
 abbrev pub RestAdds : {W : Type 0} → (W → List ℕ → W → Type 0) → W → List ℕ → Result (Unit {0}) Error → W → List ℕ → Type 0
 RestAdds Adds old x reply new left = (sent : List ℕ) × (x ≡ sent ++ left) × OnOk reply (left ≡ []) × Adds old sent new
 

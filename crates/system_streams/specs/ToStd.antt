@@ -27,10 +27,11 @@ std_inner s = s.inner
 abbrev pub bytes_to_come : Tells → Option (List ℕ)
 bytes_to_come t = option_map bytes (to_come t)
 
--- the content and the position of a told store
+-- the content of a told store
 abbrev pub content_of : Option Store → Option (List ℕ)
 content_of store = option_map (λ s. s.content) store
 
+-- the position of a told store
 abbrev pub position_of : Option Store → Option ℕ
 position_of store = option_map (λ s. s.position) store
 
