@@ -1,10 +1,11 @@
 // Makes one call of a program fail: LD_PRELOAD of this, and in the environment
-//   MISBEHAVE=memory, read, write or open   of what kind the call is: an allocation, a read of standard input, a write to standard
-//                                     output, the opening of a file
+//   MISBEHAVE=memory, read, write or open   of what kind the call is: an allocation, a read of standard input, a write
+//                                     to standard output, the opening of a file
 //   MISBEHAVE=large                   each allocation of more than MISBEHAVE_AT bytes fails
-//   MISBEHAVE=sizes                   none fails: the sizes that are asked for are written to MISBEHAVE_TOLD, a line up to each write
-//   MISBEHAVE_AT=N                    which of them
-//   MISBEHAVE_TIMES=N                 how many in a row, one where it is not set
+//   MISBEHAVE=sizes                   no call fails: the sizes of the allocations are written to MISBEHAVE_TOLD, a line
+//                                     up to each write
+//   MISBEHAVE_AT=N                    which of the calls of this kind
+//   MISBEHAVE_TIMES=N                 how many in a row; one if it is not set
 //   MISBEHAVE_BY=short or a number    a read or write then moves one byte; or it fails with this number of errno
 //   MISBEHAVE_BY=nothing              a write then takes nothing
 //   MISBEHAVE_TOLD=PATH               the file that is made when the call has come
