@@ -1,6 +1,6 @@
 # From the loader's 32 bits to 64 bits, with the first GiB mapped as it is and the registers of SSE on; then to `run`.
         .section .start, "a"
-        .long 0x1badb002, 0, -0x1badb002
+        .long 0x1badb002, 0, -0x1badb002        # the multiboot header, by which a loader knows a kernel
         .bss
         .balign 4096
 top:    .skip 4096

@@ -177,6 +177,7 @@ impl<T> Cursor<T> {
         T: Clone,
         ensures position { IfOk result (λ c. cursor_position c ≡ cursor_position self.now) }
         ensures inner { IfOk result (λ c. T.is_clone (cursor_inner self.now) (cursor_inner c)) }
+        // If every clone of the content equals it, the new cursor equals this one.
         ensures equal { ((x : T) → T.is_clone (cursor_inner self.now) x → x ≡ cursor_inner self.now)
             → IfOk result (λ c. c ≡ self.now) }
         ensures err { IfErr result IsOutOfMemory }

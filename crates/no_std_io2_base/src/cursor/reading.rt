@@ -1,3 +1,4 @@
+// The impls of `Stored`, `Read` and `BufRead` for `Cursor`.
 ghost use Rattle.std.specs.Prelude.{◌≡◌, ◌+◌, ◌≤◌, ◌<◌, ◌^◌, ◌↔◌, min, length, take, Some, IsOk, IsOkAnd, IfOk, IfErr, OnErr};
 ghost use Rattle.no_std_io2_base.specs.Cursor.{cursor_position, cursor_inner, cursor_left};
 ghost use Rattle.no_std_io2_base.specs.BufRead.{ConsumeLaw};

@@ -1,3 +1,4 @@
+// The `impl` of `Seek` for `Cursor`.
 ghost use Rattle.std.specs.Prelude.{◌≡◌, length, Ok};
 ghost use Rattle.no_std_io2_base.specs.Cursor.{cursor_position, cursor_inner};
 ghost use Rattle.no_std_io2_base.specs.Seek.{Seeks, SeekLaw, StreamPositionLaw, RewindLaw, StreamLenLaw};

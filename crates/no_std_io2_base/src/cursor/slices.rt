@@ -1,3 +1,4 @@
+// The impls of `Write` for a cursor over a slice, an array or a boxed slice.
 ghost use Rattle.std.specs.Prelude.{◌≡◌, ◌+◌, ◌-◌, min, Ok};
 ghost use Rattle.std.specs.Prelude.{length};
 ghost use Rattle.std.specs.Box.{boxed_slice_items};

@@ -1,3 +1,4 @@
+// The impls of `Write` for a cursor over a vector, owned or borrowed.
 ghost use Rattle.std.specs.Prelude.{◌≡◌, ◌+◌, ◌-◌, ◌≤◌, ◌<◌, ◌++◌, Ok, IsOk, OnErr};
 ghost use Rattle.std.specs.Prelude.{length, replicate, vec_len, vec_capacity, is_ok, if◌then◌else◌};
 ghost use Rattle.no_std_io2_base.specs.Cursor.{cursor_position, cursor_inner, cursor_out, IsPut, PutsWhole, PutsMay, PutsAll};

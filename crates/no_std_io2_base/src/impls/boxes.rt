@@ -1,3 +1,4 @@
+// A `Box<T>` as the stream in it.
 use crate::error::Result;
 use crate::traits::{BufRead, Read, Seek, SeekFrom, Stored, Write};
 use std::alloc::{Allocator, Global};

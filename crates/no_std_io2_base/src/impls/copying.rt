@@ -1,3 +1,4 @@
+// Copies of short slices, without a call of `memcpy`.
 ghost use Rattle.std.specs.Prelude.{◌≡◌, ◌≤◌, ◌<◌, ◌+◌, ◌++◌, min, length, take, drop};
 
 use std::simd::Simd;

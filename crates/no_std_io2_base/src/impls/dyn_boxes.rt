@@ -1,3 +1,4 @@
+// Boxed objects of `Write`, `Read` and `Seek` as the streams in them.
 ghost use Rattle.no_std_io2_base.specs.Write.{BoxMay};
 
 use super::dyn_read_to_end::{ReadObject, drain};

@@ -1,3 +1,4 @@
+// A boxed object of `BufRead` as the reader in it.
 ghost use Rattle.no_std_io2_base.specs.Write.{BoxMay};
 
 use super::dyn_read_to_end::{ReadObject, drain};

@@ -1,3 +1,4 @@
+// References to objects of `Write`, `Read` and `Seek` as the streams behind them.
 ghost use Rattle.no_std_io2_base.specs.Write.{LentMay};
 
 use super::dyn_read_to_end::{ReadObject, drain};

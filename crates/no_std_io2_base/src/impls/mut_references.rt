@@ -1,3 +1,4 @@
+// A `&mut T` as the stream behind it.
 use crate::error::Result;
 use crate::traits::{BufRead, Read, Seek, SeekFrom, Stored, Write};
 use std::alloc::{Allocator, Global};

@@ -1,3 +1,4 @@
+// A `VecDeque<u8>`: a reader of its front, and a writer at its back.
 ghost use Rattle.std.specs.Prelude.{◌≡◌, ◌+◌, ◌-◌, ◌<◌, ◌≤◌, ◌++◌, length, drop, Some, IsOkAnd, OnErr, IfErr};
 ghost use Rattle.std.specs.VecDeque.{deque_len, deque_capacity};
 ghost use Rattle.no_std_io2_base.specs.Errors.{IsOutOfMemory};

@@ -1,3 +1,4 @@
+// A `&[u8]` as a reader of its bytes.
 ghost use Rattle.std.specs.Prelude.{◌≡◌, ◌≤◌, ◌<◌, ◌+◌, ◌++◌, length, [], Some, IfErr, OnOk, OnErr, vec_len, vec_capacity};
 ghost use Rattle.no_std_io2_base.specs.Errors.{IsOutOfMemory};
 ghost use Rattle.no_std_io2_base.specs.Events.{events_of};

@@ -1,3 +1,4 @@
+// A `Vec<u8>` as a writer at its end.
 ghost use Rattle.std.specs.Prelude.{◌≡◌, ◌+◌, ◌++◌, ◌≤◌, ◌<◌, Ok, IsOk, OnOk, OnErr};
 ghost use Rattle.std.specs.Prelude.{IfErr, length, vec_len, vec_capacity};
 ghost use Rattle.no_std_io2_base.specs.Errors.{IsOutOfMemory};

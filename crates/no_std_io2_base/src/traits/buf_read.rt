@@ -1,3 +1,4 @@
+// [`BufRead`], a reader that lends the bytes in its buffer.
 ghost use Rattle.std.specs.Prelude.{◌≡◌, ℕ, List, ◌≤◌, length, false};
 ghost use types.Logic.{sem};
 ghost use Rattle.no_std_io2_base.specs.BufRead.{FillBufLaw, AfterLoan, ConsumeLaw, ReadUntilLaw, SkipUntilLaw, ReadLineLaw, Rests};

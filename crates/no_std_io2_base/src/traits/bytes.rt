@@ -1,3 +1,4 @@
+// [`Bytes`], the iterator over bytes.
 ghost use Rattle.std.specs.Prelude.{◌≡◌, ◌≤◌, ◌<◌, IfErr, IfSome, OnSome};
 ghost use Rattle.std.specs.Iterator.{at_most};
 ghost use Rattle.no_std_io2_base.specs.Errors.{IsFault};

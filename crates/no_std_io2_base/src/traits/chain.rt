@@ -1,3 +1,4 @@
+// [`Chain`], two readers, one after the other.
 ghost use Rattle.std.specs.Prelude.{◌≡◌, ◌≤◌, ◌+◌, true, false, length, OnOk};
 ghost use types.Logic.{sem};
 ghost use Rattle.std.specs.Borrow.{LendsBoth};

@@ -1,3 +1,4 @@
+// [`Read`], a source of bytes.
 ghost use Rattle.std.specs.Prelude.{◌≡◌, ℕ, false, List, Option, None};
 ghost use Rattle.no_std_io2_base.specs.Chain.{chain_first, chain_second, chain_is_done, chain_events, both_to_come};
 ghost use Rattle.no_std_io2_base.specs.Events.{Event};

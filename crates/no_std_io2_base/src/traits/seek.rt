@@ -1,3 +1,4 @@
+// [`Seek`], a stream with a position that can be moved, and [`SeekFrom`], the target of a seek.
 ghost use Rattle.std.specs.Prelude.{ℕ, IfOk, IfErr};
 ghost use Rattle.no_std_io2_base.specs.Errors.{IsInvalidSeek};
 ghost use Rattle.no_std_io2_base.specs.Seek.{IsTarget};

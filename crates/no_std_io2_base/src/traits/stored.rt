@@ -1,3 +1,4 @@
+// [`Stored`], the store of a stream.
 ghost use Rattle.std.specs.Prelude.{Option, None};
 ghost use Rattle.no_std_io2_base.specs.Takes.{Store};
 

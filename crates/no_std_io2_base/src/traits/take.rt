@@ -1,3 +1,4 @@
+// [`Take`], a reader of at most so many bytes of another one.
 ghost use Rattle.std.specs.Prelude.{◌≡◌, ◌≤◌, ◌<◌, ◌+◌, min, length, [], Ok, IsOkAnd, vec_len, vec_capacity};
 ghost use types.Logic.{sem};
 ghost use Rattle.std.specs.Borrow.{Lends};

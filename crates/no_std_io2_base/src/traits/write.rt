@@ -1,3 +1,4 @@
+// [`Write`], a sink of bytes.
 ghost use Rattle.std.specs.Prelude.{◌≡◌, ◌+◌, [], Ok, OnOk, length};
 ghost use Rattle.no_std_io2_base.specs.Write.{WriteLaw, FlushLaw, WriteAllLaw, WriteRestLaw};
 ghost use Rattle.no_std_io2_base.specs.Text.{WriteFmtLaw};

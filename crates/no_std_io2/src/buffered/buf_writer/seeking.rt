@@ -1,3 +1,4 @@
+// The impls of `Stored` and `Seek` for `BufWriter`.
 ghost use Rattle.no_std_io2_base.specs.Seek.{SeekLaw};
 ghost use Rattle.no_std_io2.specs.BufWriter.{writer_inner, writer_buffer, store_unheld, SeeksSent, WriterMaySeek};
 
