@@ -47,13 +47,13 @@ pub record InTurn {T U : Type 0} (was now : Chain T U) : Type 0 where
 
 -- The readers that a call of a chain used.
 pub data InParts {T U : Type 0} (of_first ends_first : T → T → Type 0) (of_second : U → U → Type 0) (old new : Chain T U) : Type 0 where
-  -- the first alone, which is not done
+  -- only the first reader, which is not done
   by_first : chain_is_done old ≡ false → new ≡ record old { first = chain_first new } → of_first (chain_first old) (chain_first new)
       → InParts of_first ends_first of_second old new
   -- both: the first was not done, and is from now on, and the same call is one of the second
   by_both : chain_is_done old ≡ false → chain_is_done new ≡ true → ends_first (chain_first old) (chain_first new)
       → of_second (chain_second old) (chain_second new) → InParts of_first ends_first of_second old new
-  -- the second alone: the first is done
+  -- only the second reader: the first is done
   by_second : chain_is_done old ≡ true → new ≡ record old { second = chain_second new } → of_second (chain_second old) (chain_second new)
       → InParts of_first ends_first of_second old new
 

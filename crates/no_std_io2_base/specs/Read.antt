@@ -181,13 +181,13 @@ pub record ReadExactLaw {S : Type 0} (R : Reader S) (old : S) (buf : List ℕ) (
   -- which calls it made
   pub calls : ByCalls (ReadCallLaw R) old (λ C. ExactCalls C reply buf') new
 
--- `read_full(buf, &mut filled)`, of a buffer whose first `filled` bytes stand already
+-- `read_full(buf, &mut filled)`, of a buffer whose first `filled` bytes are there already
 pub record ReadFullLaw {S : Type 0} (R : Reader S) (old : S) (buf : List ℕ) (filled : ℕ) (reply : Result (Unit {0}) Error) (buf' : List ℕ)
     (filled' : ℕ) (new : S) : Type 0 where
   -- what it takes
   pub taken : List Event
   pub takes : Takes (tells R old) taken (tells R new)
-  -- its bytes stand behind those that stood, and are counted
+  -- its bytes come after those that were there, and are counted
   pub fills : take filled' buf' ≡ take filled buf ++ bytes taken
   pub counts : filled' ≡ filled + length (bytes taken)
   -- that fills the rest of the buffer, or is all, or ends in a fault

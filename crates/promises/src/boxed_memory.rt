@@ -1,4 +1,4 @@
-// What a call of a stream in memory does is known in a box too, where only its ghost member `may` says it.
+// What a call of a stream in memory does is known in a box too, in which only its ghost member `may` says it.
 ghost use Rattle.std.specs.Prelude.{◌≡◌, ◌-◌, ◌<◌, ◌+◌, ◌++◌, IsOkAnd, Ok, OnErr, drop, length, min, take, vec_capacity, vec_len};
 ghost use Rattle.std.specs.Box.{boxed_slice_items};
 ghost use Rattle.std.specs.VecDeque.{deque_capacity, deque_len};

@@ -59,7 +59,7 @@ pub fn goes_to_its_target<S: Seek>(s: &mut S, target: SeekFrom) -> Result<u64>
     s.seek(target)
 }
 
-// After a seek of the inner reader itself, a `BufReader` tells its store where its held bytes agree with the content.
+// After a seek of the inner reader itself, a `BufReader` tells its store if its held bytes agree with the content.
 // So its own next seek goes from the first held byte.
 fn goes_on_after_a_seek_below<R: Read + Seek + Drop, const S: usize>(
     r: &mut BufReader<R, S>,
