@@ -81,7 +81,7 @@ pub trait Read: Stored {
         Ok(())
     }
 
-    /// Fills `buf` behind its first `filled` bytes, as far as there are bytes, and ignores
+    /// Fills `buf` after its first `filled` bytes, as far as there are bytes, and ignores
     /// interruptions. Afterwards `filled` counts the new bytes too: if they are fewer than
     /// `buf.len()` after `Ok`, the reader is at its end. If `buf` is full, no call is made. Rust's
     /// std has no such call.
