@@ -214,8 +214,8 @@ impl<D: SystemRead> Read for Patient<D> {
     }
 }
 
-/// Tells that the bytes that its device reported as taken are out, and that nothing is held; it tells no mishaps. Each call makes the
-/// same call of the device, once. `write_all` and `write_rest` have the trait's bodies.
+/// Tells that the bytes that its device reported as taken are out, and that nothing is held; it tells no mishaps. Each
+/// call makes the same call of the device, once. `write_all` and `write_rest` have the trait's bodies.
 impl<D: SystemWrite> Write for Patient<D> {
     ghost use Rattle.system_streams.specs.Patient.{patient_told, PatientMay};
 

@@ -1,4 +1,5 @@
-// Standard input, standard output and files, as streams with more turns than a program can use up; and a program's status.
+// Standard input, standard output and files, as streams with more turns than a program can use up; and a
+// program's status.
 ghost use Rattle.std.specs.Prelude.{◌≡◌, IfOk, OnOk, OnErr};
 ghost use Rattle.std.specs.Process.{exit_status};
 ghost use Rattle.system_streams.specs.Patient.{IsFresh};
@@ -19,7 +20,8 @@ pub fn stdin<R: Input>(rt: &R) -> Patient<R::Reader>
     Patient::new(rt.reader(), u64::MAX)
 }
 
-/// Returns standard output. It has no buffer: put a `BufWriter` or a `LineWriter` in front for small writes. Follows `std::io::stdout`.
+/// Returns standard output. It has no buffer: put a `BufWriter` or a `LineWriter` in front for small writes.
+/// Follows `std::io::stdout`.
 pub fn stdout<R: Print>(rt: &R) -> Patient<io::Printer<'_, R>>
     ensures { IsFresh result }
 {
@@ -29,7 +31,8 @@ pub fn stdout<R: Print>(rt: &R) -> Patient<io::Printer<'_, R>>
 /// Opens a file to read it. Follows `std::fs::File::open`.
 ///
 /// # Errors
-/// Returns the system's error if the file cannot be opened. When that is so, no contract says, since that of `std`'s `open` does not.
+/// Returns the system's error if the file cannot be opened. No contract says when that is so, since the contract of
+/// `std`'s `open` does not.
 ///
 /// ```rust
 /// let mut program = open(rt, "/proc/self/exe")?;
@@ -43,18 +46,20 @@ pub fn open<R: Files, P: AsPath>(rt: &R, path: P) -> io::Result<Patient<R::File>
     Ok(Patient::new(File::open(rt, path)?, u64::MAX))
 }
 
-/// Makes an empty file to write to. If there is a file of this name, its content is lost. Follows `std::fs::File::create`.
+/// Makes an empty file to write to. If there is a file of this name, its content is lost.
+/// Follows `std::fs::File::create`.
 ///
 /// # Errors
-/// Returns the system's error if the file cannot be made. When that is so, no contract says, since that of `std`'s `create` does not.
+/// Returns the system's error if the file cannot be made. No contract says when that is so, since the contract of
+/// `std`'s `create` does not.
 pub fn create<R: Files, P: AsPath>(rt: &R, path: P) -> io::Result<Patient<R::File>>
     ensures { IfOk result IsFresh }
 {
     Ok(Patient::new(File::create(rt, path)?, u64::MAX))
 }
 
-/// Returns the status of a program's run: 0 after `Ok`, and 1 after `Err`. Prints an error to standard error, after the program's name;
-/// if that fails, nothing more is done. Rust's std has no such call.
+/// Returns the status of a program's run: 0 after `Ok`, and 1 after `Err`. Prints an error to standard error, after the
+/// program's name; if that fails, nothing more is done. Rust's std has no such call.
 ///
 /// ```rust
 /// Ok(Some(command)) => report(&rt, "tar_list", run(&rt, command)),

@@ -8,9 +8,9 @@ ghost use Rattle.std.specs.declared.io.SeekFrom.{SeekFrom as StdPlace};
 
 use std::io;
 
-/// A reader as a [`Patient`](crate::Patient) calls it. Every `std::io::Read` is one. A ghost member says what one call does.
-/// So contracts can state that a device was called once, and what became of its result, even if nothing else is known about
-/// the device.
+/// A reader as a [`Patient`](crate::Patient) calls it. Every `std::io::Read` is one. A ghost member says what one call
+/// does. So contracts can state that a device was called once, and what became of its result, even if nothing else is
+/// known about the device.
 pub trait SystemRead {
     // The bytes to come, if they are known.
     ghost known: { Self → Option (List ℕ) };

@@ -1,5 +1,5 @@
-// The functions that allocate. Only this module makes a `Refused`, and only if an allocation failed. So no other code of the
-// program can report a failed allocation.
+// The functions that allocate. Only this module makes a `Refused`, and only if an allocation failed. So no other code
+// of the program can report a failed allocation.
 ghost use Rattle.std.specs.Prelude.{◌≡◌, ℕ, List, ◌++◌, ◌+◌, ◌≤◌, ◌<◌, length, vec_len, vec_capacity, Some, OnOk, OnErr, IfOk};
 ghost use Rattle.io_bench.specs.Runs.{RunLaw};
 

@@ -1,5 +1,5 @@
-// Writers that are played by rows of calls: `write`, `write_all` and `flush`, `run` with a list of these, and
-// `into_inner`.
+// Writers that are played by rows of calls: `write`, `write_all` and `flush`, `run` with a list of
+// these, and `into_inner`.
 use crate::shown::Shown;
 use io_bench::{Op, Reply, run_writes};
 use no_std_io2::io::{BufWriter, Write};
