@@ -63,7 +63,7 @@ device_moves a b {x} (Ok u) held left none sent f =
     (subst (λ t. Moves t x [] (with_buffer b left)) (ap (λ l. with_buffer a l) none ∙ bare a) (MovesFront-whole x u f))
 device_moves a b (Err e) held left none sent f = tt
 
--- the same of a `BufWriter`, of which nothing is held at any level,
+-- a `BufWriter` held nothing, and after `Ok` nothing is held at any level: what it accepted then, its device accepted
 pub MovesFront-device : {W : Type 0} {S : ℕ} (told : W → Told) (w v : BufWriter W S) (x : List ℕ) (r : Result (Unit {0}) Error)
     → MovesFront (writer_told told w) x r (writer_told told v) → writer_buffer w ≡ []
     → OnOk r ((writer_told told v).held ≡ [])
@@ -71,7 +71,7 @@ pub MovesFront-device : {W : Type 0} {S : ℕ} (told : W → Told) (w v : BufWri
 MovesFront-device told w v x r f none flushed =
     device_moves _ _ r (writer_buffer w) (writer_buffer v) none (buffer_none r (told (writer_inner v)).held (writer_buffer v) flushed) f
 
--- and of a `LineWriter`
+-- the same of a `LineWriter` as `MovesFront-device`
 pub MovesFront-line_device : {W : Type 0} {S : ℕ} (told : W → Told) (w v : LineWriter W S) (x : List ℕ) (r : Result (Unit {0}) Error)
     → MovesFront (line_told told w) x r (line_told told v) → line_buffer w ≡ []
     → OnOk r ((line_told told v).held ≡ [])

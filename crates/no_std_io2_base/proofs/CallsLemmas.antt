@@ -43,11 +43,11 @@ module _ {S A : Type 0} {may : S → A → S → Type 0} {a b : S} {P : List A �
       record { calls = first.calls; made = made_map may may' put each first.calls a b first.made; are = first.are }
 
   module _ (first : ByCalls may a P b) where
-    -- of which more is known
+    -- more is known of the calls that were made
     pub by_are : {Q : List A → Type 0} → ((C : List A) → P C → Q C) → ByCalls may a Q b
     by_are each = record { calls = first.calls; made = first.made; are = each first.calls first.are }
 
-    -- and then one more
+    -- calls were made, and then one more
     pub by_more : {c : S} {Q : List A → Type 0} (call : A) → may b call c → ((C : List A) → P C → Q (C ++ call ∷ [])) → ByCalls may a Q c
     by_more {c} call did more = record {
       calls = first.calls ++ call ∷ [];
@@ -55,7 +55,7 @@ module _ {S A : Type 0} {may : S → A → S → Type 0} {a b : S} {P : List A �
       are = more first.calls first.are;
     }
 
-    -- or others
+    -- calls were made, and then others
     pub by_then : {c : S} {Q R : List A → Type 0} → ByCalls may b Q c → ((C D : List A) → P C → Q D → R (C ++ D)) → ByCalls may a R c
     by_then {c} next both = record {
       calls = first.calls ++ next.calls;

@@ -117,7 +117,7 @@ pub piece_given : (lacks : ℕ → Type 0) (d : ℕ) (t t' : Tells) (E P : List 
     → (after : List Event) × (to_come t' ≡ Some after) × (E ≡ P ++ after) × GivenRead d E (bytes P) read after
 piece_given lacks d t t' E P read takes ends told = grind (arith, common_steps, left_of, given_read)
 
--- so a `read_until`,
+-- A `read_until` from a reader that tells the events E: those after the piece are told, and the piece says this of all pieces of E.
 pub until_given : {X A : Type 0} {R : Lender X} {old new : X} {d : ℕ} {buf buf' : Vec ℕ A} {reply : Result ℕ Error} {E : List Event}
     → (law : ReadUntilLaw R old d buf reply buf' new) → to_come (lender_tells R old) ≡ Some E
     → (after : List Event) × (to_come (lender_tells R new) ≡ Some after) × (E ≡ law.taken ++ after)
@@ -125,7 +125,7 @@ pub until_given : {X A : Type 0} {R : Lender X} {old new : X} {d : ℕ} {buf buf
 until_given {buf = buf} {reply = reply} {E} law told =
     piece_given (λ n. vec_capacity buf < vec_len buf + n) _ _ _ E law.taken reply law.takes law.ends told
 
--- and a `read_line`, whose `read` is the result before the bytes become a text
+-- The same of a `read_line`; its `read` is the result before the bytes become a text.
 pub line_given : {X A : Type 0} {R : Lender X} {old new : X} {buf buf' : String A} {reply : Result ℕ Error} {E : List Event}
     → (law : ReadLineLaw R old buf reply buf' new) → to_come (lender_tells R old) ≡ Some E
     → (after : List Event) × (to_come (lender_tells R new) ≡ Some after) × (E ≡ law.taken ++ after)

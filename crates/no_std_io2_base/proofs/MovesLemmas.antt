@@ -84,7 +84,7 @@ MovesFront-join x y r f g = record {
     joined (Ok u) e = ap (λ l. x ++ l) e
     joined (Err e) h = tt
 
--- the same, if the first failed: the second made no call
+-- `write_all(x)?; write_all(y)`, if the first failed: the second was not made
 pub MovesFront-first : {a b : Told} (x y : List ℕ) (e : Error) → MovesFront a x (Err e) b → MovesFront a (x ++ y) (Err e) b
 MovesFront-first x y e f = grind (arith, common_steps)
 
@@ -98,7 +98,7 @@ pub MovesFront-three : {a b c d : Told} (x y z : List ℕ) (r : Result (Unit {0}
     → MovesFront b y (Ok tt) c → MovesFront c z r d → MovesFront a (x ++ y ++ z) r d
 MovesFront-three x y z r f g h = MovesFront-join (x ++ y) z r (MovesFront-join x y (Ok tt) f g) h
 
--- the same, if the second of three failed: the third made no call
+-- `write_all(x)?; write_all(y)?; write_all(z)`, if the second failed: the third was not made
 pub MovesFront-second : {a b c : Told} (x y z : List ℕ) (e : Error) → MovesFront a x (Ok tt) b → MovesFront b y (Err e) c
     → MovesFront a (x ++ (y ++ z)) (Err e) c
 MovesFront-second x y z e f g = MovesFront-join x (y ++ z) (Err e) f (MovesFront-first y z e g)
@@ -134,7 +134,7 @@ pub device_front : {a b : Told} {text : List ℕ} {r : Result (Unit {0}) Error} 
 device_front {b = b} m empty =
     let (sent, is, split) = out_front m.moves empty in (sent, is, IsFront-trans sent _ _ (b.held, split) m.front)
 
--- After a `flush` that returned `Ok` it has all of the text.
+-- After a `flush` that returned `Ok`, a device behind a new buffer has all of the text.
 pub device_empty : {a b : Told} {text : List ℕ} {k : List ErrorKind} → Moves a text k b → a.held ≡ [] → b.held ≡ []
     → b.out ≡ a.out ++ text
 device_empty {a} {b} {text} moves empty flushed = grind (arith, common_steps, append-nil)
@@ -164,13 +164,13 @@ module _ {X : Type 0} (text : X → List ℕ) (xs : List X) (i : ℕ) (d : X) (w
   text_all = ap (flat_map text) (sym (take-append-drop (i + 1) xs)) ∙ flat_map-append text (take (i + 1) xs) (drop (i + 1) xs)
       ∙ ap (λ l. l ++ flat_map text (drop (i + 1) xs)) text_more
 
-  -- one text more was written
+  -- a loop that writes the text of each element has written one more
   pub MovesFront-next : {a b c : Told} {u v : Unit {0}} → MovesFront a (flat_map text (take i xs)) (Ok u) b
       → MovesFront b (text (get_or xs i d)) (Ok v) c → MovesFront a (flat_map text (take (i + 1) xs)) (Ok tt) c
   MovesFront-next {a} {c = c} f g =
       subst (λ l. MovesFront a l (Ok tt) c) (sym text_more) (MovesFront-join (flat_map text (take i xs)) (text (get_or xs i d)) (Ok tt) f g)
 
-  -- or an error came: some front of all was written
+  -- a loop that writes the text of each element met an error: some front of all texts was written
   pub MovesFront-stop : {a b c : Told} {u : Unit {0}} {e : Error} → MovesFront a (flat_map text (take i xs)) (Ok u) b
       → MovesFront b (text (get_or xs i d)) (Err e) c → MovesFront a (flat_map text xs) (Err e) c
   MovesFront-stop {a} {c = c} {e = e} f g =

@@ -8,7 +8,7 @@ use Rattle.no_std_io2_base.specs.{Events.{first_fault}, Takes.{Tells, to_come}, 
 use Rattle.no_std_io2_base.specs.{Pieces.{pieces_given, GivesFirst, GivesPieces, AreAllPieces, ComeFirst}, Write.{IsFront}}
 use Rattle.no_std_io2_base.proofs.GivenPieces.{until_given, GivesNext, GivesNone, bytes_to_fault-append, first_fault-append}
 
--- before the first piece
+-- before the first piece no pieces were given
 pub pieces_none : (d : ℕ) (t : Tells) → GivesPieces d t [] t
 pieces_none d t = grind (arith, common_steps)
 
@@ -50,17 +50,17 @@ parted d n E F after ps x part rest is first next = grind (arith, common_steps, 
 
 module _ {X A : Type 0} {R : Lender X} {d : ℕ} {a : Tells} {ps : List (List ℕ)} {mid new : X} {buf buf' : Vec ℕ A} where
   module _ (gives : GivesPieces d a ps (lender_tells R mid)) where
-    -- a piece came
+    -- a `read_until` gave one piece more
     pub pieces_more : {n : ℕ} (law : ReadUntilLaw R mid d buf (Ok n) buf' new) → (n ≡ 0 → ⊥)
         → GivesPieces d a (ps ++ bytes law.taken ∷ []) (lender_tells R new)
     pieces_more law some = grind (arith, common_steps, until_says law, concat-append, append_assoc, append-nil)
 
-    -- none came: these were all, and no fault comes
+    -- a `read_until` gave no byte: these were all pieces, and no fault comes
     pub pieces_end : {n : ℕ} (law : ReadUntilLaw R mid d buf (Ok n) buf' new) → n ≡ 0
         → GivesPieces d a ps (lender_tells R new) × AreAllPieces d a ps None
     pieces_end law none = grind (arith, common_steps, until_says law, append-nil)
 
-    -- an error came: these were all before this fault, or memory was refused
+    -- a `read_until` failed: these were all pieces before this fault, or an allocation failed
     pub pieces_fault : {e : Error} → ReadUntilLaw R mid d buf (Err e) buf' new → AreAllPieces d a ps (Some e) ⊎ IsOutOfMemory e
     pieces_fault law = faulted d _ _ _ ps (bytes law.taken) _ gives.told (until_says law)
 

@@ -68,7 +68,7 @@ module _ {R : Type 0} {may : R → ReadCall → R → Type 0} {Adds : R → List
   fill_adds C buf (Err e) a b (x, front, inl end) made = (x, tt, until_add (Ok []) refl end.1 a b made)
   fill_adds C buf (Err e) a b (x, front, inr fault) made = (x, tt, until_add (Err e) refl fault.1 a b made)
 
-  -- those of a `read_exact`: all of the buffer after `Ok`, and the bytes that were taken after an error
+  -- what the calls of a `read_exact` add: all of the buffer after `Ok`, and the bytes that were taken after an error
   pub exact_adds : (buf : List ℕ) (reply : Result (Unit {0}) Error) (a b : R) → ByCalls may a (λ C. ExactCalls C reply buf) b
       → (x : List ℕ) × OnOk reply (x ≡ buf) × Adds a x b
   exact_adds buf reply a b m = grind (arith, common_steps, exactly_adds, fill_adds)
@@ -81,7 +81,7 @@ module _ {R : Type 0} {may : R → ReadCall → R → Type 0} {Adds : R → List
   calls_add (Err e) (inr (inl fault)) a b made = until_add (Err e) refl fault.1 a b made
   calls_add (Err e) (inr (inr refused)) a b made = gathers_add refused.1 a b made
 
-  -- those of a `read_to_end`, also before an error: x was given
+  -- what the calls of a `read_to_end` add, also before an error: x was given
   pub to_end_adds : {x : List ℕ} (answer : Result (Unit {0}) Error) (a b : R) → ByCalls may a (λ C. ToEndCalls C x answer) b → Adds a x b
   to_end_adds answer a b m = calls_add answer m.are a b m.made
 
@@ -95,7 +95,7 @@ module _ {R : Type 0} {may : R → ReadCall → R → Type 0} {Adds : R → List
       subst (λ l. Adds a l b) (append-nil x)
       (and_last C (Filled (Err e)) a b (λ mid m. parts_add before a mid m) (λ c d call. each.lent c d (Err e) call) made)
 
-  -- those of a `read_until` or a `skip_until`, also before an error: x was taken
+  -- what the calls of a `read_until` or a `skip_until` add, also before an error: x was taken
   pub piece_adds : (may_refuse : Type 0) (d : ℕ) {x : List ℕ} (reply : Result ℕ Error) (a b : R)
       → ByCalls may a (λ C. PieceCalls may_refuse d C x reply) b → Adds a x b
   piece_adds may_refuse d (Ok n) a b m = grind (arith, common_steps, then_took, parts_add)
@@ -107,7 +107,7 @@ module _ {R : Type 0} {may : R → ReadCall → R → Type 0} {Adds : R → List
       (and_last are.0 (Filled last.0) a b (λ mid c. parts_add are.1 a mid c) (λ c d call. each.lent c d last.0 call)
       (subst (λ K. Made may a K b) last.1 m.made))
 
-  -- those of a `read_line`, which appends the line after `Ok`
+  -- what the calls of a `read_line` add, which appends the line after `Ok`
   pub line_adds : {old old' : List ℕ} {len capacity : ℕ} (reply : Result ℕ Error) (a b : R)
       → (made : (line : List ℕ) × (read : Result ℕ Error)
       × ByCalls may a (λ C. PieceCalls (Unit {0}) 10 C line read) b × AnswersLine line read len capacity reply old old')

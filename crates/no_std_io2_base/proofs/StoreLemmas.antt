@@ -33,7 +33,7 @@ pub behind_at : (content : List ℕ) (was now : ℕ) (part rest : List ℕ) → 
 behind_at content was now part rest split moved =
     ap (λ n. drop n content) moved ∙ sym (drop-drop (length part) was content) ∙ ap (drop (length part)) split ∙ drop-append_seam part rest
 
--- the next of them are taken
+-- the next bytes of a told store are taken
 pub takes_at : (content : List ℕ) (was now : ℕ) (part : List ℕ) → drop was content ≡ part ++ drop now content → now ≡ was + length part
     → Takes (tells_at content was) (events_of part) (tells_at content now)
 takes_at content was now part split moved =

@@ -41,7 +41,7 @@ takes_still {a} {c = c} {P} first next = subst (λ l. Takes a l c) (append-nil P
 pub takes_turns : {a b : Tells} {P : List Event} → Takes a P b → b.turns ≤ a.turns
 takes_turns takes = omega (arith, takes.turns)
 
--- and whatever is taken spends one
+-- the turns fall if some event is taken
 pub spends : {a b : Tells} {P : List Event} → Takes a P b → 0 < length P → b.turns < a.turns
 spends takes some = omega (arith, takes.turns)
 

@@ -187,7 +187,7 @@ module _ {S : Type 0} {I : Writer S} {old new : S} {name was : ℕ} {output : Op
         calls = ∥∥₁_map prints (λ p. (p.0, met, p.1, inr why));
       }
 
--- if the output is specified
+-- A `write!` of a text whose output is specified: a front of it was accepted, or its own `fmt` failed.
 pub MovesFront-text : {a b : Told} {bs : List ℕ} {r : Result (Unit {0}) Error} → MovesText a (Some bs) r b
     → MovesFront a bs r b ⊎ IsErrAnd r IsTextError
 MovesFront-text {a} {b} {bs} {r} f = grind (arith, common_steps)

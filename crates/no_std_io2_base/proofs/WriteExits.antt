@@ -7,11 +7,11 @@ use Rattle.no_std_io2_base.specs.{Errors.{IsFault, SaysError}, Write.{Wrote, Wri
 use Rattle.no_std_io2_base.specs.{Write.{fault as fails}, Writers.{Writer, WriteOf, WriteRestOf, CallOf}}
 use Rattle.no_std_io2_base.proofs.{CallsLemmas.{CallsSoFar, calls_more, calls_end}, WritesFacts.{writes_law}}
 
--- what the test of the loop says
+-- what the test `is_empty` says of a slice if it is false
 pub not_empty : (b : Bool) (left : List ℕ) → b ≡ (length left == 0) → b ≡ false → 0 < length left
 not_empty b x2 is h = grind (arith, common_steps)
 
--- and what it says at the end
+-- what the test `is_empty` says of a slice if it is true
 pub is_empty : (b : Bool) (left : List ℕ) → b ≡ (length left == 0) → b ≡ true → left ≡ []
 is_empty b left is h = drop_of_length-le left {i = 0} (omega (arith, eqb-true (length left) 0 (sym is ∙ h)))
 
