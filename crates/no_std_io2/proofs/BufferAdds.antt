@@ -10,6 +10,7 @@ module _ {W : Type 0} {may : W → WriteCall → W → Type 0} {Adds : W → Lis
         → (a b : W) → Made may a C b → RestAdds Adds a held reply b left
     flushed_adds = grind (arith, nat_tests, writes_add, made_split, after_ok, append-nil)
 
+    -- The calls of a `flush` add the bytes that the buffer no longer holds, after `Ok` all that it held.
     pub flush_adds : (C : List WriteCall) (held left : List ℕ) (reply : Result (Unit {0}) Error) (a b : W)
         → Made may a C b → FlushCalls held C reply left → RestAdds Adds a held reply b left
     flush_adds C held left reply a b made calls = flushed_adds calls a b made

@@ -36,6 +36,15 @@ module _ {S A : Type 0} {may : S → A → S → Type 0} {a b : S} {P : List A �
   pub by_call : (call : A) → may a call b → P (call ∷ []) → ByCalls may a P b
   by_call call did is = record { calls = call ∷ []; made = (b, did, refl); are = is }
 
+  -- two calls
+  pub by_two : (mid : S) (c d : A) → may a c mid → may mid d b → P (c ∷ d ∷ []) → ByCalls may a P b
+  by_two mid c d first next is = record { calls = c ∷ d ∷ []; made = (mid, first, (b, next, refl)); are = is }
+
+  -- three calls
+  pub by_three : (mid end : S) (c d e : A) → may a c mid → may mid d end → may end e b → P (c ∷ d ∷ e ∷ []) → ByCalls may a P b
+  by_three mid end c d e first second last is =
+      record { calls = c ∷ d ∷ e ∷ []; made = (mid, first, (end, second, (b, last, refl))); are = is }
+
   -- calls of a part are calls of the whole
   pub by_map : {V : Type 0} {may' : V → A → V → Type 0} (put : S → V) → ((x y : S) (call : A) → may x call y → may' (put x) call (put y))
       → ByCalls may a P b → ByCalls may' (put a) P (put b)
@@ -110,22 +119,22 @@ pub calls_none : {W : Type 0} {may : W → WriteCall → W → Type 0} {text : L
     → CallsSoFar may text old start start old
 calls_none = record { calls = []; made = refl; are = λ D r e w. w }
 
-module _ {W : Type 0} {may : W → WriteCall → W → Type 0} {text : List ℕ} {old now : W} {start left : List ℕ}
-    (before : CallsSoFar may text old start left now) where
-  -- one more
-  pub calls_more : {new : W} {call : WriteCall} {rest : List ℕ} → may now call new
-      → ((D : List WriteCall) (reply : Result (Unit {0}) Error) (end : List ℕ) → Writes text D rest reply end
-      → Writes text (call ∷ D) left reply end)
-      → CallsSoFar may text old start rest new
-  calls_more {call = call} {rest} last on = by_more before call last (λ C before D r e w.
-      subst (λ l. Writes text l start r e) (sym (append_assoc C (call ∷ []) D)) (before (call ∷ D) r e (on D r e w)))
+module _ {W : Type 0} {may : W → WriteCall → W → Type 0} {text : List ℕ} {old now : W} {start left : List ℕ} where
+  module _ (before : CallsSoFar may text old start left now) where
+    -- one more
+    pub calls_more : {new : W} {call : WriteCall} {rest : List ℕ} → may now call new
+        → ((D : List WriteCall) (reply : Result (Unit {0}) Error) (end : List ℕ) → Writes text D rest reply end
+        → Writes text (call ∷ D) left reply end)
+        → CallsSoFar may text old start rest new
+    calls_more {call = call} {rest} last on = by_more before call last (λ C before D r e w.
+        subst (λ l. Writes text l start r e) (sym (append_assoc C (call ∷ []) D)) (before (call ∷ D) r e (on D r e w)))
 
-  -- and these were the last ones
-  pub calls_end : {new : W} (reply : Result (Unit {0}) Error) (end : List ℕ) (D : List WriteCall) → Made may now D new
-      → Writes text D left reply end
-      → ByCalls may old (λ C. Writes text C start reply end) new
-  calls_end {new} reply end D made writes = record {
-    calls = before.calls ++ D;
-    made = made_then may before.calls old D now new before.made made;
-    are = before.are D reply end writes;
-  }
+    -- and these were the last ones
+    pub calls_end : {new : W} (reply : Result (Unit {0}) Error) (end : List ℕ) (D : List WriteCall) → Made may now D new
+        → Writes text D left reply end
+        → ByCalls may old (λ C. Writes text C start reply end) new
+    calls_end {new} reply end D made writes = record {
+      calls = before.calls ++ D;
+      made = made_then may before.calls old D now new before.made made;
+      are = before.are D reply end writes;
+    }

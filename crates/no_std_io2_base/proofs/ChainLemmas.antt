@@ -1,13 +1,12 @@
 -- What the two readers of a `Chain` take, the chain takes.
-use Rattle.std.proofs.{lemmas.Grind.{common_steps}, Common.{◌≡◌, ℕ, ◌+◌, ◌<◌, ◌≤◌, Bool, true, false, true≢false, List, [], ◌++◌, Result}}
-use Rattle.std.proofs.Common.{Ok, Err, Option, None, ◌-◌, ◌⊎◌, IfOk, IfSome, OnOk, Vec, vec_len, vec_capacity, length-append, le_trans}
-use Rattle.std.proofs.Common.{inl, inr, length, refl, sym, ap, subst, ◌∙◌, arith, append_assoc}
-use Rattle.no_std_io2_base.specs.{declared.error.Error.{Error}, Errors.{IsOutOfMemory}, declared.traits.chain.Chain.{Chain}, Events.{Event}}
-use Rattle.no_std_io2_base.specs.{Events.{bytes, HasNoFault, EndsInFault}, Takes.{Tells, Takes, AreTaken, IsAtEnd}, Read.{Reader, tells}}
-use Rattle.no_std_io2_base.specs.Read.{GaveAll, ToEndLaw, ReadToEndLaw, DrainsOrStops, ended, least_room}
-use Rattle.no_std_io2_base.specs.Chain.{chain_first, chain_second, chain_is_done, chain_events, chain_to_come, both_to_come, by_first}
-use Rattle.no_std_io2_base.specs.Chain.{by_both, by_second, ChainMay}
-use Rattle.no_std_io2_base.proofs.{EventLemmas.{bytes-append, HasNoFault-append}, ReadCalls.{to_end_own}, ReadToEndLoop.{recount}}
+use Rattle.std.proofs.{lemmas.Grind.{common_steps}, Common.{◌≡◌, ℕ, ◌+◌, ◌≤◌, true, false, true≢false, List, [], ◌++◌, Result, Ok, Err}}
+use Rattle.std.proofs.Common.{None, ◌-◌, IfOk, IfSome, OnOk, Vec, vec_len, vec_capacity, le_trans, length, refl, sym, ap, subst, ◌∙◌, arith}
+use Rattle.no_std_io2_base.specs.{declared.{error.Error.{Error}, traits.chain.Chain.{Chain}}, Events.{Event, bytes}, Takes.{Tells, Takes}}
+use Rattle.no_std_io2_base.specs.{Takes.{IsAtEnd}, Read.{Reader, tells, GaveAll, ToEndLaw, ReadToEndLaw, DrainsOrStops, ended}}
+use Rattle.no_std_io2_base.specs.Chain.{chain_first, chain_second, chain_is_done, chain_events, chain_to_come, by_first, by_both, by_second}
+use Rattle.no_std_io2_base.specs.Chain.{ChainMay}
+use Rattle.no_std_io2_base.proofs.{EventLemmas.{bytes-append}, ReadCalls.{to_end_own}, TakesLemmas.{drains_ended}, ReadToEndLoop.{recount}}
+use Rattle.no_std_io2_base.proofs.ReadToEndLoop.{ended_recount, both_appended, both_counted, both_ended}
 
 -- a chain, as the laws of its calls see it
 abbrev pub chain_reader : {T U : Type 0} → Reader T → Reader U → Reader (Chain T U)
@@ -18,22 +17,7 @@ chain_reader R S = record {
   may = ChainMay R S;
 }
 
--- what a chain of readers that tell this tells
-abbrev chain_tells : Bool → Tells → Tells → Tells
-chain_tells done first second =
-    record { events = chain_to_come done first second; store = None; turns = first.turns + second.turns }
-
-all_of_both : (E E' F : Option (List Event)) (P : List Event) → AreTaken E P E' → IfSome E' (λ l. l ≡ []) → AreTaken (both_to_come E F) P F
-all_of_both x1 x2 x3 x4 taken end = grind (arith, common_steps)
-
 module _ {T U : Type 0} (R : Reader T) (S : Reader U) where
-  -- as the marks say
-  marked : (old new : Chain T U) {P : List Event} (d d' : Bool) → chain_is_done old ≡ d → chain_is_done new ≡ d'
-      → Takes (chain_tells d (tells R (chain_first old)) (tells S (chain_second old))) P
-      (chain_tells d' (tells R (chain_first new)) (tells S (chain_second new)))
-      → Takes (tells (chain_reader R S) old) P (tells (chain_reader R S) new)
-  marked old new {P} d d' was now takes = grind (arith, common_steps)
-
   -- the first reader alone took something
   by_first_takes : {old new : Chain T U} {P : List Event} → chain_is_done old ≡ false → new ≡ record old { first = chain_first new }
       → Takes (tells R (chain_first old)) P (tells R (chain_first new))
@@ -63,12 +47,6 @@ end_of_both : (l : Type 0) (P : List Event) (t t' : Tells) (reply : Result ℕ E
     → DrainsOrStops l P reply t'
 end_of_both l x2 t t' x5 end stops = grind (arith, common_steps)
 
--- how it stopped, after other events without a fault
-stops_then : {l l' : Type 0} (P Q : List Event) {e : Error} → HasNoFault P → (l → l') → EndsInFault Q e
-    ⊎ (HasNoFault Q × IsOutOfMemory e × l)
-    → EndsInFault (P ++ Q) e ⊎ (HasNoFault (P ++ Q) × IsOutOfMemory e × l')
-stops_then x1 x2 x3 why x5 = grind (arith, common_steps, append_assoc, HasNoFault-append)
-
 module _ {T U A : Type 0} (R : Reader T) (S : Reader U) {old new : Chain T U} {buf buf' : Vec ℕ A} where
   -- a `read_to_end` is one call
   to_end_call : {lacks : ℕ → Type 0} (reply : Result ℕ Error) (P : List Event) → ChainMay R S old (GaveAll (bytes P) (ended reply)) new
@@ -81,14 +59,8 @@ module _ {T U A : Type 0} (R : Reader T) (S : Reader U) {old new : Chain T U} {b
     appends = (appended, count);
     ends = ends;
     capacity = grown;
-    calls = to_end_own (call, (P, takes, refl, by reply ends)) refl;
+    calls = to_end_own (call, (P, takes, refl, drains_ended _ P reply _ ends)) refl;
   }
-    where
-      by : (reply : Result ℕ Error) → DrainsOrStops (lacks (length (bytes P))) P reply (tells (chain_reader R S) new)
-          → DrainsOrStops (Unit {0}) P (ended reply) (tells (chain_reader R S) new)
-      by (Ok n) ends = ends
-      by (Err e) (inl fault) = inl fault
-      by (Err e) (inr (none, refused, lacks)) = inr (none, refused, tt)
 
   -- of the second alone
   pub end_second : (reply : Result ℕ Error) → chain_is_done old ≡ true → new ≡ record old { second = chain_second new }
@@ -109,48 +81,17 @@ module _ {T U A : Type 0} (R : Reader T) (S : Reader U) {old new : Chain T U} {b
       → ReadToEndLaw R (chain_first old) buf (Ok n) mid (chain_first new)
       → ReadToEndLaw S (chain_second old) mid reply buf' (chain_second new) → OnOk reply (k ≡ vec_len buf' - vec_len buf)
       → ReadToEndLaw (chain_reader R S) old buf (recount reply k) buf' new
-  end_both {mid} {n} reply k going done first second is = to_end_call (recount reply k) P (
-    bytes first.taken,
-    bytes second.taken,
-    joined,
-    λ was. absurd (true≢false (sym was ∙ going)),
-    by_both going done first.calls (rw (sym (same reply)) second.calls),
-  )
-      (by_both_takes R S going done first.takes first.ends.1 second.takes) appended (count reply is) (ends reply second.ends)
-      (le_trans first.capacity second.capacity)
-    where
-      P : List Event
-      P = first.taken ++ second.taken
-
-      joined : bytes P ≡ bytes first.taken ++ bytes second.taken
-      joined = bytes-append first.taken second.taken
-
-      long : length (bytes P) ≡ length (bytes first.taken) + length (bytes second.taken)
-      long = ap length joined ∙ length-append (bytes first.taken) (bytes second.taken)
-
-      appended : buf'.items ≡ buf.items ++ bytes P
-      appended = second.appends.0 ∙ ap (λ l. l ++ bytes second.taken) first.appends.0
-          ∙ append_assoc buf.items (bytes first.taken) (bytes second.taken) ∙ ap (λ l. buf.items ++ l) (sym joined)
-
-      same : (reply : Result ℕ Error) → ended reply ≡ ended (recount reply k)
-      same (Ok m) = refl
-      same (Err e) = refl
-
-      count : (reply : Result ℕ Error) → OnOk reply (k ≡ vec_len buf' - vec_len buf) → IfOk (recount reply k) (λ m. m ≡ length (bytes P))
-      count (Ok m) is = omega (arith, is, ap length appended, length-append buf.items (bytes P), buf.ok.0, buf'.ok.0)
-      count (Err e) is = tt
-
-      grown : vec_len mid ≡ vec_len buf + length (bytes first.taken)
-      grown = omega (arith, ap length first.appends.0, length-append buf.items (bytes first.taken), buf.ok.0, mid.ok.0)
-
-      lacks : vec_capacity mid < vec_len mid + (length (bytes second.taken) + least_room)
-          → vec_capacity buf < vec_len buf + (length (bytes P) + least_room)
-      lacks short = omega (arith, short, grown, long, first.capacity)
-
-      ends : (reply : Result ℕ Error)
-          → DrainsOrStops (vec_capacity mid < vec_len mid + (length (bytes second.taken) + least_room)) second.taken reply
-          (tells S (chain_second new))
-          → DrainsOrStops (vec_capacity buf < vec_len buf + (length (bytes P) + least_room)) P (recount reply k)
-          (tells (chain_reader R S) new)
-      ends (Ok m) (none, end) = (HasNoFault-append first.taken second.taken first.ends.0 none, done_ends R S new done end)
-      ends (Err e) stops = stops_then first.taken second.taken first.ends.0 lacks stops
+  end_both {mid} {n} reply k going done first second is =
+      let P = first.taken in
+      let Q = second.taken in
+      let gave = first.appends.0 in
+      to_end_call (recount reply k) (P ++ Q) (
+        bytes P,
+        bytes Q,
+        bytes-append P Q,
+        λ was. absurd (true≢false (sym was ∙ going)),
+        by_both going done first.calls (rw (ended_recount reply k) second.calls),
+      )
+      (by_both_takes R S going done first.takes first.ends.1 second.takes) (both_appended buf mid P Q gave buf' second.appends.0)
+      (both_counted buf mid P Q gave buf' second.appends.0 reply k is) (both_ended buf mid P Q gave reply k _ first.ends.0 first.capacity
+      (end_of_both _ Q _ _ reply (done_ends R S new done) second.ends)) (le_trans first.capacity second.capacity)

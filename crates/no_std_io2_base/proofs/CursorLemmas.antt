@@ -1,14 +1,13 @@
 -- A content and a position in it.
 use Rattle.std.proofs.Common.{rules, ◌≡◌, ℕ, ◌+◌, ◌-◌, ◌<◌, ◌≤◌, ◌⊎◌, min, List, [], ◌∷◌, ◌++◌, Ok, Err, Result, length, take, drop}
 use Rattle.std.proofs.Common.{replicate, refl, sym, ap, ◌∙◌, arith, count_by, inl, inr, append-nil, take-append-drop, length-append}
-use Rattle.std.proofs.{lemmas.Grind.{common_steps}, lemmas.Bool.{cases_lt}, lemmas.List.{length-replicate, drop-drop, take_all, take_min}}
-use Rattle.std.proofs.{lemmas.List.{drop_all, take-append-le, take-replicate}, Math.Seq.{take-append-add}, lemmas.Bool.Decides.{nat_tests}}
+use Rattle.std.proofs.lemmas.{Grind.{common_steps}, Bool.{cases_lt}, List.{length-replicate, drop-drop, take_all, take_min, drop_all}}
+use Rattle.std.proofs.{lemmas.{List.{take-append-le, take-replicate}, Bool.Decides.{nat_tests}}, Math.Seq.{take-append-add}}
 use Rattle.std.specs.Result.{OnOk, OnErr, IfErr}
-use Rattle.no_std_io2_base.specs.{declared.error.Error.{Error}, declared.error.ErrorKind.{ErrorKind}}
-use Rattle.no_std_io2_base.specs.{declared.error.ErrorKind.TheVariants.{WriteZero}, Errors.{error_kind, is_interruption, IsFault}}
-use Rattle.no_std_io2_base.specs.{Errors.{IsNoInterruption, IsOutOfMemory}, Write.{Told, Moves, MovesFront, told_out, taken, write_mishap}}
-use Rattle.no_std_io2_base.specs.{Write.{zero_write}, Cursor.{bytes_before, put_at, fitting, IsRefusal, PutsWhole, PutsAll, PutsFitting}}
-use Rattle.no_std_io2_base.specs.{Cursor.{PutsAllFitting}, Appends.{AppendsWhole}}
+use Rattle.no_std_io2_base.specs.{declared.error.{Error.{Error}, ErrorKind.{ErrorKind, TheVariants.{WriteZero}}}, Errors.{error_kind}}
+use Rattle.no_std_io2_base.specs.{Errors.{is_interruption, IsFault, IsNoInterruption, IsOutOfMemory}, Write.{Told, Moves, MovesFront}}
+use Rattle.no_std_io2_base.specs.{Write.{told_out, taken, write_mishap, zero_write}, Cursor.{bytes_before, put_at, fitting, IsRefusal}}
+use Rattle.no_std_io2_base.specs.{Cursor.{PutsWhole, PutsAll, PutsFitting, PutsAllFitting}, Appends.{AppendsWhole}}
 
 -- n bytes further on
 pub left_after : (all : List ℕ) (place n : ℕ) → drop (place + n) all ≡ drop n (drop place all)

@@ -1,16 +1,13 @@
 -- The calls of a reader that lends, one after another, and what they take.
-use Rattle.std.proofs.Common.{◌≡◌, ℕ, ◌<◌, ◌≤◌, List, [], ◌∷◌, ◌++◌, length, take, Bool, true, false, Result, Ok, Err, refl, sym, ap}
-use Rattle.std.proofs.Common.{◌∙◌, subst, append_assoc, append-nil, inl, inr}
-use Rattle.no_std_io2_base.specs.declared.error.Error.{Error}
-use Rattle.no_std_io2_base.specs.Errors.{IsInterruption, IsFault}
-use Rattle.no_std_io2_base.specs.Read.{ReadCall, Gave, GaveExactly, GaveAll, Filled, Consumed, GaveLaw, ReadCallLaw, Gathers, GathersUntil}
-use Rattle.no_std_io2_base.specs.Read.{no_read, and_gave, and_again}
-use Rattle.no_std_io2_base.specs.BufRead.{Lender, lender_tells, as_reader, FilledLaw, ConsumeLaw, LendCallLaw}
-use Rattle.no_std_io2_base.specs.Passing.{PortionCalls, PortionsUntil, no_portion, and_portion, and_waited}
-use Rattle.no_std_io2_base.specs.Write.{Made}
-use Rattle.no_std_io2_base.proofs.CallsLemmas.{made_split, by_call, by_then}
-use Rattle.no_std_io2_base.specs.Reads.{AllGoOn, Asked, Fetches}
-use Rattle.no_std_io2_base.proofs.TookLemmas.{Took-none, Took-then, Took-bytes, Took-again, Took-end, Took-fault}
+use Rattle.std.proofs.Common.{◌≡◌, ℕ, ◌<◌, ◌≤◌, List, [], ◌∷◌, ◌++◌, length, take, Bool, true, false, Result, Ok, Err, refl, sym, ap, ◌∙◌}
+use Rattle.std.proofs.Common.{append_assoc, append-nil, inl, inr}
+use Rattle.no_std_io2_base.specs.{declared.error.Error.{Error}, Errors.{IsInterruption, IsFault}, Read.{ReadCall, Gave, GaveExactly}}
+use Rattle.no_std_io2_base.specs.Read.{GaveAll, Filled, Consumed, GaveLaw, ReadCallLaw, Gathers, GathersUntil, no_read, and_gave, and_again}
+use Rattle.no_std_io2_base.specs.{BufRead.{Lender, lender_tells, as_reader, FilledLaw, ConsumeLaw, LendCallLaw}, Passing.{PortionCalls}}
+use Rattle.no_std_io2_base.specs.{Passing.{PortionsUntil, no_portion, and_portion, and_waited}, Write.{Made}, Reads.{AllGoOn, Asked}}
+use Rattle.no_std_io2_base.specs.Reads.{Fetches, Took}
+use Rattle.no_std_io2_base.proofs.{CallsLemmas.{made_split, by_call, by_then}, TookLemmas.{Took-none, Took-then, Took-bytes, Took-again}}
+use Rattle.no_std_io2_base.proofs.TookLemmas.{Took-end, Took-fault}
 
 -- two lists of calls, one after the other
 all_then : (C D : List ReadCall) → AllGoOn C → AllGoOn D → AllGoOn (C ++ D)
@@ -41,25 +38,26 @@ module _ {X : Type 0} {R : Lender X} where
     calls = by_then f.calls g.calls (λ C D on asked. asked_then C D how on asked);
   }
 
+  -- one call
+  fetches_one : {a b : X} {y : List ℕ} {how : Result Bool Error} (call : ReadCall) → LendCallLaw R a call b
+      → Took (lender_tells R a) y how (lender_tells R b) → Asked (call ∷ []) how → Fetches R a y how b
+  fetches_one call law took asked = record { took = took; calls = by_call call law asked }
+
   -- one read
   pub fetches_gave : {a b : X} (room : ℕ) (y : List ℕ) → GaveLaw (as_reader R) a room (Ok y) b → 0 < length y → Fetches R a y (Ok true) b
-  fetches_gave {b = b} room y law some =
-      record { took = Took-bytes y law.takes; calls = by_call (Gave room (Ok y)) law (some, tt) }
+  fetches_gave room y law some = fetches_one (Gave room (Ok y)) law (Took-bytes y law.takes) (some, tt)
 
   pub fetches_again : {a b : X} (room : ℕ) {e : Error} → GaveLaw (as_reader R) a room (Err e) b → IsInterruption e
       → Fetches R a [] (Ok true) b
-  fetches_again {b = b} room {e = e} law again =
-      record { took = Took-again law.takes again; calls = by_call (Gave room (Err e)) law (again, tt) }
+  fetches_again room {e} law again = fetches_one (Gave room (Err e)) law (Took-again law.takes again) (again, tt)
 
   pub fetches_end : {a b : X} (room : ℕ) → GaveLaw (as_reader R) a room (Ok []) b → 0 < room → Fetches R a [] (Ok false) b
-  fetches_end {b = b} room law some = record {
-    took = Took-end law.takes (law.end refl some);
-    calls = by_call (Gave room (Ok [])) law ([], _, tt, refl, inr (room, refl));
-  }
+  fetches_end room law some =
+      fetches_one (Gave room (Ok [])) law (Took-end law.takes (law.end refl some)) ([], _, tt, refl, inr (room, refl))
 
   pub fetches_fault : {a b : X} (room : ℕ) {e : Error} → GaveLaw (as_reader R) a room (Err e) b → IsFault e → Fetches R a [] (Err e) b
-  fetches_fault {b = b} room law fault =
-      record { took = Took-fault law.takes fault; calls = by_call (Gave room (Err _)) law ([], _, tt, refl, inr (room, refl)) }
+  fetches_fault room {e} law fault =
+      fetches_one (Gave room (Err e)) law (Took-fault law.takes fault) ([], _, tt, refl, inr (room, refl))
 
   -- one `fill_buf`, and perhaps a `consume`
   pub fetches_lent : {a b c : X} (y : List ℕ) (n : ℕ) → FilledLaw R a (Ok y) b → 0 < length y → (n ≤ length (R.held b)) × ConsumeLaw R b n c
@@ -71,18 +69,14 @@ module _ {X : Type 0} {R : Lender X} where
   }
 
   pub fetches_waited : {a b : X} {e : Error} → FilledLaw R a (Err e) b → IsInterruption e → Fetches R a [] (Ok true) b
-  fetches_waited {b = b} {e = e} filled again =
-      record { took = Took-again filled.takes again; calls = by_call (Filled (Err e)) filled (again, tt) }
+  fetches_waited {e = e} filled again = fetches_one (Filled (Err e)) filled (Took-again filled.takes again) (again, tt)
 
   pub fetches_lent_end : {a b : X} → FilledLaw R a (Ok []) b → Fetches R a [] (Ok false) b
-  fetches_lent_end {b = b} filled = record {
-    took = Took-end filled.takes (filled.end refl);
-    calls = by_call (Filled (Ok [])) filled ([], _, tt, refl, inl refl);
-  }
+  fetches_lent_end filled = fetches_one (Filled (Ok [])) filled (Took-end filled.takes (filled.end refl)) ([], _, tt, refl, inl refl)
 
   pub fetches_lent_fault : {a b : X} {e : Error} → FilledLaw R a (Err e) b → IsFault e → Fetches R a [] (Err e) b
-  fetches_lent_fault {b = b} filled fault =
-      record { took = Took-fault filled.takes fault; calls = by_call (Filled (Err _)) filled ([], _, tt, refl, inl refl) }
+  fetches_lent_fault {e = e} filled fault =
+      fetches_one (Filled (Err e)) filled (Took-fault filled.takes fault) ([], _, tt, refl, inl refl)
 
   -- the calls of a `skip`
   pub fetches_portions : {a : X} {n : ℕ} {C : List ReadCall} {x : List ℕ} → PortionCalls n C x → (b : X) → Made (LendCallLaw R) a C b
@@ -90,12 +84,10 @@ module _ {X : Type 0} {R : Lender X} where
   fetches_portions no_portion b made = fetches_none made
   fetches_portions {a} (and_portion C x y k so_far more some is) b made =
       let parts = made_split (LendCallLaw R) C a (Filled (Ok y) ∷ Consumed k ∷ []) b made in
-      subst (Fetches R a (x ++ take k y) (Ok true)) (sym parts.2.2.2)
-      (fetches_then (fetches_portions so_far parts.0 parts.1) (fetches_lent y k parts.2.1 some parts.2.2.1))
+      rw parts.2.2.2 (fetches_then (fetches_portions so_far parts.0 parts.1) (fetches_lent y k parts.2.1 some parts.2.2.1))
   fetches_portions {a} (and_waited C x e so_far more again) b made =
       let parts = made_split (LendCallLaw R) C a (Filled (Err e) ∷ []) b made in
-      subst (Fetches R a x (Ok true)) (sym parts.2.2)
-      (rw append-nil at (fetches_then (fetches_portions so_far parts.0 parts.1) (fetches_waited parts.2.1 again)))
+      rw parts.2.2 (rw append-nil at (fetches_then (fetches_portions so_far parts.0 parts.1) (fetches_waited parts.2.1 again)))
 
   pub fetches_portions_until : {a : X} {n : ℕ} {C : List ReadCall} {x : List ℕ} {answer : Result (List ℕ) Error}
       (how : Result Bool Error) (b : X) → ((c : X) → FilledLaw R c answer b → Fetches R c [] how b)
@@ -110,12 +102,10 @@ module _ {X : Type 0} {R : Lender X} where
   fetches_reads no_read b made = fetches_none made
   fetches_reads {a} (and_gave C x y room so_far into some) b made =
       let parts = made_split (ReadCallLaw (as_reader R)) C a (Gave room (Ok y) ∷ []) b made in
-      subst (Fetches R a (x ++ y) (Ok true)) (sym parts.2.2)
-      (fetches_then (fetches_reads so_far parts.0 parts.1) (fetches_gave room y parts.2.1 some))
+      rw parts.2.2 (fetches_then (fetches_reads so_far parts.0 parts.1) (fetches_gave room y parts.2.1 some))
   fetches_reads {a} (and_again C x room e so_far into again) b made =
       let parts = made_split (ReadCallLaw (as_reader R)) C a (Gave room (Err e) ∷ []) b made in
-      subst (Fetches R a x (Ok true)) (sym parts.2.2)
-      (rw append-nil at (fetches_then (fetches_reads so_far parts.0 parts.1) (fetches_again room parts.2.1 again)))
+      rw parts.2.2 (rw append-nil at (fetches_then (fetches_reads so_far parts.0 parts.1) (fetches_again room parts.2.1 again)))
 
   pub fetches_until : {a : X} {asks : ℕ → ℕ → Type 0} {C : List ReadCall} {x : List ℕ} {answer : Result (List ℕ) Error}
       (how : Result Bool Error) (b : X)

@@ -45,15 +45,12 @@ module _ {X Y : Type 0} {R : Lender X} {R' : Lender Y} {put : X → Y} (through 
       → P (tells (as_reader R') (put a)) (tells (as_reader R') (put b))
   lend_between P holds = between through.reads a b P holds
 
-  consumed_through : (n : ℕ) → ConsumeLaw R a n b → ConsumeLaw R' (put a) n (put b)
-  consumed_through n law = grind (arith, common_steps)
-
   lend_through : (call : ReadCall) → LendCallLaw R a call b → LendCallLaw R' (put a) call (put b)
   lend_through x1 law = grind (arith, common_steps)
 
 module _ {X Y : Type 0} {R : Lender X} {R' : Lender Y} (put : X → Y) (through : PassesLends R R' put) {a b : X} where
   pub consume_through : {n : ℕ} → ConsumeLaw R a n b → ConsumeLaw R' (put a) n (put b)
-  consume_through {n} law = consumed_through through a b n law
+  consume_through {n} law = grind (arith, common_steps)
 
   pub loan_through : (reply : Result (Bor (List ℕ)) Error) → AfterLoan R a reply b → AfterLoan R' (put a) reply (put b)
   loan_through reply after = grind (arith, common_steps)
@@ -73,13 +70,11 @@ pub wrote_through : {W V : Type 0} (told : V → Told) (takes_all : V → Type 0
     → CallLaw told takes_all may' (put a) call (put b)
 wrote_through told takes_all may may' put each a b x9 law = grind (arith, common_steps)
 
-module _ {W V : Type 0} {told : V → Told} {takes_all : V → Type 0} {may : W → WriteCall → W → Type 0} {may' : V → WriteCall → V → Type 0}
-    (put : W → V) (each : (a b : W) (call : WriteCall) → may a call b → may' (put a) call (put b)) where
-  pub write_all_through : {a b : W} {x : List ℕ} {reply : Result (Unit {0}) Error}
-      → WriteAllLaw (λ w. told (put w)) (λ w. takes_all (put w)) may a x reply b
-      → WriteAllLaw told takes_all may' (put a) x reply (put b)
-  write_all_through {a} {b} law =
-      search (arith, rules, made_map, wrote_through)
+pub write_all_through : {W V : Type 0} {told : V → Told} {takes_all : V → Type 0} {may : W → WriteCall → W → Type 0}
+    {may' : V → WriteCall → V → Type 0} (put : W → V) → ((a b : W) (call : WriteCall) → may a call b → may' (put a) call (put b))
+    → {a b : W} {x : List ℕ} {reply : Result (Unit {0}) Error} → WriteAllLaw (λ w. told (put w)) (λ w. takes_all (put w)) may a x reply b
+    → WriteAllLaw told takes_all may' (put a) x reply (put b)
+write_all_through put each {a} {b} law = search (arith, rules, made_map, wrote_through)
 
 -- a wrapper that passes each call on to a part of it, and leaves the rest as it is
 passed_on : {W V A : Type 0} {may : W → A → W → Type 0} {get : V → W} {put : V → W → V} (old : V) → ((w : W) → get (put old w) ≡ w)
@@ -102,36 +97,36 @@ module _ {W V : Type 0} {told : V → Told} {takes_all : V → Type 0} {may : W 
       all.calls
 
 -- its `read_exact` and its `read_to_end`
-module _ {W V : Type 0} {store : V → Option Store} {turns : V → ℕ} {events : V → Option (List Event)} {may : W → ReadCall → W → Type 0}
-    {get : V → W} {put : V → W → V} where
-  pub passes_read_exact : {old new : V} {buf buf' : List ℕ} {reply : Result (Unit {0}) Error}
-      → ReadExactLaw
-      (record { store = λ w. store (put old w); turns = λ w. turns (put old w); events = λ w. events (put old w); may = may })
-      (get old) buf reply buf' (get new)
-      → put old (get old) ≡ old → put old (get new) ≡ new → ((w : W) → get (put old w) ≡ w)
-      → ((w u : W) → put (put old w) u ≡ put old u)
-      → ReadExactLaw (record { store = store; turns = turns; events = events; may = PartMay may get put }) old buf reply buf' new
-  passes_read_exact {old} {new} {buf} {buf'} {reply} law was is back twice =
-      let whole : Reader V = record { store = store; turns = turns; events = events; may = PartMay may get put } in
-      let part : Reader W =
-      record { store = λ w. store (put old w); turns = λ w. turns (put old w); events = λ w. events (put old w); may = may } in
-      let through : PassesReads part whole (put old) = record { told = λ w. refl; may = passed_on old back twice } in
-      subst (λ v. ReadExactLaw whole v buf reply buf' new) was
-      (subst (λ v. ReadExactLaw whole (put old (get old)) buf reply buf' v) is (exact_through {R = part} {R' = whole}
-      (put old) through law))
+module _ {W V : Type 0} {store : V → Option Store} {turns : V → ℕ} {events : V → Option (List Event)} where
+  module _ {may : W → ReadCall → W → Type 0} {get : V → W} {put : V → W → V} where
+    pub passes_read_exact : {old new : V} {buf buf' : List ℕ} {reply : Result (Unit {0}) Error}
+        → ReadExactLaw
+        (record { store = λ w. store (put old w); turns = λ w. turns (put old w); events = λ w. events (put old w); may = may })
+        (get old) buf reply buf' (get new)
+        → put old (get old) ≡ old → put old (get new) ≡ new → ((w : W) → get (put old w) ≡ w)
+        → ((w u : W) → put (put old w) u ≡ put old u)
+        → ReadExactLaw (record { store = store; turns = turns; events = events; may = PartMay may get put }) old buf reply buf' new
+    passes_read_exact {old} {new} {buf} {buf'} {reply} law was is back twice =
+        let whole : Reader V = record { store = store; turns = turns; events = events; may = PartMay may get put } in
+        let part : Reader W =
+        record { store = λ w. store (put old w); turns = λ w. turns (put old w); events = λ w. events (put old w); may = may } in
+        let through : PassesReads part whole (put old) = record { told = λ w. refl; may = passed_on old back twice } in
+        subst (λ v. ReadExactLaw whole v buf reply buf' new) was
+        (subst (λ v. ReadExactLaw whole (put old (get old)) buf reply buf' v) is (exact_through {R = part} {R' = whole}
+        (put old) through law))
 
-  pub passes_read_to_end : {A : Type 0} {lacks : ℕ → Type 0} {old new : V} {buf buf' : Vec ℕ A} {reply : Result ℕ Error}
-      → ToEndLaw lacks
-      (record { store = λ w. store (put old w); turns = λ w. turns (put old w); events = λ w. events (put old w); may = may })
-      (get old) buf reply buf' (get new)
-      → put old (get old) ≡ old → put old (get new) ≡ new → ((w : W) → get (put old w) ≡ w)
-      → ((w u : W) → put (put old w) u ≡ put old u)
-      → ToEndLaw lacks (record { store = store; turns = turns; events = events; may = PartMay may get put }) old buf reply buf' new
-  passes_read_to_end {lacks = lacks} {old} {new} {buf} {buf'} {reply} law was is back twice =
-      let whole : Reader V = record { store = store; turns = turns; events = events; may = PartMay may get put } in
-      let part : Reader W =
-      record { store = λ w. store (put old w); turns = λ w. turns (put old w); events = λ w. events (put old w); may = may } in
-      let through : PassesReads part whole (put old) = record { told = λ w. refl; may = passed_on old back twice } in
-      subst (λ v. ToEndLaw lacks whole v buf reply buf' new) was
-      (subst (λ v. ToEndLaw lacks whole (put old (get old)) buf reply buf' v) is (drained_through {R = part} {R' = whole}
-      (put old) through law))
+    pub passes_read_to_end : {A : Type 0} {lacks : ℕ → Type 0} {old new : V} {buf buf' : Vec ℕ A} {reply : Result ℕ Error}
+        → ToEndLaw lacks
+        (record { store = λ w. store (put old w); turns = λ w. turns (put old w); events = λ w. events (put old w); may = may })
+        (get old) buf reply buf' (get new)
+        → put old (get old) ≡ old → put old (get new) ≡ new → ((w : W) → get (put old w) ≡ w)
+        → ((w u : W) → put (put old w) u ≡ put old u)
+        → ToEndLaw lacks (record { store = store; turns = turns; events = events; may = PartMay may get put }) old buf reply buf' new
+    passes_read_to_end {lacks = lacks} {old} {new} {buf} {buf'} {reply} law was is back twice =
+        let whole : Reader V = record { store = store; turns = turns; events = events; may = PartMay may get put } in
+        let part : Reader W =
+        record { store = λ w. store (put old w); turns = λ w. turns (put old w); events = λ w. events (put old w); may = may } in
+        let through : PassesReads part whole (put old) = record { told = λ w. refl; may = passed_on old back twice } in
+        subst (λ v. ToEndLaw lacks whole v buf reply buf' new) was
+        (subst (λ v. ToEndLaw lacks whole (put old (get old)) buf reply buf' v) is (drained_through {R = part} {R' = whole}
+        (put old) through law))

@@ -167,9 +167,7 @@ module _ {X T : Type 0} {R : Lender X} {old new : X} {view : T → List ℕ} {tr
         where
           by_read : (read : Result ℕ Error) (after : List Event) → YieldsRead view trim refuses (bytes law.taken) read (Some (Ok item))
               → GivenRead d E (bytes law.taken) read after → (view item ≡ trim (bytes law.taken)) × GivesNext d E (bytes law.taken) after
-          by_read (Ok n) after yields (inl given) = (yields.1, given.1)
-          by_read (Ok n) after yields (inr given) = absurd (omega (arith, yields.0, given.0))
-          by_read (Err e) after yields given = absurd (let no : ⊥ = cc in no)
+          by_read x1 after yields given = grind (arith, common_steps)
 
       -- after the last item there is no piece, and no fault
       pub next_none : NextPieceLaw R old view trim refuses d None new → GivesNone d E
@@ -179,9 +177,7 @@ module _ {X T : Type 0} {R : Lender X} {old new : X} {view : T → List ℕ} {tr
         where
           by_read : (read : Result ℕ Error) (after : List Event) → YieldsRead view trim refuses (bytes law.taken) read None
               → GivenRead d E (bytes law.taken) read after → GivesNone d E
-          by_read (Ok n) after yields (inl given) = absurd (omega (arith, yields, given.0))
-          by_read (Ok n) after yields (inr given) = given.1
-          by_read (Err e) after yields given = absurd (let no : ⊥ = cc in no)
+          by_read x1 after yields given = grind (arith, common_steps)
 
       -- an error is the first fault, before which there is no piece; or it refuses the next piece;
       -- or memory was refused, and a byte was to come
@@ -197,7 +193,4 @@ module _ {X T : Type 0} {R : Lender X} {old new : X} {view : T → List ℕ} {tr
               → GivenRead d E (bytes law.taken) read after → ((pieces_given d E ≡ []) × (first_fault E ≡ Some e))
               ⊎ (((piece : List ℕ) × (after : List Event) × GivesNext d E piece after × refuses piece e)
               ⊎ (IsOutOfMemory e × (0 < length (bytes_to_fault E))))
-          by_read (Ok n) after yields (inl given) = inr (inl (bytes law.taken, after, given.1, yields.1))
-          by_read (Ok n) after yields (inr given) = absurd (omega (arith, yields.0, given.0))
-          by_read (Err f) after yields (inl given) = let same : f ≡ e = cc in inl (given.0, given.1 ∙ ap Some same)
-          by_read (Err f) after yields (inr given) = let same : f ≡ e = cc in inr (inr (subst IsOutOfMemory same given.0, given.1))
+          by_read x1 after yields given = grind (arith, common_steps)

@@ -1,17 +1,14 @@
 -- What a call gives if the bytes x are the next to come.
-use Rattle.no_std_io2_base.proofs.EventLemmas.{events_of-append, bytes-events_of, bytes-behind, cut-bytes}
-use Rattle.no_std_io2_base.proofs.EventLemmas.{cut-append, HasNoFault-front, HasNoFault-behind, HasNoFault-events_of}
-use Rattle.no_std_io2_base.proofs.LimitLemmas.{cut-within}
-use Rattle.std.proofs.Common.{◌≤◌, take, drop, take-append-drop, length-take-le, append_assoc, ◌≡◌, ◌+◌, ◌-◌, ◌<◌, ℕ, List, ◌∷◌, ◌++◌, []}
-use Rattle.std.proofs.Common.{length, Result, Ok, Err, IfSome, IsOk, Some, inl, inr, ap, sym, ◌∙◌, subst, arith, append-nil}
-use Rattle.std.proofs.{Common.{length-append}, lemmas.Grind.{common_steps}, lemmas.List.{append_cancel_left}}
-use Rattle.no_std_io2_base.specs.{declared.error.Error.{Error}, Events.{Event, bytes, cut, events_of, fails, HasNoFault, EndsInFault}}
-use Rattle.no_std_io2_base.specs.{Takes.{Tells, Takes, to_come}, Read.{Reader, tells, ReadExactLaw, AllOrNone, FillsOrEnds, gave_whole}}
+use Rattle.no_std_io2_base.proofs.EventLemmas.{events_of-append, bytes-events_of, bytes-behind, cut-bytes, cut-append, HasNoFault-front}
+use Rattle.no_std_io2_base.proofs.{EventLemmas.{HasNoFault-behind, HasNoFault-events_of, bytes-cut}, LimitLemmas.{cut-within}}
 use Rattle.no_std_io2_base.proofs.TakesLemmas.{all_taken, left_of, front_taken, TakesBytes-then}
-use Rattle.no_std_io2_base.proofs.EventLemmas.{bytes-cut}
-use Rattle.no_std_io2_base.specs.{Read.{ReadFullLaw}, Takes.{TakesBytes}}
-use Rattle.std.proofs.Common.{length-take, ⊎_elim, refl}
-use Rattle.std.proofs.{lemmas.Bool.{cases_lt}, Math.Seq.{take-append_seam}}
+use Rattle.std.proofs.Common.{◌≤◌, take, drop, take-append-drop, length-take-le, append_assoc, ◌≡◌, ◌+◌, ◌-◌, ◌<◌, ℕ, List, ◌∷◌, ◌++◌, []}
+use Rattle.std.proofs.Common.{length, Result, Ok, Err, IfSome, IsOk, Some, inl, inr, ap, sym, ◌∙◌, subst, arith, append-nil, length-append}
+use Rattle.std.proofs.{Common.{length-take, ⊎_elim, refl}, lemmas.{Grind.{common_steps}, List.{append_cancel_left}, Bool.{cases_lt}}}
+use Rattle.std.proofs.Math.Seq.{take-append_seam}
+use Rattle.no_std_io2_base.specs.{declared.error.Error.{Error}, Events.{Event, bytes, cut, events_of, fails, HasNoFault, EndsInFault}}
+use Rattle.no_std_io2_base.specs.{Takes.{Tells, Takes, to_come, TakesBytes}, Read.{Reader, tells, ReadExactLaw, AllOrNone, FillsOrEnds}}
+use Rattle.no_std_io2_base.specs.Read.{gave_whole, ReadFullLaw}
 
 -- cut right after the bytes x, only these are left
 cut_behind : (x : List ℕ) (rest : List Event) → cut (length x) (events_of x ++ rest) ≡ events_of x

@@ -1,13 +1,12 @@
 -- What a `Take` takes, its inner reader takes.
 use Rattle.std.proofs.{lemmas.Grind.{common_steps}, Common.{◌≡◌, ℕ, zero, suc, ◌+◌, ◌-◌, ◌<◌, ◌≤◌, min, List, [], ◌∷◌, ◌++◌, Result, Ok}}
 use Rattle.std.proofs.Common.{IsOkAnd, IfSome, length, take, drop, refl, sym, ap, subst, ◌∙◌, arith, Option, None, Some, inl, inr}
-use Rattle.std.proofs.{Common.{length-append, length-take, length-take-le, length-drop}, lemmas.Bool.{cases_lt}, lemmas.List.{drop-take}}
-use Rattle.no_std_io2_base.specs.{declared.error.Error.{Error}, declared.traits.take.Take.{Take}, Events.{Event, byte, fails, events_of}}
-use Rattle.no_std_io2_base.specs.{Events.{bytes, cut, BeginsWith}, Takes.{Takes, AreTaken}, Read.{Reader, tells, ReadCall, Gave, Filled}}
-use Rattle.no_std_io2_base.specs.Read.{Consumed, ReadCallLaw, GaveLaw, ReadLaw, gave, bytes_given, answered, fault_of}
-use Rattle.no_std_io2_base.specs.{ReadMeter.{FillsRoom}, BufRead.{Lender, as_reader, lender_tells, ConsumeLaw}, Take.{limit_held}}
-use Rattle.no_std_io2_base.specs.Take.{limit_inner, limit_left, limit_set, limit_events, cut_to_come, lent_within, LimitTakes, LimitAsks}
-use Rattle.no_std_io2_base.specs.Take.{LimitMay}
+use Rattle.std.proofs.{Common.{length-append, length-take, length-take-le, length-drop}, lemmas.{Bool.{cases_lt}, List.{drop-take}}}
+use Rattle.no_std_io2_base.specs.{declared.{error.Error.{Error}, traits.take.Take.{Take}}, Events.{Event, byte, fails, events_of, bytes}}
+use Rattle.no_std_io2_base.specs.{Events.{cut, BeginsWith}, Takes.{Takes, AreTaken}, Read.{Reader, tells, ReadCall, Gave, Filled, Consumed}}
+use Rattle.no_std_io2_base.specs.{Read.{ReadCallLaw, GaveLaw, ReadLaw, gave, bytes_given, answered, fault_of}, ReadMeter.{FillsRoom}}
+use Rattle.no_std_io2_base.specs.{BufRead.{Lender, as_reader, lender_tells, ConsumeLaw}, Take.{limit_held, limit_inner, limit_left}}
+use Rattle.no_std_io2_base.specs.Take.{limit_set, limit_events, cut_to_come, lent_within, LimitTakes, LimitAsks, LimitMay}
 use Rattle.no_std_io2_base.proofs.{EventLemmas.{bytes-append, bytes-events_of}, FillBufHeld.{begins_cut}, TakesLemmas.{takes_then}}
 use Rattle.no_std_io2_base.proofs.TakesLemmas.{cut-none, cut-fitting, cut-error, read_law, read_by, lend_law}
 use lib.Seq.{take-take}

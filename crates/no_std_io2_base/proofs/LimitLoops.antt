@@ -48,7 +48,7 @@ pub limit_fell : {T : Type 0} {inner : Reader T} {asks : ℕ → ℕ → Type 0}
     → ReadsSoFar (limit_reader inner) asks old x now
     → limit_left now + length x ≡ limit_left old
 limit_fell {inner = inner} {old = old} {now} reads =
-    let took = gathers_add (limit_each {inner = inner}) reads.gathers old now reads.made in omega (arith, took.1, took.2.limit)
+    let took = gathers_add (limit_each {inner = inner}) reads.made.are old now reads.made.made in omega (arith, took.1, took.2.limit)
 
 -- what the cut events lost, the inner events lost; or these are not told
 lost : (E E' : Option (List Event)) (k k' : ℕ) (P Q : List Event) → AreTaken (cut_to_come k E) P (cut_to_come k' E') → AreTaken E Q E'

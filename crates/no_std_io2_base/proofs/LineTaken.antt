@@ -2,10 +2,9 @@
 use Rattle.std.proofs.{lemmas.Grind.{common_steps}, Common.{◌≡◌, ℕ, ◌+◌, ◌<◌, ◌≤◌, ◌⊎◌, List, [], ◌∷◌, length, take, Ok, Bool, true}}
 use Rattle.std.proofs.Common.{Result, Err, String, string_bytes, string_len, string_capacity, Vec, refl, sym, ap, ◌∙◌, subst, arith}
 use Rattle.std.proofs.{Common.{le_refl, le_trans, IsUtf8, length-take-le, append-nil, ⊎_elim, inl, inr}, lemmas.Str.{IsUtf8-nil}}
-use Rattle.no_std_io2_base.specs.{declared.error.Error.{Error}, declared.error.ErrorKind.{ErrorKind}}
-use Rattle.no_std_io2_base.specs.{declared.error.ErrorKind.TheVariants.{OutOfMemory}, Errors.{error_kind, IsFault}, Events.{bytes}}
-use Rattle.no_std_io2_base.specs.{Events.{events_of, fails}, BufRead.{Lender, ConsumeLaw, FilledLaw, ReadUntilLaw, ReadLineLaw, line_room}}
-use Rattle.no_std_io2_base.specs.{BufRead.{text_room}, Pieces.{AnswersLine, FindsPiece, Follows, newline}}
+use Rattle.no_std_io2_base.specs.{declared.error.{Error.{Error}, ErrorKind.{ErrorKind, TheVariants.{OutOfMemory}}}, Errors.{error_kind}}
+use Rattle.no_std_io2_base.specs.{Errors.{IsFault}, Events.{bytes, events_of, fails}, BufRead.{Lender, ConsumeLaw, FilledLaw, ReadUntilLaw}}
+use Rattle.no_std_io2_base.specs.{BufRead.{ReadLineLaw, line_room, text_room}, Pieces.{AnswersLine, FindsPiece, Follows, newline}}
 use Rattle.no_std_io2_base.proofs.{EventLemmas.{bytes-events_of}, TextRoom.{room_lent, room_grown, text_answers}, PieceLoop.{PieceTaken}}
 use Rattle.no_std_io2_base.proofs.PieceLoop.{part_none, piece_whole, piece_faulted, piece_since}
 

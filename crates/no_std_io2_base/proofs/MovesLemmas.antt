@@ -1,13 +1,11 @@
 -- How calls of a writer follow one another.
-use Rattle.std.proofs.{lemmas.Grind.{common_steps}, Common.{◌≡◌, Result, Ok, Err, ℕ, ◌+◌, ◌≤◌, length, Bool, true, subst, List, [], ◌∷◌}}
-use Rattle.std.proofs.Common.{◌++◌, Option, None, Some, refl, sym, ap, ◌∙◌, arith, count_by, append_assoc, append-nil}
-use Rattle.std.proofs.{lemmas.List.Sums.{sum_by-append, sum_by-cons}, lemmas.Bool.Decides.{nat_tests}}
-use Rattle.no_std_io2_base.specs.{declared.error.ErrorKind.{ErrorKind}, declared.error.Error.{Error}, Write.{Told, IsFront, HasSpent}}
-use Rattle.no_std_io2_base.specs.Write.{Moves, MovesFront, MovesEach, Sends, call_mishap, zero_write}
+use Rattle.std.proofs.{lemmas.Grind.{common_steps, flat_map-append}, Common.{◌≡◌, Result, Ok, Err, ℕ, ◌+◌, ◌≤◌, length, Bool, true, subst}}
+use Rattle.std.proofs.Common.{List, [], ◌∷◌, ◌++◌, Option, None, Some, refl, sym, ap, ◌∙◌, arith, count_by, append_assoc, append-nil, ◌<◌}
+use Rattle.std.proofs.{Common.{take, drop, get_or, take-append-drop, flat_map}, lemmas.List.Sums.{sum_by-append, sum_by-cons}}
+use Rattle.std.proofs.lemmas.{Bool.Decides.{nat_tests}, List.{take_more, flat_map_more, append_cancel_left, Folds.{concat-append}}}
+use Rattle.no_std_io2_base.specs.{declared.error.{ErrorKind.{ErrorKind}, Error.{Error}}, Write.{Told, IsFront, HasSpent, Moves, MovesFront}}
+use Rattle.no_std_io2_base.specs.Write.{MovesEach, Sends, call_mishap, zero_write}
 use Rattle.std.specs.{List.{concat}, Result.{OnOk}}
-use Rattle.std.proofs.{lemmas.List.{take_more, flat_map_more, append_cancel_left}, lemmas.List.Folds.{concat-append}}
-use Rattle.std.proofs.lemmas.Grind.{flat_map-append}
-use Rattle.std.proofs.Common.{◌<◌, take, drop, get_or, take-append-drop, flat_map}
 
 -- what holds, holds after an `Ok`
 pub after_ok : {A E : Type 0} {P : Type 0} (reply : Result A E) → P → OnOk reply P

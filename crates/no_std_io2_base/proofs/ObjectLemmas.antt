@@ -1,19 +1,12 @@
 -- For callers that lend a value as a `&mut dyn`: the object refers to what was lent, and what is behind it is given back.
 use Rattle.std.proofs.Common.{◌≡◌, sym, ap, ℕ, Vec, Global}
 use base.Stored.{Gv}
-use denote.Builtin.{u8}
-use denote.RattleType.{RattleType}
-use denote.Ref.{MutBor}
-use denote.Param.Table.{Entry}
+use denote.{Builtin.{u8}, RattleType.{RattleType}, Ref.{MutBor}, Param.Table.{Entry}}
 use borrow.Pointer.Hide.{carry_nowᵐ, carried_sameᵐ}
-use Rattle.std.specs.contracts.vec.Vec.{the_row as vec-row}
-use Rattle.std.specs.contracts.collections.VecDeque.{the_row as deque-row}
-use Rattle.std.specs.contracts.boxed.BoxedSlice.{the_row as boxed-row}
-use Rattle.std.specs.contracts.alloc.Global.{the_row as global-row}
-use Rattle.std.specs.contracts.impls.GlobalAllocator.TheImpl.{ghosts}
-use Rattle.std.specs.declared.boxed.BoxedSlice.{BoxedSlice}
-use Rattle.no_std_io2_base.specs.contracts.cursor.Cursor.{the_row as cursor-row}
-use Rattle.no_std_io2_base.specs.declared.cursor.Cursor.{Cursor}
+use Rattle.std.specs.contracts.{vec.Vec.{the_row as vec-row}, collections.VecDeque.{the_row as deque-row}}
+use Rattle.std.specs.contracts.{boxed.BoxedSlice.{the_row as boxed-row}, alloc.Global.{the_row as global-row}}
+use Rattle.std.specs.{contracts.impls.GlobalAllocator.TheImpl.{ghosts}, declared.boxed.BoxedSlice.{BoxedSlice}}
+use Rattle.no_std_io2_base.specs.{contracts.cursor.Cursor.{the_row as cursor-row}, declared.cursor.Cursor.{Cursor}}
 
 -- an object refers to what was lent to it
 pub object_given : (G : Type 0 → Type 1) (C : Type 0) (e : Entry G C) (same : e ≡ e) (x : MutBor e.0.Denot)

@@ -70,25 +70,25 @@ piece_ends_behind lacks d P Q (Err e) takes free none ends =
     grind (arith, common_steps, bytes-append, ⊎_elim, EndsInFault-behind, HasNoFault-append, behind_both)
 
 -- A `fill_buf` of which nothing was consumed came before such a loop.
-module _ {X A : Type 0} {R : Lender X} {d : ℕ} {old now new : X} {buf buf' : Vec ℕ A} {reply : Result ℕ Error}
-    (until : ReadUntilLaw R now d buf reply buf' new) where
-  -- if it lent some bytes, the loop's first one lends the same and changes nothing, so both are as one
-  pub until_lent : {lent : List ℕ} → FilledLaw R old (Ok lent) now → 0 < length lent → ReadUntilLaw R old d buf reply buf' new
-  until_lent {lent} filled some =
-      search (arith, rules, piece_first, takes_then, piece_ends_behind)
+module _ {X A : Type 0} {R : Lender X} {d : ℕ} {old now new : X} {buf buf' : Vec ℕ A} {reply : Result ℕ Error} where
+  module _ (until : ReadUntilLaw R now d buf reply buf' new) where
+    -- if it lent some bytes, the loop's first one lends the same and changes nothing, so both are as one
+    pub until_lent : {lent : List ℕ} → FilledLaw R old (Ok lent) now → 0 < length lent → ReadUntilLaw R old d buf reply buf' new
+    until_lent {lent} filled some =
+        search (arith, rules, piece_first, takes_then, piece_ends_behind)
 
-  -- if it was interrupted, it is one more
-  pub until_waited : {e : Error} → FilledLaw R old (Err e) now → IsInterruption e → ReadUntilLaw R old d buf reply buf' new
-  until_waited {e} filled again = record {
-    taken = fails e ∷ until.taken;
-    takes = takes_then filled.takes until.takes;
-    appends = until.appends;
-    ends = piece_ends_behind (λ n. vec_capacity buf < vec_len buf + n) d (fails e ∷ []) until.taken reply filled.takes
-        (again, tt) refl until.ends;
-    capacity = until.capacity;
-    calls = record {
-      calls = Filled (Err e) ∷ until.calls.calls;
-      made = (now, filled, until.calls.made);
-      are = piece_waited (Unit {0}) d e until.calls.calls (bytes until.taken) reply again until.calls.are;
-    };
-  }
+    -- if it was interrupted, it is one more
+    pub until_waited : {e : Error} → FilledLaw R old (Err e) now → IsInterruption e → ReadUntilLaw R old d buf reply buf' new
+    until_waited {e} filled again = record {
+      taken = fails e ∷ until.taken;
+      takes = takes_then filled.takes until.takes;
+      appends = until.appends;
+      ends = piece_ends_behind (λ n. vec_capacity buf < vec_len buf + n) d (fails e ∷ []) until.taken reply filled.takes
+          (again, tt) refl until.ends;
+      capacity = until.capacity;
+      calls = record {
+        calls = Filled (Err e) ∷ until.calls.calls;
+        made = (now, filled, until.calls.made);
+        are = piece_waited (Unit {0}) d e until.calls.calls (bytes until.taken) reply again until.calls.are;
+      };
+    }

@@ -1,13 +1,10 @@
 -- The laws that determine the pieces of some bytes.
 use Rattle.std.proofs.{lemmas.Grind.{common_steps}, Common.{◌≡◌, ◌≢◌, ℕ, ◌==◌, true, false, Bool, if◌then◌else◌, List, [], ◌∷◌, ◌++◌}}
 use Rattle.std.proofs.Common.{length, refl, sym, ap, ◌∙◌, subst, arith, true≢false, eqb-true, eq-eqb, ne_eqb, suc-ne-zero, get_or, drop}
+use Rattle.std.proofs.{Common.{count_by, cond, ◌⊎◌, inl, inr}, lemmas.List.Sums.{sum_by-append, sum_by-cons}}
 use Rattle.std.specs.List.{concat}
-use Rattle.no_std_io2_base.specs.Pieces.{Lacks, ends_in, in_front, pieces, ArePieces}
-use Rattle.std.proofs.Common.{count_by, cond, ◌⊎◌, inl, inr}
-use Rattle.std.proofs.lemmas.List.Sums.{sum_by-append, sum_by-cons}
-use Rattle.no_std_io2_base.specs.Events.{Event, byte, bytes}
+use Rattle.no_std_io2_base.specs.{Pieces.{Lacks, ends_in, in_front, pieces, ArePieces, EndsPiece, EndsAt}, Events.{Event, byte, bytes}}
 use Rattle.no_std_io2_base.specs.Takes.{Tells, IsAll}
-use Rattle.no_std_io2_base.specs.Pieces.{EndsPiece, EndsAt}
 use Rattle.no_std_io2_base.proofs.EventLemmas.{bytes-append}
 
 -- the pieces if the first byte is d, and if it is not
@@ -42,10 +39,10 @@ none_only d ((c ∷ p) ∷ ps) h = absurd (suc-ne-zero _ (ap length h.joined))
 joined_rest : (b c : ℕ) (bs cs : List ℕ) → c ∷ cs ≡ b ∷ bs → (c ≡ b) × (cs ≡ bs)
 joined_rest b c bs cs h = (ap (λ l. get_or l 0 0) h, ap (drop 1) h)
 
--- one byte is one piece
-single : (d b : ℕ) (t : Bool) → (b == d) ≡ t → pieces d (b ∷ []) ≡ (b ∷ []) ∷ []
-single d b true e = pieces-at d b [] (eqb-true b d e)
-single d b false e = pieces-other d b [] (λ same. true≢false (sym (eq-eqb b d same) ∙ e))
+-- without its first byte, a longer piece begins the pieces of the rest
+rest_are : (d b c e : ℕ) (bs p : List ℕ) (ps : List (List ℕ)) → ArePieces d (b ∷ bs) ((c ∷ e ∷ p) ∷ ps) → ArePieces d bs ((e ∷ p) ∷ ps)
+rest_are d b c e bs p [] h = grind (arith, common_steps)
+rest_are d b c e bs p (q ∷ ps) h = grind (arith, common_steps)
 
 -- a list that keeps these laws is what `pieces` gives
 pub pieces_only : (d : ℕ) (bs : List ℕ) (ps : List (List ℕ)) → ArePieces d bs ps → ps ≡ pieces d bs
@@ -61,27 +58,10 @@ pieces_only d (b ∷ bs) ((c ∷ []) ∷ q ∷ ps) h =
     pieces_only d bs (q ∷ ps)
     (record { joined = is.1; none_empty = h.none_empty.1; ended = h.ended.1; nowhere_else = h.nowhere_else.1 }) in
     ap (λ l. (c ∷ []) ∷ l) rest ∙ ap (λ n. (n ∷ []) ∷ pieces d bs) is.0 ∙ sym (pieces-at d b bs (sym is.0 ∙ end))
-pieces_only d (b ∷ bs) ((c ∷ e ∷ p) ∷ []) h =
-    let is = joined_rest b c bs (e ∷ p ++ []) h.joined in
-    let differ : c ≢ d = h.nowhere_else.0.0 in
-    let rest =
-    pieces_only d bs ((e ∷ p) ∷ [])
-    (record { joined = is.1; none_empty = (omega arith, tt); ended = tt; nowhere_else = (h.nowhere_else.0.1, tt) })
-    in
-    ap (in_front c) rest ∙ ap (λ n. in_front n (pieces d bs)) is.0 ∙ sym (pieces-other d b bs (λ same. differ (is.0 ∙ same)))
-pieces_only d (b ∷ bs) ((c ∷ e ∷ p) ∷ q ∷ ps) h =
-    let is = joined_rest b c bs (e ∷ p ++ concat (q ∷ ps)) h.joined in
-    let differ : c ≢ d = h.nowhere_else.0.0 in
-    let rest =
-    pieces_only d bs ((e ∷ p) ∷ q ∷ ps)
-    (record {
-      joined = is.1;
-      none_empty = (omega arith, h.none_empty.1);
-      ended = h.ended;
-      nowhere_else = (h.nowhere_else.0.1, h.nowhere_else.1);
-    })
-    in
-    ap (in_front c) rest ∙ ap (λ n. in_front n (pieces d bs)) is.0 ∙ sym (pieces-other d b bs (λ same. differ (is.0 ∙ same)))
+pieces_only d (b ∷ bs) ((c ∷ e ∷ p) ∷ ps) h =
+    let is = joined_rest b c bs (e ∷ p ++ concat ps) h.joined in
+    ap (in_front c) (pieces_only d bs ((e ∷ p) ∷ ps) (rest_are d b c e bs p ps h)) ∙ ap (λ n. in_front n (pieces d bs)) is.0
+    ∙ sym (pieces-other d b bs (λ same. h.nowhere_else.0.0 (is.0 ∙ same)))
 
 -- the first piece ends at the first d
 pub pieces-first : (d : ℕ) (bs cs : List ℕ) → Lacks d bs → pieces d (bs ++ d ∷ cs) ≡ (bs ++ d ∷ []) ∷ pieces d cs

@@ -18,9 +18,31 @@ fill_law : {X : Type 0} {R : Lender X} {old new : X} (reply : Result (Bor (List 
     → AfterLoan R old reply new → FilledLaw R old (lent_bytes reply) new
 fill_law x1 law loan = grind (arith, common_steps)
 
+-- a `fill_buf` and its loan are a call, with the result as a `match` names it
 pub filled_law : {X : Type 0} {R : Lender X} {old new : X} {reply answer : Result (Bor (List ℕ)) Error} → reply ≡ answer
     → FillBufLaw R old reply → AfterLoan R old reply new → FilledLaw R old (lent_bytes answer) new
 filled_law {R = R} {old} {new} {reply} is law loan = subst (λ r. FilledLaw R old (lent_bytes r) new) is (fill_law reply law loan)
+
+-- a `fill_buf` lent some bytes, and a `consume` dropped the first n of them
+module _ {X : Type 0} {R : Lender X} {now after new : X} {lent : List ℕ} {n : ℕ} (filled : FilledLaw R now (Ok lent) after) where
+  module _ (within : n ≤ length lent) (dropped : ConsumeLaw R after n new) where
+    -- these were taken,
+    pub lent_taken : Takes (lender_tells R after) (events_of (take n lent)) (lender_tells R new)
+    lent_taken = subst (λ l. Takes (lender_tells R after) (events_of (take n l)) (lender_tells R new)) filled.lends dropped.takes
+
+    -- by two calls,
+    pub lent_calls : ByCalls (LendCallLaw R) now (λ C. C ≡ Filled (Ok lent) ∷ Consumed n ∷ []) new
+    lent_calls = record {
+      calls = _;
+      made = (after, filled, (new, (subst (λ l. n ≤ length l) (sym filled.lends) within, dropped), refl));
+      are = refl;
+    }
+
+    -- and if there were some, they spent a turn
+    pub lent_spends : 0 < n → R.turns new < R.turns now
+    lent_spends some =
+        let less = spends lent_taken (omega (arith, some, length-events_of (take n lent), length-take-le n lent within)) in
+        omega (arith, less, takes_turns filled.takes)
 
 -- why an allocation failed, in weaker words
 pub piece_since : {lacks lacks' : ℕ → Type 0} (d : ℕ) (old : Tells) (P : List Event) (read : Result ℕ Error)
@@ -92,16 +114,8 @@ module _ {X : Type 0} {R : Lender X} {d : ℕ} {old now after : X} {P : List Eve
 
     module _ {new : X} (dropped : ConsumeLaw R after n new) where
       -- the lent bytes that belong to the piece
-      taken : Takes (lender_tells R after) (events_of (take n lent)) (lender_tells R new)
-      taken = subst (λ l. Takes (lender_tells R after) (events_of (take n l)) (lender_tells R new)) filled.lends dropped.takes
-
       takes : Takes (lender_tells R old) (P ++ events_of (take n lent)) (lender_tells R new)
-      takes = takes_then (takes_still before.takes filled.takes) taken
-
-      lend : ByCalls (LendCallLaw R) now (λ C. C ≡ Filled (Ok lent) ∷ Consumed n ∷ []) new
-      lend =
-          let within = subst (λ l. n ≤ length l) (sym filled.lends) found.within in
-          record { calls = _; made = (after, filled, (new, (within, dropped), refl)); are = refl }
+      takes = takes_then (takes_still before.takes filled.takes) (lent_taken filled found.within dropped)
 
       no_fault : HasNoFault (P ++ events_of (take n lent))
       no_fault = HasNoFault-append P _ before.no_fault (HasNoFault-events_of (take n lent))
@@ -116,19 +130,11 @@ module _ {X : Type 0} {R : Lender X} {d : ℕ} {old now after : X} {P : List Eve
             takes = takes;
             no_fault = no_fault;
             lacks = subst (Lacks d) more (Lacks-append d (bytes P) (take n lent) before.lacks lacks);
-            calls = by_then before.calls lend (λ C D parts is. rw is
+            calls = by_then before.calls (lent_calls filled found.within dropped) (λ C D parts is. rw is
                 (subst (λ k. PartCalls d (C ++ Filled (Ok lent) ∷ Consumed k ∷ []) (bytes (P ++ events_of (take n lent)))) (sym all)
                 (subst (PartCalls d (C ++ Filled (Ok lent) ∷ Consumed (length lent) ∷ [])) (ap (λ l. bytes P ++ l) (sym whole) ∙ more)
                 (and_part C (bytes P) lent parts (omega (arith, some, all)) (subst (Lacks d) whole lacks)))));
           }
-
-      -- and a turn is spent
-      pub part_spends : is_whole ≡ false → R.turns new < R.turns now
-      part_spends going =
-          let some = (found.open_ended going).0 in
-          let long = length-events_of (take n lent) in
-          let less : R.turns new < R.turns after = spends taken (omega (arith, some, long, length-take-le n lent found.within)) in
-          omega (arith, less, takes_turns filled.takes)
 
       -- the bytes with the d end the piece; or there are none, at the end
       ended : EndsPiece d (take n lent) ⊎ (lent ≡ []) → EndsAt d (P ++ events_of (take n lent))
@@ -151,7 +157,7 @@ module _ {X : Type 0} {R : Lender X} {d : ℕ} {old now after : X} {P : List Eve
       piece_whole whole counts = record {
         takes = takes;
         ends = (no_fault, counts, ended (found.whole whole));
-        calls = by_then before.calls lend (λ C D parts is.
+        calls = by_then before.calls (lent_calls filled found.within dropped) (λ C D parts is.
             (C, bytes P, lent, n, parts, subst (FindsPiece d lent n) whole found, bytes-more P (take n lent), ap (λ l. C ++ l) is));
       }
 
@@ -196,22 +202,21 @@ module _ {X A : Type 0} {R : Lender X} {d : ℕ} {old now after : X} {buf xs : V
         until_law (piece_faulted before.part filled fault) before.capacity
         (before.gave ∙ ap (λ l. buf.items ++ l) (sym (bytes-fails before.taken e)))
 
-  module _ {lent : List ℕ} {n : ℕ} {is_whole : Bool} (filled : FilledLaw R now (Ok lent) after) (found : FindsPiece d lent n is_whole)
-      {v : Vec ℕ A} (grown : vec_capacity xs ≤ vec_capacity v) where
+  module _ {lent : List ℕ} {n : ℕ} {is_whole : Bool} (filled : FilledLaw R now (Ok lent) after) (found : FindsPiece d lent n is_whole) where
     -- so does a failed allocation
-    pub until_refused : {e : Error} → IsOutOfMemory e → v.items ≡ xs.items → vec_capacity xs < vec_len xs + length (take n lent)
-        → ReadUntilLaw R old d buf (Err e) v after
-    until_refused refused same full =
+    pub until_refused : {v : Vec ℕ A} {e : Error} → vec_capacity xs ≤ vec_capacity v → IsOutOfMemory e → v.items ≡ xs.items
+        → vec_capacity xs < vec_len xs + length (take n lent) → ReadUntilLaw R old d buf (Err e) v after
+    until_refused grown refused same full =
         let long : vec_len xs ≡ vec_len buf + length (bytes before.taken) =
         omega (arith, xs.ok.0, buf.ok.0, ap length before.gave, length-append buf.items (bytes before.taken)) in
         until_law (piece_refused before.part filled found refused (omega (arith, full, xs.ok.1))
         (omega (arith, full, long, before.capacity)))
         (le_trans before.capacity grown) (same ∙ before.gave)
 
-    module _ {new : X} (dropped : ConsumeLaw R after n new) (appended : v.items ≡ xs.items ++ take n lent) where
+    module _ {v : Vec ℕ A} {new : X} (grown : vec_capacity xs ≤ vec_capacity v) (dropped : ConsumeLaw R after n new) where
       -- after a part of the piece the loop continues
-      pub until_more : is_whole ≡ false → UntilSoFar R d old buf v new
-      until_more going = record {
+      pub until_more : v.items ≡ xs.items ++ take n lent → is_whole ≡ false → UntilSoFar R d old buf v new
+      until_more appended going = record {
         taken = before.taken ++ events_of (take n lent);
         part = part_more before.part filled found dropped going;
         capacity = le_trans before.capacity grown;
@@ -219,9 +224,9 @@ module _ {X A : Type 0} {R : Lender X} {d : ℕ} {old now after : X} {buf xs : V
       }
 
       -- the end of the piece ends it
-      pub until_whole : {start end : ℕ} → is_whole ≡ true → start ≡ vec_len buf → end ≡ vec_len v
+      pub until_whole : {start end : ℕ} → v.items ≡ xs.items ++ take n lent → is_whole ≡ true → start ≡ vec_len buf → end ≡ vec_len v
           → ReadUntilLaw R old d buf (Ok (end - start)) v new
-      until_whole {start} {end} whole from to =
+      until_whole {start} {end} appended whole from to =
           let all = bytes (before.taken ++ events_of (take n lent)) in
           let gave : v.items ≡ buf.items ++ all = gave_more buf.items before.taken (take n lent) before.gave appended in
           let counts : end - start ≡ length all =

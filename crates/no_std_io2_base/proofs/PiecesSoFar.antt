@@ -12,10 +12,6 @@ use Rattle.no_std_io2_base.proofs.GivenPieces.{until_given, GivesNext, GivesNone
 pub pieces_none : (d : ℕ) (t : Tells) → GivesPieces d t [] t
 pieces_none d t = grind (arith, common_steps)
 
--- the bytes of the pieces so far come first
-pub pieces_front : {d : ℕ} {a b : Tells} {ps : List (List ℕ)} → GivesPieces d a ps b → ComeFirst a (concat ps)
-pieces_front {d} {a} {b} {ps} gives = grind (arith, common_steps)
-
 -- if no byte was taken, what comes stays the same
 same_pieces : (d : ℕ) (E P after : List Event) → E ≡ P ++ after → HasNoFault P → bytes P ≡ [] → GivesFirst d E [] after
 same_pieces d E P after split free empty = grind (arith, common_steps, bytes_to_fault-append, first_fault-append)

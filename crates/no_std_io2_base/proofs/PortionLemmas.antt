@@ -1,13 +1,13 @@
 -- A loop that takes a number of bytes, by what its calls do, for any reader that lends.
-use Rattle.std.proofs.{lemmas.Grind.{common_steps}, Common.{◌≡◌, ℕ, ◌+◌, ◌-◌, ◌<◌, ◌≤◌, List, [], ◌∷◌, ◌++◌, Ok, Err, min, length, take}}
-use Rattle.std.proofs.Common.{refl, sym, ap, subst, ◌∙◌, arith, inl, inr, length-append, length-take-le}
+use Rattle.std.proofs.Common.{◌≡◌, ℕ, ◌+◌, ◌-◌, ◌<◌, ◌≤◌, List, [], ◌∷◌, ◌++◌, Ok, Err, min, length, take, refl, sym, ap, subst, ◌∙◌, arith}
+use Rattle.std.proofs.Common.{inl, inr, length-append, length-take-le}
 use Rattle.no_std_io2_base.specs.{declared.error.Error.{Error}, Errors.{IsFault, IsInterruption, IsUnexpectedEnd}, Events.{Event, fails}}
 use Rattle.no_std_io2_base.specs.{Events.{events_of, bytes, HasNoFault}, Takes.{Takes}, Read.{Filled, Consumed}, BufRead.{Lender}}
 use Rattle.no_std_io2_base.specs.{BufRead.{lender_tells, ConsumeLaw, FilledLaw, LendCallLaw}, Write.{ByCalls}, Passing.{PortionCalls}}
 use Rattle.no_std_io2_base.specs.Passing.{no_portion, and_portion, and_waited, Skipped}
 use Rattle.no_std_io2_base.proofs.{CallsLemmas.{by_more, by_then}, EventLemmas.{HasNoFault-append, HasNoFault-events_of}}
-use Rattle.no_std_io2_base.proofs.{EventLemmas.{length-events_of}, PieceLemmas.{bytes-more, bytes-fails}, TakesLemmas.{takes_none}}
-use Rattle.no_std_io2_base.proofs.TakesLemmas.{takes_then, takes_still, takes_turns, spends}
+use Rattle.no_std_io2_base.proofs.{PieceLemmas.{bytes-more, bytes-fails}, TakesLemmas.{takes_none, takes_then, takes_still}}
+use Rattle.no_std_io2_base.proofs.PieceLoop.{lent_taken, lent_calls, lent_spends}
 
 -- Of n bytes, `left` are still wanted; the others were taken, by these calls.
 pub record PortionsTaken {X : Type 0} (R : Lender X) (old : X) (n left : ℕ) (now : X) : Type 0 where
@@ -26,11 +26,6 @@ portions_none {R = R} {old} = record {
   count = omega arith;
   calls = record { calls = []; made = refl; are = no_portion };
 }
-
--- all were skipped
-pub skip_whole : {X : Type 0} {R : Lender X} {old now : X} {n left : ℕ} {done : Unit {0}} → PortionsTaken R old n left now → left ≡ 0
-    → Skipped R old n (Ok done) left now
-skip_whole before none = grind (arith, common_steps)
 
 module _ {X : Type 0} {R : Lender X} {old now : X} {n left : ℕ} (before : PortionsTaken R old n left now) (more : 0 < left) where
   -- some bytes are still wanted
@@ -75,35 +70,25 @@ module _ {X : Type 0} {R : Lender X} {old now : X} {n left : ℕ} (before : Port
           (λ C so_far. inr (end, (C, so_far, wanted, ap (λ l. C ++ Filled (Ok l) ∷ []) none)));
     }
 
-    module _ {len : ℕ} {new : X} (dropped : ConsumeLaw R after len new) (some : 0 < length lent)
-        (least : len ≡ min (length lent) left) where
-      within : length (take len lent) ≡ len
-      within = length-take-le len lent (omega (arith, least))
+    module _ {k : ℕ} {new : X} (dropped : ConsumeLaw R after k new) (some : 0 < length lent) (least : k ≡ min (length lent) left) where
+      fits : k ≤ length lent
+      fits = omega (arith, least)
 
-      -- the lent bytes that are wanted
-      taken : Takes (lender_tells R after) (events_of (take len lent)) (lender_tells R new)
-      taken = subst (λ l. Takes (lender_tells R after) (events_of (take len l)) (lender_tells R new)) filled.lends dropped.takes
-
-      -- are taken
-      pub portions_took : PortionsTaken R old n (left - len) new
+      -- the lent bytes that are wanted are taken
+      pub portions_took : PortionsTaken R old n (left - k) new
       portions_took =
-          let grown = bytes-more before.taken (take len lent) in
-          let fits = subst (λ l. len ≤ length l) (sym filled.lends) (omega (arith, least)) in
-          let lend : ByCalls (LendCallLaw R) now (λ C. C ≡ Filled (Ok lent) ∷ Consumed len ∷ []) new =
-          record { calls = _; made = (after, filled, (new, (fits, dropped), refl)); are = refl } in
+          let grown = bytes-more before.taken (take k lent) in
+          let long = ap length grown ∙ length-append (bytes before.taken) (take k lent) in
           record {
-            taken = before.taken ++ events_of (take len lent);
-            takes = takes_then (takes_still before.takes filled.takes) taken;
-            no_fault = HasNoFault-append before.taken _ before.no_fault (HasNoFault-events_of (take len lent));
-            count =
-                omega (arith, before.count, least, within, ap length grown, length-append (bytes before.taken) (take len lent));
-            calls = by_then before.calls lend (λ C D so_far is. rw is (subst (PortionCalls n (C ++ Filled (Ok lent) ∷ Consumed len ∷ []))
-                (sym grown) (and_portion C _ lent len so_far wanted some (omega (arith, least, before.count)))));
+            taken = before.taken ++ events_of (take k lent);
+            takes = takes_then (takes_still before.takes filled.takes) (lent_taken filled fits dropped);
+            no_fault = HasNoFault-append before.taken _ before.no_fault (HasNoFault-events_of (take k lent));
+            count = omega (arith, before.count, least, long, length-take-le k lent fits);
+            calls = by_then before.calls (lent_calls filled fits dropped) (λ C D so_far is. rw is
+                (subst (PortionCalls n (C ++ Filled (Ok lent) ∷ Consumed k ∷ [])) (sym grown)
+                (and_portion C _ lent k so_far wanted some (omega (arith, least, before.count)))));
           }
 
       -- and a turn is spent
       pub portion_spends : R.turns new < R.turns now
-      portion_spends =
-          let less : R.turns new < R.turns after =
-          spends taken (omega (arith, some, least, more, within, length-events_of (take len lent))) in
-          omega (arith, less, takes_turns filled.takes)
+      portion_spends = lent_spends filled fits dropped (omega (arith, some, least, more))

@@ -1,58 +1,44 @@
 -- What a loop of reads has done so far.
-use Rattle.std.proofs.Common.{◌≡◌, ℕ, List, [], ◌∷◌, ◌++◌, Result, Ok, Err, length, take, refl, arith, length-take-le}
+use Rattle.std.proofs.Common.{◌≡◌, ℕ, List, [], ◌++◌, Result, Ok, Err, length, take, refl, arith, length-take-le}
 use Rattle.no_std_io2_base.specs.{declared.error.Error.{Error}, Errors.{IsInterruption}, Takes.{TakesBytes}, Read.{Reader, tells, ReadLaw}}
-use Rattle.no_std_io2_base.specs.Read.{GaveLaw, ReadCallLaw, ReadCall, Gave, Gathers, no_read, and_gave, and_again, GathersUntil}
-use Rattle.no_std_io2_base.specs.Write.{Made, ByCalls}
-use Rattle.no_std_io2_base.proofs.{CallsLemmas.{made_more, by_more}, ReadExactExits.{some_bytes}, TakesLemmas.{takes_none, bytes_more}}
-use Rattle.no_std_io2_base.proofs.TakesLemmas.{bytes_still, read_law}
+use Rattle.no_std_io2_base.specs.{Read.{GaveLaw, ReadCallLaw, Gave, Gathers, no_read, and_gave, and_again, GathersUntil}, Write.{ByCalls}}
+use Rattle.no_std_io2_base.proofs.{CallsLemmas.{by_more}, ReadExactExits.{some_bytes}, TakesLemmas.{takes_none, bytes_more, bytes_still}}
+use Rattle.no_std_io2_base.proofs.TakesLemmas.{read_law}
 
 -- the bytes x were taken, by these reads
 pub record ReadsSoFar {S : Type 0} (R : Reader S) (asks : ℕ → ℕ → Type 0) (old : S) (x : List ℕ) (now : S) : Type 0 where
   pub took : TakesBytes (tells R old) x (tells R now)
   pub open took use *
-  pub calls : List ReadCall
-  pub made : Made (ReadCallLaw R) old calls now
-  pub gathers : Gathers asks calls x
+  pub made : ByCalls (ReadCallLaw R) old (λ C. Gathers asks C x) now
 
 -- no read yet
 unfoldable pub reads_none : {S : Type 0} {R : Reader S} {asks : ℕ → ℕ → Type 0} (old : S) → ReadsSoFar R asks old [] old
 reads_none {R = R} old = record {
   took = record { taken = []; takes = takes_none (tells R old); no_fault = tt; are = refl };
-  calls = [];
-  made = refl;
-  gathers = no_read;
+  made = record { calls = []; made = refl; are = no_read };
 }
 
--- these reads
-pub reads_made : {S : Type 0} {R : Reader S} {asks : ℕ → ℕ → Type 0} {old now : S} {x : List ℕ} → ReadsSoFar R asks old x now
-    → ByCalls (ReadCallLaw R) old (λ C. Gathers asks C x) now
-reads_made so_far = record { calls = so_far.calls; made = so_far.made; are = so_far.gathers }
+module _ {S : Type 0} {R : Reader S} {asks : ℕ → ℕ → Type 0} {old now new : S} {x : List ℕ} where
+  module _ (before : ReadsSoFar R asks old x now) where
+    -- a read gave some bytes more
+    unfoldable pub reads_more : {part ys : List ℕ} {n : ℕ} → ReadLaw R now part (Ok n) ys new → (n ≡ 0 → ⊥)
+        → asks (length x) (length ys) → ReadsSoFar R asks old (x ++ take n ys) new
+    reads_more {ys = ys} {n = n} read some into = record {
+      took = bytes_more (take n ys) before.took read.takes;
+      made = by_more before.made (Gave (length ys) (Ok (take n ys))) (read_law (Ok n) read) (λ C reads.
+          and_gave C x (take n ys) (length ys) reads into (omega (arith, length-take-le n ys read.bound, some_bytes n some)));
+    }
 
-module _ {S : Type 0} {R : Reader S} {asks : ℕ → ℕ → Type 0} {old now new : S} {x : List ℕ}
-    (before : ReadsSoFar R asks old x now) where
-  -- a read gave some bytes more
-  unfoldable pub reads_more : {part ys : List ℕ} {n : ℕ} → ReadLaw R now part (Ok n) ys new → (n ≡ 0 → ⊥) → asks (length x) (length ys)
-      → ReadsSoFar R asks old (x ++ take n ys) new
-  reads_more {ys = ys} {n = n} read some into = record {
-    took = bytes_more (take n ys) before.took read.takes;
-    calls = before.calls ++ Gave (length ys) (Ok (take n ys)) ∷ [];
-    made = made_more (ReadCallLaw R) before.calls old before.made (read_law (Ok n) read);
-    gathers = and_gave before.calls x (take n ys) (length ys) before.gathers into
-        (omega (arith, length-take-le n ys read.bound, some_bytes n some));
-  }
+    -- a read was interrupted
+    unfoldable pub reads_again : {part ys : List ℕ} {e : Error} → ReadLaw R now part (Err e) ys new → IsInterruption e
+        → asks (length x) (length ys) → ReadsSoFar R asks old x new
+    reads_again {ys = ys} {e = e} read interrupted into = record {
+      took = bytes_still before.took read.takes interrupted;
+      made = by_more before.made (Gave (length ys) (Err e)) (read_law (Err e) read) (λ C reads.
+          and_again C x (length ys) e reads into interrupted);
+    }
 
-  -- a read was interrupted
-  unfoldable pub reads_again : {part ys : List ℕ} {e : Error} → ReadLaw R now part (Err e) ys new → IsInterruption e
-      → asks (length x) (length ys) → ReadsSoFar R asks old x new
-  reads_again {ys = ys} {e = e} read interrupted into = record {
-    took = bytes_still before.took read.takes interrupted;
-    calls = before.calls ++ Gave (length ys) (Err e) ∷ [];
-    made = made_more (ReadCallLaw R) before.calls old before.made (read_law (Err e) read);
-    gathers = and_again before.calls x (length ys) e before.gathers into interrupted;
-  }
-
-  -- a read ended the loop
-  pub reads_until : {answer : Result (List ℕ) Error} {room : ℕ} → GaveLaw R now room answer new → asks (length x) room
-      → ByCalls (ReadCallLaw R) old (λ C. GathersUntil asks C x answer) new
-  reads_until {answer} {room} law into =
-      by_more (reads_made before) (Gave room answer) law (λ C gathers. (C, room, gathers, into, refl))
+    -- a read ended the loop
+    pub reads_until : {answer : Result (List ℕ) Error} {room : ℕ} → GaveLaw R now room answer new → asks (length x) room
+        → ByCalls (ReadCallLaw R) old (λ C. GathersUntil asks C x answer) new
+    reads_until {answer} {room} law into = by_more before.made (Gave room answer) law (λ C reads. (C, room, reads, into, refl))

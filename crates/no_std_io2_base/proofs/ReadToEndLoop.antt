@@ -3,12 +3,12 @@ use Rattle.std.proofs.{lemmas.Grind.{common_steps}, Common.{◌≡◌, ℕ, ◌+
 use Rattle.std.proofs.Common.{drop, refl, sym, ap, subst, ◌∙◌, arith, le_refl, le_trans, length-take, length-take-le, length-drop, Vec}
 use Rattle.std.proofs.Common.{vec_len, vec_capacity, inl, inr, append_assoc, append-nil, take_all, OnOk, IfOk, length-append}
 use Rattle.no_std_io2_base.specs.{declared.error.Error.{Error}, Errors.{IsInterruption, IsFault, IsOutOfMemory}, Events.{Event, fails}}
-use Rattle.no_std_io2_base.specs.{Events.{bytes}, Read.{Reader, tells, ReadLaw, ToEndLaw, ReadToEndLaw, IsRoom, no_read, GathersUntil}}
-use Rattle.no_std_io2_base.specs.Read.{DrainsOrStops, least_room, ended}
+use Rattle.no_std_io2_base.specs.{Events.{bytes, HasNoFault}, Read.{Reader, ReadLaw, ToEndLaw, ReadToEndLaw, IsRoom, no_read, GathersUntil}}
+use Rattle.no_std_io2_base.specs.{Read.{DrainsOrStops, least_room, ended}, Takes.{Tells}}
 use Rattle.no_std_io2_base.proofs.{CallsLemmas.{by_are, by_then}, EventLemmas.{bytes-append, HasNoFault-append}, ReadCalls.{to_end_then}}
-use Rattle.no_std_io2_base.proofs.{ReadLoop.{ReadsSoFar, reads_made, reads_none, reads_more, reads_again, reads_until}, ReadParts.{written}}
+use Rattle.no_std_io2_base.proofs.{ReadLoop.{ReadsSoFar, reads_none, reads_more, reads_again, reads_until}, ReadParts.{written}}
 use Rattle.no_std_io2_base.proofs.{ReadParts.{take-written, take-written_below}, TakesLemmas.{takes_none, takes_then, takes_still}}
-use Rattle.no_std_io2_base.proofs.TakesLemmas.{nothing_read, read_law}
+use Rattle.no_std_io2_base.proofs.TakesLemmas.{nothing_read, read_law, EndsInFault-behind}
 
 -- the bytes up to `filled` are what was taken
 pub record ToEndSoFar {S A : Type 0} (R : Reader S) (old : S) (buf : Vec ℕ A) (filled : ℕ) (buf' : Vec ℕ A) (now : S) : Type 0 where
@@ -21,17 +21,17 @@ pub record ToEndSoFar {S A : Type 0} (R : Reader S) (old : S) (buf : Vec ℕ A) 
   pub open reads use *
 
 -- Zeros were added after the filled bytes, and a read wrote `part` over them.
-pub record Wrote (filled len : ℕ) (was now part : List ℕ) : Type 0 where
+pub record PartWritten (filled len : ℕ) (was now part : List ℕ) : Type 0 where
   pub fits : filled + length part ≡ len
   pub some : 0 < length part
   pub kept : take filled now ≡ take filled was
   pub shown : (n : ℕ) → n ≤ length part → take (filled + n) now ≡ take filled was ++ take n part
 
 -- as the vector and its slice say it
-pub wrote : {filled len : ℕ} {slice items part was : List ℕ} → filled ≤ len → len ≡ length items → slice ≡ items
+pub wrote : {filled len : ℕ} {slice items part was : List ℕ} → len ≡ length items → slice ≡ items
     → length part ≡ length (take (length slice - filled) (drop filled slice)) → take filled items ≡ take filled was
-    → filled < len → Wrote filled len was (written len filled slice items part) part
-wrote {filled} {len} {slice} {items} {part} within long is room front opened =
+    → filled < len → PartWritten filled len was (written len filled slice items part) part
+wrote {filled} {len} {slice} {items} {part} long is room front opened =
     grind (arith, common_steps, length-take, length-drop, take-written_below, le_refl, take-written)
 
 -- before the first read nothing is taken
@@ -64,6 +64,34 @@ abbrev pub recount : Result ℕ Error → ℕ → Result ℕ Error
 recount (Ok n) k = Ok k
 recount (Err e) k = Err e
 
+pub ended_recount : (reply : Result ℕ Error) (k : ℕ) → ended (recount reply k) ≡ ended reply
+ended_recount x1 k = grind (arith, common_steps)
+
+-- The bytes of P were appended, and then those of Q.
+module _ {A : Type 0} (buf mid : Vec ℕ A) (P Q : List Event) (first : mid.items ≡ buf.items ++ bytes P) where
+  module _ (last : Vec ℕ A) (next : last.items ≡ mid.items ++ bytes Q) where
+    pub both_appended : last.items ≡ buf.items ++ bytes (P ++ Q)
+    both_appended = next ∙ ap (λ l. l ++ bytes Q) first ∙ append_assoc buf.items (bytes P) (bytes Q)
+        ∙ ap (λ l. buf.items ++ l) (sym (bytes-append P Q))
+
+    -- the result is their number
+    pub both_counted : (reply : Result ℕ Error) (k : ℕ) → OnOk reply (k ≡ vec_len last - vec_len buf)
+        → IfOk (recount reply k) (λ n. n ≡ length (bytes (P ++ Q)))
+    both_counted (Ok n) k is =
+        omega (arith, is, ap length both_appended, length-append buf.items (bytes (P ++ Q)), last.ok.0, buf.ok.0)
+    both_counted (Err e) k is = tt
+
+  -- and they end as Q does
+  pub both_ended : (reply : Result ℕ Error) (k : ℕ) (t : Tells) → HasNoFault P → vec_capacity buf ≤ vec_capacity mid
+      → DrainsOrStops (vec_capacity mid < vec_len mid + (length (bytes Q) + least_room)) Q reply t
+      → DrainsOrStops (vec_capacity buf < vec_len buf + (length (bytes (P ++ Q)) + least_room)) (P ++ Q) (recount reply k) t
+  both_ended (Ok n) k t free grown (none, end) = (HasNoFault-append P Q free none, end)
+  both_ended (Err e) k t free grown (inl fault) = inl (EndsInFault-behind P Q free fault)
+  both_ended (Err e) k t free grown (inr (none, refused, why)) =
+      let long = ap length (bytes-append P Q) ∙ length-append (bytes P) (bytes Q) in
+      let more = ap length first ∙ length-append buf.items (bytes P) in
+      inr (HasNoFault-append P Q free none, refused, omega (arith, why, grown, more, long, buf.ok.0, mid.ok.0))
+
 module _ {S A : Type 0} {R : Reader S} {old now : S} {buf xs : Vec ℕ A} {filled : ℕ} (before : ToEndSoFar R old buf filled xs now) where
   -- what was taken was appended
   given_bytes : {v : List ℕ} → v ≡ take filled xs.items → v ≡ buf.items ++ bytes before.taken
@@ -78,69 +106,33 @@ module _ {S A : Type 0} {R : Reader S} {old now : S} {buf xs : Vec ℕ A} {fille
   -- the room is full, and the reader's own `read_to_end` read on: k bytes in all
   pub rest_drained : {v : Vec ℕ A} {new : S} (reply : Result ℕ Error) (k : ℕ) → vec_len xs ≤ filled → ReadToEndLaw R now xs reply v new
       → OnOk reply (k ≡ vec_len v - vec_len buf) → ReadToEndLaw R old buf (recount reply k) v new
-  rest_drained {v} {new} reply k past last is = record {
-    taken = taken;
-    takes = takes_then before.takes last.takes;
-    appends = (gave, counts reply is);
-    ends = ends reply last.ends;
-    capacity = le_trans before.capacity last.capacity;
-    calls = by_then (reads_made before.reads) last.calls
-        (λ C D first all. rw (joined, sym (same reply)) (to_end_then (ended reply) first all));
-  }
-    where
-      taken : List Event
-      taken = before.taken ++ last.taken
-
-      joined : bytes taken ≡ before.given ++ bytes last.taken
-      joined = bytes-append before.taken last.taken ∙ ap (λ l. l ++ bytes last.taken) before.are
-
-      whole : xs.items ≡ take filled xs.items
-      whole = sym (take_all filled xs.items (omega (arith, past, xs.ok.0)))
-
-      gave : v.items ≡ buf.items ++ bytes taken
-      gave = last.appends.0 ∙ ap (λ l. l ++ bytes last.taken) (given_bytes whole)
-          ∙ append_assoc buf.items (bytes before.taken) (bytes last.taken)
-          ∙ ap (λ l. buf.items ++ l) (sym (bytes-append before.taken last.taken))
-
-      long : length (bytes taken) ≡ length (bytes before.taken) + length (bytes last.taken)
-      long = ap length (bytes-append before.taken last.taken) ∙ length-append (bytes before.taken) (bytes last.taken)
-
-      same : (reply : Result ℕ Error) → ended reply ≡ ended (recount reply k)
-      same (Ok n) = refl
-      same (Err e) = refl
-
-      counts : (reply : Result ℕ Error) → OnOk reply (k ≡ vec_len v - vec_len buf) → IfOk (recount reply k) (λ n. n ≡ length (bytes taken))
-      counts (Ok n) is = omega (arith, is, ap length gave, length-append buf.items (bytes taken), v.ok.0, buf.ok.0)
-      counts (Err e) is = tt
-
-      ends : (reply : Result ℕ Error)
-          → DrainsOrStops (vec_capacity xs < vec_len xs + (length (bytes last.taken) + least_room)) last.taken reply (tells R new)
-          → DrainsOrStops (vec_capacity buf < vec_len buf + (length (bytes taken) + least_room)) taken (recount reply k) (tells R new)
-      ends (Ok n) (none, end) = (HasNoFault-append before.taken last.taken before.no_fault none, end)
-      ends (Err e) (inl (Q, is, none, fault)) = inl (
-        before.taken ++ Q,
-        ap (λ l. before.taken ++ l) is ∙ sym (append_assoc before.taken Q (fails e ∷ [])),
-        HasNoFault-append before.taken Q before.no_fault none,
-        fault,
-      )
-      ends (Err e) (inr (none, refused, why)) = inr (
-        HasNoFault-append before.taken last.taken before.no_fault none,
-        refused,
-        omega (arith, why, before.capacity, before.count, before.within, past, long, ap length before.are),
-      )
+  rest_drained {v} {new} reply k past last is =
+      let P = before.taken in
+      let Q = last.taken in
+      let first = given_bytes (sym (take_all filled xs.items (omega (arith, past, xs.ok.0)))) in
+      let joined : bytes (P ++ Q) ≡ before.given ++ bytes Q = bytes-append P Q ∙ ap (λ l. l ++ bytes Q) before.are in
+      record {
+        taken = P ++ Q;
+        takes = takes_then before.takes last.takes;
+        appends = (both_appended buf xs P Q first v last.appends.0, both_counted buf xs P Q first v last.appends.0 reply k is);
+        ends = both_ended buf xs P Q first reply k _ before.no_fault before.capacity last.ends;
+        capacity = le_trans before.capacity last.capacity;
+        calls = by_then before.reads.made last.calls
+            (λ C D first all. rw (joined, ended_recount reply k) (to_end_then (ended reply) first all));
+      }
 
   module _ {new : S} {room part : List ℕ} where
     -- a read gave some bytes more
     pub to_end_read : {xs' : Vec ℕ A} {n : ℕ} → ReadLaw R now room (Ok n) part new → (n ≡ 0 → ⊥)
-        → Wrote filled (vec_len xs') xs.items xs'.items part
+        → PartWritten filled (vec_len xs') xs.items xs'.items part
         → vec_capacity xs ≤ vec_capacity xs' → ToEndSoFar R old buf (filled + n) xs' new
-    to_end_read {n = n} read some w grown = grind (arith, common_steps, le_trans, length-append, length-take-le, append_assoc, reads_more)
+    to_end_read {n = n} read some w grown = grind (arith, common_steps, le_trans, length-append, length-take-le, append_assoc, reads_more before.reads read some w.some)
 
     -- a read was interrupted
     pub to_end_interruption : {xs' : Vec ℕ A} {e : Error} → ReadLaw R now room (Err e) part new → IsInterruption e
-        → Wrote filled (vec_len xs') xs.items xs'.items part
+        → PartWritten filled (vec_len xs') xs.items xs'.items part
         → vec_capacity xs ≤ vec_capacity xs' → ToEndSoFar R old buf filled xs' new
-    to_end_interruption read interrupted w grown = grind (arith, common_steps, le_trans, reads_again)
+    to_end_interruption read interrupted w grown = grind (arith, common_steps, le_trans, reads_again before.reads read interrupted w.some)
 
     -- a read met the end
     pub to_end_done : {lacks : ℕ → Type 0} {v : Vec ℕ A} {reply : Result ℕ Error} {n start : ℕ} → ReadLaw R now room reply part new

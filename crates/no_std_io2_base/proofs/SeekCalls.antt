@@ -1,57 +1,21 @@
 -- The calls of a `stream_len`, and those of a reference, a box and a boxed object.
-use Rattle.std.proofs.{lemmas.Grind.{common_steps}, Common.{arith, ◌≡◌, ◌≢◌, ℕ, ℤ, pos, [], ◌∷◌, Result, Ok, Err, refl, subst}}
+use Rattle.std.proofs.{lemmas.Grind.{common_steps}, Common.{arith, ◌≡◌, ℕ, ℤ, pos, [], ◌∷◌, Result, Ok, refl, subst}}
 use Rattle.std.specs.declared.dyn_box.DynBox.{DynBox}
-use Rattle.no_std_io2_base.specs.{declared.error.Error.{Error}, declared.traits.seek.SeekFrom.{SeekFrom}}
-use Rattle.no_std_io2_base.specs.{declared.traits.seek.SeekFrom.TheVariants.{Start, End}, Seek.{SeekCall, Sought, Measured, LenCalls}}
-use Rattle.no_std_io2_base.specs.Seek.{measured, no_place, no_end, at_end, back, no_way_back, here, Seeker, SeekLaw, StreamPositionLaw}
-use Rattle.no_std_io2_base.specs.{Seek.{RewindLaw, StreamLenLaw, SeekRelativeLaw}, Write.{ByCalls, BoxMay}}
-use Rattle.no_std_io2_base.proofs.{CallsLemmas.{by_call}, BoxedObjects.{holding, in_box}}
+use Rattle.no_std_io2_base.specs.{declared.{error.Error.{Error}, traits.seek.SeekFrom.{SeekFrom, TheVariants.{End}}}, Seek.{SeekCall}}
+use Rattle.no_std_io2_base.specs.Seek.{Sought, Measured, LenCalls, measured, at_end, here, Seeker, SeekLaw, StreamPositionLaw, RewindLaw}
+use Rattle.no_std_io2_base.specs.{Seek.{StreamLenLaw, SeekRelativeLaw}, Write.{ByCalls, BoxMay}}
+use Rattle.no_std_io2_base.proofs.{CallsLemmas.{by_call, by_two}, BoxedObjects.{holding, in_box}}
 
 module _ {X : Type 0} (may : X → SeekCall → X → Type 0) {old new : X} where
   -- the `stream_len` of a type that has a body of its own for it
   pub len_measured : (reply : Result ℕ Error) → may old (Measured reply) new → ByCalls may old (λ C. LenCalls C reply) new
   len_measured reply call = by_call (Measured reply) call measured
 
-  -- the first failed
-  pub len_no_place : {e : Error} → may old (Sought here (Err e)) new → ByCalls may old (λ C. LenCalls C (Err e)) new
-  len_no_place {e} call = by_call (Sought here (Err e)) call no_place
-
-  -- the second failed
-  pub len_no_end : {mid : X} {n : ℕ} {e : Error} → may old (Sought here (Ok n)) mid → may mid (Sought (End (pos 0)) (Err e)) new
-      → ByCalls may old (λ C. LenCalls C (Err e)) new
-  len_no_end {mid} {n} {e} first call = record {
-    calls = Sought here (Ok n) ∷ Sought (End (pos 0)) (Err e) ∷ [];
-    made = (mid, first, (new, call, refl));
-    are = no_end;
-  }
-
   -- the position was at the end
   pub len_at_end : {mid : X} {n len : ℕ} → may old (Sought here (Ok n)) mid → may mid (Sought (End (pos 0)) (Ok len)) new → n ≡ len
       → ByCalls may old (λ C. LenCalls C (Ok len)) new
-  len_at_end {mid} {n} {len} first call there = record {
-    calls = Sought here (Ok n) ∷ Sought (End (pos 0)) (Ok len) ∷ [];
-    made = (mid, first, (new, call, refl));
-    are = subst (λ m. LenCalls (Sought here (Ok n) ∷ Sought (End (pos 0)) (Ok m) ∷ []) (Ok m)) there at_end;
-  }
-
-  -- it went back
-  pub len_back : {mid end : X} {n len at : ℕ} → may old (Sought here (Ok n)) mid → may mid (Sought (End (pos 0)) (Ok len)) end
-      → may end (Sought (Start n) (Ok at)) new → n ≢ len → ByCalls may old (λ C. LenCalls C (Ok len)) new
-  len_back {mid} {end} {n} {len} {at} first second call elsewhere = record {
-    calls = Sought here (Ok n) ∷ Sought (End (pos 0)) (Ok len) ∷ Sought (Start n) (Ok at) ∷ [];
-    made = (mid, first, (end, second, (new, call, refl)));
-    are = back elsewhere;
-  }
-
-  -- or that failed
-  pub len_no_way_back : {mid end : X} {n len : ℕ} {e : Error} → may old (Sought here (Ok n)) mid
-      → may mid (Sought (End (pos 0)) (Ok len)) end → may end (Sought (Start n) (Err e)) new → n ≢ len
-      → ByCalls may old (λ C. LenCalls C (Err e)) new
-  len_no_way_back {mid} {end} {n} {len} {e} first second call elsewhere = record {
-    calls = Sought here (Ok n) ∷ Sought (End (pos 0)) (Ok len) ∷ Sought (Start n) (Err e) ∷ [];
-    made = (mid, first, (end, second, (new, call, refl)));
-    are = no_way_back elsewhere;
-  }
+  len_at_end {n = n} first call there = by_two _ _ _ first call
+      (subst (λ m. LenCalls (Sought here (Ok n) ∷ Sought (End (pos 0)) (Ok m) ∷ []) (Ok m)) there at_end)
 
 -- S' tells the store of S, whose values are put into its own, and may make its calls
 pub record SeeksThrough {X Y : Type 0} (S : Seeker X) (S' : Seeker Y) (put : X → Y) : Type 0 where

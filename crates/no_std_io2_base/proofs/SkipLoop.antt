@@ -36,17 +36,16 @@ module _ {X : Type 0} {R : Lender X} {d : ℕ} {old now after : X} {skipped : �
     pub skip_fault : IsFault e → SkipUntilLaw R old d (Err e) after
     skip_fault fault = skip_law (Err e) refl (piece_faulted before.part filled fault)
 
-  module _ {lent : List ℕ} {n total : ℕ} {is_whole : Bool} (filled : FilledLaw R now (Ok lent) after)
-      (found : FindsPiece d lent n is_whole) {new : X} (dropped : ConsumeLaw R after n new)
-      (total_is : total ≡ min (skipped + n) (2 ^ 64 - 1)) where
-    -- the count
-    counted : total ≡ min (length (bytes (before.taken ++ events_of (take n lent)))) (2 ^ 64 - 1)
-    counted = grind (arith, common_steps, bytes-more, length-append, length-take-le)
+  module _ {lent : List ℕ} {n : ℕ} {is_whole : Bool} (filled : FilledLaw R now (Ok lent) after) (found : FindsPiece d lent n is_whole) where
+    module _ {total : ℕ} {new : X} (dropped : ConsumeLaw R after n new) (total_is : total ≡ min (skipped + n) (2 ^ 64 - 1)) where
+      -- the count
+      counted : total ≡ min (length (bytes (before.taken ++ events_of (take n lent)))) (2 ^ 64 - 1)
+      counted = grind (arith, common_steps, bytes-more, length-append, length-take-le)
 
-    -- after a part of the piece the loop continues
-    pub skip_more : is_whole ≡ false → SkipSoFar R d old total new
-    skip_more going = record { taken = _; part = part_more before.part filled found dropped going; count = counted }
+      -- after a part of the piece the loop continues
+      pub skip_more : is_whole ≡ false → SkipSoFar R d old total new
+      skip_more going = record { taken = _; part = part_more before.part filled found dropped going; count = counted }
 
-    -- the end of the piece ends it
-    pub skip_piece : is_whole ≡ true → SkipUntilLaw R old d (Ok total) new
-    skip_piece whole = skip_law (Ok _) (ap Ok counted) (piece_whole before.part filled found dropped whole refl)
+      -- the end of the piece ends it
+      pub skip_piece : is_whole ≡ true → SkipUntilLaw R old d (Ok total) new
+      skip_piece whole = skip_law (Ok _) (ap Ok counted) (piece_whole before.part filled found dropped whole refl)

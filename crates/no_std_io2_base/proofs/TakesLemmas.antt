@@ -1,7 +1,7 @@
 -- Calls one after another: what they take, and what their laws say of it.
 use Rattle.std.proofs.{lemmas.Grind.{common_steps}, Common.{◌≡◌, ℕ, zero, suc, ◌+◌, ◌-◌, ◌<◌, ◌≤◌, List, [], ◌∷◌, ◌++◌, Result, Ok, Err}}
 use Rattle.std.proofs.Common.{length, take, Option, None, Some, refl, sym, ap, subst, ◌∙◌, arith, append_assoc, append-nil, length-append}
-use Rattle.std.proofs.Common.{drop, length-take-le, IfOk, IfSome}
+use Rattle.std.proofs.{Common.{drop, length-take-le, IfOk, IfSome, OnOk}, lemmas.List.{append_cancel_left}}
 use Rattle.no_std_io2_base.specs.{declared.error.Error.{Error}, Errors.{IsInterruption}, Events.{Event, byte, fails, events_of, bytes}}
 use Rattle.no_std_io2_base.specs.{Events.{HasNoFault, cut, EndsInFault}, Takes.{Store, Tells, Takes, TakesBytes, to_come, AreTaken}}
 use Rattle.no_std_io2_base.specs.{Takes.{KeepsContent, IsAtEnd, IsAll}, Read.{Reader, tells, ReadCall, gave, ended, bytes_given}}
@@ -9,8 +9,6 @@ use Rattle.no_std_io2_base.specs.{Read.{ReadCallLaw, GaveLaw, ReadLaw, ReadExact
 use Rattle.no_std_io2_base.specs.{BufRead.{as_reader, LendCallLaw}, Write.{Made}}
 use Rattle.no_std_io2_base.proofs.{CallsLemmas.{made_map}, EventLemmas.{bytes-append, bytes-events_of, length-events_of, HasNoFault-append}}
 use Rattle.no_std_io2_base.proofs.{EventLemmas.{HasNoFault-events_of, cut-append}, ReadExactExits.{some_bytes}}
-use Rattle.std.proofs.lemmas.List.{append_cancel_left}
-use Rattle.std.proofs.Common.{OnOk}
 
 are_none : (E : Option (List Event)) → AreTaken E [] E
 are_none x1 = grind (arith, common_steps)
@@ -49,7 +47,7 @@ spends takes some = omega (arith, takes.turns)
 pub takes_all : {a b : Tells} (P : List Event) → Takes a P b → IsAtEnd b → IsAll a P
 takes_all {a} {b} P takes end = grind (arith, common_steps)
 
--- a reader store_stays at its end
+-- a reader stays at its end
 pub stays_at_end : {a b : Tells} → Takes a [] b → IsAtEnd b → IsAtEnd a
 stays_at_end takes end = takes_all [] takes end
 

@@ -1,13 +1,7 @@
 -- The room for what is read for a text, in a vector that has the memory of an empty text.
-use Rattle.std.proofs.{lemmas.Grind.{common_steps}, Common.{◌≡◌, ℕ, ◌<◌, ◌≤◌, List, length, IsUtf8, arith, Result, String, string_bytes}}
-use Rattle.std.proofs.Common.{string_len, string_capacity, Vec, vec_capacity, ◌+◌}
-use Rattle.no_std_io2_base.specs.{Errors.{IsOutOfMemory}, declared.error.Error.{Error}, Pieces.{AnswersLine}, BufRead.{line_room}}
-use Rattle.no_std_io2_base.specs.BufRead.{text_room}
-
--- what has no room in a text, has none in a smaller one
-no_room : (line : List ℕ) (len : ℕ) (e : Error) {capacity less : ℕ} → less ≤ capacity
-    → IsUtf8 line × (capacity < len + length line) × IsOutOfMemory e → IsUtf8 line × (less < len + length line) × IsOutOfMemory e
-no_room line len e below (text, full, refused) = (text, omega (arith, below, full), refused)
+use Rattle.std.proofs.{lemmas.Grind.{common_steps}, Common.{◌≡◌, ℕ, ◌≤◌, List, arith, Result, String, string_bytes, string_len}}
+use Rattle.std.proofs.Common.{string_capacity, Vec, vec_capacity}
+use Rattle.no_std_io2_base.specs.{declared.error.Error.{Error}, Pieces.{AnswersLine}, BufRead.{line_room, text_room}}
 
 -- an empty text lends its memory
 pub room_lent : {A : Type 0} (buf taken : String A) (none : Vec ℕ A) → string_len taken ≡ string_len buf

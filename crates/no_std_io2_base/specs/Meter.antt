@@ -18,10 +18,10 @@ charges (call ∷ C) = charge call + charges C
 abbrev pub IsMeter : {W : Type 0} → (W → WriteCall → W → Type 0) → (W → ℕ) → Type 0
 IsMeter {W} may cost = (old new : W) (call : WriteCall) → may old call new → cost new ≡ cost old + charge call
 
--- If the writer takes all, each number that counts its calls rises by n,
+-- If the writer takes all, each number that counts its calls rises by n.
 abbrev pub Costs : {W : Type 0} → Writer W → W → ℕ → W → Type 0
 Costs {W} I old n new = (cost : W → ℕ) → IsMeter I.may cost → TakesAll I old → cost new ≡ cost old + n
 
--- or by at most n.
+-- If the writer takes all, each number that counts its calls rises by at most n.
 abbrev pub CostsAtMost : {W : Type 0} → Writer W → W → ℕ → W → Type 0
 CostsAtMost {W} I old n new = (cost : W → ℕ) → IsMeter I.may cost → TakesAll I old → cost new ≤ cost old + n

@@ -1,6 +1,5 @@
 -- The page has the text if it fits, and then one `write_all` got it.
-use Rattle.std.proofs.Common.{refl, inl, inr, arith, replicate}
-use Rattle.std.proofs.lemmas.Grind.{common_steps}
+use Rattle.std.proofs.{Common.{refl, inl, inr, arith, replicate}, lemmas.Grind.{common_steps}}
 use Rattle.no_std_io2_base.specs.Text.{HasText}
 use Rattle.no_std_io2_base.proofs.ObjectText.{when_ok, page_none, page_has, page_over, page_text, short_prints}
 use Rattle.no_std_io2_base.proofs.traits.object_text.print_to_object.Goals as goal

@@ -2,11 +2,10 @@
 use Rattle.std.proofs.Common.{◌≡◌, ◌∙◌, sym, ap, subst, arith, take, length-take-le, string_len, string_bytes, string_capacity}
 use Rattle.no_std_io2_base.specs.{BufRead.{ReadUntilLaw}, Pieces.{newline}}
 use Rattle.no_std_io2_base.proofs.{LineTaken.{line_law, line_at_once, line_faulted, line_some}, PieceBefore.{until_lent, until_waited}}
-use Rattle.no_std_io2_base.proofs.{PieceLoop.{filled_law}, Readers.{lends}}
-use Rattle.no_std_io2_base.proofs.traits.buf_read.BufRead.read_line.Goals as goal
-use Rattle.no_std_io2_base.proofs.traits.buf_read.BufRead.read_line.Goals.{in-Ok+else-is_whole}
+use Rattle.no_std_io2_base.proofs.{PieceLoop.{filled_law}, Readers.{lends}, traits.buf_read.BufRead.read_line.Goals.{in-Ok+else-is_whole}}
 use Rattle.no_std_io2_base.proofs.traits.buf_read.BufRead.read_line.Goals.{else-is_whole-via-then-is_whole+else-append_text}
 use Rattle.no_std_io2_base.proofs.traits.buf_read.BufRead.read_line.Goals.{else-is_whole-via-else-is_whole, in-Err}
+use Rattle.no_std_io2_base.proofs.traits.buf_read.BufRead.read_line.Goals as goal
 
 pub returns-then-append_text : goal.returns-then-append_text
 returns-then-append_text g c =
@@ -28,15 +27,8 @@ returns g c =
     let none = c.take_memory-line.result in
     let read = c.read_until-read in
     let put = c.put_line.ensures in
-    let same : c.match-fill_buf.buf ≡ c.args.buf.now =
-    elim c.match-fill_buf.branch [
-      | in-Ok+else-is_whole w ↦ w.buf-is ∙ elim w.else-is_whole.branch [
-        | else-is_whole-via-then-is_whole+else-append_text v ↦ v.buf-is ∙ v.if-append_text.ensures.same
-        | else-is_whole-via-else-is_whole v ↦ v.buf-is
-      ]
-      | in-Err w ↦ w.buf-is
-    ] in
-    let until : ReadUntilLaw R c.args.self.now newline none read.result read.new.buf read.new.self =
+    let both : (c.match-fill_buf.buf ≡ c.args.buf.now)
+    × ReadUntilLaw R c.args.self.now newline none read.result read.new.buf read.new.self =
     elim c.match-fill_buf.branch [
       | in-Ok+else-is_whole w ↦
           let filled = filled_law w.in-Ok.is c.fill_buf.ensures.law c.fill_buf.follows.holds-at-none in
@@ -46,19 +38,21 @@ returns g c =
                 let law = subst (λ s. ReadUntilLaw R s newline none read.result read.new.buf read.new.self) (w.self-is ∙ v.self-is)
                 read.ensures.law in
                 let some = line_some c.args.buf.now (take w.find_piece-len.result.0 w.in-Ok.lent.now) v.if-append_text.ensures.refused in
-                until_lent law filled (omega
-                (arith, some, found.within, length-take-le w.find_piece-len.result.0 w.in-Ok.lent.now found.within))
+                let long = length-take-le w.find_piece-len.result.0 w.in-Ok.lent.now found.within in
+                (w.buf-is ∙ v.buf-is ∙ v.if-append_text.ensures.same, until_lent law filled (omega (arith, some, found.within, long)))
             | else-is_whole-via-else-is_whole v ↦
                 let law = subst (λ s. ReadUntilLaw R s newline none read.result read.new.buf read.new.self) (w.self-is ∙ v.self-is)
                 read.ensures.law in
-                until_lent law filled (omega (arith, (found.open_ended v.if-is_whole.false).0, found.within))
+                let some = (found.open_ended v.if-is_whole.false).0 in
+                (w.buf-is ∙ v.buf-is, until_lent law filled (omega (arith, some, found.within)))
           ]
       | in-Err w ↦
           let filled = filled_law w.in-Err.is c.fill_buf.ensures.law c.fill_buf.follows.holds-at-none in
           let law = subst (λ s. ReadUntilLaw R s newline none read.result read.new.buf read.new.self) w.self-is read.ensures.law in
-          until_waited law filled (sym w.is_interrupted.ensures ∙ w.if-is_interrupted.true)
+          (w.buf-is, until_waited law filled (sym w.is_interrupted.ensures ∙ w.if-is_interrupted.true))
     ] in
     record {
-      law = line_law c.args.buf.now c.take_memory-line.new.buf none read.new.buf (memory.len ∙ ap string_len same)
-          (memory.bytes ∙ ap string_bytes same) memory.items (memory.capacity ∙ ap string_capacity same) until put.answers put.capacity;
+      law = line_law c.args.buf.now c.take_memory-line.new.buf none read.new.buf (memory.len ∙ ap string_len both.0)
+          (memory.bytes ∙ ap string_bytes both.0) memory.items (memory.capacity ∙ ap string_capacity both.0) both.1 put.answers
+          put.capacity;
     }

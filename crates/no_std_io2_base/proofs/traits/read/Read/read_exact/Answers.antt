@@ -1,8 +1,7 @@
 -- The loop and each of its exits, by the lemmas of loops that fill a buffer.
 use Rattle.std.proofs.Common.{sym, ◌∙◌, arith}
-use Rattle.no_std_io2_base.proofs.ReadExactLoop.{exact_end, exact_fault, exact_all}
-use Rattle.no_std_io2_base.proofs.ReadFullLoop.{full_none, full_read, full_interruption, full_end, full_fault, full_all, stays}
-use Rattle.no_std_io2_base.proofs.TakesLemmas.{read_spends}
+use Rattle.no_std_io2_base.proofs.{ReadExactLoop.{exact_end, exact_fault, exact_all}, ReadFullLoop.{full_none, full_read}}
+use Rattle.no_std_io2_base.proofs.{ReadFullLoop.{full_interruption, full_end, full_fault, full_all, stays}, TakesLemmas.{read_spends}}
 use Rattle.no_std_io2_base.proofs.traits.read.Read.read_exact.Goals as goal
 
 pub reads-init : goal.reads-init
