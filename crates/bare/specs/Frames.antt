@@ -5,16 +5,16 @@ use Rattle.bare.specs.Status.{done, full, partial, refused}
 use Rattle.bare.specs.Queue.{capacity}
 
 -- the length of a payload is there, and no queue can hold its frame
-abbrev pub IsTooBig : List ℕ → Type 0
+abbrev IsTooBig : List ℕ → Type 0
 IsTooBig bytes = (4 ≤ length bytes) × (capacity < 4 + told_length bytes)
 
 -- the length of a payload is there, and a queue can hold its frame
-abbrev pub CanCome : List ℕ → Type 0
+abbrev CanCome : List ℕ → Type 0
 CanCome bytes = (4 ≤ length bytes) × (4 + told_length bytes ≤ capacity)
 
 -- Why a frame is not given. Only if a queue can hold it, does the room count; and only if it fits the room, is it
 -- waited for.
-abbrev pub IsHeldBack : List ℕ → ℕ → ℕ → Type 0
+abbrev IsHeldBack : List ℕ → ℕ → ℕ → Type 0
 IsHeldBack bytes size status = ((status ≡ refused) × IsTooBig bytes)
     ⊎ ((status ≡ full) × CanCome bytes × (size < told_length bytes))
     ⊎ ((status ≡ partial) × IsPart bytes × (4 ≤ length bytes → (4 + told_length bytes ≤ capacity) × (told_length bytes ≤ size)))

@@ -10,11 +10,11 @@ abbrev pub line : List ℕ → List ℕ
 line text = text ++ newline ∷ []
 
 -- a text can be a line
-abbrev pub IsShortLine : List ℕ → Type 0
+abbrev IsShortLine : List ℕ → Type 0
 IsShortLine text = Lacks newline text × (length text < capacity)
 
 -- a text can't be a line
-abbrev pub IsNoLine : List ℕ → Type 0
+abbrev IsNoLine : List ℕ → Type 0
 IsNoLine text = Contains text newline ⊎ (capacity ≤ length text)
 
 -- A line was logged: it waits behind the kept bytes, and they are sent. Or it can't be a line, and nothing changed. Or

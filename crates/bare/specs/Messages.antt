@@ -4,11 +4,11 @@ use Rattle.bare.specs.Status.{done, full, partial, refused}
 use Rattle.bare.specs.Queue.{capacity}
 
 -- the bytes begin with a message of this length, of which some bytes may be missing
-abbrev pub Begins : ℕ → List ℕ → Type 0
+abbrev Begins : ℕ → List ℕ → Type 0
 Begins len bytes = (rest : List ℕ) × (bytes ≡ len ∷ rest)
 
 -- not all of a message is there, and a queue can hold it
-abbrev pub IsPartial : List ℕ → Type 0
+abbrev IsPartial : List ℕ → Type 0
 IsPartial bytes = (bytes ≡ []) ⊎ ((len : ℕ) × (rest : List ℕ) × (bytes ≡ len ∷ rest) × (length rest < len) × (len < capacity))
 
 -- the message is gone from the bytes, and at the front of the room
@@ -18,7 +18,7 @@ pub record IsReceived (bytes room bytes' room' : List ℕ) (len : ℕ) : Type 0 
   pub rest : drop len room' ≡ drop len room
 
 -- why a message is not given
-abbrev pub IsWithheld : List ℕ → List ℕ → ℕ → ℕ → ℕ → Type 0
+abbrev IsWithheld : List ℕ → List ℕ → ℕ → ℕ → ℕ → Type 0
 IsWithheld bytes room status len len' = ((status ≡ partial) × IsPartial bytes × (len' ≡ len))
     ⊎ ((status ≡ full) × Begins len' bytes × (length room < len') × (len' < capacity))
     ⊎ ((status ≡ refused) × ((big : ℕ) × Begins big bytes × (capacity ≤ big)) × (len' ≡ len))

@@ -13,7 +13,7 @@ abbrev pub IsCutOff : List ℕ → Type 0
 IsCutOff part = (len : ℕ) × (body : List ℕ) × (part ≡ len ∷ body) × (length body < len)
 
 -- whole records were taken, up to the end; or a fault came behind whole records or inside another one, or the end inside one
-abbrev pub RecordsEnd : Tells → Tells → Result (Unit {0}) Error → Type 0
+abbrev RecordsEnd : Tells → Tells → Result (Unit {0}) Error → Type 0
 RecordsEnd old new (Ok u) = (xs : List ℕ) × AreRecords xs × Took old xs (Ok false) new
 RecordsEnd old new (Err e) = (xs : List ℕ) × (part : List ℕ) × AreRecords xs
     × ((Took old (xs ++ part) (Err e) new × ((part ≡ []) ⊎ IsCutOff part))

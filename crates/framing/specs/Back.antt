@@ -8,7 +8,7 @@ abbrev pub AreToCome : List (List ℕ) → Option (List Event) → Type 0
 AreToCome payloads told = IsSomeAnd told (λ E. bytes E ≡ frames payloads)
 
 -- the first of these payloads is longer than `limit`, and e says so
-abbrev pub RefusesFirst : ℕ → List (List ℕ) → Error → Type 0
+abbrev RefusesFirst : ℕ → List (List ℕ) → Error → Type 0
 RefusesFirst limit payloads e = (p : List ℕ) × (more : List (List ℕ)) × (payloads ≡ p ∷ more) × (limit < length p) × SaysNoRoom e
 
 -- The frames of `sent` were to come. The payload of the first was given, and the others are to come; or there was none; or an error came,

@@ -21,11 +21,11 @@ abbrev pub writer_tells : {W : Type 0} {S : ℕ} → (W → Told) → FrameWrite
 writer_tells told w = writer_told told w.inner
 
 -- the frame of this payload is shorter than a buffer of S bytes
-abbrev pub IsShort : ℕ → List ℕ → Type 0
+abbrev IsShort : ℕ → List ℕ → Type 0
 IsShort S payload = (length payload + 4 < S) × (length payload < 2 ^ 32)
 
 -- it is not, or there is no such frame
-abbrev pub IsLong : ℕ → List ℕ → Type 0
+abbrev IsLong : ℕ → List ℕ → Type 0
 IsLong S payload = (S ≤ length payload + 4) ⊎ (2 ^ 32 ≤ length payload)
 
 -- e is the error of a frame that is not shorter than the buffer
@@ -33,7 +33,7 @@ abbrev pub SaysTooLong : Error → Type 0
 SaysTooLong e = SaysError InvalidInput (codes "a frame is longer than the buffer") e
 
 -- a frame was put into the buffer, whole or not at all
-abbrev pub PutsFrame : {W : Type 0} {S : ℕ} → Writer W → List ℕ → FrameWriter W S → Result (Unit {0}) Error → FrameWriter W S → Type 0
+abbrev PutsFrame : {W : Type 0} {S : ℕ} → Writer W → List ℕ → FrameWriter W S → Result (Unit {0}) Error → FrameWriter W S → Type 0
 PutsFrame {S = S} I payload old reply new = Puts I writer_inner writer_buffer S (frame payload) (frame_writer old) reply (frame_writer new)
 
 -- `send(payload)`: its frame was put; or it is too long, and the writer is unchanged

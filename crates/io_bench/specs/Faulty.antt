@@ -31,7 +31,7 @@ abbrev pub next_act : {W : Type 0} → Faulty W → Option Act
 next_act f = first_act (acts_left f)
 
 -- an error of this kind, without a text
-abbrev pub FailsWith : {T : Type 0} → ErrorKind → Result T Error → Type 0
+abbrev FailsWith : {T : Type 0} → ErrorKind → Result T Error → Type 0
 FailsWith kind reply = IsErrAnd reply (λ e. (error_kind e ≡ kind) × (error_text e ≡ None))
 
 -- A `write` of x with this act: a front of x is passed on, or nothing is.
@@ -43,7 +43,7 @@ WritesBehind I (Some Zero) old x reply new = (reply ≡ Ok 0) × (new ≡ old)
 WritesBehind I (Some (Fail kind)) old x reply new = FailsWith kind reply × (new ≡ old)
 
 -- A `flush` with this act: it is passed on, or fails.
-abbrev pub FlushesBehind : {W : Type 0} → Writer W → Option Act → W → Result (Unit {0}) Error → W → Type 0
+abbrev FlushesBehind : {W : Type 0} → Writer W → Option Act → W → Result (Unit {0}) Error → W → Type 0
 FlushesBehind I (Some (Fail kind)) old reply new = FailsWith kind reply × (new ≡ old)
 FlushesBehind I _ old reply new = CallOf I old (Flushed reply) new
 

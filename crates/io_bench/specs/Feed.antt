@@ -11,7 +11,7 @@ use Rattle.io_bench.specs.declared.feed.Event.TheVariants.{Byte, Fail}
 use Rattle.io_bench.specs.declared.feed.Feed.{Feed}
 
 -- the event of a reader for an event of the script
-abbrev pub event_to_come : Event → ToCome
+abbrev event_to_come : Event → ToCome
 event_to_come (Byte b) = byte b
 event_to_come (Fail kind) = fails (error_of kind)
 

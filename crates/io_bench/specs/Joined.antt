@@ -25,7 +25,7 @@ abbrev pub IsJoined : List Op → List Reply → List ℕ → Type 0
 IsJoined ops replies bytes = Run ops replies bytes × ((other : List ℕ) → Run ops replies other → other ≡ bytes)
 
 -- a `write_all` of no bytes failed: only of such a failed `write_all` it is known what it accepted
-abbrev pub IsIdleFailure : Op → Reply → Type 0
+abbrev IsIdleFailure : Op → Reply → Type 0
 IsIdleFailure (WriteAll x) (Failed e) = x.now ≡ []
 IsIdleFailure _ _ = ⊥
 

@@ -83,7 +83,7 @@ failures (op ∷ ops) (reply ∷ replies) = (if is_failure op reply then 1 else 
 failures _ _ = 0
 
 -- how many of these kinds are this one
-abbrev pub count_of : ErrorKind → List ErrorKind → ℕ
+abbrev count_of : ErrorKind → List ErrorKind → ℕ
 count_of kind kinds = count_by (λ other. kind_number other == kind_number kind) kinds
 
 -- how many calls failed with this kind

@@ -22,16 +22,16 @@ abbrev pub IsLine : ℕ → List ℕ → Type 0
 IsLine S text = Lacks newline text × (length text + 1 < S)
 
 -- e is the error of a text that is not such a line: it is too long; or it is not, and has a newline in it
-abbrev pub IsLineRefusal : ℕ → List ℕ → Error → Type 0
+abbrev IsLineRefusal : ℕ → List ℕ → Error → Type 0
 IsLineRefusal S text e = ((S ≤ length text + 1) × SaysLong e)
     ⊎ ((length text + 1 < S) × Contains text newline × SaysError InvalidInput (codes "a line has a newline in it") e)
 
 -- a step is taken, and its error is ignored
-abbrev pub Ignoring : Step (Unit {0}) → Step (Unit {0})
+abbrev Ignoring : Step (Unit {0}) → Step (Unit {0})
 Ignoring step held C reply left = (reply ≡ Ok tt) × ((met : Result (Unit {0}) Error) × step held C met left)
 
 -- a line x is put into the buffer, and then all is sent, as far as the device takes it
-abbrev pub LogCalls : ℕ → List ℕ → Step (Unit {0})
+abbrev LogCalls : ℕ → List ℕ → Step (Unit {0})
 LogCalls S x = Then (WriteAllCalls S x) (Ignoring SendCalls)
 
 -- after `Ok` all of x was accepted. The writer below has all, and nothing is held; or one mishap came, and some bytes are held

@@ -13,11 +13,11 @@ use Rattle.tower_play.specs.Lines.{Says, IsGood}
 use Rattle.tower_play.specs.Calls.{AddsText, IsFull}
 
 -- one flush was added
-abbrev pub AddsFlush : Calls → Calls → Type 0
+abbrev AddsFlush : Calls → Calls → Type 0
 AddsFlush old new = (new.steps.items ≡ old.steps.items ++ flush_step ∷ []) × (new.texts ≡ old.texts)
 
 -- a line that says this adds nothing, an act before the first call, or a call
-abbrev pub AddsSaid : Line → Script → Script → Type 0
+abbrev AddsSaid : Line → Script → Script → Type 0
 AddsSaid Empty old new = new ≡ old
 AddsSaid (Act act) old new =
     (vec_len old.calls.steps ≡ 0) × (new.acts.items ≡ old.acts.items ++ act ∷ []) × (new.calls ≡ old.calls)
@@ -33,7 +33,7 @@ pub record Adds (line : List ℕ) (old new : Script) : Type 0 where
   pub adds : AddsSaid said old new
 
 -- a line that says something is bad all the same: an act after a call, or a text with a bad escape
-abbrev pub IsUnfit : Line → Script → Type 0
+abbrev IsUnfit : Line → Script → Type 0
 IsUnfit (Act act) old = 0 < vec_len old.calls.steps
 IsUnfit (Write text) old = unescaped text.now ≡ None
 IsUnfit (WriteAll text) old = unescaped text.now ≡ None
