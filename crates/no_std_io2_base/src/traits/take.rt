@@ -181,6 +181,7 @@ impl<T: BufRead> BufRead for Take<T> {
         if self.limit == 0 {
             return Ok(b"");
         }
+        // What is lent borrows all of `self`.
         let limit = self.limit;
         let available = self.inner.fill_buf()?;
         let most = min_with_limit(available.len(), limit);
