@@ -42,14 +42,12 @@ module _ {S A : Type 0} {may : S → A → S → Type 0} {a b : S} {P : List A �
 
   -- three calls
   pub by_three : (mid end : S) (c d e : A) → may a c mid → may mid d end → may end e b → P (c ∷ d ∷ e ∷ []) → ByCalls may a P b
-  by_three mid end c d e first second last is =
-      record { calls = c ∷ d ∷ e ∷ []; made = (mid, first, (end, second, (b, last, refl))); are = is }
+  by_three mid end c d e first second last is = grind (arith, common_steps)
 
   -- calls of a part are calls of the whole
   pub by_map : {V : Type 0} {may' : V → A → V → Type 0} (put : S → V) → ((x y : S) (call : A) → may x call y → may' (put x) call (put y))
       → ByCalls may a P b → ByCalls may' (put a) P (put b)
-  by_map {may' = may'} put each first =
-      record { calls = first.calls; made = made_map may may' put each first.calls a b first.made; are = first.are }
+  by_map {may' = may'} put each first = grind (arith, common_steps, made_map)
 
   module _ (first : ByCalls may a P b) where
     -- more is known of the calls that were made
@@ -58,19 +56,11 @@ module _ {S A : Type 0} {may : S → A → S → Type 0} {a b : S} {P : List A �
 
     -- calls were made, and then one more
     pub by_more : {c : S} {Q : List A → Type 0} (call : A) → may b call c → ((C : List A) → P C → Q (C ++ call ∷ [])) → ByCalls may a Q c
-    by_more {c} call did more = record {
-      calls = first.calls ++ call ∷ [];
-      made = made_more may first.calls a first.made did;
-      are = more first.calls first.are;
-    }
+    by_more {c} call did more = grind (arith, common_steps, made_more)
 
     -- calls were made, and then others
     pub by_then : {c : S} {Q R : List A → Type 0} → ByCalls may b Q c → ((C D : List A) → P C → Q D → R (C ++ D)) → ByCalls may a R c
-    by_then {c} next both = record {
-      calls = first.calls ++ next.calls;
-      made = made_then may first.calls a next.calls b c first.made next.made;
-      are = both first.calls next.calls first.are next.are;
-    }
+    by_then {c} next both = grind (arith, common_steps, made_then)
 
 -- If each call raises a number by one, modulo m, the number counts the calls.
 pub made_counts : {W A : Type 0} (may : W → A → W → Type 0) (count : W → ℕ) (m : ℕ)
@@ -133,8 +123,4 @@ module _ {W : Type 0} {may : W → WriteCall → W → Type 0} {text : List ℕ}
     pub calls_end : {new : W} (reply : Result (Unit {0}) Error) (end : List ℕ) (D : List WriteCall) → Made may now D new
         → Writes text D left reply end
         → ByCalls may old (λ C. Writes text C start reply end) new
-    calls_end {new} reply end D made writes = record {
-      calls = before.calls ++ D;
-      made = made_then may before.calls old D now new before.made made;
-      are = before.are D reply end writes;
-    }
+    calls_end {new} reply end D made writes = grind (arith, common_steps, made_then)

@@ -1,10 +1,9 @@
 -- What the two readers of a `Chain` take, the chain takes.
 use Rattle.std.proofs.{lemmas.Grind.{common_steps}, Common.{◌≡◌, ℕ, ◌+◌, ◌≤◌, true, false, true≢false, List, [], ◌++◌, Result, Ok, Err}}
-use Rattle.std.proofs.Common.{None, ◌-◌, IfOk, IfSome, OnOk, Vec, vec_len, vec_capacity, le_trans, length, refl, sym, ap, subst, ◌∙◌, arith}
+use Rattle.std.proofs.Common.{None, ◌-◌, IfOk, OnOk, Vec, vec_len, vec_capacity, le_trans, length, refl, sym, ap, ◌∙◌, arith}
 use Rattle.no_std_io2_base.specs.{declared.{error.Error.{Error}, traits.chain.Chain.{Chain}}, Events.{Event, bytes}, Takes.{Tells, Takes}}
 use Rattle.no_std_io2_base.specs.{Takes.{IsAtEnd}, Read.{Reader, tells, GaveAll, ToEndLaw, ReadToEndLaw, DrainsOrStops, ended}}
-use Rattle.no_std_io2_base.specs.Chain.{chain_first, chain_second, chain_is_done, chain_events, chain_to_come, by_first, by_both, by_second}
-use Rattle.no_std_io2_base.specs.Chain.{ChainMay}
+use Rattle.no_std_io2_base.specs.Chain.{chain_first, chain_second, chain_is_done, chain_events, by_first, by_both, by_second, ChainMay}
 use Rattle.no_std_io2_base.proofs.{EventLemmas.{bytes-append}, ReadCalls.{to_end_own}, TakesLemmas.{drains_ended}, ReadToEndLoop.{recount}}
 use Rattle.no_std_io2_base.proofs.ReadToEndLoop.{ended_recount, both_appended, both_counted, both_ended}
 
@@ -39,8 +38,7 @@ module _ {T U : Type 0} (R : Reader T) (S : Reader U) where
 
   -- the end of the second is the end of the chain, once the first is done
   done_ends : (c : Chain T U) → chain_is_done c ≡ true → IsAtEnd (tells S (chain_second c)) → IsAtEnd (tells (chain_reader R S) c)
-  done_ends c done end =
-      subst (λ m. IfSome (chain_to_come m (tells R (chain_first c)) (tells S (chain_second c))) (λ l. l ≡ [])) (sym done) end
+  done_ends c done end = grind (arith, common_steps)
 
 -- how it ended, of a reader that is at its end if the other is
 end_of_both : (l : Type 0) (P : List Event) (t t' : Tells) (reply : Result ℕ Error) → (IsAtEnd t → IsAtEnd t') → DrainsOrStops l P reply t

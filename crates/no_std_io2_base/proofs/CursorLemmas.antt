@@ -71,8 +71,7 @@ refused_fault place x e x4 = grind (arith, common_steps)
 -- x that was put goes out
 put_goes_out : (bs : List ℕ) (place : ℕ) (x bs' : List ℕ) (place' : ℕ) → bs' ≡ put_at place x bs
     → place' ≡ place + length x → bytes_before place' bs' ≡ bytes_before place bs ++ x
-put_goes_out bs place x bs' place' is at =
-    ap (λ l. bytes_before place' l) is ∙ ap (λ m. bytes_before m (put_at place x bs)) at ∙ before_put place x bs
+put_goes_out bs place x bs' place' is at = grind (arith, common_steps, before_put)
 
 -- the mishap of a write that returned `Ok`, if it is one, is no interruption
 quiet_count : (n : ℕ) (x : List ℕ) → count_by is_interruption (zero_write n x) ≡ 0

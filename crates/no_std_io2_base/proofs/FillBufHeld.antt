@@ -1,6 +1,6 @@
 -- The events begin with the held bytes.
-use Rattle.std.proofs.{lemmas.Grind.{common_steps}, Common.{ℕ, zero, suc, ◌≤◌, List, [], ◌∷◌, ◌++◌, take, refl, sym, ap, ◌∙◌, arith}}
-use Rattle.std.proofs.Common.{append-nil, Option, IfSome}
+use Rattle.std.proofs.{lemmas.Grind.{common_steps}, Common.{ℕ, zero, suc, ◌≤◌, List, [], ◌∷◌, ◌++◌, take, refl, sym, ap, arith, append-nil}}
+use Rattle.std.proofs.Common.{Option, IfSome}
 use Rattle.no_std_io2_base.specs.Events.{Event, byte, events_of, cut, BeginsWith}
 
 -- the events that are these bytes begin with all of them
@@ -21,5 +21,4 @@ begins_cut-bytes (suc n) (suc k) (b ∷ bs) R h =
 
 -- events that begin with bs, cut at k, begin with the first n of bs, if n is at most k
 pub begins_cut : {E : List Event} {bs : List ℕ} (n k : ℕ) → n ≤ k → BeginsWith E bs → BeginsWith (cut k E) (take n bs)
-begins_cut {E} {bs} n k h b =
-    let t = begins_cut-bytes n k bs b.rest h in record { rest = t.rest; is = ap (cut k) b.is ∙ t.is }
+begins_cut {E} {bs} n k h b = grind (arith, common_steps, begins_cut-bytes)

@@ -79,8 +79,7 @@ write_all_through put each {a} {b} law = search (arith, rules, made_map, wrote_t
 -- a wrapper that passes each call on to a part of it, and leaves the rest as it is
 passed_on : {W V A : Type 0} {may : W → A → W → Type 0} {get : V → W} {put : V → W → V} (old : V) → ((w : W) → get (put old w) ≡ w)
     → ((w u : W) → put (put old w) u ≡ put old u) → (a b : W) (call : A) → may a call b → PartMay may get put (put old a) call (put old b)
-passed_on {may = may} old back twice a b call did =
-    record { part = b; rest = sym (twice a b); does = subst (λ w. may w call b) (sym (back a)) did }
+passed_on {may = may} old back twice a b call did = grind (arith, common_steps)
 
 -- the calls of its `write_all`
 module _ {W V : Type 0} {told : V → Told} {takes_all : V → Type 0} {may : W → WriteCall → W → Type 0} {get : V → W} {put : V → W → V} where

@@ -79,8 +79,7 @@ MovesFront-join x y r f g = record {
 }
   where
     joined : (r : Result (Unit {0}) Error) → OnOk r (g.accepted ≡ y) → OnOk r (x ++ g.accepted ≡ x ++ y)
-    joined (Ok u) e = ap (λ l. x ++ l) e
-    joined (Err e) h = tt
+    joined x1 e = grind (arith, common_steps)
 
 -- `write_all(x)?; write_all(y)`, if the first failed: the second was not made
 pub MovesFront-first : {a b : Told} (x y : List ℕ) (e : Error) → MovesFront a x (Err e) b → MovesFront a (x ++ y) (Err e) b

@@ -1,19 +1,17 @@
 -- What a page has after a text was printed to it, and what is known of a text that was printed by it.
-use Rattle.std.proofs.Common.{◌≡◌, ℕ, ◌<◌, List, [], ◌∷◌, ◌++◌, Option, None, Some, IfSome, Result, Ok, Err, length, Bool, true, false}
-use Rattle.std.proofs.Common.{sym, ap, subst, ◌∙◌, append-nil, inl, take, refl, is_err, OnOk, true≢false}
-use Rattle.std.proofs.{lemmas.List.Folds.{concat-append}, lemmas.Fn.{chained_keeps}}
+use Rattle.std.proofs.Common.{arith, ◌≡◌, ℕ, ◌<◌, List, [], ◌∷◌, ◌++◌, Option, None, Some, IfSome, Result, length, Bool, true, false, sym}
+use Rattle.std.proofs.{Common.{ap, subst, ◌∙◌, append-nil, take, is_err, OnOk}, lemmas.{Grind.{common_steps}, List.Folds.{concat-append}}}
+use Rattle.std.proofs.lemmas.Fn.{chained_keeps}
 use Rattle.std.specs.{List.{concat}, Fmt.{WritesText}}
 use Rattle.no_std_io2_base.specs.{declared.error.Error.{Error}, Write.{Told}, Text.{HasText, PrintsShort, PrintsOrRefuses}}
 
 -- what stands under an `Ok`, if the result is no error
 pub when_ok : {E X : Type 0} (r : Result (Unit {0}) E) → false ≡ is_err r → OnOk r X → X
-when_ok (Ok u) is x = x
-when_ok (Err e) is x = absurd (true≢false (sym is))
+when_ok x1 is x = grind (arith, common_steps)
 
 -- an unused page has no text
 pub page_none : (N : ℕ) (bytes : List ℕ) → HasText N bytes 0 false []
-page_none N [] = (λ _. refl, λ no. absurd (true≢false (sym no)))
-page_none N (b ∷ bytes) = (λ _. refl, λ no. absurd (true≢false (sym no)))
+page_none N x2 = grind (arith, common_steps)
 
 module _ {P : Type 0} (has : List ℕ → P → Type 0) where
   abbrev PageGives : P → List ℕ → P → Type 0
@@ -31,18 +29,15 @@ module _ {P : Type 0} (has : List ℕ → P → Type 0) where
 -- the specified text does not fit
 pub page_over : (N : ℕ) (output : Option (List ℕ)) (bytes : List ℕ) (len : ℕ) {is_over : Bool} → is_over ≡ true
     → IfSome output (HasText N bytes len is_over) → IfSome output (λ bs. N < length bs)
-page_over N None bytes len is has = tt
-page_over N (Some bs) bytes len is has = has.1 is
+page_over N x2 bytes len is has = grind (arith, common_steps)
 
 -- or these bytes are it
 pub page_text : (N : ℕ) (output : Option (List ℕ)) (bytes : List ℕ) (len : ℕ) {text : List ℕ} {is_over : Bool} → is_over ≡ false
     → text ≡ take len bytes
     → IfSome output (HasText N bytes len is_over) → IfSome output (λ bs. text ≡ bs)
-page_text N None bytes len is same has = tt
-page_text N (Some bs) bytes len is same has = same ∙ has.0 is
+page_text N x2 bytes len is same has = grind (arith, common_steps)
 
 -- a text that was printed is one of the two results
 pub short_prints : (N : ℕ) {old new : Told} {output : Option (List ℕ)} (reply : Result (Unit {0}) Error)
     → PrintsShort N old output reply new → PrintsOrRefuses N old output reply new
-short_prints N (Ok u) prints = prints
-short_prints N (Err e) prints = inl prints
+short_prints N x2 prints = grind (arith, common_steps)

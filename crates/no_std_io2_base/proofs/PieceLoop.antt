@@ -65,13 +65,12 @@ pub record PieceTaken {X : Type 0} (R : Lender X) (lacks : ℕ → Type 0) (may_
 
 -- at the start nothing is taken
 pub part_none : {X : Type 0} (R : Lender X) (d : ℕ) (old : X) → PartTaken R d old [] old
-part_none R d old =
-    record {
-      takes = takes_none (lender_tells R old);
-      no_fault = tt;
-      lacks = tt;
-      calls = record { calls = []; made = refl; are = no_part };
-    }
+part_none R d old = record {
+  takes = takes_none (lender_tells R old);
+  no_fault = tt;
+  lacks = tt;
+  calls = record { calls = []; made = refl; are = no_part };
+}
 
 module _ {X : Type 0} {R : Lender X} {d : ℕ} {old now after : X} {P : List Event} (before : PartTaken R d old P now) where
   module _ {e : Error} (filled : FilledLaw R now (Err e) after) where
@@ -175,8 +174,7 @@ until_none {R = R} {d} {old} = record { taken = []; part = part_none R d old; ca
 -- some bytes more were appended
 gave_more : (buf : List ℕ) {xs ys : List ℕ} (P : List Event) (x : List ℕ) → xs ≡ buf ++ bytes P → ys ≡ xs ++ x
     → ys ≡ buf ++ bytes (P ++ events_of x)
-gave_more buf P x gave more =
-    more ∙ ap (λ l. l ++ x) gave ∙ append_assoc buf (bytes P) x ∙ ap (λ l. buf ++ l) (sym (bytes-more P x))
+gave_more buf P x gave more = grind (arith, common_steps, append_assoc, bytes-more)
 
 -- a piece that was taken and appended
 until_law : {X A : Type 0} {R : Lender X} {d : ℕ} {old new : X} {buf buf' : Vec ℕ A} {P : List Event} {reply : Result ℕ Error}

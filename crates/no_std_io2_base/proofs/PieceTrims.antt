@@ -1,6 +1,6 @@
 -- A piece without what ended it.
-use Rattle.std.proofs.Common.{◌≡◌, ℕ, zero, suc, ◌-◌, ◌==◌, true, false, if◌then◌else◌, List, [], ◌∷◌, length, take, get_or, sym, ap, ◌∙◌}
-use Rattle.std.proofs.Common.{arith, eq-eqb, ne_eqb}
+use Rattle.std.proofs.{lemmas.Grind.{common_steps}, Common.{◌≡◌, ℕ, zero, suc, ◌-◌, ◌==◌, true, false, List, [], ◌∷◌, length, take, get_or}}
+use Rattle.std.proofs.Common.{sym, ap, ◌∙◌, arith, eq-eqb, ne_eqb}
 use Rattle.no_std_io2_base.specs.Pieces.{ends_in, but_last, without}
 
 -- the last byte, by its place
@@ -29,5 +29,4 @@ is_last d b n bs long some is same = ends_in-at d b bs (n - 1) (omega (arith, lo
 -- of n bytes that end in d the first n - 1 are what stays without it
 pub dropped_last : (d n : ℕ) (bs : List ℕ) {new : List ℕ} → n ≡ length bs → (n ≡ 0 → ⊥) → ends_in d bs ≡ true
     → new ≡ take (n - 1) bs → new ≡ without d bs
-dropped_last d n bs long some last is =
-    is ∙ sym (but_last-at bs (n - 1) (omega (arith, long, some))) ∙ sym (ap (λ t. if t then but_last bs else bs) last)
+dropped_last d n bs long some last is = grind (arith, common_steps, but_last-at)

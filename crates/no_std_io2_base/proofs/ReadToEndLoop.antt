@@ -49,15 +49,14 @@ to_end_none {buf = buf} {mid} {start} is same len grown = record {
 -- there was no room for the first read, and an allocation failed
 pub to_end_no_room : {S A : Type 0} {lacks : ℕ → Type 0} {R : Reader S} {old : S} {buf mid : Vec ℕ A} {e : Error} → IsOutOfMemory e
     → mid.items ≡ buf.items → vec_capacity buf ≤ vec_capacity mid → lacks 0 → ToEndLaw lacks R old buf (Err e) mid old
-to_end_no_room {buf = buf} refused same grown why =
-    record {
-      taken = [];
-      takes = takes_none _;
-      appends = (same ∙ sym (append-nil buf.items), tt);
-      ends = inr (tt, refused, why);
-      capacity = grown;
-      calls = record { calls = []; made = refl; are = inr (inr (refused, no_read)) };
-    }
+to_end_no_room {buf = buf} refused same grown why = record {
+  taken = [];
+  takes = takes_none _;
+  appends = (same ∙ sym (append-nil buf.items), tt);
+  ends = inr (tt, refused, why);
+  capacity = grown;
+  calls = record { calls = []; made = refl; are = inr (inr (refused, no_read)) };
+}
 
 -- the result with another count
 abbrev pub recount : Result ℕ Error → ℕ → Result ℕ Error
@@ -71,8 +70,7 @@ ended_recount x1 k = grind (arith, common_steps)
 module _ {A : Type 0} (buf mid : Vec ℕ A) (P Q : List Event) (first : mid.items ≡ buf.items ++ bytes P) where
   module _ (last : Vec ℕ A) (next : last.items ≡ mid.items ++ bytes Q) where
     pub both_appended : last.items ≡ buf.items ++ bytes (P ++ Q)
-    both_appended = next ∙ ap (λ l. l ++ bytes Q) first ∙ append_assoc buf.items (bytes P) (bytes Q)
-        ∙ ap (λ l. buf.items ++ l) (sym (bytes-append P Q))
+    both_appended = grind (arith, common_steps, append_assoc, bytes-append)
 
     -- the result is their number
     pub both_counted : (reply : Result ℕ Error) (k : ℕ) → OnOk reply (k ≡ vec_len last - vec_len buf)
@@ -126,7 +124,9 @@ module _ {S A : Type 0} {R : Reader S} {old now : S} {buf xs : Vec ℕ A} {fille
     pub to_end_read : {xs' : Vec ℕ A} {n : ℕ} → ReadLaw R now room (Ok n) part new → (n ≡ 0 → ⊥)
         → PartWritten filled (vec_len xs') xs.items xs'.items part
         → vec_capacity xs ≤ vec_capacity xs' → ToEndSoFar R old buf (filled + n) xs' new
-    to_end_read {n = n} read some w grown = grind (arith, common_steps, le_trans, length-append, length-take-le, append_assoc, reads_more before.reads read some w.some)
+    to_end_read {n = n} read some w grown =
+        let more = reads_more before.reads read some w.some in
+        grind (arith, common_steps, le_trans, length-append, length-take-le, append_assoc, more)
 
     -- a read was interrupted
     pub to_end_interruption : {xs' : Vec ℕ A} {e : Error} → ReadLaw R now room (Err e) part new → IsInterruption e

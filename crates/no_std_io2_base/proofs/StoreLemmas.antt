@@ -1,14 +1,12 @@
 -- What is told of a content and a position in it.
 use Rattle.std.proofs.{lemmas.Grind.{common_steps}, Common.{◌≡◌, ℕ, ◌+◌, ◌<◌, ◌^◌, true, List, ◌++◌, length, drop, Some, sym, ap, ◌∙◌}}
-use Rattle.std.proofs.{Common.{arith, length-append, length-drop}, lemmas.Bool.Decides.{Decides-and, Decides-ltb}}
-use Rattle.std.proofs.{Math.Seq.{drop-append_seam}, lemmas.List.{drop-drop}}
+use Rattle.std.proofs.{Common.{arith, length-append, length-drop}, Math.Seq.{drop-append_seam}, lemmas.List.{drop-drop}}
 use Rattle.no_std_io2_base.specs.{Events.{events_of}, Takes.{Tells, Takes, KeepsContent, to_come, store_at, fits_u64}}
 use Rattle.no_std_io2_base.proofs.EventLemmas.{events_of-append, length-events_of, bytes-events_of}
 
 -- both fit, so the test says so
 pub fits_at : (content : List ℕ) (position : ℕ) → length content < 2 ^ 64 → position < 2 ^ 64 → fits_u64 content position ≡ true
-fits_at content position small near =
-    (Decides-and _ _ (Decides-ltb (length content) (2 ^ 64)) (Decides-ltb position (2 ^ 64))).1 (small, near)
+fits_at content position small near = grind (arith, common_steps)
 
 -- from one position to another the content stays
 pub keeps_at : (Goes : ℕ → ℕ → ℕ → Type 0) (content : List ℕ) (was now : ℕ) → (length content < 2 ^ 64 → was < 2 ^ 64 → now < 2 ^ 64)

@@ -1,35 +1,21 @@
 -- Calls one after another: what they take, and what their laws say of it.
 use Rattle.std.proofs.{lemmas.Grind.{common_steps}, Common.{◌≡◌, ℕ, zero, suc, ◌+◌, ◌-◌, ◌<◌, ◌≤◌, List, [], ◌∷◌, ◌++◌, Result, Ok, Err}}
-use Rattle.std.proofs.Common.{length, take, Option, None, Some, refl, sym, ap, subst, ◌∙◌, arith, append_assoc, append-nil, length-append}
-use Rattle.std.proofs.{Common.{drop, length-take-le, IfOk, IfSome, OnOk}, lemmas.List.{append_cancel_left}}
+use Rattle.std.proofs.Common.{length, take, Option, Some, refl, sym, ap, subst, ◌∙◌, arith, append_assoc, append-nil, length-append, drop}
+use Rattle.std.proofs.{Common.{length-take-le, IfOk, IfSome, OnOk}, lemmas.List.{append_cancel_left}}
 use Rattle.no_std_io2_base.specs.{declared.error.Error.{Error}, Errors.{IsInterruption}, Events.{Event, byte, fails, events_of, bytes}}
-use Rattle.no_std_io2_base.specs.{Events.{HasNoFault, cut, EndsInFault}, Takes.{Store, Tells, Takes, TakesBytes, to_come, AreTaken}}
-use Rattle.no_std_io2_base.specs.{Takes.{KeepsContent, IsAtEnd, IsAll}, Read.{Reader, tells, ReadCall, gave, ended, bytes_given}}
-use Rattle.no_std_io2_base.specs.{Read.{ReadCallLaw, GaveLaw, ReadLaw, ReadExactLaw, Gives, AllOrNone, DrainsOrStops}, BufRead.{Lender}}
-use Rattle.no_std_io2_base.specs.{BufRead.{as_reader, LendCallLaw}, Write.{Made}}
+use Rattle.no_std_io2_base.specs.{Events.{HasNoFault, cut, EndsInFault}, Takes.{Tells, Takes, TakesBytes, to_come, IsAtEnd, IsAll}}
+use Rattle.no_std_io2_base.specs.Read.{Reader, tells, ReadCall, gave, ended, bytes_given, ReadCallLaw, GaveLaw, ReadLaw, ReadExactLaw}
+use Rattle.no_std_io2_base.specs.{Read.{Gives, AllOrNone, DrainsOrStops}, BufRead.{Lender, as_reader, LendCallLaw}, Write.{Made}}
 use Rattle.no_std_io2_base.proofs.{CallsLemmas.{made_map}, EventLemmas.{bytes-append, bytes-events_of, length-events_of, HasNoFault-append}}
 use Rattle.no_std_io2_base.proofs.{EventLemmas.{HasNoFault-events_of, cut-append}, ReadExactExits.{some_bytes}}
 
-are_none : (E : Option (List Event)) → AreTaken E [] E
-are_none x1 = grind (arith, common_steps)
-
-store_stays : (s : Option Store) → KeepsContent s (λ len was now. now ≡ was + 0) s
-store_stays x1 = grind (arith, common_steps)
-
 -- before the first call nothing is taken
 pub takes_none : (t : Tells) → Takes t [] t
-takes_none t = record { events = are_none (to_come t); store = store_stays t.store; turns = omega arith }
-
-are_then : (E E' E'' : Option (List Event)) (P Q : List Event) → AreTaken E P E' → AreTaken E' Q E'' → AreTaken E (P ++ Q) E''
-are_then x1 x2 x3 x4 x5 first next = grind (arith, common_steps)
-
-moves_then : (s s' s'' : Option Store) (j k : ℕ) → KeepsContent s (λ len was now. now ≡ was + j) s'
-    → KeepsContent s' (λ len was now. now ≡ was + k) s'' → KeepsContent s (λ len was now. now ≡ was + (j + k)) s''
-moves_then x1 s' s'' j k first next = grind (arith, common_steps)
+takes_none t = grind (arith, common_steps)
 
 -- one call after another
 pub takes_then : {a b c : Tells} {P Q : List Event} → Takes a P b → Takes b Q c → Takes a (P ++ Q) c
-takes_then {a} {b} {c} {P} {Q} first next = grind (arith, common_steps, bytes-append, length-append, are_then, moves_then)
+takes_then {a} {b} {c} {P} {Q} first next = grind (arith, common_steps, bytes-append, length-append)
 
 -- a call that takes nothing, after others
 pub takes_still : {a b c : Tells} {P : List Event} → Takes a P b → Takes b [] c → Takes a P c
@@ -73,18 +59,11 @@ bytes_still {e = e} so_far takes again = record {
 -- what is left of told events
 pub left_of : {a b : Tells} {P E : List Event} → Takes a P b → to_come a ≡ Some E → (after : List Event) × (to_come b ≡ Some after)
     × (E ≡ P ++ after)
-left_of {a} {b} {P} {E} takes told = by (to_come b) (subst (λ o. AreTaken o P (to_come b)) told takes.events)
-  where
-    by : (o : Option (List Event)) → AreTaken (Some E) P o → (after : List Event) × (o ≡ Some after) × (E ≡ P ++ after)
-    by None are = absurd are
-    by (Some after) are = (after, refl, are)
+left_of {a} {b} {P} {E} takes told = grind (arith, common_steps)
 
 -- if events were told, and all of them were taken, none are to come
 pub at_end_after : {a b : Tells} {P E : List Event} → Takes a P b → to_come a ≡ Some E → IsAll a P → IsAtEnd b
-at_end_after {a} {b} {P} {E} takes told all =
-    let (after, still, split) = left_of takes told in
-    let whole : E ≡ P = subst (λ o. IfSome o (λ l. l ≡ P)) told all in
-    subst (λ o. IfSome o (λ l. l ≡ [])) (sym still) (append_cancel_left P after [] (sym split ∙ whole ∙ sym (append-nil P)))
+at_end_after {a} {b} {P} {E} takes told all = grind (arith, common_steps, left_of, append_cancel_left, append-nil)
 
 -- the events behind events that are only bytes are only bytes
 bytes_after : (bs : List ℕ) (P Q : List Event) → events_of bs ≡ P ++ Q → Q ≡ events_of (bytes Q)
@@ -190,14 +169,12 @@ read_by x1 bound law = grind (arith, common_steps)
 -- a read that gives some bytes spends a turn
 pub read_spends : {S : Type 0} {R : Reader S} {old new : S} {buf buf' : List ℕ} {n : ℕ} → ReadLaw R old buf (Ok n) buf' new → (n ≡ 0 → ⊥)
     → R.turns new < R.turns old
-read_spends {buf' = buf'} {n} law some =
-    spends law.takes (omega (arith, length-events_of (take n buf'), length-take-le n buf' law.bound, some_bytes n some))
+read_spends {buf' = buf'} {n} law some = grind (arith, common_steps, length-events_of, length-take-le, some_bytes, spends)
 
 -- a read of no bytes
 pub nothing_read : {S : Type 0} {R : Reader S} {old new : S} {buf buf' : List ℕ} {reply : Result ℕ Error} {n : ℕ}
     → ReadLaw R old buf reply buf' new → reply ≡ Ok n → n ≡ 0 → GaveLaw R old (length buf') (Ok []) new
-nothing_read {R = R} {old} {new} {buf} {buf'} law is none =
-    read_law (Ok 0) (subst (λ r. ReadLaw R old buf r buf' new) (is ∙ ap Ok none) law)
+nothing_read {R = R} {old} {new} {buf} {buf'} law is none = grind (arith, common_steps, read_law)
 
 -- a read of no bytes into some room met the end
 pub met_end : {S : Type 0} {R : Reader S} {old new : S} {buf buf' : List ℕ} {reply : Result ℕ Error} {n : ℕ}

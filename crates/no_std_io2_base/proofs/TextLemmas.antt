@@ -24,8 +24,7 @@ module _ {S : Type 0} {I : Writer S} {old : S} where
   -- no call, if it says that one was
   pub prints_after : (b : Bool) {met : Result (Unit {0}) Error} → b ≡ is_ok met → b ≡ false → {text : List ℕ} (x : List ℕ) {now : S}
       → PrintsOf I old text met now → PrintsOf I old (text ++ x) met now
-  prints_after b {met = Ok u} is had x so_far = absurd (true≢false (sym is ∙ had))
-  prints_after b {met = Err e} is had x so_far = silent x so_far
+  prints_after b is had x so_far = grind (arith, common_steps, silent)
 
   -- some front was accepted
   prints_moves : {text : List ℕ} {reply : Result (Unit {0}) Error} {new : S}
@@ -116,8 +115,7 @@ MovesFront-had {a} {b} {text} {r} had = record {
 }
   where
     is_whole : (r : Result (Unit {0}) Error) {x y : List ℕ} (z : List ℕ) → x ≡ y → OnOk r (x ≡ z) → OnOk r (y ≡ z)
-    is_whole (Ok u) z is whole = sym is ∙ whole
-    is_whole (Err e) z is whole = tt
+    is_whole x1 z is whole = grind (arith, common_steps)
 
 -- of any text some bytes were accepted
 MovesFront-some : {a b : Told} {r : Result (Unit {0}) Error} → ∥ ((text : List ℕ) × MovesFront a text r b) ∥₁

@@ -1,9 +1,7 @@
 -- The law, from how many bytes fit: the search does not find the lemmas for it.
+use Rattle.std.proofs.{lemmas.Grind.{common_steps}, Common.{arith}}
 use Rattle.no_std_io2_base.proofs.{CallsLemmas.{own_law}, CursorLemmas.{fits_all}}
 use Rattle.no_std_io2_base.proofs.cursor.slices.CursorArrayU8Write.write_all.Goals as goal
 
 pub returns-clause-law : goal.returns-clause-law
-returns-clause-law g c =
-    let puts = c.write_all_fitting.ensures in
-    let all = fits_all _ _ c.write_all_fitting.result puts in
-    own_law (puts, all.0, all.1, λ h. h)
+returns-clause-law g c = grind (arith, common_steps, fits_all, own_law)

@@ -5,8 +5,7 @@ use Rattle.no_std_io2_base.specs.Write.{Flushed}
 use Rattle.no_std_io2_base.proofs.impls.dyn_boxes.BoxDynWriteDropWrite.flush.Goals as goal
 
 pub returns : goal.returns
-returns g c =
-    record {
-      law = lent_call (goal.Write-dyn g) c.args.self.now (Flushed c.flush.result)
-          c.deref_box_mut-1.result.now (search rules) c.flush.new.self c.flush.ensures;
-    }
+returns g c = record {
+  law = lent_call (goal.Write-dyn g) c.args.self.now (Flushed c.flush.result)
+      c.deref_box_mut-1.result.now (search rules) c.flush.new.self c.flush.ensures;
+}

@@ -5,8 +5,7 @@ use Rattle.no_std_io2_base.specs.Write.{Wrote}
 use Rattle.no_std_io2_base.proofs.impls.dyn_boxes.BoxDynWriteDropWrite.write.Goals as goal
 
 pub returns : goal.returns
-returns g c =
-    record {
-      law = lent_call (goal.Write-dyn g) c.args.self.now (Wrote c.args.buf.now c.write.result)
-          c.deref_box_mut-1.result.now (search rules) c.write.new.self c.write.ensures;
-    }
+returns g c = record {
+  law = lent_call (goal.Write-dyn g) c.args.self.now (Wrote c.args.buf.now c.write.result)
+      c.deref_box_mut-1.result.now (search rules) c.write.new.self c.write.ensures;
+}

@@ -4,8 +4,7 @@ use Rattle.no_std_io2_base.proofs.Forwards.{exact_through}
 use Rattle.no_std_io2_base.proofs.impls.dyn_references.RefMutDynReadRead.read_exact.Goals as goal
 
 pub returns : goal.returns
-returns g c =
-    record {
-      law = exact_through (λ v. record c.args.self.now { now = (c.args.self.now.now.0, v) })
-          (record { told = λ x. refl; may = λ x y call may. (y, refl, may) }) c.read_exact.ensures;
-    }
+returns g c = record {
+  law = exact_through (λ v. record c.args.self.now { now = (c.args.self.now.now.0, v) })
+      (record { told = λ x. refl; may = λ x y call may. (y, refl, may) }) c.read_exact.ensures;
+}

@@ -4,8 +4,7 @@ use Rattle.no_std_io2_base.proofs.Forwards.{write_all_through}
 use Rattle.no_std_io2_base.proofs.impls.dyn_references.RefMutDynWriteWrite.write_all.Goals as goal
 
 pub returns : goal.returns
-returns g c =
-    record {
-      law = write_all_through (λ v. record c.args.self.now { now = (c.args.self.now.now.0, v) })
-          (λ a b call did. (b, refl, did)) c.write_all.ensures;
-    }
+returns g c = record {
+  law = write_all_through (λ v. record c.args.self.now { now = (c.args.self.now.now.0, v) })
+      (λ a b call did. (b, refl, did)) c.write_all.ensures;
+}

@@ -4,8 +4,7 @@ use Rattle.no_std_io2_base.proofs.Forwards.{until_through}
 use Rattle.no_std_io2_base.proofs.impls.mut_references.RefMutBufRead.read_until.Goals as goal
 
 pub returns : goal.returns
-returns g c =
-    record {
-      law = until_through (λ v. record c.args.self.now { now = v })
-          (record { reads = record { told = λ x. refl; may = λ x y call may. may }; held = λ x. refl }) c.read_until.ensures.law;
-    }
+returns g c = record {
+  law = until_through (λ v. record c.args.self.now { now = v })
+      (record { reads = record { told = λ x. refl; may = λ x y call may. may }; held = λ x. refl }) c.read_until.ensures.law;
+}

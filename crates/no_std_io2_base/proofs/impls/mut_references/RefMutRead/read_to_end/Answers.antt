@@ -4,8 +4,7 @@ use Rattle.no_std_io2_base.proofs.Forwards.{drained_through}
 use Rattle.no_std_io2_base.proofs.impls.mut_references.RefMutRead.read_to_end.Goals as goal
 
 pub returns : goal.returns
-returns g c =
-    record {
-      law = drained_through (λ v. record c.args.self.now { now = v })
-          (record { told = λ x. refl; may = λ x y call may. may }) c.read_to_end.ensures.law;
-    }
+returns g c = record {
+  law = drained_through (λ v. record c.args.self.now { now = v })
+      (record { told = λ x. refl; may = λ x y call may. may }) c.read_to_end.ensures.law;
+}

@@ -4,9 +4,8 @@ use Rattle.no_std_io2_base.proofs.SeekCalls.{stream_len_through}
 use Rattle.no_std_io2_base.proofs.impls.mut_references.RefMutSeek.stream_len.Goals as goal
 
 pub returns : goal.returns
-returns g c =
-    record {
-      law = stream_len_through (λ v. record c.args.self.now { now = v })
-          (record { store = λ x. refl; may = λ x y call may. may; sound = λ x is. is; stays = λ x is. is })
-          c.stream_len.ensures.law;
-    }
+returns g c = record {
+  law = stream_len_through (λ v. record c.args.self.now { now = v })
+      (record { store = λ x. refl; may = λ x y call may. may; sound = λ x is. is; stays = λ x is. is })
+      c.stream_len.ensures.law;
+}

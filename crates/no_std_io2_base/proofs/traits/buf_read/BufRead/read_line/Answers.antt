@@ -1,4 +1,5 @@
 -- A line that is lent whole goes straight to the text. Any other is read into a vector: what was lent is lent once more.
+use Rattle.std.proofs.lemmas.Grind.{common_steps}
 use Rattle.std.proofs.Common.{◌≡◌, ◌∙◌, sym, ap, subst, arith, take, length-take-le, string_len, string_bytes, string_capacity}
 use Rattle.no_std_io2_base.specs.{BufRead.{ReadUntilLaw}, Pieces.{newline}}
 use Rattle.no_std_io2_base.proofs.{LineTaken.{line_law, line_at_once, line_faulted, line_some}, PieceBefore.{until_lent, until_waited}}
@@ -16,9 +17,7 @@ returns-then-append_text g c =
     }
 
 pub returns-in-Err-2 : goal.returns-in-Err-2
-returns-in-Err-2 g c =
-    let filled = filled_law c.in-Err.is c.fill_buf.ensures.law c.fill_buf.follows.holds-at-none in
-    record { law = line_faulted filled (sym c.is_interrupted.ensures ∙ c.if-is_interrupted.false) }
+returns-in-Err-2 g c = grind (arith, common_steps, filled_law, in-Err, line_faulted)
 
 pub returns : goal.returns
 returns g c =

@@ -10,8 +10,7 @@ pub returns-in_err-reserve_room : goal.returns-in_err-reserve_room
 returns-in_err-reserve_room g c = grind (arith, common_steps, err_from_is_err_and, to_end_no_room)
 
 pub reads-init : goal.reads-init
-reads-init g c =
-    let room = c.reserve_room.ensures in to_end_none c.len-start.ensures room.items room.len room.grows
+reads-init g c = grind (arith, common_steps, to_end_none)
 
 pub returns-in_err-open_room : goal.returns-in_err-open_room
 returns-in_err-open_room g c =

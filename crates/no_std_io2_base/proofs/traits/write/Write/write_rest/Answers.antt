@@ -1,5 +1,5 @@
 -- The steps and the exits of the loop, by the lemmas of loops that write.
-use Rattle.std.proofs.Common.{arith, sym, ◌∙◌}
+use Rattle.std.proofs.{lemmas.Grind.{common_steps}, Common.{arith, sym, ◌∙◌}}
 use Rattle.no_std_io2_base.proofs.WriteExits.{not_empty, is_empty, writes_more, writes_zero, writes_done, writes_stopped}
 use Rattle.no_std_io2_base.proofs.WriteExits.{writes_interruption}
 use Rattle.no_std_io2_base.proofs.traits.write.Write.write_rest.Goals as goal
@@ -12,9 +12,7 @@ returns-in-Ok-eq0 g c =
     }
 
 pub writes-preserved-in-Ok : goal.writes-preserved-in-Ok
-writes-preserved-in-Ok g c =
-    writes_more c.writes.invariant c.in-Ok.ensures.law (not_empty _ c.writes.rest.now c.is_empty.ensures c.writes-test.true)
-    (omega (arith, c.in-Ok.n-test.1))
+writes-preserved-in-Ok g c = grind (arith, common_steps, is_empty, not_empty, writes_more)
 
 pub returns : goal.returns
 returns g c =
@@ -26,6 +24,4 @@ returns-in-Err-2 g c =
     record { law = writes_stopped c.writes.invariant c.in-Err.ensures.law (sym c.is_interrupted.ensures ∙ c.if-is_interrupted.false) some }
 
 pub writes-preserved : goal.writes-preserved
-writes-preserved g c =
-    writes_interruption c.writes.invariant c.in-Err.ensures.law (not_empty _ c.writes.rest.now c.is_empty.ensures c.writes-test.true)
-    (sym c.is_interrupted.ensures ∙ c.if-is_interrupted.true)
+writes-preserved g c = grind (arith, common_steps, is_empty, not_empty, writes_interruption)
