@@ -91,6 +91,7 @@ macro_rules! listed {
             slice_line: lines short "a slice, `read_line` of {} into one text" [16 80] | original;
             cursor_line: lines short "a cursor, `read_line` of {} into one text" [16 80] | original;
             reader_line_1024: lines short "`BufReader` 1024, `read_line` of {} into one text" [13 16 33 80 900] | original;
+            reader_line_grows: lines short "`BufReader` 64, `read_line` of {} into one growing text" [16 80] | original;
             reader_split_1024: lines short "`BufReader` 1024, `split`, lines of {}" [13 16 80] | original;
             reader_seek: bytes short "`BufReader` 1024, `seek` by 3 and `read_exact` of 8" [8];
             reader_moves: bytes short "`BufReader` 1024, `seek_relative` of 3 and `read_exact` of 8" [8] | original;

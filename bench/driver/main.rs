@@ -1,6 +1,6 @@
 //! Times this library's streams, Rust's standard ones, those of the original crate and the toolchain's own on the same work, and counts their
-//! instructions: `driver WORD` prints the cases in whose names it stands, and `driver` those that are far off. With `count` behind
-//! the word it is what it runs below `callgrind`.
+//! instructions: `driver WORD` prints the cases in whose names it stands, and `driver` all. With `count` behind the word it is what it
+//! runs below `callgrind`.
 #![feature(seek_stream_len)]
 
 mod cases;
@@ -55,23 +55,23 @@ fn time(case: &Case) -> [Option<f64>; SIDES] {
     best
 }
 
-fn measure(cases: &[Case], word: Option<&str>) -> Result<(), String> {
+fn measure(cases: &[Case], word: &str) -> Result<(), String> {
     for case in cases {
         case.check()?;
     }
     let times = cases.iter().map(time).collect();
-    table::print(cases, &times, &counting::count(cases, word.unwrap_or(""))?, word.is_none());
+    table::print(cases, &times, &counting::count(cases, word)?);
     Ok(())
 }
 
 fn main() -> ExitCode {
-    let word = std::env::args().nth(1);
-    let cases = cases::with(word.as_deref().unwrap_or(""));
+    let word = std::env::args().nth(1).unwrap_or_default();
+    let cases = cases::with(&word);
     if std::env::args().nth(2).as_deref() == Some("count") {
         counting::count_below_callgrind(&cases);
         return ExitCode::SUCCESS;
     }
-    match measure(&cases, word.as_deref()) {
+    match measure(&cases, &word) {
         Ok(()) => ExitCode::SUCCESS,
         Err(text) => {
             eprintln!("{text}");

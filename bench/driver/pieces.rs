@@ -30,6 +30,16 @@ fn line_often<R: BufRead>(r: &mut R, calls: u64) -> u64 {
     sum
 }
 
+fn line_grows<R: BufRead>(r: &mut R, calls: u64) -> u64 {
+    let mut text = String::new();
+    for _ in 0..calls {
+        if r.read_line(&mut text).is_err() {
+            return FAILED;
+        }
+    }
+    sample(text.as_bytes())
+}
+
 // Reads so many streams into new texts, and samples these.
 fn strings<R: Read>(made: impl Fn() -> R, calls: u64) -> u64 {
     let mut sum = 0u64;
@@ -74,6 +84,7 @@ calls! {
     slice_line(source, room, calls) { line_often(&mut source, calls) }
     cursor_line(source, room, calls) { line_often(&mut Cursor::new(source), calls) }
     reader_line_1024(source, room, calls) { line_often(&mut buffered_reader::<_, 1024>(source), calls) }
+    reader_line_grows(source, room, calls) { line_grows(&mut buffered_reader::<_, 64>(source), calls) }
     lent_line(source, room, calls) { line_often(&mut &mut buffered_reader::<_, 1024>(source), calls) }
     chain_line(source, room, calls) {
         let (first, second) = source.split_at(source.len() / 2);

@@ -1,4 +1,4 @@
-//! The tables, as Markdown: the classes, and all cases.
+//! The tables, as Markdown: the classes, the means beside the toolchain, and all cases.
 use crate::cases::Case;
 use crate::{Measured, SIDES};
 
@@ -34,9 +34,21 @@ fn beside_kit(values: &Measured) -> (usize, f64) {
     (ratios.len(), (ratios.iter().sum::<f64>() / ratios.len() as f64).exp())
 }
 
-/// Prints a line for each class, and then one for each case, with a `*` if it is above its class's limit, or for these alone. A case's
-/// line has nanoseconds and instructions a call on each side, and of both the ratio.
-pub fn print(cases: &[Case], times: &Measured, counts: &Measured, above_alone: bool) {
+// The last cell of a case's line: `*` if it is above its class's limit, and the class's name if that has no limit.
+fn mark(case: &Case, counts: &[Option<f64>; SIDES]) -> &'static str {
+    let limit = most(case);
+    if limit == f64::INFINITY {
+        case.class
+    } else if ratio(counts).is_some_and(|it| it > limit + 0.005) {
+        "*"
+    } else {
+        ""
+    }
+}
+
+/// Prints a line for each class, and then one for each case, with its mark. A case's line has nanoseconds and instructions a call on
+/// each side, and of both the ratio; a `k` behind a number is a thousand.
+pub fn print(cases: &[Case], times: &Measured, counts: &Measured) {
     println!("| class | limit | cases | above | mean, instr. | most, instr. | mean, ns |\n|---|---|---:|---:|---:|---:|---:|");
     for (class, limit) in CLASSES {
         let of = |values: &Measured| -> Vec<(f64, f64)> {
@@ -61,12 +73,7 @@ pub fn print(cases: &[Case], times: &Measured, counts: &Measured, above_alone: b
     println!("\n| a call | ns ours | std | original | kit | ratio | instr. ours | std | original | kit | ratio | |");
     println!("|---|---:|---:|---:|---:|---:|---:|---:|---:|---:|---:|---|");
     for ((case, times), counts) in cases.iter().zip(times).zip(counts) {
-        let is_above = ratio(counts).is_some_and(|it| it > most(case) + 0.005);
-        if above_alone && !is_above {
-            continue;
-        }
-        let mark = if is_above { "*" } else { "" };
-        println!("| {} |{}{} {mark} |", case.name, cells(times), cells(counts));
+        println!("| {} |{}{} {} |", case.name, cells(times), cells(counts), mark(case, counts));
     }
 }
 
@@ -75,7 +82,8 @@ fn cells(values: &[Option<f64>; SIDES]) -> String {
     for value in values {
         cells += &match value {
             Some(value) if *value < 100.0 => format!(" {value:.1} |"),
-            Some(value) => format!(" {value:.0} |"),
+            Some(value) if *value < 1e5 => format!(" {value:.0} |"),
+            Some(value) => format!(" {:.0}k |", value / 1e3),
             None => String::from(" - |"),
         };
     }
