@@ -1,12 +1,12 @@
 -- The lines of members, one after another.
 use Rattle.no_std_io2.proofs.Words.{◌≡◌, ◌⊎◌, List, ℕ, [], ◌∷◌, ◌++◌, Result, Ok, sym, ap, ◌∙◌, append-nil, append_assoc, inl, inr, Told}
-use Rattle.no_std_io2.proofs.Words.{Moves, MovesFront, Err, Option, Some, None, refl, ⊤, IfOk, Lender}
+use Rattle.no_std_io2.proofs.Words.{Moves, MovesFront, Err, Option, Some, None, refl, ⊤, IfOk, Lender, Reader, Writer}
 use Rattle.std.proofs.Common.{IsErrAnd, IfSome}
-use Rattle.no_std_io2.specs.{declared.io.Error.{Error}, Text.{IsTextError}}
+use Rattle.no_std_io2.specs.{declared.io.{Error.{Error}, Take.{Take}}, Text.{IsTextError}}
 use Rattle.no_std_io2.proofs.MovesLemmas.{Moves-then, MovesFront-whole}
-use Rattle.tar_reader.specs.{declared.archive.Archive.{Archive}, declared.header.Header.{Header}, Members.{NextHeaderLaw}}
+use Rattle.tar_reader.specs.{declared.archive.Archive.{Archive}, declared.header.Header.{Header}, Members.{NextHeaderLaw, FindHeaderLaw}}
 use Rattle.tar_reader.proofs.MemberLemmas.{Skipping, comes_to}
-use Rattle.tar_list.specs.Listing.{member_line, member_lines, PrintsMember, ListEnds, Lists}
+use Rattle.tar_list.specs.Listing.{member_line, member_lines, PrintsMember, ListEnds, Lists, MemberEnds, CopiesMember}
 
 -- a text was printed, and no formatter failed
 pub printed_whole : {a b : Told} (x : List ℕ) {r : Result (Unit {0}) Error} {u : Unit {0}} → r ≡ Ok u
@@ -37,3 +37,9 @@ lists {last = last} before law ends =
     trivial (Ok None) = tt
     trivial (Ok (Some h)) = tt
     trivial (Err e) = tt
+
+-- a `find` returned this, and then the copy ended like this
+pub copy_ended : {X W : Type 0} {R : Lender X} {K : Reader (Take X)} {I : Writer W} {name : List ℕ} {old mid new : Archive X} {was now : W}
+    {reply : Result (Unit {0}) Error} (found : Result (Option Header) Error) → FindHeaderLaw R old name found mid
+    → MemberEnds K I found mid was reply new now → CopiesMember R K I name old was reply new now
+copy_ended found finds ends = record { found = found; mid = _; finds = finds; ends = ends }

@@ -1,8 +1,9 @@
 -- What a list of an archive prints.
-use Rattle.std.specs.Prelude.{◌≡◌, ◌≢◌, ◌⊎◌, List, ℕ, [], ◌++◌, ⊤, codes, decimal, map, Option, Some, None, Result, Ok, Err, OnOk, IsErr}
-use Rattle.std.specs.Prelude.{IsErrAnd}
+use Rattle.std.specs.Prelude.{◌≡◌, ◌≢◌, ◌⊎◌, ◌<◌, List, ℕ, [], ◌++◌, ⊤, codes, decimal, map, Option, Some, None, Result, Ok, Err, OnOk}
+use Rattle.std.specs.Prelude.{IsErr, IsErrAnd}
 use Rattle.std.specs.List.{concat}
-use Rattle.no_std_io2.specs.declared.io.Error.{Error}
+use Rattle.no_std_io2.specs.{Errors.{SaysError}, declared.io.Error.{Error}}
+use Rattle.no_std_io2.specs.declared.io.ErrorKind.TheVariants.{InvalidInput, NotFound, UnexpectedEof}
 use Rattle.no_std_io2.specs.BufRead.{Lender}
 use Rattle.no_std_io2.specs.Copy.{Copied}
 use Rattle.no_std_io2.specs.Read.{Reader}
@@ -47,17 +48,40 @@ pub record Lists {X : Type 0} (R : Lender X) (old : Archive X) (was : Told) (rep
   pub comes : ComesTo (λ others. others ≡ headers) (λ h. ⊤) R old last new
   pub prints : ListEnds (member_lines headers) last was reply told
 
--- The member with this name was found, is no directory, and all its bytes were copied; then the writer was flushed. K
--- are the ghost members of the reader of a member's bytes.
-pub record CopiesMember {X W : Type 0} (R : Lender X) (K : Reader (Take X)) (I : Writer W) (name : List ℕ) (old : Archive X) (was : W)
+-- how a copy of a member's bytes ended, after this result of `copy`, with so many bytes left: its error; or the writer was flushed; or the
+-- archive ended inside the member
+abbrev pub CopyEnds : {W : Type 0} → Writer W → Result ℕ Error → ℕ → W → Result (Unit {0}) Error → W → Type 0
+CopyEnds I (Err e) left out reply now = (reply ≡ Err e) × (now ≡ out)
+CopyEnds I (Ok n) left out reply now = ((left ≡ 0) × FlushOf I out reply now)
+    ⊎ ((0 < left) × IsErrAnd reply (SaysError UnexpectedEof (codes "the archive ends inside a member")) × (now ≡ out))
+
+-- The bytes of the member that was found were copied, until all were, or a fault came, or the archive ended.
+pub record CopiesBytes {X W : Type 0} (K : Reader (Take X)) (I : Writer W) (mid : Archive X) (was : W) (reply : Result (Unit {0}) Error)
     (new : Archive X) (now : W) : Type 0 where
-  pub header : Header
-  pub mid : Archive X
-  pub finds : FindHeaderLaw R old name (Ok (Some header)) mid
-  pub kind : header.kind ≢ Directory
-  pub count : ℕ
+  pub copied : Result ℕ Error
   pub out : W
-  pub copies : Copied K I 65536 (member_of mid) was (Ok count) (member_of new) out
-  pub whole : left_of_member new ≡ 0
+  pub copies : Copied K I 65536 (member_of mid) was copied (member_of new) out
   pub rest : new ≡ with_member mid (member_of new)
-  pub flushed : FlushOf I out (Ok tt) now
+  pub ends : CopyEnds I copied (left_of_member new) out reply now
+
+-- no byte was copied: the archive and the writer are as they were
+abbrev pub CopiesNone : {X W : Type 0} → Archive X → W → Archive X → W → Type 0
+CopiesNone mid was new now = (new ≡ mid) × (now ≡ was)
+
+-- how `copy_member` ended, by what `find` returned: that error; no member has this name; or it is a directory, or its bytes were copied
+abbrev pub MemberEnds : {X W : Type 0} → Reader (Take X) → Writer W → Result (Option Header) Error → Archive X → W
+    → Result (Unit {0}) Error → Archive X → W → Type 0
+MemberEnds K I (Err e) mid was reply new now = (reply ≡ Err e) × CopiesNone mid was new now
+MemberEnds K I (Ok None) mid was reply new now =
+    IsErrAnd reply (SaysError NotFound (codes "no member has this name")) × CopiesNone mid was new now
+MemberEnds K I (Ok (Some h)) mid was reply new now =
+    ((h.kind ≡ Directory) × IsErrAnd reply (SaysError InvalidInput (codes "this member is a directory")) × CopiesNone mid was new now)
+    ⊎ ((h.kind ≢ Directory) × CopiesBytes K I mid was reply new now)
+
+-- `copy_member`: a `find`, and what followed. K are the ghost members of the reader of a member's bytes.
+pub record CopiesMember {X W : Type 0} (R : Lender X) (K : Reader (Take X)) (I : Writer W) (name : List ℕ) (old : Archive X) (was : W)
+    (reply : Result (Unit {0}) Error) (new : Archive X) (now : W) : Type 0 where
+  pub found : Result (Option Header) Error
+  pub mid : Archive X
+  pub finds : FindHeaderLaw R old name found mid
+  pub ends : MemberEnds K I found mid was reply new now

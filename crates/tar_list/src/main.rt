@@ -5,7 +5,7 @@
 //! error, and 2 if there are more arguments or one is not UTF-8.
 #![tactic(auto)]
 
-ghost use Rattle.std.specs.Prelude.{◌<◌, length, IfSome, IfNone, OnOk};
+ghost use Rattle.std.specs.Prelude.{◌<◌, length, IfSome, IfNone};
 ghost use Rattle.std.specs.Vec.Iter.{into_iter_items};
 ghost use Rattle.tar_list.specs.Words.{Asks};
 ghost use Rattle.tar_list.specs.Listing.{PrintsMember, Lists, CopiesMember};
@@ -77,13 +77,15 @@ fn list<R: BufRead, W: Write>(archive: &mut Archive<R>, out: &mut W) -> Result<(
     out.flush()
 }
 
-// Copies the member with this name.
+// Copies the member with this name, and flushes. Returns the error of the `find`, the `copy` or the `flush` that fails,
+// and an error if no member has this name, if it is a directory, or if the archive ends inside it. All its bytes up to
+// there are accepted then, but are not flushed.
 fn copy_member<R: BufRead, W: Write>(
     archive: &mut Archive<R>,
     name: &str,
     out: &mut W,
 ) -> Result<()>
-    ensures { OnOk result (CopiesMember R.BufRead ⟦<Take<R> as Read>⟧ W.Write name.now archive.old out.old archive.new out.new) }
+    ensures { CopiesMember R.BufRead ⟦<Take<R> as Read>⟧ W.Write name.now archive.old out.old result archive.new out.new }
 {
     let Some(header) = archive.find(name.as_bytes())? else {
         return Err(Error::new(ErrorKind::NotFound, "no member has this name"));

@@ -1,23 +1,60 @@
--- The prover does not find the state in the middle, when the member was found and its bytes were not yet copied.
-use Rattle.no_std_io2.proofs.Words.{◌≡◌, Result, Ok, Err, OnOk, refl, arith, common_steps}
-use Rattle.no_std_io2.specs.declared.io.Error.{Error}
+-- The prover does not find the state in the middle, when `find` has returned and no byte was copied yet (`copy_ended`).
+use Rattle.no_std_io2.proofs.Words.{Ok, Err, Some, None, refl, inl, inr, arith, common_steps, err_from_is_err_and}
+use Rattle.tar_list.proofs.ListLemmas.{copy_ended}
 use Rattle.tar_list.proofs.copy_member.Goals as goal
 
--- what holds if the result is `Ok`
-on_ok : {P : Type 0} (r : Result (Unit {0}) Error) → (r ≡ Ok tt → P) → OnOk r P
-on_ok (Ok u) p = p refl
-on_ok (Err e) p = tt
+pub returns-in_err-header : goal.returns-in_err-header
+returns-in_err-header g c =
+    let p = err_from_is_err_and c.from_residual.result c.from_residual.ensures.1 in
+    rw (p.1, p.2) (copy_ended (Err _) (rw c.as_bytes.ensures.value at c.in_err-header.ensures.law) (refl, (refl, refl)))
+
+pub returns-in_default : goal.returns-in_default
+returns-in_default g c =
+    copy_ended (Ok None) (rw (c.in_default.is, c.as_bytes.ensures.value) at c.in_ok-header.ensures.law)
+    ((c.new.ensures.kind, c.new.ensures.text), (refl, refl))
+
+pub returns-then-eq : goal.returns-then-eq
+returns-then-eq g c =
+    copy_ended (Ok (Some _)) (rw (c.in-Some.is, c.as_bytes.ensures.value) at c.in_ok-header.ensures.law)
+    (inl (grind (arith, common_steps), (c.new-then-eq.ensures.kind, c.new-then-eq.ensures.text), (refl, refl)))
+
+pub returns-in_err-copy : goal.returns-in_err-copy
+returns-in_err-copy g c =
+    let p = err_from_is_err_and c.from_residual-in_err-copy.result c.from_residual-in_err-copy.ensures.1 in
+    let copies = rw (c.in_err-copy.was, c.member.ensures.value) at c.copy.ensures in
+    rw (p.1, p.2) (copy_ended (Ok (Some _)) (rw (c.in-Some.is, c.as_bytes.ensures.value) at c.in_ok-header.ensures.law)
+    (inr ((λ same. grind (arith, common_steps)), record { copied = _; out = _; copies = copies; rest = refl; ends = (refl, refl) })))
+
+pub returns-then-limit-gt0 : goal.returns-then-limit-gt0
+returns-then-limit-gt0 g c =
+    let copies = rw (c.in_ok-copy.was, c.member.ensures.value, ← c.member-2.ensures.value) at c.copy.ensures in
+    copy_ended (Ok (Some _)) (rw (c.in-Some.is, c.as_bytes.ensures.value) at c.in_ok-header.ensures.law)
+    (inr (
+      (λ same. grind (arith, common_steps)),
+      record {
+        copied = _;
+        out = _;
+        copies = copies;
+        rest = refl;
+        ends = inr (
+          omega (arith, c.limit.ensures, c.if-limit-gt0.true),
+          (c.new-then-limit-gt0.ensures.kind, c.new-then-limit-gt0.ensures.text),
+          refl,
+        );
+      },
+    ))
 
 pub returns : goal.returns
-returns g c = on_ok c.flush.result (λ done. record {
-  header = c.in-Some.header;
-  mid = c.find.new.self;
-  finds = rw (c.in-Some.is, c.as_bytes.ensures.value) at c.in_ok-header.ensures.law;
-  kind = λ same. grind (arith, common_steps);
-  count = c.in_ok-copy.field-0;
-  out = c.copy.new.writer;
-  copies = rw c.member-2.ensures.value (rw (c.in_ok-copy.was, c.member.ensures.value) at c.copy.ensures);
-  whole = omega (arith, c.limit.ensures, c.if-limit-gt0.false);
-  rest = refl;
-  flushed = rw done at c.flush.ensures.law;
-})
+returns g c =
+    let copies = rw (c.in_ok-copy.was, c.member.ensures.value, ← c.member-2.ensures.value) at c.copy.ensures in
+    copy_ended (Ok (Some _)) (rw (c.in-Some.is, c.as_bytes.ensures.value) at c.in_ok-header.ensures.law)
+    (inr (
+      (λ same. grind (arith, common_steps)),
+      record {
+        copied = _;
+        out = _;
+        copies = copies;
+        rest = refl;
+        ends = inl (omega (arith, c.limit.ensures, c.if-limit-gt0.false), c.flush.ensures.law);
+      },
+    ))
