@@ -1,10 +1,8 @@
 -- The first lines of a reader, passed on to a writer.
-use Rattle.std.specs.Prelude.{◌≡◌, ◌≤◌, ◌<◌, ℕ, List, [], length, None}
+use Rattle.std.specs.Prelude.{◌≡◌, ◌≤◌, ◌<◌, ◌⊎◌, ℕ, List, [], length, None, Bool, true, Result, Ok, Err}
 use Rattle.std.specs.List.{concat}
-use Rattle.no_std_io2.specs.Pieces.{newline, GivesPieces, AreAllPieces, ComeFirst}
-use Rattle.no_std_io2.specs.Takes.{Tells}
-use Rattle.no_std_io2.specs.Write.{Told, Moves}
-use Rattle.no_std_io2.specs.declared.io.ErrorKind.{ErrorKind}
+use Rattle.no_std_io2.specs.{Errors.{IsOutOfMemory}, Pieces.{newline, GivesPieces, AreAllPieces}, Reads.{Took}, Takes.{Tells}}
+use Rattle.no_std_io2.specs.{Write.{Told, Moves, MovesFront}, declared.io.Error.{Error}}
 
 -- So many lines came from the reader, and the writer accepted them, each whole. They are fewer than wanted only if no more were to come.
 pub record Heads (wanted : ℕ) (old new : Tells) (told told' : Told) (n : ℕ) : Type 0 where
@@ -15,9 +13,16 @@ pub record Heads (wanted : ℕ) (old new : Tells) (told told' : Told) (n : ℕ) 
   pub moves : Moves told (concat lines) [] told'
   pub fewer : n < wanted → AreAllPieces newline old lines None
 
--- After an error the writer has accepted a front of the bytes that were to come before the first fault.
-pub record HeadStops (old : Tells) (told told' : Told) : Type 0 where
-  pub accepted : List ℕ
-  pub happened : List ErrorKind
-  pub moves : Moves told accepted happened told'
-  pub front : ComeFirst old accepted
+-- whose error e is, by how the reading of lines and their writing ended: the reader's; or memory was refused; or the writer's
+abbrev pub IsErrorOf : Error → Result Bool Error → Result (Unit {0}) Error → Type 0
+IsErrorOf e how (Ok u) = (how ≡ Err e) ⊎ ((how ≡ Ok true) × IsOutOfMemory e)
+IsErrorOf e how (Err f) = e ≡ f
+
+-- After the error e the writer has accepted all bytes that were taken from the reader; or a front of them, if e is the writer's.
+pub record HeadStops (e : Error) (old new : Tells) (told told' : Told) : Type 0 where
+  pub taken : List ℕ
+  pub how : Result Bool Error
+  pub took : Took old taken how new
+  pub wrote : Result (Unit {0}) Error
+  pub accepts : MovesFront told taken wrote told'
+  pub whose : IsErrorOf e how wrote

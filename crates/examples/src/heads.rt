@@ -1,30 +1,34 @@
 //! [`head`], a loop over lines: the first lines of a reader go to a writer.
-ghost use Rattle.std.specs.Prelude.{IfOk, OnErr};
+ghost use Rattle.std.specs.Prelude.{IfOk, IfErr};
 ghost use Rattle.no_std_io2.specs.BufRead.{lender_tells};
 ghost use Rattle.examples.specs.Head.{Heads, HeadStops};
 
 use no_std_io2::io::{BufRead, Result, Write};
 use std::alloc::Global;
 
-/// Writes the first `wanted` lines of a reader to a writer, and returns their number. It is lower only at the end of the reader. A line
-/// ends in a newline, except the last if the reader has none there.
+/// Writes the first `wanted` lines of a reader to a writer, and returns their number. It is lower only at the end of the
+/// reader. A line ends in a newline, except the last if the reader has none there.
 ///
 /// # Errors
-/// Returns the reader's first fault, the writer's, `WriteZero` if the writer takes no byte, and `OutOfMemory` if an allocation failed. The
-/// lines before were accepted, and some first bytes of one more.
+/// Returns the reader's first fault, and `OutOfMemory` if an allocation failed; the writer has then accepted every byte
+/// that was taken, also those of a part of a line. Returns the writer's fault, and `WriteZero` if the writer takes no
+/// byte; the writer has then accepted the lines before and some first bytes of one more, whose other bytes are lost. If
+/// the writer fails at the part of a line before the reader's fault, that fault is lost too.
 pub fn head<B: BufRead, W: Write>(alloc: Global, r: &mut B, w: &mut W, wanted: u64) -> Result<u64>
     ensures heads { IfOk result (Heads wanted (lender_tells B.BufRead r.old) (lender_tells B.BufRead r.new)
         (W.told w.old) (W.told w.new)) }
-    ensures stops { OnErr result (HeadStops (lender_tells B.BufRead r.old) (W.told w.old) (W.told w.new)) }
+    ensures stops { IfErr result (λ e. HeadStops e (lender_tells B.BufRead r.old) (lender_tells B.BufRead r.new)
+        (W.told w.old) (W.told w.new)) }
 {
     let mut line = Vec::<u8>::new(alloc);
     let mut count = 0;
     'lines: while count < wanted {
         line.clear();
-        if r.read_until(b'\n', &mut line)? == 0 {
+        let read = r.read_until(b'\n', &mut line);
+        w.write_all(&line)?; // also the part of a line before a fault
+        if read? == 0 {
             return Ok(count);
         }
-        w.write_all(&line)?;
         count += 1;
     }
     Ok(count)
