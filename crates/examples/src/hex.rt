@@ -95,7 +95,11 @@ impl<W: Write> Write for Hex<W> {
     }
 }
 
-/// Writes the bytes of `rest` in hexadecimal. The digits of those that are gone from `rest` were written, also after an error.
+/// Writes the bytes of `rest` in hexadecimal. The digits of those that are gone from `rest` were written, also after an
+/// error, except the second digit of the last one, which the next call or the flush writes.
+///
+/// # Errors
+/// Returns the inner writer's first fault, and `WriteZero` if it takes no byte. The same call then continues.
 pub fn write_hex<W: Write>(w: &mut Hex<W>, rest: &mut &[u8]) -> Result<()>
     ensures { RestAdds (Encodes W.told) w.old rest.old.now result w.new rest.new.now }
 {

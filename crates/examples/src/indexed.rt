@@ -26,7 +26,8 @@ fn read_u32_at<R: Read + Seek>(r: &mut R, at: SeekFrom) -> Result<u32>
 /// Fills `entry` with the first bytes of entry number `i` of a file, which is any `Read + Seek`.
 ///
 /// # Errors
-/// Returns the error of a `seek` or `read_exact` that fails.
+/// Returns the error of a `seek` or `read_exact` that fails. The position may have moved then, and `entry` have some of
+/// the bytes.
 pub fn read_entry<R: Read + Seek>(r: &mut R, i: u32, entry: &mut [u8]) -> Result<()>
     ensures store { IfSome (R.store r.old) (λ s. IsSomeAnd (R.store r.new) (λ t. (t.content ≡ s.content)
         × OnOk result (entry.new ≡ take (length entry.old) (drop (entry_place i s.content) s.content)))) }

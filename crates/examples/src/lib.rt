@@ -48,6 +48,9 @@ pub use uart::{Registers, Uart};
 pub mod records;
 
 /// Writes a text through a buffer of 64 bytes, and returns the device with every byte out.
+///
+/// # Errors
+/// Returns `OutOfMemory` if the vector cannot grow. It is then dropped.
 pub fn save(device: Vec<u8>, text: &[u8]) -> Result<Vec<u8>>
     ensures { IfOk result (λ out. out.items ≡ device.items ++ text.now) }
 {
@@ -61,6 +64,9 @@ pub fn save(device: Vec<u8>, text: &[u8]) -> Result<Vec<u8>>
 }
 
 /// Does the same as `save`, over any device that fits in memory with its buffer.
+///
+/// # Errors
+/// Returns the device's first fault, and `WriteZero` if it takes no byte. The device is then dropped.
 pub fn save_to<W: Write + Drop>(device: W, text: &[u8]) -> Result<W>
     requires { BufWriterFits W.row 64 }
     ensures saved { IfOk result (λ d. Moves (W.told device) text.now [] (W.told d)) }

@@ -35,7 +35,7 @@ pub fn doubled(alloc: Global, text: &[u8]) -> Result<Vec<u8>>
 /// Writes a text twice to a device of one's own.
 ///
 /// # Errors
-/// Returns the device's error.
+/// Returns the device's error. It has then taken some front of the two texts.
 #[tactic(auto, using(crate::proofs::NarrowLemmas::lent_narrow))]
 pub fn double_to(w: &mut Narrow, text: &[u8]) -> Result<()>
     ensures { OnOk result (w.new.taken.items ≡ w.old.taken.items ++ (text.now ++ text.now)) }
@@ -46,7 +46,8 @@ pub fn double_to(w: &mut Narrow, text: &[u8]) -> Result<()>
 /// Fills two buffers from an object, one after the other.
 ///
 /// # Errors
-/// Returns the error of the reader behind the object, and `UnexpectedEof` if there are too few bytes.
+/// Returns the error of the reader behind the object, and `UnexpectedEof` if there are too few bytes. Some of them may be
+/// taken then.
 pub fn take_pair(r: &mut dyn Read, a: &mut [u8], b: &mut [u8]) -> Result<()>
     ensures { OnOk result (TakesBytes (record { events = events r.old; store = store r.old; turns = turns r.old }) (a.new ++ b.new)
         (record { events = events r.new; store = store r.new; turns = turns r.new })) }
@@ -58,7 +59,7 @@ pub fn take_pair(r: &mut dyn Read, a: &mut [u8], b: &mut [u8]) -> Result<()>
 /// Fills two buffers from the front of a queue.
 ///
 /// # Errors
-/// Returns `UnexpectedEof` if the queue has too few bytes.
+/// Returns `UnexpectedEof` if the queue has too few bytes. Those of `a` may be taken then.
 #[tactic(auto, using(no_std_io2::proofs::ObjectRules::lent_reader))]
 pub fn take_front(q: &mut VecDeque<u8>, a: &mut [u8], b: &mut [u8]) -> Result<()>
     ensures { OnOk result (q.old.items ≡ (a.new ++ b.new) ++ q.new.items) }

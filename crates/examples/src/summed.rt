@@ -55,6 +55,9 @@ impl<W: Write> Write for Summed<W> {
 
 /// Writes the bytes of `rest` by the trait's loop. The bytes that are gone from `rest` are in the sum, also after
 /// an error.
+///
+/// # Errors
+/// Returns the inner writer's first fault, and `WriteZero` if it takes no byte. The same call then continues.
 pub fn write_summed<W: Write>(w: &mut Summed<W>, rest: &mut &[u8]) -> Result<()>
     ensures { RestAdds Sums w.old rest.old.now result w.new rest.new.now }
 {
@@ -63,6 +66,9 @@ pub fn write_summed<W: Write>(w: &mut Summed<W>, rest: &mut &[u8]) -> Result<()>
 
 /// Flushes a buffer in front of a checksum. The bytes that are no longer held are in the sum; after `Ok` these are
 /// all bytes.
+///
+/// # Errors
+/// Returns the errors that `write_summed` returns, and that of the inner `flush`. The same call then continues.
 pub fn flush_summed<W: Write + Drop, const S: usize>(w: &mut BufWriter<Summed<W>, S>) -> Result<()>
     ensures { RestAdds Sums (writer_inner w.old) (writer_buffer w.old) result (writer_inner w.new) (writer_buffer w.new) }
 {
@@ -89,6 +95,10 @@ impl<R: Read> Read for Summed<R> {
 
 /// Fills `buf` by the trait's loop. The bytes that it took are in the sum, also after an error. After
 /// `Ok` they are all of `buf`.
+///
+/// # Errors
+/// Returns the inner reader's first fault, and `UnexpectedEof` if it ends before `buf` is full. The bytes before it are
+/// taken.
 pub fn read_summed<R: Read>(r: &mut Summed<R>, buf: &mut [u8]) -> Result<()>
     ensures { (x : List ℕ) × OnOk result (x ≡ buf.new) × Sums r.old x r.new }
 {
@@ -96,6 +106,9 @@ pub fn read_summed<R: Read>(r: &mut Summed<R>, buf: &mut [u8]) -> Result<()>
 }
 
 /// Reads to the end by the trait's loop. The bytes that it appended are in the sum, also after an error.
+///
+/// # Errors
+/// Returns the inner reader's first fault, and `OutOfMemory` if `buf` cannot grow. The same call then continues.
 pub fn drain_summed<R: Read>(r: &mut Summed<R>, buf: &mut Vec<u8>) -> Result<usize>
     ensures { (x : List ℕ) × (buf.new.items ≡ buf.old.items ++ x) × Sums r.old x r.new }
 {

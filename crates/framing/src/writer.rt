@@ -111,6 +111,7 @@ impl<W: Write + Drop, const S: usize> FrameWriter<W, S> {
     }
 
     /// Sends the held bytes and returns the writer below, which is not flushed. If nothing is held, it makes no call.
+    /// Follows `std::io::BufWriter::into_inner`.
     ///
     /// # Errors
     /// Returns the errors of the sending, with the buffered writer, which holds the bytes that were not sent.

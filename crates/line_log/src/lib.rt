@@ -154,6 +154,7 @@ impl<W: Write + Drop, const S: usize> LineLog<W, S> {
     }
 
     /// Sends the held bytes and returns the writer below, which is not flushed. If nothing is held, it makes no call.
+    /// Follows `std::io::BufWriter::into_inner`.
     ///
     /// # Errors
     /// Returns the sending's fault with the buffered writer, which holds the bytes that were not sent.
