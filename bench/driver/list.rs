@@ -118,8 +118,8 @@ macro_rules! listed {
             reader_to_string: lines whole "`BufReader` 1024, `read_to_string` of {} into a new text" [100 5000] | original;
             values_writer: bytes whole "`BufWriter` 1024, `write!` of six values" [1];
             values_cursor: bytes whole "`Cursor<&mut [u8]>`, `write!` of six values" [1];
-            queue_turns: bytes whole "a queue, `write_all` and `read_exact` of {} by turns" [16 100 1000] | original;
-            queue_held: bytes whole "a queue that holds 3000, `write_all` and `read_exact` of {} by turns" [7 64 1000] | original;
+            queue_turns: bytes whole "a queue, `write_all` and `read_exact` of {}" [16 100 1000] | original;
+            queue_held: bytes whole "a queue that holds 3000, `write_all` and `read_exact` of {}" [7 64 1000] | original;
             queue_to_end: bytes whole "a queue, `write_all` of {} and `read_to_end`" [4000] | original;
             frame_send: bytes long "`FrameWriter` 8192, `send` of {}" [1 18 100 1000] | kit;
             frame_next: frames long "`FrameReader` 8192, `next` of {}" [1 18 100 1000] | kit;
