@@ -1,9 +1,10 @@
-// Long pieces and wide gaps.
+// Long pieces, long writes and wide gaps.
 use crate::outcome::Outcome;
 use crate::texts::front;
 use crate::torn::Torn;
 use no_std_io2::io::{BufRead, BufReader, Cursor, Read, Write};
 use std::alloc::Global;
+use std::collections::VecDeque;
 
 /// Makes a `read_to_end` of `len` bytes of a slice, which knows how many are to come.
 pub fn by_known(alloc: Global, text: &[u8], len: usize) -> Outcome {
@@ -72,4 +73,16 @@ pub fn by_gap(alloc: Global, len: usize) -> Outcome {
     first
         .if_right(is_same)
         .and(Outcome::of(&to.write_all(b"x")))
+}
+
+/// Writes `len` bytes to a new queue, which stays empty if it is refused.
+pub fn by_queue(alloc: Global, text: &[u8], len: usize) -> Outcome {
+    let mut to = VecDeque::new(alloc);
+    let first = Outcome::of(&to.write(front(text, len)));
+    if first != Outcome::Refused {
+        return first.if_full(to.len(), len);
+    }
+    first
+        .if_right(to.is_empty())
+        .and(Outcome::of(&to.write(front(text, len))))
 }

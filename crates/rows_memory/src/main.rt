@@ -24,6 +24,7 @@ use system_streams::Patient;
 fn play_long(alloc: Global, text: &[u8], word: &str, len: usize) -> Outcome {
     match word {
         "gap" => large::by_gap(alloc, len),
+        "queue" => large::by_queue(alloc, text, len),
         "read_to_end" => large::by_known(alloc, text, len),
         "read_to_end_unknown" => large::by_unknown(alloc, text, len),
         "read_to_string" => large::by_read_to_string(alloc, text, len),
