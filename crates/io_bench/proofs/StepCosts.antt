@@ -1,10 +1,9 @@
 -- What the calls of a buffered writer cost, by each number that counts the calls of the inner writer, if
 -- that takes all.
-use Rattle.no_std_io2.proofs.Words.{◌≡◌, ◌+◌, ℕ, ◌<◌, ◌≤◌, List, Result, Ok, Err, IsOk, IfOk, arith, nat_tests, TakesAll, Writer, calls_for}
-use Rattle.no_std_io2.proofs.Words.{charges, IsMeter, Step, TakesStep, Told, writing_calls}
-use Rattle.no_std_io2.specs.{declared.io.Error.{Error}, Meter.{Costs}, BufWriter.{UnwrapCalls}}
-use Rattle.no_std_io2.specs.{declared.buffered.into_inner_error.IntoInnerError.{IntoInnerError}}
-use Rattle.no_std_io2.proofs.{StepLemmas.{Always, does}, BufWriterCalls.{send_does, writing_all_calls}, MeterLemmas.{meter_made}}
+use Rattle.no_std_io2.proofs.Words.{◌≡◌, ◌+◌, ℕ, ◌<◌, List, Result, IsOk, arith, nat_tests, TakesAll, Writer, IsMeter, Step, TakesStep}
+use Rattle.no_std_io2.proofs.{Words.{Told, writing_calls}, StepLemmas.{Always, does}, BufWriterCalls.{writing_all_calls}}
+use Rattle.no_std_io2.proofs.MeterLemmas.{meter_made}
+use Rattle.no_std_io2.specs.declared.io.Error.{Error}
 
 -- with some room, an empty `write_all` makes no call past the buffer
 pub writing_all-is : (S : ℕ) (x held : List ℕ) → 0 < S → writing_all_calls S x held ≡ writing_calls S held x
@@ -19,18 +18,3 @@ module _ {W : Type 0} (I : Writer W) where
   step_cost cost meter inner buffer always old new takes all =
       let done = (does always takes).counts all in
       (done.0, done.1, omega (arith, meter_made I cost meter takes.0 (inner old) (inner new) takes.1, done.2))
-
-  -- and at most so much
-  pub few_cost : {A B : Type 0} (cost : W → ℕ) → IsMeter I.may cost → (inner : B → W) (buffer : B → List ℕ) (step : Step A) (old new : B)
-      {reply : Result A Error} {n : ℕ} (takes : TakesStep I inner buffer step old reply new) → charges takes.0 ≤ n
-      → cost (inner new) ≤ cost (inner old) + n
-  few_cost cost meter inner buffer step old new takes few =
-      omega (arith, meter_made I cost meter takes.0 (inner old) (inner new) takes.1, few)
-
-  -- `into_inner` costs one call for the held bytes
-  pub unwrap_cost : {B : Type 0} (inner : B → W) (buffer : B → List ℕ) (old : B) (reply : Result W (IntoInnerError B))
-      → UnwrapCalls I inner buffer old reply → IfOk reply (λ w. Costs I (inner old) (calls_for (buffer old)) w)
-  unwrap_cost inner buffer old (Ok w) calls = λ cost meter takes.
-      let sent = (does (send_does I) calls).counts takes in
-      omega (arith, meter_made I cost meter calls.0 (inner old) w calls.1, sent.2)
-  unwrap_cost inner buffer old (Err e) calls = tt

@@ -8,7 +8,7 @@ use Rattle.std.proofs.{Common.{max}, Math.Nat.{le-max_left, le-max_right, max-eq
 use Rattle.no_std_io2.specs.{declared.io.Error.{Error}, declared.buffered.buf_reader.BufReader.{BufReader}}
 use Rattle.no_std_io2.specs.{BufReader.{ReadsThrough, LeavesExact, only_held, read_whole, read_to_end, read_to_fault}}
 use Rattle.no_std_io2.proofs.CallsLemmas.{made_split}
-use Rattle.io_bench.proofs.BufReaderCounts.{drawn}
+use Rattle.io_bench.proofs.FillsRoomLemmas.{drawn}
 use Rattle.promises.specs.Counts.{exact_reads, exact_left}
 
 -- What the inner reads of an exact read drew, with h bytes held before: none, or all by one read.

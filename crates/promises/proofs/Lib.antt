@@ -13,3 +13,6 @@ mod CopyReads
 mod HeldPieces
 mod Meters
 mod ExactCounts
+mod PatientReads
+mod BufReaderCounts
+mod WriteCosts

@@ -2,3 +2,4 @@ pub mod Promises
 pub mod Loops
 pub mod Fails
 pub mod Counts
+pub mod Patience

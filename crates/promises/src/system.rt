@@ -5,7 +5,8 @@ ghost use Rattle.std.specs.Prelude.{Some};
 ghost use Rattle.no_std_io2.specs.Read.{tells};
 ghost use Rattle.no_std_io2.specs.Seek.{Sought};
 ghost use Rattle.no_std_io2.specs.Write.{Moves, Wrote, taken, write_mishap};
-ghost use Rattle.system_streams.specs.Patient.{Fills, PatientMay, PatientSeeks, patient_told};
+ghost use Rattle.system_streams.specs.Patient.{PatientMay, PatientSeeks, patient_told};
+ghost use Rattle.promises.specs.Patience.{Fills};
 ghost use Rattle.system_streams.specs.ToStd.{accepted, bytes_to_come, content_of, position_of, std_inner};
 
 use no_std_io2::io::{Read, Result, Seek, SeekFrom, Write};

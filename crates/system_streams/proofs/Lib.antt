@@ -1,3 +1,3 @@
 pub mod CopyLemmas
-pub mod LoopLemmas
+pub mod PatientLemmas
 mod KnownLemmas

@@ -14,7 +14,7 @@ use Rattle.system_streams.specs.declared.patient.Patient.{Patient}
 use Rattle.system_streams.specs.declared.system.SystemWrite.{Ghosts as Device}
 use Rattle.system_streams.specs.declared.system.SystemRead.{Ghosts as Source}
 use Rattle.system_streams.specs.declared.system.SystemSeek.{Ghosts as Place}
-use Rattle.system_streams.specs.Turns.{AnswersFor, AnswersRead, GivesOn, IsOutOfTurns, Got, EndsReads}
+use Rattle.system_streams.specs.Turns.{AnswersFor, AnswersRead, GivesOn, IsOutOfTurns}
 
 -- `p.into_inner()`
 abbrev pub patient_device : {D : Type 0} → Patient D → D
@@ -88,14 +88,6 @@ pub record AsksOnce {D : Type 0} (I : Source D) (old : Patient D) (room : ℕ) (
 abbrev pub PatientReads : {D : Type 0} → Source D → Patient D → ReadCall → Patient D → Type 0
 PatientReads I old (Gave room answer) new = AsksOnce I old room answer new
 PatientReads I old call new = ⊥
-
--- From old to new a patient gave bytes of its device, which are the front of buf: all of it after `Ok`. Each result of the device except
--- the end spent a turn.
-pub record Fills {D : Type 0} (known : D → Option (List ℕ)) (reply : Result (Unit {0}) Error) (buf : List ℕ) (old new : Patient D)
-    : Type 0 where
-  pub bytes : Got (known (patient_device old)) (known (patient_device new)) reply buf
-  pub ends : EndsReads (length buf) reply (patient_turns old) (patient_turns new)
-  pub taken : patient_taken new ≡ patient_taken old
 
 -- the same place
 abbrev pub std_place : SeekFrom → StdPlace.SeekFrom

@@ -1,13 +1,12 @@
--- The results of a `Patient`: its errors, the turns that a result spends, and the bytes that loops of its calls move.
-use Rattle.std.specs.Prelude.{◌≡◌, ℕ, ◌+◌, ◌<◌, ◌≤◌, List, length, take, Option, None, Some, Ok, Err, Result, OnOk, codes, ◌⊎◌}
-use Rattle.std.specs.Io.KnownBytes.{Consumes}
+-- The results of a `Patient`: its errors, and the turns that a result spends.
+use Rattle.std.specs.Prelude.{◌≡◌, ℕ, ◌+◌, ◌<◌, None, Some, Ok, Err, Result, codes, ◌⊎◌}
 use Rattle.std.specs.IoError as Io
 use Rattle.std.specs.declared.io.Error as Std
 use Rattle.std.specs.declared.io.ErrorKind as StdKind
 use Rattle.std.specs.declared.io.ErrorKind.TheVariants as kind
 use Rattle.no_std_io2.specs.declared.io.Error.{Error}
 use Rattle.no_std_io2.specs.declared.io.ErrorKind.TheVariants.{TimedOut, Interrupted, Other}
-use Rattle.no_std_io2.specs.Errors.{error_kind, error_text, IsUnexpectedEnd}
+use Rattle.no_std_io2.specs.Errors.{error_kind, error_text}
 
 -- e is the error that no turns are left
 abbrev pub IsOutOfTurns : Error → Type 0
@@ -47,16 +46,3 @@ AnswersFor (Ok x) (Ok y) old new = (y ≡ x) × (new ≡ old)
 AnswersFor (Err e) (Err f) old new = Becomes (Io.error_kind e) f old new
 AnswersFor (Ok x) (Err f) old new = ⊥
 AnswersFor (Err e) (Ok y) old new = ⊥
-
--- how a loop of reads with some room may end: it spent at least one turn, or no turns were left, or the device failed, or the bytes ended
-abbrev pub EndsReads : {T : Type 0} → ℕ → Result T Error → ℕ → ℕ → Type 0
-EndsReads room (Ok x) old new = (new ≤ old) × (0 < room → new < old)
-EndsReads room (Err e) old new =
-    (new ≤ old) × ((IsOutOfTurns e × (new ≡ 0) × (0 < old)) ⊎ ((IsDeviceFault e × (new < old)) ⊎ IsUnexpectedEnd e))
-
--- if the bytes of the device are known, the front of the buffer is what it gave of them: all of the buffer after `Ok`
-pub record Got {T : Type 0} (known known' : Option (List ℕ)) (reply : Result T Error) (buf : List ℕ) : Type 0 where
-  pub count : ℕ
-  pub within : count ≤ length buf
-  pub whole : OnOk reply (count ≡ length buf)
-  pub device : Consumes known known' (take count buf)

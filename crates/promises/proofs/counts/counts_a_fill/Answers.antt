@@ -1,7 +1,7 @@
 -- The prover does not find how many bytes a filling reader gives, nor the state that a loan leaves.
 use Rattle.no_std_io2.proofs.Words.{ap, length}
 use Rattle.no_std_io2.proofs.PieceLoop.{filled_law}
-use Rattle.io_bench.proofs.BufReaderCounts.{fill_cost, fill_gives}
+use Rattle.promises.proofs.BufReaderCounts.{fill_cost, fill_gives}
 use Rattle.promises.proofs.counts.counts_a_fill.Goals as goal
 
 pub returns : goal.returns

@@ -1,5 +1,5 @@
 -- The prover does not go over the calls of a loop.
-use Rattle.system_streams.proofs.LoopLemmas.{fills}
+use Rattle.promises.proofs.PatientReads.{fills}
 use Rattle.promises.proofs.system.reads_from_the_system.Goals as goal
 
 pub returns : goal.returns

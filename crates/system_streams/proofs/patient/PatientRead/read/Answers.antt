@@ -2,7 +2,7 @@
 use Rattle.no_std_io2.proofs.Words.{◌<◌, length, arith, rules, Ok, Err}
 use Rattle.no_std_io2.proofs.WriteExits.{not_empty}
 use Rattle.system_streams.specs.Patient.{patient_turns}
-use Rattle.system_streams.proofs.LoopLemmas.{asks_once}
+use Rattle.system_streams.proofs.PatientLemmas.{asks_once}
 use Rattle.system_streams.proofs.patient.PatientRead.read.Goals as goal
 
 pub returns-in-Ok-eq0-clause-law : goal.returns-in-Ok-eq0-clause-law

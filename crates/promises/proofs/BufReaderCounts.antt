@@ -1,36 +1,12 @@
--- For counts over a filling reader: how many inner reads a call of a `BufReader` makes, and how much it holds then.
-use Rattle.no_std_io2.proofs.Words.{nat_tests, ◌≡◌, ℕ, ◌+◌, ◌-◌, ◌<◌, ◌≤◌, min, if◌then◌else◌, List, [], Result, Ok, Err, length, refl, sym}
-use Rattle.no_std_io2.proofs.Words.{ap, subst, ◌∙◌, arith, Some, length-append, length-take, length-take-le, IfOk, events_of, AreTaken}
-use Rattle.no_std_io2.proofs.Words.{to_come, Reader, tells, GaveLaw, bytes_given, IsReadMeter, FillsRoom, reader_held, reader_inner}
-use Rattle.no_std_io2.proofs.Words.{PassesOn, ReadsBelow, of_held, went_past, was_filled, FillsBelow, lent_held, lent_read}
+-- For `counts`: how many inner reads a call of a `BufReader` makes over a filling reader, and how many bytes it gives.
+use Rattle.no_std_io2.proofs.Words.{nat_tests, ◌≡◌, ℕ, ◌+◌, ◌-◌, ◌<◌, ◌≤◌, min, if◌then◌else◌, List, [], Result, Ok, Err, length, sym, ap}
+use Rattle.no_std_io2.proofs.Words.{subst, ◌∙◌, arith, length-take, length-take-le, IfOk, Reader, bytes_given, IsReadMeter, FillsRoom}
+use Rattle.no_std_io2.proofs.Words.{reader_held, reader_inner, PassesOn, ReadsBelow, of_held, went_past, was_filled, FillsBelow, lent_held}
+use Rattle.no_std_io2.proofs.{Words.{lent_read}, BufReaderRoom.{some_room}}
 use Rattle.std.proofs.Common.{IsOkAnd}
 use Rattle.std.specs.Prelude.{nat_lt}
-use Rattle.no_std_io2.specs.{declared.io.Error.{Error}, Read.{gave}, declared.buffered.buf_reader.BufReader.{BufReader}}
-use Rattle.no_std_io2.proofs.{EventLemmas.{length-events_of}, BufReaderRoom.{some_room}}
-
--- a read of a reader that fills its room
-pub record Drawn {R : Type 0} {K : Reader R} (fills : FillsRoom K) (a : R) (room : ℕ) (answer : Result (List ℕ) Error)
-    (b : R) : Type 0 where
-  pub gave : List ℕ
-  pub is : answer ≡ Ok gave
-  pub count : length gave ≡ min room (length (fills.left a))
-  pub rest : length gave + length (fills.left b) ≡ length (fills.left a)
-
-pub drawn : {R : Type 0} {K : Reader R} (fills : FillsRoom K) {a b : R} {room : ℕ} (answer : Result (List ℕ) Error)
-    → GaveLaw K a room answer b
-    → Drawn fills a room answer b
-drawn {K = K} fills {a} {b} {room} (Ok x) law =
-    let told : AreTaken (Some (events_of (fills.left a))) (events_of x) (Some (events_of (fills.left b))) =
-    subst (λ E. AreTaken E (events_of x) (Some (events_of (fills.left b)))) (fills.told a)
-    (subst (λ E. AreTaken (to_come (tells K a)) (events_of x) E) (fills.told b) law.takes.events) in
-    let long = ap length told ∙ length-append (events_of x) (events_of (fills.left b)) in
-    record {
-      gave = x;
-      is = refl;
-      count = fills.gives a b room (Ok x) law.call;
-      rest = omega (arith, long, length-events_of x, length-events_of (fills.left a), length-events_of (fills.left b));
-    }
-drawn fills (Err e) law = absurd (fills.gives _ _ _ (Err e) law.call)
+use Rattle.no_std_io2.specs.{declared.{io.Error.{Error}, buffered.buf_reader.BufReader.{BufReader}}, Read.{gave}}
+use Rattle.io_bench.proofs.FillsRoomLemmas.{drawn}
 
 -- how many bytes are given: those that are held, or those that would come if none are held
 abbrev pub held_or : ℕ → ℕ → ℕ

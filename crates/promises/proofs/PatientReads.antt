@@ -1,22 +1,16 @@
--- What the reads of a patient give.
-use Rattle.no_std_io2.proofs.Words.{◌≡◌, ℕ, zero, suc, ◌+◌, ◌<◌, ◌≤◌, List, [], ◌∷◌, Option, None, Some, Result, Ok, Err, length}
-use Rattle.no_std_io2.proofs.Words.{refl, sym, ap, subst, ◌∙◌, arith, inl, inr, ◌⊎◌, append-nil, length-append, IfOk, OnOk, ⊤}
-use Rattle.no_std_io2.proofs.Words.{IsFault, Reader, ReadLaw, ReadCall, Gave, bytes_given, answered, GaveLaw, ReadCallLaw, GathersUntil}
-use Rattle.no_std_io2.proofs.Words.{ExactCalls, Made, IsFront}
-use Rattle.std.specs.{Prelude.{min}, Result.{IsErrAnd}, Io.KnownBytes.{Consumes, Keeps, ReadConsumes}}
+-- For `system`: what the reads of a patient give.
+use Rattle.no_std_io2.proofs.Words.{◌≡◌, ℕ, zero, suc, ◌+◌, ◌<◌, ◌≤◌, List, [], ◌∷◌, Option, None, Some, Result, Ok, Err, length, refl, sym}
+use Rattle.no_std_io2.proofs.Words.{ap, subst, ◌∙◌, arith, inl, inr, ◌⊎◌, append-nil, length-append, OnOk, IsFault, ReadCall, Gave}
+use Rattle.no_std_io2.proofs.Words.{bytes_given, answered, GaveLaw, ReadCallLaw, GathersUntil, ExactCalls, Made, IsFront}
+use Rattle.no_std_io2.proofs.{CallsLemmas.{made_split}, EventLemmas.{length-events_of}, ReadsAdd.{EachAdds, gathers_add}}
+use Rattle.std.specs.{Prelude.{min}, Result.{IsErrAnd}, Io.KnownBytes.{Consumes, Keeps}}
 use Rattle.std.proofs.KnownBytes.{Consumes-nil, Consumes-trans}
 use lib.Seq.{take-append_seam}
 use Rattle.no_std_io2.specs.{declared.io.Error.{Error}, Errors.{is_interruption}, Read.{gave}, Write.{ByCalls}}
-use Rattle.no_std_io2.proofs.{CallsLemmas.{made_split}, EventLemmas.{length-events_of}, ReadsAdd.{EachAdds, gathers_add}}
-use Rattle.system_streams.specs.{declared.patient.Patient.{Patient}, declared.system.SystemRead.{Ghosts as Source}}
-use Rattle.system_streams.specs.Patient.{patient_device, patient_turns, patient_taken, patient_error, PatientReads, AsksOnce, AsksDevice}
-use Rattle.system_streams.specs.Patient.{Remembers, Fills}
-use Rattle.system_streams.specs.{Turns.{AnswersRead, GivesOn, EndsReads, IsOutOfTurns, IsDeviceFault}}
-use Rattle.std.specs.declared.io.Error as Std
-
--- what a patient reader tells
-abbrev pub patient_reader : {D : Type 0} → Source D → Reader (Patient D)
-patient_reader device = record { store = λ _. None; turns = patient_turns; events = λ _. None; may = PatientReads device }
+use Rattle.system_streams.specs.{declared.{patient.Patient.{Patient}, system.SystemRead.{Ghosts as Source}}, Patient.{patient_device}}
+use Rattle.system_streams.specs.{Patient.{patient_turns, patient_taken, AsksOnce, AsksDevice}, Turns.{IsOutOfTurns, IsDeviceFault}}
+use Rattle.promises.specs.Patience.{EndsReads, Fills}
+use Rattle.system_streams.proofs.PatientLemmas.{patient_reader}
 
 -- known bytes that stay lose nothing
 keeps_consumes : (a b : Option (List ℕ)) → Keeps a b → Consumes a b []
@@ -34,44 +28,7 @@ given_events : (answer : Result (List ℕ) Error) → length (bytes_given answer
 given_events (Ok x) = omega (arith, length-events_of x)
 given_events (Err e) = omega arith
 
--- a result that came from the device spent a turn, unless it gave nothing
-spent : {old : ℕ} (new : ℕ) (reply : Result ℕ Error) (buf : List ℕ) → AnswersRead reply old new
-    → new + min 1 (length (answered (gave reply buf))) ≤ old
-spent new (Ok zero) buf answers = omega (arith, answers.0 refl)
-spent new (Ok (suc n)) buf answers = omega (arith, answers.1 (omega arith))
-spent new (Err e) buf answers = omega (arith, answers.0)
-
 module _ {D : Type 0} (I : Source D) where
-  -- with some room and more than one turn, a read is one read of the device
-  pub asks_once : {old new : Patient D} {buf buf' : List ℕ} {given : Result ℕ Std.Error} (reply : Result ℕ Error)
-      → 0 < length buf' → 1 < patient_turns old → I.may_read (patient_device old) given buf' (patient_device new)
-      → IfOk reply (λ n. n ≤ length buf') → ReadConsumes (I.known (patient_device old)) (I.known (patient_device new)) reply buf'
-      → GivesOn given reply → AnswersRead reply (patient_turns old) (patient_turns new)
-      → Remembers given (patient_error old) (patient_error new) → patient_taken new ≡ patient_taken old
-      → ReadLaw (patient_reader I) old buf reply buf' new
-  asks_once {buf' = buf'} {given} reply some more asked bound bytes gives_on turns error taken = record {
-    bound = bound;
-    takes = record { events = tt; store = tt; turns = spent _ reply buf' turns };
-    end = any_end reply;
-    call = record {
-      empty = λ none. absurd (omega (arith, none, some));
-      over = λ none. absurd (omega (arith, none, more));
-      last = λ room one. absurd (omega (arith, one, more));
-      asked = λ room many. (
-        reply,
-        buf',
-        refl,
-        refl,
-        record { given = given; asked = asked; gives_on = gives_on; bytes = bytes; turns = turns; error = error },
-      );
-      taken = taken;
-    };
-  }
-    where
-      any_end : (reply : Result ℕ Error) → IfOk reply (λ n. n ≡ 0 → 0 < length buf' → ⊤)
-      any_end (Ok n) = λ _ _. tt
-      any_end (Err e) = tt
-
   -- x is gone from the known bytes of the device
   abbrev Lost : Patient D → List ℕ → Patient D → Type 0
   Lost old x new = Consumes (I.known (patient_device old)) (I.known (patient_device new)) x
