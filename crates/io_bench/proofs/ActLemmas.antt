@@ -1,13 +1,13 @@
 -- For `Faulty`: what a call does with its act, and the acts that are left.
 use Rattle.no_std_io2.proofs.Words.{CallOf, Writer, common_steps, ◌≡◌, ℕ, ◌<◌, List, [], ◌∷◌, ◌++◌, drop, Option, None, Some, ap, ◌∙◌}
 use Rattle.no_std_io2.proofs.Words.{subst, arith, append-nil, ◌≤◌, min, length, take, Result, IfOk, length-take, Told, Moves, Wrote}
-use Rattle.std.proofs.Common.{take-take, take_all}
-use Rattle.no_std_io2.specs.{declared.io.Error.{Error}, declared.io.ErrorKind.TheVariants.{WriteZero}, declared.io.ErrorKind.{ErrorKind}}
-use Rattle.no_std_io2.specs.{Write.{HasSpent, taken, write_mishap, zero_write}}
-use Rattle.std.specs.Option.{option_map}
 use Rattle.no_std_io2.proofs.MovesLemmas.{Moves-refl, Moves-forget, count_by-append}
-use Rattle.io_bench.specs.{declared.faulty.Act.{Act}, declared.faulty.Act.TheVariants.{Take}, declared.faulty.Faulty.{Faulty}}
-use Rattle.io_bench.specs.{Faulty.{act_mishap, act_mishaps, acts_left, faulty_inner, faulty_told, first_act, with_acts, WritesBehind}}
+use Rattle.std.proofs.Common.{take-take, take_all}
+use Rattle.no_std_io2.specs.{declared.io.{Error.{Error}, ErrorKind.{TheVariants.{WriteZero}, ErrorKind}}, Write.{HasSpent, taken}}
+use Rattle.no_std_io2.specs.Write.{write_mishap, zero_write}
+use Rattle.std.specs.Option.{option_map}
+use Rattle.io_bench.specs.{declared.faulty.{Act.{Act, TheVariants.{Take}}, Faulty.{Faulty}}, Faulty.{act_mishap, act_mishaps, acts_left}}
+use Rattle.io_bench.specs.Faulty.{faulty_inner, faulty_told, first_act, with_acts, WritesBehind}
 
 -- the mishaps that happened and those that acts made are gone
 spent_mishaps : (old : Option (List ErrorKind)) (k l m : List ErrorKind) (new : Option (List ErrorKind)) → HasSpent old k new

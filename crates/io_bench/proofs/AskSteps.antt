@@ -1,24 +1,22 @@
 -- For `run_reads` over a filling reader: no ask fails, each takes its step, and the inner reads are few.
 use Rattle.no_std_io2.proofs.Words.{◌≡◌, ℕ, ◌+◌, ◌-◌, ◌/◌, ◌<◌, ◌≤◌, min, nat_eq, nat_lt, Bool, true, false, if◌then◌else◌, List, [], ◌∷◌}
 use Rattle.no_std_io2.proofs.Words.{◌++◌, length, take, drop, Some, Result, Ok, Err, refl, sym, ap, ap₂, subst, ◌∙◌, arith, ⊎_elim, inl}
-use Rattle.no_std_io2.proofs.Words.{inr, length-append, length-drop, length-take-le, le_refl}
-use Rattle.no_std_io2.proofs.Words.{drop-append_seam, common_steps, nil_from_length, cases_lt, nat_tests, Event, fails, events_of, bytes}
-use Rattle.no_std_io2.proofs.Words.{Takes, to_come, IsAtEnd, Reader, tells, ReadCall, bytes_given, GaveLaw, ReadCallLaw, Gathers, no_read}
-use Rattle.no_std_io2.proofs.Words.{and_gave, and_again, ExactCalls, FillsRoom, IsReadMeter, Made, Lender, as_reader, lender_tells}
-use Rattle.no_std_io2.proofs.Words.{LendCallLaw, reader_held, reader_behind, reader_inner, behind_held, PassesOn, ReadsBelow, of_held}
-use Rattle.no_std_io2.proofs.Words.{went_past, was_filled, FillsBelow, lent_held, lent_read}
-use Rattle.std.proofs.Common.{◌&&◌, IfSome, is_err, add-zero, drop_of_length-le}
-use Rattle.no_std_io2.specs.{declared.io.Error.{Error}, BufRead.{FilledLaw, ConsumeLaw}, declared.buffered.buf_reader.BufReader.{BufReader}}
-use Rattle.no_std_io2.specs.{Read.{ReadExactLaw}}
-use Rattle.no_std_io2.proofs.{TakesLemmas.{stays_at_end}, EventLemmas.{bytes-append, bytes-events_of, events_of-append}}
+use Rattle.no_std_io2.proofs.Words.{inr, length-append, length-drop, length-take-le, le_refl, drop-append_seam, common_steps}
+use Rattle.no_std_io2.proofs.Words.{nil_from_length, cases_lt, nat_tests, Event, fails, events_of, bytes, Takes, to_come, IsAtEnd, Reader}
+use Rattle.no_std_io2.proofs.Words.{tells, ReadCall, bytes_given, GaveLaw, ReadCallLaw, Gathers, no_read, and_gave, and_again, ExactCalls}
+use Rattle.no_std_io2.proofs.Words.{FillsRoom, IsReadMeter, Made, Lender, as_reader, lender_tells, LendCallLaw, reader_held, reader_behind}
+use Rattle.no_std_io2.proofs.Words.{reader_inner, behind_held, PassesOn, ReadsBelow, of_held, went_past, was_filled, FillsBelow, lent_held}
+use Rattle.no_std_io2.proofs.{Words.{lent_read}, TakesLemmas.{stays_at_end}, EventLemmas.{bytes-append, bytes-events_of, events_of-append}}
 use Rattle.no_std_io2.proofs.{CallsLemmas.{made_split}, BufReaderRoom.{some_room, held-le}, BufferedReads.{told_behind}}
-use Rattle.no_std_io2.proofs.{BufReaderCalls.{buf_lender}}
-use Rattle.io_bench.proofs.{BufReaderCounts.{drawn}, RunLemmas.{made_one}}
-use Rattle.io_bench.proofs.{ReadsPaid.{ReadsPaid, OneCall, no_read as no_inner_read, one_read, paid_none, paid_held, paid_call, paid_bound}}
-use Rattle.io_bench.specs.{declared.asks.Ask.{Ask}, declared.asks.Ask.TheVariants.{Read, Exact, Fill}}
-use Rattle.io_bench.specs.Asks.{read_answer, end_or_error, exact_answer, fill_answer, fill_calls, Answered, met_end, CameTo, left_behind}
-use Rattle.io_bench.specs.Asks.{DropsFront, AskStep}
-use Rattle.io_bench.specs.{Asks.{meets_end, Steps}}
+use Rattle.no_std_io2.proofs.BufReaderCalls.{buf_lender}
+use Rattle.std.proofs.Common.{◌&&◌, IfSome, is_err, add-zero, drop_of_length-le}
+use Rattle.no_std_io2.specs.{declared.{io.Error.{Error}, buffered.buf_reader.BufReader.{BufReader}}, BufRead.{FilledLaw, ConsumeLaw}}
+use Rattle.no_std_io2.specs.Read.{ReadExactLaw}
+use Rattle.io_bench.proofs.{FillsRoomLemmas.{drawn}, RunLemmas.{made_one}, ReadsPaid.{ReadsPaid, OneCall, no_read as no_inner_read}}
+use Rattle.io_bench.proofs.ReadsPaid.{one_read, paid_none, paid_held, paid_call, paid_bound}
+use Rattle.io_bench.specs.{declared.asks.Ask.{Ask, TheVariants.{Read, Exact, Fill}}, Asks.{read_answer, end_or_error, exact_answer}}
+use Rattle.io_bench.specs.Asks.{fill_answer, fill_calls, Answered, CameTo, left_behind, DropsFront, AskStep, meets_end, Steps, no_step}
+use Rattle.io_bench.specs.Asks.{next_step, no_ask, next_ask}
 
 -- no error is among bytes
 none_fails : (x : List ℕ) (e : Error) (rest : List Event) → events_of x ≡ fails e ∷ rest → ⊥
@@ -34,10 +32,7 @@ passes_fits behind read room answer new x passes is = grind (arith, common_steps
 drops : (most : ℕ) (x left after : List ℕ) → left ≡ x ++ after → length x ≤ most → (x ≡ [] → 0 < most → after ≡ [])
     → DropsFront most left after
 drops most x left after split fits end = ⊎_elim
-    (λ few. ⊎_elim
-    (λ idle. (0, omega arith, omega arith, grind (arith, common_steps)))
-    (λ some. (most, omega arith, omega arith, grind (arith, common_steps)))
-    (cases_lt most 1))
+    (λ none. (min 1 most, omega arith, omega arith, grind (arith, common_steps)))
     (λ some. (length x, omega arith, omega arith, sym (drop-append_seam x after) ∙ ap (drop (length x)) (sym split)))
     (cases_lt (length x) 1)
 
@@ -76,11 +71,9 @@ module _ {R : Type 0} {S : ℕ} (I : Reader R) (fills : FillsRoom I) where
       → GaveLaw I (reader_inner a) room answer (reader_inner b)
       → ((x : List ℕ) → answer ≡ Ok x → length (reader_held b) ≤ length x) → Once a b
   once_reads a b room answer none wide law kept =
-      let one = drawn fills answer law in (
-        1,
-        λ cost meter. omega (arith, meter _ _ room answer law.call, some_room a),
-        one_read (length one.gave) none (omega (arith, one.rest)) (kept one.gave one.is) (λ few. omega (arith, one.count, one.rest)),
-      )
+      let one = drawn fills answer law in
+      let read = one_read (length one.gave) none (omega (arith, one.rest)) (kept one.gave one.is) (λ few. omega (arith, one.count, one.rest)) in
+      (1, λ cost meter. omega (arith, meter _ _ room answer law.call, some_room a), read)
 
   once_read : (a b : BufReader R S) (room : ℕ) (answer : Result (List ℕ) Error) → ReadsBelow I a room answer b → Once a b
   once_read a b room answer (of_held some held) =
@@ -235,17 +228,16 @@ module _ {R : Type 0} {S : ℕ} (I : Reader R) (fills : FillsRoom I) (start : Bu
       let gave : all a ≡ take n lent ++ all b =
       still ∙ took mid b (take n (reader_held mid)) law.takes ∙ ap (λ l. take n l ++ all b) filled.lends in
       let long = ap length still ∙ length-append (reader_held mid) (fills.left (reader_inner mid)) in
+      let over : lent ≡ [] → all a ≡ [] = λ none. ended a (stays_at_end filled.takes (filled.end (ap Ok none))) in
       let met : nat_eq (length lent) 0 ≡ nat_lt (length (all a)) 1 = ⊎_elim
-      (λ few. let over = ended a (stays_at_end filled.takes (filled.end (ap Ok (nil_from_length lent (omega arith))))) in
-      grind (arith, nat_tests, ap length over))
+      (λ few. grind (arith, nat_tests, ap length (over (nil_from_length lent (omega arith)))))
       (λ some. grind (arith, nat_tests, long, ap length filled.lends))
       (cases_lt (length lent) 1) in
       let many = length-take-le n lent (omega arith) in (
         is ∙ ap Ok met,
         drops most (take n lent) (all a) (all b) gave (omega (arith, many)) (λ none some.
-            let over = ended a (stays_at_end filled.takes (filled.end
-            (ap Ok (nil_from_length lent (omega (arith, many, ap length none)))))) in
-            nil_from_length (all b) (omega (arith, ap length gave, length-append (take n lent) (all b), ap length over))),
+            let empty = over (nil_from_length lent (omega (arith, many, ap length none))) in
+            nil_from_length (all b) (omega (arith, ap length gave, length-append (take n lent) (all b), ap length empty))),
         kept_paid _ mid b (omega (arith, ap length law.held, length-drop n (reader_held mid))) law.call.0
             (once_paid z _ a mid (omega arith) (λ none. grind (arith, nat_tests, none))
             (once_fill I fills a mid (Ok lent) filled.call) paid),
@@ -259,24 +251,6 @@ module _ {R : Type 0} {S : ℕ} (I : Reader R) (fills : FillsRoom I) (start : Bu
       exact_went len z a b reply answer buf buf' long is law law.calls.are paid
   answered_went (Fill most) z a b answer (reply, is, made) paid = fill_went most z a b reply answer is made paid
 
-  -- asks in a row
-  came_went : (asks : List Ask) (z : ℕ) (a b : BufReader R S) (at_end failed : ℕ) → CameTo L asks a at_end failed b → Paid z a
-      → (failed ≡ 0) × Steps asks (all a) (all b) at_end × Paid (z + at_end) b
-  came_went [] z a b at_end failed t paid = (
-    t.2,
-    (ap all t.0, t.1),
-    subst (λ r. Paid (z + at_end) r) (sym t.0) (subst (λ k. Paid k a) (omega (arith, t.1)) paid),
-  )
-  came_went (ask ∷ asks) z a b at_end failed (answer, next, ends, failures, now, later, counted, none) paid =
-      let first = answered_went ask z a next answer now paid in
-      let rest = came_went asks _ next b ends failures later first.2 in
-      let count : at_end ≡ (if meets_end ask (length (all a)) then 1 else 0) + ends =
-      counted ∙ ap (λ r. (if met_end r then 1 else 0) + ends) first.0 in (
-        none ∙ ap₂ (λ r k. (if is_err r then 1 else 0) + k) first.0 rest.0,
-        (all next, ends, first.1, rest.1, count),
-        subst (λ k. Paid k b) (omega (arith, count)) rest.2,
-      )
-
   -- before the first ask
   none_paid : Paid 0 start
   none_paid = (
@@ -286,12 +260,15 @@ module _ {R : Type 0} {S : ℕ} (I : Reader R) (fills : FillsRoom I) (start : Bu
         (sym (length-append (reader_held start) (fills.left (reader_inner start)))) (paid_none S _ _),
   )
 
-  -- from the first ask on
-  pub run_went : (asks : List Ask) (b : BufReader R S) (at_end failed : ℕ) → CameTo L asks start at_end failed b
+  -- asks in a row
+  pub came_went : {asks : List Ask} {b : BufReader R S} {at_end failed : ℕ} → CameTo L asks start at_end failed b
       → (failed ≡ 0) × Steps asks (all start) (all b) at_end × Paid at_end b
-  run_went asks b at_end failed came =
-      let went = came_went asks 0 start b at_end failed came none_paid in
-      (went.0, went.1, subst (λ k. Paid k b) (omega arith) went.2)
+  came_went no_ask = (refl, no_step, none_paid)
+  came_went (next_ask {mid = mid} {new = b} {at_end = at_end} ask answer before now counted failures) =
+      let (none, steps, paid) = came_went before in
+      let (is, step, kept) = answered_went ask at_end mid b answer now paid in
+      let fine : is_err answer ≡ false = ap is_err is in
+      rw (counted, is) (omega (arith, none, rw fine at failures), next_step ask steps step, kept)
 
   -- so the inner reads are few
   pub few_reads : (z : ℕ) (b : BufReader R S) → Paid z b → (cost : R → ℕ) → IsReadMeter I.may cost

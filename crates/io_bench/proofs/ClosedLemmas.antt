@@ -1,15 +1,13 @@
 -- For `run_closed`: a run through a new buffer that is then closed, over a writer that takes all.
 use Rattle.no_std_io2.proofs.Words.{◌≡◌, ◌+◌, ◌*◌, ◌/◌, ℕ, ◌<◌, List, [], ◌∷◌, ◌++◌, length, Ok, refl, sym, ap, subst, ◌∙◌, arith, CallOf}
-use Rattle.no_std_io2.proofs.Words.{WriteCall}
-use Rattle.no_std_io2.proofs.Words.{Moves, Wrote, WroteAll, Flushed, Writer, TakesAll, IsMeter, BufferMay, InnerCalls, writer_buffer}
-use Rattle.no_std_io2.proofs.Words.{writer_inner, writer_told}
+use Rattle.no_std_io2.proofs.Words.{WriteCall, Moves, Wrote, WroteAll, Flushed, Writer, TakesAll, IsMeter, BufferMay, InnerCalls}
+use Rattle.no_std_io2.proofs.{Words.{writer_buffer, writer_inner, writer_told}, CallsLemmas.{made_map, law_may}, MovesLemmas.{Moves-ends}}
+use Rattle.no_std_io2.proofs.BufWriterLemmas.{Moves-device, buffer-le}
 use Rattle.std.proofs.Common.{take_all}
 use Rattle.no_std_io2.specs.{Meter.{CostsAtMost}, declared.buffered.buf_writer.BufWriter.{BufWriter}, BufWriter.{Unwraps}}
-use Rattle.no_std_io2.proofs.{CallsLemmas.{made_map, law_may}, MovesLemmas.{Moves-ends}, BufWriterLemmas.{Moves-device, buffer-le}}
-use Rattle.io_bench.specs.{declared.runs.Op.{Op}, declared.runs.Op.TheVariants.{Write, WriteAll, Flush}, declared.runs.Reply.{Reply}}
-use Rattle.io_bench.specs.{declared.runs.Reply.TheVariants.{Took, Done}, Runs.{Accepts, AreWhole, IsWhole, Ran, Run, RunCalls}}
-use Rattle.io_bench.specs.{declared.tally.Tally.{Tally}, Tally.{TallyMay, tally_inner, tally_writes}}
-use Rattle.io_bench.specs.{Closed.{flushes, given_bytes, op_bytes}}
+use Rattle.io_bench.specs.declared.runs.{Op.{Op, TheVariants.{Write, WriteAll, Flush}}, Reply.{Reply, TheVariants.{Took, Done}}}
+use Rattle.io_bench.specs.{Runs.{Accepts, AreWhole, IsWhole, Ran, Run, RunCalls}, declared.tally.Tally.{Tally}, Tally.{TallyMay}}
+use Rattle.io_bench.specs.{Tally.{tally_inner, tally_writes}, Closed.{flushes, given_bytes, op_bytes}}
 use Rattle.io_bench.proofs.RunCharges.{closed_bound}
 
 -- a whole call accepted all its bytes
@@ -48,7 +46,7 @@ module _ {W : Type 0} (I : Writer W) {S : ℕ} (some : 0 < S) (w : W) (ops : Lis
         let made = made_map (CallOf J) (BufferMay I (InnerCalls S) writer_inner writer_buffer) (λ b. b)
         (λ a b call law. may a b call (law_may J a b call law)) run.calls start last run.made in
         let bound = closed_bound I cost meter S some writer_inner writer_buffer buffer-le start last t ops replies run.calls
-        run.joined whole
+        run.are whole
         made empty (subst (TakesAll I) (sym is) all) ends.calls in
         omega (arith, bound, ap cost is);
   }

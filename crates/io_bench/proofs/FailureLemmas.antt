@@ -1,10 +1,10 @@
 -- For `run_writes`: at most as many calls of a run failed as mishaps were told.
-use Rattle.no_std_io2.proofs.Words.{common_steps, ◌≡◌, ℕ, true, if◌then◌else◌, List, [], ◌∷◌, length, Option, Some, refl, arith}
-use Rattle.no_std_io2.proofs.Words.{Moves, Told}
-use Rattle.std.proofs.{Common.{count_by}, lemmas.List.{length-append}, lemmas.List.Sums.{sum_by-cons}}
+use Rattle.no_std_io2.proofs.Words.{common_steps, ◌≡◌, ℕ, true, if◌then◌else◌, List, [], ◌∷◌, length, Option, Some, refl, arith, Moves}
+use Rattle.no_std_io2.proofs.Words.{Told}
+use Rattle.std.proofs.{Common.{count_by}, lemmas.List.{length-append, Sums.{sum_by-cons}}}
 use Rattle.no_std_io2.specs.{declared.io.ErrorKind.{ErrorKind}, Write.{HasSpent}}
-use Rattle.io_bench.specs.{declared.runs.Op.{Op}, declared.runs.Reply.{Reply}}
-use Rattle.io_bench.specs.Runs.{EndsFlushed, HasFewer, IsShorterBy, Ran, Run, failures, failures_of, is_failure, mishap_of, mishaps_of}
+use Rattle.io_bench.specs.{declared.runs.{Op.{Op}, Reply.{Reply}}, Runs.{EndsFlushed, HasFewer, IsShorterBy, Ran, Run, failures}}
+use Rattle.io_bench.specs.Runs.{failures_of, is_failure, mishap_of, mishaps_of}
 
 -- if every element is counted, the count is the length
 count_by-all : {X : Type 0} (xs : List X) → count_by (λ _. true) xs ≡ length xs

@@ -1,11 +1,10 @@
 -- For `Feed`: what its script's events give to a reader.
 use Rattle.no_std_io2.proofs.Words.{common_steps, ◌≡◌, ℕ, zero, suc, ◌+◌, ◌<◌, ◌≤◌, List, [], ◌∷◌, ◌++◌, length, take, drop, true, false}
 use Rattle.no_std_io2.proofs.Words.{◌==◌, nat_lt, if◌then◌else◌, Some, None, Ok, refl, sym, ap, ap₂, ◌∙◌, arith, length-drop}
-use Rattle.no_std_io2.proofs.Words.{length-take-le, nat_tests, byte, events_of, Reader, ReadLaw}
+use Rattle.no_std_io2.proofs.{Words.{length-take-le, nat_tests, byte, events_of, Reader, ReadLaw}, EventLemmas.{length-events_of}}
 use Rattle.std.proofs.{Common.{set}, Math.Seq.{take-add}, lemmas.List.{take_more_set, drop-drop}}
-use Rattle.no_std_io2.proofs.EventLemmas.{length-events_of}
-use Rattle.io_bench.specs.{declared.feed.Event.{Event}, declared.feed.Event.TheVariants.{Byte}, declared.feed.Feed.{Feed}}
-use Rattle.io_bench.specs.{Feed.{all_to_come, leading_bytes, first_failure, feed_left, feed_piece, feed_gives, failed_or_gave, FeedMay}}
+use Rattle.io_bench.specs.{declared.feed.{Event.{Event, TheVariants.{Byte}}, Feed.{Feed}}, Feed.{all_to_come, leading_bytes, first_failure}}
+use Rattle.io_bench.specs.Feed.{feed_left, feed_piece, feed_gives, failed_or_gave, FeedMay}
 
 -- the first n bytes are given, and the events after them are left
 pub given_first : (n : ℕ) (left : List Event) → n ≤ length (leading_bytes left)

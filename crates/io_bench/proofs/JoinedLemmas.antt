@@ -2,9 +2,8 @@
 use Rattle.no_std_io2.proofs.Words.{◌≡◌, ℕ, zero, suc, arith, ◌+◌, ◌<◌, ◌≤◌, length, take, get_or, List, [], ◌∷◌, ◌++◌, refl, sym, ap, ap₂}
 use Rattle.no_std_io2.proofs.Words.{◌∙◌, subst, append-nil, inl, inr, common_steps, take_more, nil_from_length}
 use Rattle.std.proofs.{Common.{take_all}, lemmas.List.{length-append, append_cancel_left}}
-use Rattle.io_bench.specs.{declared.runs.Op.{Op}, declared.runs.Op.TheVariants.{WriteAll}, declared.runs.Reply.{Reply}}
-use Rattle.io_bench.specs.{declared.runs.Reply.TheVariants.{Failed}, Runs.{Accepts, Run}}
-use Rattle.io_bench.specs.{Joined.{IsClear, AreClear, IsJoined, HasIdleFailure}}
+use Rattle.io_bench.specs.{declared.runs.{Op.{Op, TheVariants.{WriteAll}}, Reply.{Reply, TheVariants.{Failed}}}, Runs.{Accepts, Run}}
+use Rattle.io_bench.specs.Joined.{IsClear, AreClear, IsJoined, HasIdleFailure}
 
 -- a reply that says what was accepted says one list
 accepted_once : (op : Op) (reply : Reply) (xs ys : List ℕ) → IsClear op reply → Accepts op reply xs → Accepts op reply ys → ys ≡ xs

@@ -1,7 +1,7 @@
 -- For `run_closed`, the count of inner writes: two in a row carry more than S bytes, unless a flush made the first.
-use Rattle.no_std_io2.proofs.Words.{common_steps, ◌≡◌, ℕ, ◌+◌, ◌*◌, ◌/◌, ◌<◌, ◌≤◌, min, List, length, ⊎_elim, refl, arith, writing_calls}
+use Rattle.no_std_io2.proofs.Words.{common_steps, ◌≡◌, ℕ, ◌+◌, ◌*◌, ◌/◌, ◌<◌, ◌≤◌, min, List, length, ⊎_elim, arith, writing_calls}
 use Rattle.no_std_io2.proofs.Words.{buffer_after, calls_for, nat_tests, cases_lt}
-use Rattle.std.proofs.{lemmas.Nat.{le-div}, lemmas.List.{length-append}}
+use Rattle.std.proofs.lemmas.{Nat.{le-div}, List.{length-append}}
 
 -- c writes so far, f flushes, n bytes given, h of them in the buffer: there are p complete pairs of writes that carried
 -- more than S bytes each, and either no write is without a partner, or only the last is, which carried at least S bytes
@@ -9,39 +9,34 @@ pub data Paid (S c f n h : ℕ) : Type 0 where
   pairs : (p : ℕ) → c ≤ 2 * p + f → p * (S + 1) + h ≤ n → Paid S c f n h
   open_one : (p : ℕ) → c ≤ 2 * p + 1 + f → p * (S + 1) + S + min h 1 ≤ n → Paid S c f n h
 
+-- What one call of x bytes does to h, by k writes: they are held, or take the place of the held bytes, or go past the buffer, which is
+-- sent first if it holds bytes; or the call is one flush.
+pub data BufferStep (S h x h' k g : ℕ) : Type 0 where
+  held : k ≡ 0 → g ≡ 0 → h' ≡ h + x → BufferStep S h x h' k g
+  sent : k ≡ 1 → g ≡ 0 → 0 < h → S < h + x → h' ≡ x → BufferStep S h x h' k g
+  past : k ≡ min h 1 + 1 → g ≡ 0 → 0 < S → S ≤ x → h' ≡ 0 → BufferStep S h x h' k g
+  flushed : k ≡ min h 1 → g ≡ 1 → h' ≡ 0 → BufferStep S h x h' k g
+
 -- at the start no write was made and no byte given
 pub Paid-start : (S : ℕ) → Paid S 0 0 0 0
 Paid-start S = pairs 0 (omega arith) (omega arith)
 
--- a write that fits
-pub Paid-held : (S c f n h x : ℕ) → Paid S c f n h → Paid S c f (n + x) (h + x)
-Paid-held S c f n h x (pairs p a b) = pairs p a (omega arith)
-Paid-held S c f n h x (open_one p a b) = open_one p a (omega arith)
-
--- a short write that does not fit: the buffer is sent
-pub Paid-sent : (S c f n h x : ℕ) → 0 < h → x < S → S < h + x → Paid S c f n h → Paid S (c + 1) f (n + x) x
-Paid-sent S c f n h x s t u (pairs p a b) = open_one p (omega arith) (omega arith)
-Paid-sent S c f n h x s t u (open_one p a b) = pairs (p + 1) (omega arith) (omega arith)
-
--- a long write past an empty buffer
-pub Paid-direct : (S c f n x : ℕ) → 0 < S → S ≤ x → Paid S c f n 0 → Paid S (c + 1) f (n + x) 0
-Paid-direct S c f n x s t (pairs p a b) = open_one p (omega arith) (omega arith)
-Paid-direct S c f n x s t (open_one p a b) = pairs (p + 1) (omega arith) (omega arith)
-
--- a long write that sends the buffer first
-pub Paid-both : (S c f n h x : ℕ) → 0 < S → 0 < h → S ≤ x → Paid S c f n h → Paid S (c + 2) f (n + x) 0
-Paid-both S c f n h x s t u (pairs p a b) = pairs (p + 1) (omega arith) (omega arith)
-Paid-both S c f n h x s t u (open_one p a b) = open_one (p + 1) (omega arith) (omega arith)
-
--- a flush of some held bytes: one write more, and nothing is held
-pub Paid-flushed : (S c f n h : ℕ) → 0 < h → Paid S c f n h → Paid S (c + 1) (f + 1) n 0
-Paid-flushed S c f n h s (pairs p a b) = pairs p (omega arith) (omega arith)
-Paid-flushed S c f n h s (open_one p a b) = pairs (p + 1) (omega arith) (omega arith)
-
--- a flush with nothing held: no write more
-pub Paid-idle : (S c f n : ℕ) → Paid S c f n 0 → Paid S c (f + 1) n 0
-Paid-idle S c f n (pairs p a b) = pairs p (omega arith) b
-Paid-idle S c f n (open_one p a b) = open_one p (omega arith) b
+-- one call more
+pub paid_call : {S c f n h x h' k g : ℕ} → BufferStep S h x h' k g → Paid S c f n h → Paid S (c + k) (f + g) (n + x) h'
+paid_call (held k g is) (pairs p a b) = pairs p (omega arith) (omega arith)
+paid_call (held k g is) (open_one p a b) = open_one p (omega arith) (omega arith)
+paid_call (sent k g some over is) (pairs p a b) = open_one p (omega arith) (omega arith)
+paid_call (sent k g some over is) (open_one p a b) = pairs (p + 1) (omega arith) (omega arith)
+paid_call {h = h} (past k g some long is) (pairs p a b) = ⊎_elim
+    (λ none. open_one p (omega arith) (omega arith))
+    (λ any. pairs (p + 1) (omega arith) (omega arith))
+    (cases_lt h 1)
+paid_call {h = h} (past k g some long is) (open_one p a b) = ⊎_elim
+    (λ none. pairs (p + 1) (omega arith) (omega arith))
+    (λ any. open_one (p + 1) (omega arith) (omega arith))
+    (cases_lt h 1)
+paid_call (flushed k g is) (pairs p a b) = pairs p (omega arith) (omega arith)
+paid_call (flushed k g is) (open_one p a b) = open_one p (omega arith) (omega arith)
 
 -- the bound, with the last sending
 pub Paid-bound : (S c f n h : ℕ) → Paid S c f n h → c + min h 1 ≤ 2 * (n / (S + 1)) + f + 1
@@ -52,30 +47,16 @@ pub Paid-same : {S c f n h d g m k : ℕ} → c ≡ d → f ≡ g → n ≡ m �
 Paid-same c f n h (pairs p a b) = pairs p (omega arith) (omega arith)
 Paid-same c f n h (open_one p a b) = open_one p (omega arith) (omega arith)
 
--- the calls that a write takes, and what it leaves in the buffer
-pub Paid-write : (S c f n : ℕ) (buffer x : List ℕ) → 0 < S → length buffer ≤ S → Paid S c f n (length buffer)
-    → Paid S (c + writing_calls S buffer x) f (n + length x) (length (buffer_after S buffer x))
-Paid-write S c f n buffer x some fits paid = ⊎_elim
+-- a write of x is one of them
+pub write_call : (S : ℕ) (buffer x : List ℕ) → 0 < S → length buffer ≤ S
+    → BufferStep S (length buffer) (length x) (length (buffer_after S buffer x)) (writing_calls S buffer x) 0
+write_call S buffer x some fits = ⊎_elim
     (λ short. ⊎_elim
-    (λ over. Paid-same (grind (arith, nat_tests)) refl refl (grind (arith, nat_tests))
-    (Paid-sent S c f n (length buffer) (length x) (omega arith) short over paid))
-    (λ under. Paid-same (grind (arith, nat_tests)) refl refl (grind (arith, nat_tests, length-append))
-    (Paid-held S c f n (length buffer) (length x) paid))
+    (λ over. sent (grind (arith, nat_tests)) (omega arith) (omega arith) over (grind (arith, nat_tests)))
+    (λ under. held (grind (arith, nat_tests)) (omega arith) (grind (arith, nat_tests, length-append)))
     (cases_lt S (length buffer + length x)))
-    (λ long. ⊎_elim
-    (λ none. Paid-same (grind (arith, nat_tests)) refl refl (grind (arith, nat_tests))
-    (Paid-direct S c f n (length x) some long (Paid-same refl refl refl (omega arith) paid)))
-    (λ held. Paid-same (grind (arith, nat_tests)) refl refl (grind (arith, nat_tests))
-    (Paid-both S c f n (length buffer) (length x) some held long paid))
-    (cases_lt (length buffer) 1))
+    (λ long. past (grind (arith, nat_tests)) (omega arith) some long (grind (arith, nat_tests)))
     (cases_lt (length x) S)
-
--- the calls that a flush takes, whatever is held
-pub Paid-flush : (S c f n : ℕ) (buffer : List ℕ) → Paid S c f n (length buffer) → Paid S (c + calls_for buffer) (f + 1) n 0
-Paid-flush S c f n buffer paid = ⊎_elim
-    (λ none. Paid-same (grind (arith, nat_tests)) refl refl refl (Paid-idle S c f n (Paid-same refl refl refl (omega arith) paid)))
-    (λ held. Paid-same (grind (arith, nat_tests)) refl refl refl (Paid-flushed S c f n (length buffer) held paid))
-    (cases_lt (length buffer) 1)
 
 -- the held bytes are sent by one call, or by none if nothing is held
 pub calls_for-min : (buffer : List ℕ) → calls_for buffer ≡ min (length buffer) 1

@@ -1,15 +1,13 @@
 -- For `run_split` and `run_lines`: how the items of a run come to be all pieces, by what each `next` says.
-use Rattle.no_std_io2.proofs.Words.{◌≡◌, ℕ, true, false, Bool, Option, Some, None, Result, Ok, Err, List, [], ◌∷◌, ◌++◌, map}
-use Rattle.no_std_io2.proofs.Words.{refl, ap, ap₂, ◌∙◌, subst, sym, inl, inr, ◌<◌, ◌⊎◌, length, arith, length-append, append-nil}
-use Rattle.no_std_io2.proofs.Words.{append_assoc}
-use Rattle.no_std_io2.proofs.Words.{IfErr, concat, common_steps, IsFault, IsOutOfMemory, Event, byte, fails, bytes, HasNoFault}
-use Rattle.no_std_io2.proofs.Words.{bytes_to_fault, first_fault, to_come, Lender, lender_tells, Made, newline, without, split_reader}
-use Rattle.no_std_io2.proofs.Words.{split_delim}
-use Rattle.std.proofs.{Common.{IfSome}}
-use Rattle.no_std_io2.specs.{declared.io.Error.{Error}, Errors.{is_interruption}}
-use Rattle.no_std_io2.specs.{Pieces.{pieces_given, RefusesLine, line_text, ends_at, split_is_ended, lines_reader, lines_is_ended}}
-use Rattle.no_std_io2.specs.{BufRead.{NextPieceLaw}, declared.io.Split.{Split}, declared.io.Lines.{Lines}}
+use Rattle.no_std_io2.proofs.Words.{◌≡◌, ℕ, true, false, Bool, Option, Some, None, Result, Ok, Err, List, [], ◌∷◌, ◌++◌, map, refl, ap, ap₂}
+use Rattle.no_std_io2.proofs.Words.{◌∙◌, subst, sym, inl, inr, ◌<◌, ◌⊎◌, length, arith, length-append, append-nil, append_assoc, IfErr}
+use Rattle.no_std_io2.proofs.Words.{concat, common_steps, IsFault, IsOutOfMemory, Event, byte, fails, bytes, HasNoFault, bytes_to_fault}
+use Rattle.no_std_io2.proofs.Words.{first_fault, to_come, Lender, lender_tells, Made, newline, without, split_reader, split_delim}
 use Rattle.no_std_io2.proofs.{GivenPieces.{GivesNext, GivesNone, next_error, next_fault, next_item, next_none}, CallsLemmas.{made_more}}
+use Rattle.std.proofs.Common.{IfSome}
+use Rattle.no_std_io2.specs.{declared.io.Error.{Error}, Errors.{is_interruption}, Pieces.{pieces_given, RefusesLine, line_text, ends_at}}
+use Rattle.no_std_io2.specs.{Pieces.{split_is_ended, lines_reader, lines_is_ended}, BufRead.{NextPieceLaw}, declared.io.Split.{Split}}
+use Rattle.no_std_io2.specs.declared.io.Lines.{Lines}
 use Rattle.io_bench.specs.{Appended.{appended}, PieceRuns.{AllPieces, GathersPieces, RunsNexts}}
 use Rattle.io_bench.proofs.AppendedLemmas.{appended-one}
 

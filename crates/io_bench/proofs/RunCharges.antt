@@ -1,76 +1,14 @@
 -- For `run_closed`: the count of a whole run through a buffer, and its closing, from the calls that it made.
-use Rattle.no_std_io2.proofs.Words.{common_steps, ◌≡◌, ◌+◌, ◌*◌, ◌/◌, ℕ, ◌<◌, ◌≤◌, List, [], ◌∷◌, ◌++◌, length, take, Result, Ok, Err, OnOk}
-use Rattle.no_std_io2.proofs.Words.{IsOk, refl, sym, subst, ap, ap₂, ◌∙◌, arith, inl, inr, length-append, append-nil, le_refl}
-use Rattle.no_std_io2.proofs.Words.{take-append-drop, Writer, TakesAll, WriteCall, Wrote, WroteAll, Flushed, Made, Writes, none}
-use Rattle.no_std_io2.proofs.Words.{took, again, calls_for, IsMeter, BufferMay, SendCalls, Stepped}
-use Rattle.no_std_io2.proofs.Words.{InnerCalls, writing_calls, buffer_after}
-use Rattle.std.specs.List.{flat_map}
-use Rattle.std.proofs.{lemmas.Grind.{flat_map-append}, Common.{take_all}}
-use Rattle.no_std_io2.specs.{declared.io.Error.{Error}, Write.{taken}}
-use Rattle.no_std_io2.proofs.BufWriterCalls.{send_does, write_does, write_all_does, flush_does, write_takes}
-use Rattle.no_std_io2.proofs.{StepLemmas.{does}, MeterLemmas.{meter_made}}
-use Rattle.io_bench.proofs.{StepCosts.{step_cost, writing_all-is}}
-use Rattle.io_bench.proofs.{PaidLemmas.{Paid, Paid-same, Paid-write, Paid-flush, Paid-bound, Paid-start, calls_for-min}}
-use Rattle.io_bench.specs.{declared.runs.Op.{Op}, declared.runs.Op.TheVariants.{Write, WriteAll, Flush}, declared.runs.Reply.{Reply}}
-use Rattle.io_bench.specs.{declared.runs.Reply.TheVariants.{Took, Done}, Runs.{OpCalls, JoinsEach, IsWhole, AreWhole}}
-use Rattle.io_bench.specs.{Closed.{op_bytes, given_bytes, op_flushes, flushes}}
-
--- the bytes that a call took
-abbrev call_bytes : WriteCall → List ℕ
-call_bytes (Wrote x reply) = taken reply x
-call_bytes (WroteAll x reply) = x
-call_bytes (Flushed reply) = []
-
--- 1 for a flush
-abbrev call_flushes : WriteCall → ℕ
-call_flushes (Flushed reply) = 1
-call_flushes _ = 0
-
--- the bytes and the flushes of calls
-abbrev all_bytes : List WriteCall → List ℕ
-all_bytes C = flat_map call_bytes C
-
-abbrev all_flushes : List WriteCall → ℕ
-all_flushes [] = 0
-all_flushes (call ∷ C) = call_flushes call + all_flushes C
-
--- those of a loop that wrote x
-writes_took : {text : List ℕ} {C : List WriteCall} {x left : List ℕ} {reply : Result (Unit {0}) Error} → Writes text C x reply left
-    → OnOk reply ((all_bytes C ≡ x) × (all_flushes C ≡ 0))
-writes_took none = (refl, refl)
-writes_took {reply = Ok u} (took {x = x} {n = n} some more w) =
-    let rest = writes_took w in (ap (λ l. take n x ++ l) rest.0 ∙ take-append-drop n x, omega (arith, rest.1))
-writes_took {reply = Ok u} (again some interrupted w) = let rest = writes_took w in (rest.0, omega (arith, rest.1))
-writes_took {reply = Err e} w = tt
-
--- those of one call of a run that was whole
-op_took : (op : Op) (reply : Reply) (C : List WriteCall) → OpCalls op reply C → IsWhole op reply
-    → (all_bytes C ≡ op_bytes op) × (all_flushes C ≡ op_flushes op)
-op_took (Write x) (Took n) C is whole = (
-  ap all_bytes is ∙ append-nil (take n x.now) ∙ take_all n x.now (omega (arith, whole)),
-  ap all_flushes is,
-)
-op_took (WriteAll x) Done C (inl own) whole = (ap all_bytes own ∙ append-nil x.now, ap all_flushes own)
-op_took (WriteAll x) Done C (inr (left, writes)) whole = writes_took writes
-op_took Flush Done C is whole = (ap all_bytes is, ap all_flushes is)
-op_took _ _ C is whole = grind (arith, is, whole)
-
--- calls and then others
-flushes-append : (C D : List WriteCall) → all_flushes (C ++ D) ≡ all_flushes C + all_flushes D
-flushes-append [] D = omega arith
-flushes-append (call ∷ C) D = omega (arith, flushes-append C D)
-
--- those of a run
-run_took : (ops : List Op) (replies : List Reply) (C : List WriteCall) → JoinsEach OpCalls ops replies C → AreWhole ops replies
-    → (all_bytes C ≡ given_bytes ops) × (all_flushes C ≡ flushes ops)
-run_took [] [] C idle whole = (ap all_bytes idle, ap all_flushes idle)
-run_took (op ∷ ops) (reply ∷ replies) C (first, rest, one, more, is) whole =
-    let now = op_took op reply first one whole.0 in
-    let later = run_took ops replies rest more whole.1 in (
-      ap all_bytes is ∙ flat_map-append call_bytes first rest ∙ ap₂ (λ l m. l ++ m) now.0 later.0,
-      ap all_flushes is ∙ flushes-append first rest ∙ ap₂ (λ k m. k + m) now.1 later.1,
-    )
-run_took _ _ C joined whole = absurd joined
+use Rattle.no_std_io2.proofs.Words.{common_steps, ◌≡◌, ◌+◌, ◌*◌, ◌/◌, ℕ, ◌<◌, ◌≤◌, List, [], ◌∷◌, length, Result, Ok, OnOk, Step, TakesStep}
+use Rattle.no_std_io2.proofs.Words.{Told, length-drop, IsOk, refl, sym, subst, arith, inl, inr, length-append, Writer, TakesAll, WriteCall}
+use Rattle.no_std_io2.proofs.Words.{Wrote, Made, Writes, none, took, again, IsMeter, BufferMay, SendCalls, Stepped, InnerCalls}
+use Rattle.no_std_io2.proofs.{Words.{buffer_after}, BufWriterCalls.{send_does, write_does, write_all_does, flush_does, write_takes}}
+use Rattle.no_std_io2.proofs.{StepLemmas.{Always, Exactly, does}, MeterLemmas.{meter_made}, CallsLemmas.{made_split}}
+use Rattle.no_std_io2.specs.declared.io.Error.{Error}
+use Rattle.io_bench.proofs.{StepCosts.{step_cost, writing_all-is}, RunLemmas.{made_one}, PaidLemmas.{Paid, BufferStep, flushed, Paid-same}}
+use Rattle.io_bench.proofs.PaidLemmas.{paid_call, write_call, Paid-bound, Paid-start, calls_for-min}
+use Rattle.io_bench.specs.declared.runs.{Op.{Op, TheVariants.{Write, WriteAll, Flush}}, Reply.{Reply, TheVariants.{Took, Done}}}
+use Rattle.io_bench.specs.{Runs.{OpCalls, JoinsEach, IsWhole, AreWhole}, Closed.{op_bytes, given_bytes, op_flushes, flushes}}
 
 -- what holds after `Ok` holds for a result that is `Ok`
 at_ok : {A P : Type 0} (r : Result A Error) → IsOk r → OnOk r P → P
@@ -83,52 +21,65 @@ module _ {W B : Type 0} (I : Writer W) (cost : W → ℕ) (meter : IsMeter I.may
 
   -- the inner writer still takes all, and the calls so far, of f flushes and n bytes, are paid for
   abbrev PaidTo : ℕ → ℕ → B → Type 0
-  PaidTo f n b = TakesAll I (inner b) × ((c : ℕ) × (cost (inner b) ≡ cost (inner old) + c) × Paid S c f n (length (buffer b)))
+  PaidTo f n b = TakesAll I (inner b) × (c : ℕ) × (cost (inner b) ≡ cost (inner old) + c) × Paid S c f n (length (buffer b))
 
-  -- a call that makes so many calls more, and leaves this in the buffer
-  paid_on : (f n : ℕ) (a b : B) {A : Type 0} (reply : Result A Error) (k : ℕ) (left : List ℕ) (paid : PaidTo f n a) (f' n' : ℕ)
-      → TakesAll I (inner b) × IsOk reply × (cost (inner b) ≡ cost (inner a) + k) → OnOk reply (buffer b ≡ left)
-      → Paid S (paid.1.0 + k) f' n' (length left) → PaidTo f' n' b
-  paid_on f n a b reply k left paid f' n' done leaves next = (
-    done.0,
-    (
-      paid.1.0 + k,
-      omega (arith, done.2, paid.1.1),
-      subst (λ l. Paid S (paid.1.0 + k) f' n' (length l)) (sym (at_ok reply done.1 leaves)) next,
-    ),
-  )
+  -- so they are for equal numbers
+  paid_at : {f f' n n' : ℕ} (b : B) → f ≡ f' → n ≡ n' → PaidTo f n b → PaidTo f' n' b
+  paid_at b f n (all, c, is, paid) = (all, c, is, Paid-same refl f n refl paid)
 
-  call_paid : (f n : ℕ) (a b : B) (call : WriteCall) → May a call b → PaidTo f n a
-      → PaidTo (f + call_flushes call) (n + length (call_bytes call)) b
-  call_paid f n a b (Wrote x reply) made paid =
-      let k = writing_calls S (buffer a) x in
-      let done = step_cost I cost meter inner buffer (write_does I S x) a b {reply = reply} made paid.0 in
-      let whole : taken reply x ≡ x =
-      ap (λ r. taken r x) (write_takes I S made paid.0) ∙ take_all (length x) x (le_refl (length x)) in
-      subst (λ l. PaidTo (f + 0) (n + length l) b) (sym whole)
-      (paid_on f n a b reply k (buffer_after S (buffer a) x) paid (f + 0) (n + length x) done (does (write_does I S x) made).leaves
-      (Paid-same refl (omega arith) refl refl (Paid-write S paid.1.0 f n (buffer a) x some (fits a) paid.1.2)))
-  call_paid f n a b (WroteAll x reply) made paid =
-      let k = writing_calls S (buffer a) x in
-      let done = step_cost I cost meter inner buffer (write_all_does I S x) a b {reply = reply} made paid.0 in
-      paid_on f n a b reply k (buffer_after S (buffer a) x) paid (f + 0) (n + length x)
-      (done.0, done.1, omega (arith, done.2, writing_all-is S x (buffer a) some)) (does (write_all_does I S x) made).leaves
-      (Paid-same refl (omega arith) refl refl (Paid-write S paid.1.0 f n (buffer a) x some (fits a) paid.1.2))
-  call_paid f n a b (Flushed reply) made paid =
-      let done = step_cost I cost meter inner buffer (flush_does I) a b {reply = reply} made paid.0 in
-      paid_on f n a b reply (calls_for (buffer a)) [] paid (f + 1) (n + 0) done (does (flush_does I) made).leaves
-      (Paid-same refl refl (omega arith) refl (Paid-flush S paid.1.0 f n (buffer a) paid.1.2))
+  -- a call of x bytes that leaves this in the buffer
+  step_paid : {A : Type 0} {step : Step A} {R : Told → Result A Error → Told → Type 0} {k : List ℕ → ℕ} (left : List ℕ → List ℕ)
+      → Always I step R (Exactly left) k → {f n x g : ℕ} (a b : B) (reply : Result A Error)
+      → BufferStep S (length (buffer a)) x (length (left (buffer a))) (k (buffer a)) g → TakesStep I inner buffer step a reply b
+      → PaidTo f n a → PaidTo (f + g) (n + x) b
+  step_paid {k = k} left always {f} {n} {x} {g} a b reply one takes (all, c, is, paid) =
+      let done = step_cost I cost meter inner buffer always a b takes all in (
+        done.0,
+        c + k (buffer a),
+        omega (arith, done.2, is),
+        subst (λ l. Paid S (c + k (buffer a)) (f + g) (n + x) (length l)) (sym (at_ok reply done.1 (does always takes).leaves))
+            (paid_call one paid),
+      )
 
-  -- many calls
-  calls_paid : (f n : ℕ) (a b : B) (C : List WriteCall) → Made May a C b → PaidTo f n a
-      → PaidTo (f + all_flushes C) (n + length (all_bytes C)) b
-  calls_paid f n a b [] made paid = subst (PaidTo (f + 0) (n + 0)) (sym made)
-      (paid.0, (paid.1.0, paid.1.1, Paid-same refl (omega arith) (omega arith) refl paid.1.2))
-  calls_paid f n a b (call ∷ C) made paid =
-      let first = call_paid f n a made.0 call made.1 paid in
-      let rest = calls_paid (f + call_flushes call) (n + length (call_bytes call)) made.0 b C made.2 first in
-      let long = length-append (call_bytes call) (all_bytes C) in
-      (rest.0, (rest.1.0, rest.1.1, Paid-same refl (omega arith) (omega (arith, long)) refl rest.1.2))
+  wrote_paid : {f n : ℕ} (a b : B) (x : List ℕ) (reply : Result ℕ Error) → May a (Wrote x reply) b → PaidTo f n a
+      → PaidTo (f + 0) (n + length x) b
+  wrote_paid a b x reply made paid =
+      step_paid (λ held. buffer_after S held x) (write_does I S x) a b reply (write_call S (buffer a) x some (fits a)) made paid
+
+  -- a loop that wrote all
+  loop_paid : {text : List ℕ} {C : List WriteCall} {x left : List ℕ} {f n : ℕ} → Writes text C x (Ok tt) left → (a b : B)
+      → Made May a C b → PaidTo f n a → PaidTo (f + 0) (n + length x) b
+  loop_paid {f = f} {n} none a b made paid = subst (PaidTo (f + 0) (n + 0)) (sym made) (paid_at a (omega arith) (omega arith) paid)
+  loop_paid (took {x = x} {n = k} any more w) a b made paid =
+      let is = write_takes I S made.1 paid.0 in
+      let all : k ≡ length x = cc in
+      paid_at b (omega arith) (omega (arith, length-drop k x, all))
+      (loop_paid w made.0 b made.2 (wrote_paid a made.0 x (Ok k) made.1 paid))
+  loop_paid (again any interrupted w) a b made paid =
+      let is = write_takes I S made.1 paid.0 in absurd (let no : ⊥ = cc in no)
+
+  -- a call of the run that was whole
+  op_paid : (op : Op) (reply : Reply) (C : List WriteCall) → OpCalls op reply C → IsWhole op reply → {f n : ℕ} (a b : B)
+      → Made May a C b → PaidTo f n a → PaidTo (f + op_flushes op) (n + length (op_bytes op)) b
+  op_paid (Write x) (Took k) C is whole a b made paid = wrote_paid a b x.now (Ok k) (made_one May a b is made) paid
+  op_paid (WriteAll x) Done C (inl own) whole a b made paid =
+      step_paid (λ held. buffer_after S held x.now) (write_all_does I S x.now) a b (Ok tt)
+      (rw (writing_all-is S x.now (buffer a) some) (write_call S (buffer a) x.now some (fits a))) (made_one May a b own made) paid
+  op_paid (WriteAll x) Done C (inr (left, writes)) whole a b made paid = loop_paid writes a b made paid
+  op_paid Flush Done C is whole a b made paid =
+      step_paid (λ _. []) (flush_does I) a b (Ok tt) (flushed (calls_for-min (buffer a)) refl refl) (made_one May a b is made) paid
+  op_paid _ _ C is whole a b made paid = grind (arith, is, whole)
+
+  -- a run
+  ops_paid : (ops : List Op) (replies : List Reply) (C : List WriteCall) → JoinsEach OpCalls ops replies C → AreWhole ops replies
+      → {f n : ℕ} (a b : B) → Made May a C b → PaidTo f n a → PaidTo (f + flushes ops) (n + length (given_bytes ops)) b
+  ops_paid [] [] C idle whole {f} {n} a b made paid =
+      subst (PaidTo (f + 0) (n + 0)) (sym (rw idle at made)) (paid_at a (omega arith) (omega arith) paid)
+  ops_paid (op ∷ ops) (reply ∷ replies) C (first, rest, one, more, is) whole a b made paid =
+      let (mid, now, later) = made_split May first a rest b (rw is at made) in
+      paid_at b (omega arith) (omega (arith, length-append (op_bytes op) (given_bytes ops)))
+      (ops_paid ops replies rest more whole.1 mid b later (op_paid op reply first one whole.0 a mid now paid))
+  ops_paid _ _ C joined whole a b made paid = absurd joined
 
   -- For N bytes and F flushes through an empty buffer, and its closing: at most `2 * (N / (S + 1)) + F + 1`.
   pub closed_bound : (last : B) (w : W) (ops : List Op) (replies : List Reply) (C : List WriteCall) → JoinsEach OpCalls ops replies C
@@ -136,10 +87,9 @@ module _ {W B : Type 0} (I : Writer W) (cost : W → ℕ) (meter : IsMeter I.may
       → Stepped I SendCalls (inner last) (buffer last) (Ok tt) [] w
       → cost w ≤ cost (inner old) + (2 * (length (given_bytes ops) / (S + 1)) + flushes ops + 1)
   closed_bound last w ops replies C joined whole made empty takes sent =
-      let start = Paid-same refl refl refl (ap length (sym empty)) (Paid-start S) in
-      let run = calls_paid 0 0 old last C made (takes, (0, omega arith, start)) in
-      let took = run_took ops replies C joined whole in
-      let bound = Paid-bound S run.1.0 (flushes ops) (length (given_bytes ops)) (length (buffer last))
-      (Paid-same refl (omega (arith, took.1)) (omega (arith, ap length took.0)) refl run.1.2) in
+      let start : PaidTo 0 0 old = (takes, 0, omega arith, rw empty (Paid-start S)) in
+      let run : PaidTo (flushes ops) (length (given_bytes ops)) last =
+      paid_at last (omega arith) (omega arith) (ops_paid ops replies C joined whole old last made start) in
+      let bound = Paid-bound S run.1 (flushes ops) (length (given_bytes ops)) (length (buffer last)) run.3 in
       let last_one = (does (send_does I) sent).counts run.0 in
-      omega (arith, meter_made I cost meter sent.0 (inner last) w sent.1, last_one.2, run.1.1, calls_for-min (buffer last), bound)
+      omega (arith, meter_made I cost meter sent.0 (inner last) w sent.1, last_one.2, run.2, calls_for-min (buffer last), bound)

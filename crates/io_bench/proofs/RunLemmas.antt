@@ -1,11 +1,10 @@
 -- For `run_writes`: the law of a run follows from its calls. And runs through buffers.
 use Rattle.no_std_io2.proofs.Words.{CallOf, TakesAll, Writer, ◌≡◌, List, [], ◌∷◌, ◌++◌, ℕ, refl, sym, ap, ◌∙◌, append_assoc, append-nil}
-use Rattle.no_std_io2.proofs.Words.{common_steps, arith, Moves, WriteCall, Made, Through, take}
+use Rattle.no_std_io2.proofs.{Words.{common_steps, arith, Moves, WriteCall, Made, ByCalls, Through, take}, AllFacts.{all_calls}}
+use Rattle.no_std_io2.proofs.{CallsLemmas.{by_are, by_then, made_split}, TowerCalls.{through}, MovesLemmas.{Moves-refl, Moves-steady}}
+use Rattle.no_std_io2.proofs.MovesLemmas.{Moves-trans}
 use Rattle.std.specs.List.{AllZip}
-use Rattle.no_std_io2.proofs.{AllFacts.{all_calls}, CallsLemmas.{made_then, made_split}, TowerCalls.{through}}
-use Rattle.no_std_io2.proofs.MovesLemmas.{Moves-refl, Moves-steady, Moves-trans}
-use Rattle.io_bench.specs.{declared.runs.Op.{Op}, declared.runs.Op.TheVariants.{Write, WriteAll, Flush}, declared.runs.Reply.{Reply}}
-use Rattle.io_bench.specs.declared.runs.Reply.TheVariants.{Took, Done, Failed}
+use Rattle.io_bench.specs.declared.runs.{Op.{Op, TheVariants.{Write, WriteAll, Flush}}, Reply.{Reply, TheVariants.{Took, Done, Failed}}}
 use Rattle.io_bench.specs.Runs.{Accepts, AreWhole, EndsFlushed, IsFlushed, IsWhole, JoinsEach, OpCalls, Ran, RunBelow, RunCalls, RunLaw}
 use Rattle.io_bench.specs.Runs.{mishap_of}
 use Rattle.io_bench.proofs.FailureLemmas.{ran_by}
@@ -27,14 +26,10 @@ AllZip-more P (o ∷ ops) (q ∷ replies) op reply r a = (r.0, AllZip-more P ops
 AllZip-more P _ _ op reply r a = absurd r
 
 -- the calls of one more
-pub RunCalls-more : {W : Type 0} {I : Writer W} {a b c : W} (ops : List Op) (op : Op) (replies : List Reply) (reply : Reply)
-    → RunCalls I a ops replies b → (C : List WriteCall) × Made (CallOf I) b C c × OpCalls op reply C
-    → RunCalls I a (ops ++ op ∷ []) (replies ++ reply ∷ []) c
-RunCalls-more {I = I} {a} {b} {c} ops op replies reply r s = record {
-  calls = r.calls ++ s.0;
-  made = made_then (CallOf I) r.calls a s.0 b c r.made s.1;
-  joined = JoinsEach-more OpCalls ops replies r.calls op reply s.0 r.joined s.2;
-}
+pub RunCalls-more : {W : Type 0} (I : Writer W) {a b c : W} (ops : List Op) (op : Op) (replies : List Reply) (reply : Reply)
+    → RunCalls I a ops replies b → ByCalls (CallOf I) b (OpCalls op reply) c → RunCalls I a (ops ++ op ∷ []) (replies ++ reply ∷ []) c
+RunCalls-more I ops op replies reply r s =
+    by_then r s (λ C D joined are. JoinsEach-more OpCalls ops replies C op reply D joined are)
 
 -- what the calls did that one call of a run made
 record OpLaw {W : Type 0} (I : Writer W) (old : W) (op : Op) (reply : Reply) (new : W) : Type 0 where
@@ -127,34 +122,34 @@ module _ {W : Type 0} (I : Writer W) where
   -- the law of a run follows from the laws of its calls
   pub run_law : {a b : W} {ops : List Op} {replies : List Reply} → RunCalls I a ops replies b → RunLaw I a ops replies b
   run_law {a} {b} {ops} {replies} run =
-      let (ran, all) = joined_law ops replies run.calls run.joined a b run.made in record { calls = run; ran = ran; all = all }
+      let (ran, all) = joined_law ops replies run.calls run.are a b run.made in record { calls = run; ran = ran; all = all }
 
 -- a run through a buffer is a run of what is below it
 pub below_first : {W B : Type 0} (I : Writer W) {K : Writer B} (inner : B → W) (buffer : B → List ℕ)
     (level : List ℕ → WriteCall → List WriteCall → List ℕ → Type 0)
     → ((a b : B) (call : WriteCall) → K.may a call b
     → (D : List WriteCall) × Made (CallOf I) (inner a) D (inner b) × level (buffer a) call D (buffer b))
-    → {a b : B} {ops : List Op} {replies : List Reply} → RunCalls K a ops replies b
+    → {a b : B} (ops : List Op) (replies : List Reply) → RunCalls K a ops replies b
     → RunBelow I (λ calls below. Through level (buffer a) calls below (buffer b)) (inner a) ops replies (inner b)
-below_first I {K = K} inner buffer level each {a = a} {b = b} r =
+below_first I {K = K} inner buffer level each {a = a} {b = b} ops replies r =
     let (below, made, is) = through I K inner buffer level each r.calls a b r.made in
-    record { calls = r.calls; joined = r.joined; below = below; made = made; is = is }
+    record { calls = below; made = made; are = (r.calls, r.are, is) }
 
 -- and one through two buffers
 pub below_more : {W B : Type 0} (I : Writer W) {K : Writer B} (inner : B → W) (buffer : B → List ℕ)
     (level : List ℕ → WriteCall → List WriteCall → List ℕ → Type 0)
     → ((a b : B) (call : WriteCall) → K.may a call b
     → (D : List WriteCall) × Made (CallOf I) (inner a) D (inner b) × level (buffer a) call D (buffer b))
-    → {tower : List WriteCall → List WriteCall → Type 0} {a b : B} {ops : List Op} {replies : List Reply}
+    → {tower : List WriteCall → List WriteCall → Type 0} {a b : B} (ops : List Op) (replies : List Reply)
     → RunBelow K tower a ops replies b
     → RunBelow I (λ calls below. (mid : List WriteCall) × tower calls mid × Through level (buffer a) mid below (buffer b))
     (inner a) ops replies (inner b)
-below_more I {K = K} inner buffer level each {a = a} {b = b} r =
-    let (below, made, is) = through I K inner buffer level each r.below a b r.made in
-    record { calls = r.calls; joined = r.joined; below = below; made = made; is = (r.below, r.is, is) }
+below_more I {K = K} inner buffer level each {a = a} {b = b} ops replies r =
+    let (below, made, is) = through I K inner buffer level each r.calls a b r.made in
+    let (calls, joined, upper) = r.are in record { calls = below; made = made; are = (calls, joined, (r.calls, upper, is)) }
 
 -- such a run, if the calls of the device are related otherwise too
-pub below_map : {W : Type 0} {I : Writer W} {tower tower' : List WriteCall → List WriteCall → Type 0} {a b : W} {ops : List Op}
-    {replies : List Reply} → ((calls below : List WriteCall) → tower calls below → tower' calls below) → RunBelow I tower a ops replies b
+pub below_map : {W : Type 0} (I : Writer W) {tower tower' : List WriteCall → List WriteCall → Type 0} {a b : W} (ops : List Op)
+    (replies : List Reply) → ((calls below : List WriteCall) → tower calls below → tower' calls below) → RunBelow I tower a ops replies b
     → RunBelow I tower' a ops replies b
-below_map each r = record { calls = r.calls; joined = r.joined; below = r.below; made = r.made; is = each r.calls r.below r.is }
+below_map I ops replies each r = by_are r (λ below (calls, joined, is). (calls, joined, each calls below is))

@@ -1,17 +1,10 @@
 -- What asks do to a buffered reader, and what they do over a filling reader.
-use Rattle.std.specs.Prelude.{◌≡◌, ℕ, ◌+◌, ◌≤◌, ◌&&◌, min, nat_eq, nat_lt, Bool, true, false, if◌then◌else◌}
-use Rattle.std.specs.Prelude.{List, [], ◌∷◌, ◌++◌, length, drop, ⊤, Result, Ok, Err, is_err}
-use Rattle.no_std_io2.specs.declared.io.Error.{Error}
-use Rattle.no_std_io2.specs.declared.io.ErrorKind.{ErrorKind}
-use Rattle.no_std_io2.specs.declared.io.ErrorKind.TheVariants.{UnexpectedEof}
-use Rattle.no_std_io2.specs.Errors.{error_kind}
-use Rattle.no_std_io2.specs.Read.{ReadCall, Gave, Filled, Consumed, ReadExactLaw}
-use Rattle.no_std_io2.specs.Write.{Made}
-use Rattle.no_std_io2.specs.BufRead.{Lender, as_reader, LendCallLaw}
-use Rattle.no_std_io2.specs.declared.buffered.buf_reader.BufReader.{BufReader}
-use Rattle.no_std_io2.specs.BufReader.{reader_held, reader_inner}
-use Rattle.io_bench.specs.declared.asks.Ask.{Ask}
-use Rattle.io_bench.specs.declared.asks.Ask.TheVariants.{Read, Exact, Fill}
+use Rattle.std.specs.Prelude.{◌≡◌, ℕ, ◌+◌, ◌≤◌, ◌&&◌, min, nat_eq, nat_lt, Bool, true, false, if◌then◌else◌, List, [], ◌∷◌, ◌++◌, length}
+use Rattle.std.specs.Prelude.{drop, ⊤, Result, Ok, Err, is_err}
+use Rattle.no_std_io2.specs.{declared.io.{Error.{Error}, ErrorKind.{ErrorKind, TheVariants.{UnexpectedEof}}}, Errors.{error_kind}}
+use Rattle.no_std_io2.specs.{Read.{ReadCall, Gave, Filled, Consumed, ReadExactLaw}, Write.{Made}, BufRead.{Lender, as_reader, LendCallLaw}}
+use Rattle.no_std_io2.specs.{declared.buffered.buf_reader.BufReader.{BufReader}, BufReader.{reader_held, reader_inner}}
+use Rattle.io_bench.specs.declared.asks.Ask.{Ask, TheVariants.{Read, Exact, Fill}}
 
 -- whether a read met the end, by its result: it gave no byte, and nothing is held
 abbrev pub read_answer : Result (List ℕ) Error → List ℕ → Result Bool Error
@@ -52,13 +45,12 @@ abbrev pub met_end : Result Bool Error → Bool
 met_end (Ok is_end) = is_end
 met_end (Err e) = false
 
--- the asks were made one after another; `at_end` of them met the end, and `failed` of them failed
-abbrev pub CameTo : {B : Type 0} → Lender B → List Ask → B → ℕ → ℕ → B → Type 0
-CameTo R [] old at_end failed new = (new ≡ old) × (at_end ≡ 0) × (failed ≡ 0)
-CameTo {B} R (ask ∷ asks) old at_end failed new =
-    (answer : Result Bool Error) × (next : B) × (ends : ℕ) × (failures : ℕ)
-    × Answered R ask old answer next × CameTo R asks next ends failures new
-    × (at_end ≡ (if met_end answer then 1 else 0) + ends) × (failed ≡ (if is_err answer then 1 else 0) + failures)
+-- The asks were made one after another; `at_end` of them met the end, and `failed` of them failed.
+pub data CameTo {B : Type 0} (R : Lender B) : List Ask → B → ℕ → ℕ → B → Type 0 where
+  no_ask : {r : B} → CameTo R [] r 0 0 r
+  next_ask : {asks : List Ask} {old mid new : B} {at_end failed ends failures : ℕ} (ask : Ask) (answer : Result Bool Error)
+      → CameTo R asks old at_end failed mid → Answered R ask mid answer new → ends ≡ at_end + (if met_end answer then 1 else 0)
+      → failures ≡ failed + (if is_err answer then 1 else 0) → CameTo R (asks ++ ask ∷ []) old ends failures new
 
 -- a buffer of this length has room for the bytes of the ask
 abbrev pub Fits : ℕ → Ask → Type 0
@@ -91,9 +83,8 @@ abbrev pub meets_end : Ask → ℕ → Bool
 meets_end (Exact len) all = nat_lt all len
 meets_end _ all = nat_lt all 1
 
--- one step for each ask; `ends` of them meet the end
-abbrev pub Steps : List Ask → List ℕ → List ℕ → ℕ → Type 0
-Steps [] left after ends = (after ≡ left) × (ends ≡ 0)
-Steps (ask ∷ asks) left after ends =
-    (next : List ℕ) × (later : ℕ) × AskStep ask left next × Steps asks next after later
-    × (ends ≡ (if meets_end ask (length left) then 1 else 0) + later)
+-- One step for each ask; so many of them meet the end.
+pub data Steps : List Ask → List ℕ → List ℕ → ℕ → Type 0 where
+  no_step : {left : List ℕ} → Steps [] left left 0
+  next_step : {asks : List Ask} {left mid after : List ℕ} {ends : ℕ} (ask : Ask) → Steps asks left mid ends → AskStep ask mid after
+      → Steps (asks ++ ask ∷ []) left after (ends + (if meets_end ask (length mid) then 1 else 0))

@@ -1,8 +1,6 @@
 -- The bytes and the flushes of a list of calls.
-use Rattle.std.specs.Prelude.{ℕ, ◌+◌, List, [], ◌∷◌}
-use Rattle.std.specs.List.{flat_map}
-use Rattle.io_bench.specs.declared.runs.Op.{Op}
-use Rattle.io_bench.specs.declared.runs.Op.TheVariants.{Write, WriteAll, Flush}
+use Rattle.std.specs.{Prelude.{ℕ, ◌+◌, List, [], ◌∷◌}, List.{flat_map}}
+use Rattle.io_bench.specs.declared.runs.Op.{Op, TheVariants.{Write, WriteAll, Flush}}
 
 -- the bytes of a call
 abbrev pub op_bytes : Op → List ℕ

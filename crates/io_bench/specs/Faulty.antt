@@ -1,17 +1,9 @@
 -- What a `Faulty` tells, and what its acts do to a call.
-use Rattle.no_std_io2.specs.Writers.{CallOf, Writer}
-use Rattle.std.specs.Prelude.{◌≡◌, Some, None, Option, List, [], ◌∷◌, ◌++◌, drop, if◌then◌else◌, ◌==◌, ℕ, ◌+◌, ◌<◌}
-use Rattle.std.specs.Prelude.{count_by, take, Result, Ok, IsErrAnd}
-use Rattle.std.specs.Option.{option_map}
-use Rattle.std.specs.List.{flat_map}
-use Rattle.no_std_io2.specs.declared.io.Error.{Error}
-use Rattle.no_std_io2.specs.declared.io.ErrorKind.{ErrorKind}
-use Rattle.no_std_io2.specs.declared.io.ErrorKind.TheVariants.{WriteZero}
-use Rattle.no_std_io2.specs.Errors.{error_kind, error_text, is_interruption}
-use Rattle.no_std_io2.specs.Write.{Told, WriteCall, Wrote, WroteAll, Flushed}
-use Rattle.io_bench.specs.declared.faulty.Act.{Act}
-use Rattle.io_bench.specs.declared.faulty.Act.TheVariants.{Take, Zero, Fail}
-use Rattle.io_bench.specs.declared.faulty.Faulty.{Faulty}
+use Rattle.no_std_io2.specs.{Writers.{CallOf, Writer}, declared.io.{Error.{Error}, ErrorKind.{ErrorKind, TheVariants.{WriteZero}}}}
+use Rattle.no_std_io2.specs.{Errors.{error_kind, error_text, is_interruption}, Write.{Told, WriteCall, Wrote, WroteAll, Flushed}}
+use Rattle.std.specs.Prelude.{◌≡◌, Some, None, Option, List, [], ◌∷◌, ◌++◌, drop, if◌then◌else◌, ◌==◌, ℕ, ◌+◌, ◌<◌, count_by, take, Result}
+use Rattle.std.specs.{Prelude.{Ok, IsErrAnd}, Option.{option_map}, List.{flat_map}}
+use Rattle.io_bench.specs.declared.faulty.{Act.{Act, TheVariants.{Take, Zero, Fail}}, Faulty.{Faulty}}
 
 -- `f.get_ref()`
 abbrev pub faulty_inner : {W : Type 0} → Faulty W → W

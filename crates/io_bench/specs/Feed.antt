@@ -1,14 +1,9 @@
 -- What a `Feed` tells, and what its reads do.
 use Rattle.std.specs.Prelude.{◌≡◌, ℕ, List, [], ◌∷◌, map, take, drop, length, min, nat_lt, if◌then◌else◌, Option, Some, None, Result, Ok}
 use Rattle.std.specs.Prelude.{Err}
-use Rattle.no_std_io2.specs.declared.io.Error.{Error}
-use Rattle.no_std_io2.specs.declared.io.ErrorKind.{ErrorKind}
-use Rattle.no_std_io2.specs.Errors.{error_of}
-use Rattle.no_std_io2.specs.Events.{Event as ToCome, byte, fails}
+use Rattle.no_std_io2.specs.{declared.io.{Error.{Error}, ErrorKind.{ErrorKind}}, Errors.{error_of}, Events.{Event as ToCome, byte, fails}}
 use Rattle.no_std_io2.specs.Read.{ReadCall, Gave, answered}
-use Rattle.io_bench.specs.declared.feed.Event.{Event}
-use Rattle.io_bench.specs.declared.feed.Event.TheVariants.{Byte, Fail}
-use Rattle.io_bench.specs.declared.feed.Feed.{Feed}
+use Rattle.io_bench.specs.declared.feed.{Event.{Event, TheVariants.{Byte, Fail}}, Feed.{Feed}}
 
 -- the event of a reader for an event of the script
 abbrev event_to_come : Event → ToCome

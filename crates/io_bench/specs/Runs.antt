@@ -1,15 +1,9 @@
 -- The bytes that replies accept, the calls that failed, and whole runs.
-use Rattle.no_std_io2.specs.Writers.{CallOf, TakesAll, Writer}
-use Rattle.std.specs.Prelude.{◌≡◌, ℕ, ◌+◌, ◌≤◌, ◌==◌, ◌&&◌, nat_lt, Bool, true, false, if◌then◌else◌, List, [], ◌∷◌}
-use Rattle.std.specs.Prelude.{◌++◌, length, take, count_by, ⊤, Option, None, Some, Ok, Err}
-use Rattle.std.specs.List.{AllZip}
-use Rattle.no_std_io2.specs.declared.io.ErrorKind.{ErrorKind}
-use Rattle.no_std_io2.specs.Errors.{error_kind, kind_number}
-use Rattle.no_std_io2.specs.Write.{Told, Moves, IsFront, zero_write, WriteCall, Wrote, Flushed, Made, AllCalls}
-use Rattle.io_bench.specs.declared.runs.Op.{Op}
-use Rattle.io_bench.specs.declared.runs.Op.TheVariants.{Write, WriteAll, Flush}
-use Rattle.io_bench.specs.declared.runs.Reply.{Reply}
-use Rattle.io_bench.specs.declared.runs.Reply.TheVariants.{Took, Done, Failed}
+use Rattle.no_std_io2.specs.{Writers.{CallOf, TakesAll, Writer}, declared.io.ErrorKind.{ErrorKind}, Errors.{error_kind, kind_number}}
+use Rattle.no_std_io2.specs.Write.{Told, Moves, IsFront, zero_write, WriteCall, Wrote, Flushed, ByCalls, AllCalls}
+use Rattle.std.specs.Prelude.{◌≡◌, ℕ, ◌+◌, ◌≤◌, ◌==◌, ◌&&◌, nat_lt, Bool, true, false, if◌then◌else◌, List, [], ◌∷◌, ◌++◌, length, take}
+use Rattle.std.specs.{Prelude.{count_by, ⊤, Option, None, Some, Ok, Err}, List.{AllZip}}
+use Rattle.io_bench.specs.declared.runs.{Op.{Op, TheVariants.{Write, WriteAll, Flush}}, Reply.{Reply, TheVariants.{Took, Done, Failed}}}
 
 -- the bytes that a call with this reply accepted
 abbrev pub Accepts : Op → Reply → List ℕ → Type 0
@@ -44,21 +38,14 @@ JoinsEach gives _ _ whole = ⊥
 abbrev pub Run : List Op → List Reply → List ℕ → Type 0
 Run ops replies accepted = JoinsEach Accepts ops replies accepted
 
--- A run made these calls of a writer, one after another, and each kept its law.
-pub record RunCalls {W : Type 0} (I : Writer W) (old : W) (ops : List Op) (replies : List Reply) (new : W) : Type 0 where
-  pub calls : List WriteCall
-  pub made : Made (CallOf I) old calls new
-  pub joined : JoinsEach OpCalls ops replies calls
+-- a run made its calls of a writer, one after another, and each kept its law
+abbrev pub RunCalls : {W : Type 0} → Writer W → W → List Op → List Reply → W → Type 0
+RunCalls I old ops replies new = ByCalls (CallOf I) old (JoinsEach OpCalls ops replies) new
 
--- A run through a tower of buffers made these calls of the device below. `tower` relates them to the calls
--- of the tower.
-pub record RunBelow {W : Type 0} (I : Writer W) (tower : List WriteCall → List WriteCall → Type 0) (old : W) (ops : List Op)
-    (replies : List Reply) (new : W) : Type 0 where
-  pub calls : List WriteCall
-  pub joined : JoinsEach OpCalls ops replies calls
-  pub below : List WriteCall
-  pub made : Made (CallOf I) old below new
-  pub is : tower calls below
+-- a run through a tower of buffers made calls of the device below, which `tower` relates to the calls of the tower
+abbrev pub RunBelow : {W : Type 0} → Writer W → (List WriteCall → List WriteCall → Type 0) → W → List Op → List Reply → W → Type 0
+RunBelow I tower old ops replies new =
+    ByCalls (CallOf I) old (λ below. (calls : List WriteCall) × JoinsEach OpCalls ops replies calls × tower calls below) new
 
 -- the mishap that a reply counts as, if it is one
 abbrev pub mishap_of : Op → Reply → List ErrorKind

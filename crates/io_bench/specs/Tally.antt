@@ -1,9 +1,7 @@
 -- What a `Tally` tells.
-use Rattle.no_std_io2.specs.Writers.{CallOf, Writer}
-use Rattle.std.specs.Prelude.{◌≡◌, ℕ, ◌+◌, min, List, length, Result}
-use Rattle.no_std_io2.specs.Write.{WriteCall, Wrote, WroteAll, Flushed}
-use Rattle.no_std_io2.specs.declared.io.Error.{Error}
+use Rattle.no_std_io2.specs.{Writers.{CallOf, Writer}, Write.{WriteCall, Wrote, WroteAll, Flushed}, declared.io.Error.{Error}}
 use Rattle.no_std_io2.specs.Read.{Reader, ReadCall, ReadCallLaw, Gave}
+use Rattle.std.specs.Prelude.{◌≡◌, ℕ, ◌+◌, min, List, length, Result}
 use Rattle.io_bench.specs.declared.tally.Tally.{Tally}
 
 -- `t.get_ref()`

@@ -1,7 +1,7 @@
 // [`run_writes`], a list of calls on any writer.
-ghost use Rattle.std.specs.Prelude.{◌≡◌, ◌+◌, ◌<◌, List, ◌++◌, OnOk, OnErr, IfErr, length, vec_len, vec_capacity};
+ghost use Rattle.std.specs.Prelude.{◌≡◌, ◌+◌, ◌<◌, ◌++◌, OnOk, OnErr, IfErr, length, vec_len, vec_capacity};
 ghost use Rattle.no_std_io2.specs.Errors.{IsOutOfMemory};
-ghost use Rattle.no_std_io2.specs.Write.{WriteCall, Made};
+ghost use Rattle.no_std_io2.specs.Write.{ByCalls};
 ghost use Rattle.no_std_io2.specs.Writers.{CallOf};
 ghost use Rattle.io_bench.specs.Appended.{appended};
 ghost use Rattle.io_bench.specs.Runs.{OpCalls, RunLaw};
@@ -33,7 +33,7 @@ pub enum Reply {
 
 // Makes one call.
 fn make_call<W: Write>(w: &mut W, op: Op<'_>) -> Reply
-    ensures { (calls : List WriteCall) × Made (CallOf W.Write) w.old calls w.new × OpCalls op.entry result calls }
+    ensures { ByCalls (CallOf W.Write) w.old (OpCalls op.entry result) w.new }
 {
     match op {
         Op::Write(x) => match w.write(x) {

@@ -1,8 +1,8 @@
 // Which calls the device gets.
-ghost use Rattle.std.specs.Prelude.{◌≡◌, ◌+◌, ◌*◌, ◌/◌, ◌<◌, ◌≤◌, ◌++◌, [], List, IfErr, IfOk, Ok, OnOk, length, vec_capacity, vec_len};
+ghost use Rattle.std.specs.Prelude.{◌≡◌, ◌+◌, ◌*◌, ◌/◌, ◌<◌, ◌≤◌, ◌++◌, [], IfErr, IfOk, Ok, OnOk, length, vec_capacity, vec_len};
 ghost use Rattle.no_std_io2.specs.BufWriter.{BufWriterFits, writer_buffer, writer_inner, writer_told};
 ghost use Rattle.no_std_io2.specs.Errors.{IsOutOfMemory};
-ghost use Rattle.no_std_io2.specs.Write.{Made, Moves, WriteCall, taken, write_mishap};
+ghost use Rattle.no_std_io2.specs.Write.{ByCalls, Moves, taken, write_mishap};
 ghost use Rattle.no_std_io2.specs.Writers.{CallOf, TakesAll};
 ghost use Rattle.no_std_io2.specs.Meter.{CostsAtMost};
 ghost use Rattle.io_bench.specs.Closed.{flushes, given_bytes};
@@ -17,8 +17,7 @@ pub fn stops_at_a_fault_of_a_write<W: Write + Drop, const S: usize>(
     w: &mut BufWriter<W, S>,
     x: &[u8],
 ) -> Result<usize>
-    ensures calls { (C : List WriteCall) × Made (CallOf W.Write) (writer_inner w.old) C (writer_inner w.new)
-        × HasNoFlush C × IfErr result (EndsIn C) }
+    ensures calls { ByCalls (CallOf W.Write) (writer_inner w.old) (λ C. HasNoFlush C × IfErr result (EndsIn C)) (writer_inner w.new) }
     ensures moves { Moves (writer_told W.told w.old) (taken result x.now) (write_mishap result x.now) (writer_told W.told w.new) }
 {
     w.write(x)
@@ -28,8 +27,8 @@ pub fn stops_at_a_fault_of_a_write<W: Write + Drop, const S: usize>(
 pub fn stops_at_a_fault_of_a_flush<W: Write + Drop, const S: usize>(
     w: &mut BufWriter<W, S>,
 ) -> Result<()>
-    ensures calls { (C : List WriteCall) × Made (CallOf W.Write) (writer_inner w.old) C (writer_inner w.new)
-        × IfErr result (EndsIn C) × OnOk result (EndsInFlush C) }
+    ensures calls { ByCalls (CallOf W.Write) (writer_inner w.old)
+        (λ C. IfErr result (EndsIn C) × OnOk result (EndsInFlush C)) (writer_inner w.new) }
     ensures empty { OnOk result (writer_buffer w.new ≡ []) }
 {
     w.flush()

@@ -68,8 +68,8 @@ module _ {W : Type 0} (I : Writer (Faulty W)) (none : (w : Faulty W) → (I.told
       → ((calls below : List WriteCall) (held : List ℕ) → Through level [] calls below held → TowerCalls shape calls below held)
       → (old : B) → inner old ≡ base → buffer old ≡ [] → ShowsRun K old ops text → Shows I shape acts ops text
   one_level inner buffer level each told is old at empty run = shows inner buffer told old at empty run
-      (below_map (λ calls below t. is calls below _ (subst (λ h. Through level h calls below (buffer run.new)) empty t))
-      (below_first I inner buffer level each run.law.calls))
+      (below_map I ops run.replies (λ calls below t. is calls below _ (subst (λ h. Through level h calls below (buffer run.new)) empty t))
+      (below_first I inner buffer level each ops run.replies run.law.calls))
 
   -- a run on a level over a buffer
   pub two_levels : {B C : Type 0} {J : Writer B} {K : Writer C} (inner : B → Faulty W) (buffer : B → List ℕ)
@@ -83,14 +83,14 @@ module _ {W : Type 0} (I : Writer (Faulty W)) (none : (w : Faulty W) → (I.told
       (λ c. told c ∙ ap (λ h. record (I.told (inner (outer c))) { held = h })
       (append_assoc (I.told (inner (outer c))).held (buffer (outer c)) (above c)))
       old at (ap₂ (λ l m. l ++ m) empty empty') run
-      (below_map (λ calls below (mid, upper, lower). is calls below _ (
+      (below_map I ops run.replies (λ calls below (mid, upper, lower). is calls below _ (
         mid,
         above run.new,
         buffer (outer run.new),
         subst (λ h. Through level h calls mid (above run.new)) empty' upper,
         subst (λ h. Through (InnerCalls 8) h mid below (buffer (outer run.new))) empty lower,
         refl,
-      )) (below_more I inner buffer (InnerCalls 8) each (below_first J outer above level each' run.law.calls)))
+      )) (below_more I inner buffer (InnerCalls 8) each ops run.replies (below_first J outer above level each' ops run.replies run.law.calls)))
 
 -- one text is written and flushed
 pub writes_text : {P : List ℕ → Type 0} {a b c : Told} {x shown : List ℕ} → P x → shown ≡ x

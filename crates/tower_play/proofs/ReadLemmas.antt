@@ -114,30 +114,26 @@ if_map : (P Q : List Event → Type 0) (told : Option (List Event)) → ((E : Li
 if_map P Q None each h = tt
 if_map P Q (Some E) each h = each E h
 
--- events before the first fault
-later_fault : {E : List Event} {e : Error} (x : Event) → HasNoFault (x ∷ []) → HasFirstFault E e → HasFirstFault (x ∷ E) e
-later_fault x free f = record {
-  front = x ∷ f.front;
-  rest = f.rest;
-  split = ap (λ l. x ∷ l) f.split;
-  ends = (x ∷ f.ends.0, ap (λ l. x ∷ l) f.ends.1, grind (arith, common_steps, free, f.ends.2), f.ends.3);
-}
+-- e is the first fault of E: this is before it, and this after it
+abbrev FaultAt : List Event → Error → Type 0
+FaultAt E e = (Q : List Event) × (rest : List Event) × (E ≡ Q ++ fails e ∷ rest) × HasNoFault Q × IsFault e
 
--- it is the first event
-fault_now : (E : List Event) (e : Error) → IsFault e → HasFirstFault (fails e ∷ E) e
-fault_now E e fault = record { front = fails e ∷ []; rest = E; split = refl; ends = ([], refl, tt, fault) }
-
--- the first fault of events
-first_is : (E : List Event) (e : Error) → first_fault E ≡ Some e → HasFirstFault E e
-first_is [] e is = cc
-first_is (byte b ∷ E) e is = later_fault (byte b) tt (first_is E e is)
-first_is (fails f ∷ E) e is = by_kind (is_interruption (error_kind f)) refl is (first_is E e)
+first_at : (E : List Event) {e : Error} → first_fault E ≡ Some e → FaultAt E e
+first_at [] is = cc
+first_at (byte b ∷ E) is =
+    let (Q, rest, split, free, fault) = first_at E is in (byte b ∷ Q, rest, ap (λ l. byte b ∷ l) split, free, fault)
+first_at (fails f ∷ E) {e} is = by_kind (is_interruption (error_kind f)) refl is (λ is. first_at E is)
   where
     by_kind : (t : Bool) → is_interruption (error_kind f) ≡ t → (if t then first_fault E else Some f) ≡ Some e
-        → (first_fault E ≡ Some e → HasFirstFault E e) → HasFirstFault (fails f ∷ E) e
-    by_kind true again is rest = later_fault (fails f) (again, tt) (rest is)
-    by_kind false fault is rest =
-        let same : f ≡ e = cc in subst (λ x. HasFirstFault (fails x ∷ E) e) (sym same) (fault_now E e (subst IsFault same fault))
+        → (first_fault E ≡ Some e → FaultAt E e) → FaultAt (fails f ∷ E) e
+    by_kind true again is later =
+        let (Q, rest, split, free, fault) = later is in (fails f ∷ Q, rest, ap (λ l. fails f ∷ l) split, (again, free), fault)
+    by_kind false fault is later = let same : f ≡ e = cc in ([], E, ap (λ x. fails x ∷ E) same, tt, subst IsFault same fault)
+
+first_is : (E : List Event) (e : Error) → first_fault E ≡ Some e → HasFirstFault E e
+first_is E e is =
+    let (Q, rest, split, free, fault) = first_at E is in
+    record { front = Q ++ fails e ∷ []; rest = rest; split = split ∙ sym (append_assoc Q _ rest); ends = (Q, refl, free, fault) }
 
 -- a line that could not be read: the reader had its first fault, or an allocation failed
 stopped : (d : ℕ) (lines : List (List ℕ)) (e : Error) (told : Option (List Event))

@@ -3,7 +3,7 @@ use Rattle.no_std_io2.proofs.Words.{common_steps, arith, ◌++◌, refl, sym, er
 use Rattle.std.proofs.lemmas.Slice.Zip.{AllZip-long}
 use Rattle.io_bench.specs.Runs.{Accepts, Run}
 use Rattle.io_bench.proofs.{RunLemmas.{JoinsEach-more}, JoinedLemmas.{one_more, all_through, clear_at, unclear, run_once, some_accepted}}
-use Rattle.io_bench.proofs.{accepted.joined.Goals.{in-Some+in_ok-extend_from_slice, in_default}}
+use Rattle.io_bench.proofs.accepted.joined.Goals.{in-Some+in_ok-extend_from_slice, in_default}
 use Rattle.io_bench.proofs.accepted.joined.Goals as goal
 
 pub bounds-replies-i : goal.bounds-replies-i

@@ -1,7 +1,6 @@
 -- The prover does not find how an ask was answered by the law of its call.
 use Rattle.no_std_io2.proofs.Words.{common_steps, ◌≡◌, Ok, Err, arith, refl}
-use Rattle.no_std_io2.specs.{declared.io.Error.{Error}, declared.io.ErrorKind.{ErrorKind}}
-use Rattle.no_std_io2.specs.{declared.io.ErrorKind.TheVariants.{UnexpectedEof}}
+use Rattle.no_std_io2.specs.declared.io.{Error.{Error}, ErrorKind.{ErrorKind, TheVariants.{UnexpectedEof}}}
 use Rattle.io_bench.specs.Asks.{end_or_error}
 use Rattle.io_bench.proofs.asks.ask_exact.Goals as goal
 

@@ -1,8 +1,7 @@
 -- The prover does not find how an ask was answered by the law of its call.
 use Rattle.no_std_io2.proofs.Words.{common_steps, ◌≡◌, nat_eq, length, take, Ok, arith, ap, length-take-le, nat_tests, err_from_is_err_and}
-use Rattle.no_std_io2.proofs.Words.{reader_held}
+use Rattle.no_std_io2.proofs.{Words.{reader_held}, TakesLemmas.{read_law}}
 use Rattle.std.proofs.Common.{◌&&◌}
-use Rattle.no_std_io2.proofs.TakesLemmas.{read_law}
 use Rattle.io_bench.proofs.asks.ask_read.Goals.{then-n-eq0, else-n-eq0}
 use Rattle.io_bench.proofs.asks.ask_read.Goals as goal
 

@@ -1,9 +1,9 @@
 -- The prover does not find that one more ask joins those before it, nor the bound over all of them.
-use Rattle.no_std_io2.proofs.Words.{common_steps, Bool, true, false, Ok, Err, if◌then◌else◌, ◌≡◌, get_or, arith, refl, ◌∙◌, take_more}
+use Rattle.no_std_io2.proofs.Words.{ap, ◌+◌, common_steps, Bool, true, false, Ok, Err, if◌then◌else◌, ◌≡◌, get_or, arith, refl, ◌∙◌}
+use Rattle.no_std_io2.proofs.{Words.{take_more}, Readers.{reader}, BufReaderCalls.{buf_lender}}
 use Rattle.std.proofs.Common.{take_all}
-use Rattle.io_bench.specs.declared.asks.Ask.TheVariants.{Read}
-use Rattle.no_std_io2.proofs.{Readers.{reader}, BufReaderCalls.{buf_lender}}
-use Rattle.io_bench.proofs.{AskLemmas.{fits_at, came_then, came_takes}, AskSteps.{run_went, few_reads}}
+use Rattle.io_bench.specs.{declared.asks.Ask.TheVariants.{Read}, Asks.{no_ask, next_ask}}
+use Rattle.io_bench.proofs.{AskLemmas.{fits_at, came_takes}, AskSteps.{came_went, few_reads}}
 use mir.Val.{bool_byte}
 use Rattle.io_bench.proofs.asks.run_reads.Goals as goal
 
@@ -15,31 +15,34 @@ pub make_ask-requires : goal.make_ask-requires
 make_ask-requires g c = grind (arith, common_steps, get_or, fits_at)
 
 pub asks-init : goal.asks-init
-asks-init g c = grind (arith, common_steps)
+asks-init g c = record { long = refl; at_end = omega arith; failed = omega arith; came = no_ask }
 
 pub asks-preserved : goal.asks-preserved
 asks-preserved g c =
     let before = c.asks.invariant in
     let call = c.in-Ok.ensures in
+    let old = c.asks.totals in
     let ends : c.from.result ≡ (if c.in-Ok.is_end then 1 else 0) = c.from.ensures ∙ byte_is c.in-Ok.is_end in
+    let same : old.failed ≡ old.failed + 0 = omega arith in
     record {
       long = omega (arith, call.len, before.long);
       at_end = grind (arith, before.at_end, ends);
       failed = omega (arith, before.failed);
-      came = rw (take_more c.args.asks.now c.asks.ask-index (Read 0) (omega arith)) (came_then (buf_lender (reader g.R.Stored g.R.Read))
-          _ _ (Ok c.in-Ok.is_end) _ _ _ _ _ before.came call.answered (omega (arith, ends)) (omega arith));
+      came = rw (take_more c.args.asks.now c.asks.ask-index (Read 0) (omega arith))
+          (next_ask _ (Ok c.in-Ok.is_end) before.came call.answered (ap (λ n. old.at_end + n) ends) same);
     }
 
 pub asks-preserved-in_default : goal.asks-preserved-in_default
 asks-preserved-in_default g c =
     let before = c.asks.invariant in
     let call = c.in_default.ensures in
+    let same : c.asks.totals.at_end ≡ c.asks.totals.at_end + 0 = omega arith in
     record {
       long = omega (arith, call.len, before.long);
       at_end = omega (arith, before.at_end);
       failed = omega (arith, before.failed);
-      came = rw (take_more c.args.asks.now c.asks.ask-index (Read 0) (omega arith)) (came_then (buf_lender (reader g.R.Stored g.R.Read))
-          _ _ (Err c.in_default.field-0) _ _ _ _ _ before.came call.answered (omega arith) (omega arith));
+      came = rw (take_more c.args.asks.now c.asks.ask-index (Read 0) (omega arith))
+          (next_ask _ (Err c.in_default.field-0) before.came call.answered same refl);
     }
 
 pub returns : goal.returns
@@ -49,7 +52,7 @@ returns g c =
     let start = c.args.r.now in
     record {
       came_to = all;
-      takes = came_takes (buf_lender R) _ _ _ _ _ all;
-      steps = λ fills. let went = run_went R fills start _ _ _ _ all in (went.0, went.1);
-      bound = λ fills cost meter. few_reads R fills start _ c.asks.r (run_went R fills start _ _ _ _ all).2 cost meter;
+      takes = came_takes (buf_lender R) all;
+      steps = λ fills. let went = came_went R fills start all in (went.0, went.1);
+      bound = λ fills cost meter. few_reads R fills start _ c.asks.r (came_went R fills start all).2 cost meter;
     }

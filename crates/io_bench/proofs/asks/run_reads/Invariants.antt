@@ -1,6 +1,5 @@
 -- The totals of the asks so far.
-use Rattle.no_std_io2.proofs.Words.{◌≡◌, ◌≤◌, length, take}
-use Rattle.no_std_io2.proofs.{Readers.{reader}, BufReaderCalls.{buf_lender}}
+use Rattle.no_std_io2.proofs.{Words.{◌≡◌, ◌≤◌, length, take}, Readers.{reader}, BufReaderCalls.{buf_lender}}
 use Rattle.io_bench.specs.Asks.{CameTo}
 use Rattle.io_bench.proofs.asks.run_reads.Given as goal
 

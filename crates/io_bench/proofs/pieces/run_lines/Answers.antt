@@ -1,8 +1,7 @@
 -- The prover does not go over the items of a run.
-use Rattle.no_std_io2.proofs.Words.{◌≡◌, false, newline}
+use Rattle.no_std_io2.proofs.{Words.{◌≡◌, false, newline}, Readers.{lends}}
 use Rattle.std.proofs.Common.{string_bytes}
 use Rattle.no_std_io2.specs.Pieces.{RefusesLine, line_text, lines_is_ended, lines_reader}
-use Rattle.no_std_io2.proofs.Readers.{lends}
 use Rattle.io_bench.proofs.PieceRunLemmas.{lines_faults, lines_next, lines_takes, run_faults, run_gathers}
 use Rattle.io_bench.proofs.pieces.run_lines.Goals as goal
 

@@ -1,8 +1,7 @@
 -- The prover does not find that one more call and its reply join those before them.
-use Rattle.no_std_io2.proofs.Words.{[], rules, arith, refl, ◌∙◌, sym, append-nil}
-use Rattle.no_std_io2.proofs.Words.{take_more}
+use Rattle.no_std_io2.proofs.Words.{[], rules, arith, refl, ◌∙◌, sym, append-nil, take_more}
 use Rattle.std.proofs.Common.{take_all}
-use Rattle.io_bench.specs.{declared.runs.Op.TheVariants.{Write}}
+use Rattle.io_bench.specs.declared.runs.Op.TheVariants.{Write}
 use Rattle.io_bench.proofs.{AppendedLemmas.{appended-none, appended-one, appended-more}, RunLemmas.{RunCalls-more, run_law}}
 use Rattle.io_bench.proofs.runs.run_writes.Goals as goal
 
@@ -11,7 +10,7 @@ calls-init g c =
     let none = appended-none c.reserve.ensures.items in
     rw none (record {
       appends = c.reserve.ensures.items ∙ sym (append-nil _);
-      calls = record { calls = []; made = refl; joined = refl };
+      calls = record { calls = []; made = refl; are = refl };
       room = search rules;
     })
 
@@ -22,7 +21,7 @@ calls-preserved g c =
     let ops = take_more c.args.ops.now c.calls.op-index (Write (record { ref_ptr = (0, 0); now = [] })) (omega arith) in
     record {
       appends = appended-more _ _ before.appends pushed;
-      calls = rw (ops, appended-one _ _ _ _ before.appends pushed) (RunCalls-more _ _ _ _ before.calls c.make_call-reply.ensures);
+      calls = rw (ops, appended-one _ _ _ _ before.appends pushed) (RunCalls-more g.W.Write _ _ _ _ before.calls c.make_call-reply.ensures);
       room = omega (arith, c.push_reserved.ensures.len, c.push_reserved.ensures.capacity, before.room);
     }
 

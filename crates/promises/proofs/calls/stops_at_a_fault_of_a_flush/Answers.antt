@@ -5,7 +5,7 @@ use Rattle.promises.proofs.calls.stops_at_a_fault_of_a_flush.Goals as goal
 
 pub returns-clause-calls : goal.returns-clause-calls
 returns-clause-calls g c =
-    let made = c.flush.ensures.law.call in (made.0, made.1, flush_ends made.2, flush_flushed made.2)
+    let made = c.flush.ensures.law.call in record { calls = made.0; made = made.1; are = (flush_ends made.2, flush_flushed made.2) }
 
 pub returns-clause-empty : goal.returns-clause-empty
 returns-clause-empty g c =

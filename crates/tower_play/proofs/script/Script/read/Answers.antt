@@ -1,5 +1,5 @@
 -- The prover does not find the lines that were read so far, nor which is the first bad one.
-use Rattle.no_std_io2.proofs.Words.{◌≡◌, ◌∙◌, ap, subst, refl, true, [], Some, Ok, arith, err_from_is_err_and}
+use Rattle.no_std_io2.proofs.Words.{◌≡◌, ◌∙◌, ap, subst, refl, [], Some, Ok, arith, err_from_is_err_and}
 use Rattle.std.proofs.Common.{not, vec_items}
 use Rattle.no_std_io2.proofs.Readers.{lends}
 use Rattle.tower_play.specs.Reading.{Adds, IsBadLine}
