@@ -15,9 +15,7 @@ pub joins_modulo : {W : Type 0} (total : W → ℕ) (weight : List ℕ → ℕ) 
     → Joins {W = W} (λ a x b. total b % m ≡ (total a + weight x) % m)
 joins_modulo total weight m nothing both = record {
   none = λ a. ap (λ n. n % m) (omega (arith, nothing));
-  more = λ a b c x y first next.
-      next ∙ sym (mod-add-mod (total b) m (weight y)) ∙ ap (λ n. (n + weight y) % m) first ∙ mod-add-mod (total a + weight x) m (weight y)
-      ∙ ap (λ n. n % m) (omega (arith, both x y));
+  more = λ a b c x y first next. grind (arith, mod-add-mod (total b) m (weight y), mod-add-mod (total a + weight x) m (weight y), both);
 }
 
 module _ {W : Type 0} {may : W → WriteCall → W → Type 0} {Adds : W → List ℕ → W → Type 0} (joins : Joins Adds) where

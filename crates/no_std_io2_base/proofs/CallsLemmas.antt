@@ -68,9 +68,7 @@ pub made_counts : {W A : Type 0} (may : W → A → W → Type 0) (count : W →
     → (C : List A) (a b : W) → Made may a C b → count b % m ≡ (count a + length C) % m
 made_counts may count m each [] a b made = ap (λ w. count w % m) made ∙ ap (λ n. n % m) (omega arith)
 made_counts may count m each (call ∷ C) a b made =
-    made_counts may count m each C made.0 b made.2 ∙ sym (mod-add-mod (count made.0) m (length C))
-    ∙ ap (λ n. (n + length C) % m) (each a made.0 call made.1) ∙ mod-add-mod (count a + 1) m (length C)
-    ∙ ap (λ n. n % m) (omega arith)
+    grind (arith, each, made_counts may count m each C, mod-add-mod (count made.0) m (length C), mod-add-mod (count a + 1) m (length C))
 
 -- after an `Ok` nothing is left
 pub writes_whole : {text : List ℕ} {C : List WriteCall} {x left : List ℕ} {reply : Result (Unit {0}) Error}

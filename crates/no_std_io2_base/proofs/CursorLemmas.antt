@@ -1,8 +1,8 @@
 -- A content and a position in it.
 use Rattle.std.proofs.Common.{rules, ◌≡◌, ℕ, ◌+◌, ◌-◌, ◌<◌, ◌≤◌, ◌⊎◌, min, List, [], ◌∷◌, ◌++◌, Ok, Err, Result, length, take, drop}
 use Rattle.std.proofs.Common.{replicate, refl, sym, ap, ◌∙◌, arith, count_by, inl, inr, append-nil, take-append-drop, length-append}
-use Rattle.std.proofs.lemmas.{Grind.{common_steps}, Bool.{cases_lt}, List.{length-replicate, drop-drop, take_all, take_min, drop_all}}
-use Rattle.std.proofs.{lemmas.{List.{take-append-le, take-replicate}, Bool.Decides.{nat_tests}}, Math.Seq.{take-append-add}}
+use Rattle.std.proofs.lemmas.{Grind.{common_steps}, Bool.{cases_lt}, List.{length-replicate, drop-drop, take_all, drop_all, take-replicate}}
+use Rattle.std.proofs.{lemmas.Bool.Decides.{nat_tests}, Math.Seq.{take-append-add}}
 use Rattle.std.specs.Result.{OnOk, OnErr, IfErr}
 use Rattle.no_std_io2_base.specs.{declared.error.{Error.{Error}, ErrorKind.{ErrorKind, TheVariants.{WriteZero}}}, Errors.{error_kind}}
 use Rattle.no_std_io2_base.specs.{Errors.{is_interruption, IsFault, IsNoInterruption, IsOutOfMemory}, Write.{Told, Moves, MovesFront}}
@@ -13,16 +13,12 @@ use Rattle.no_std_io2_base.specs.{Cursor.{PutsWhole, PutsAll, PutsFitting, PutsA
 pub left_after : (all : List ℕ) (place n : ℕ) → drop (place + n) all ≡ drop n (drop place all)
 left_after all place n = sym (drop-drop n place all)
 
--- before a place that is not past the end no zeros are added
-bytes_before-within : (place : ℕ) (bs : List ℕ) → place ≤ length bs → bytes_before place bs ≡ take place bs
-bytes_before-within place bs within = grind (arith, common_steps)
-
 -- zeros that follow the bytes, up to a place, are the zeros that would be added before that place
 before-opened : (more place : ℕ) (bs : List ℕ) → place ≤ length bs + more → take place (bs ++ replicate more 0) ≡ bytes_before place bs
 before-opened more place bs near = elim (cases_lt (length bs) place) [ inl past ↦ behind past | inr within ↦ inside within ]
   where
     inside : place ≤ length bs → take place (bs ++ replicate more 0) ≡ bytes_before place bs
-    inside within = take-append-le place bs (replicate more 0) within ∙ sym (bytes_before-within place bs within)
+    inside within = grind (arith, common_steps)
 
     behind : length bs < place → take place (bs ++ replicate more 0) ≡ bytes_before place bs
     behind past =
@@ -51,10 +47,6 @@ pub put_lengthened : (place end : ℕ) (x bs grown : List ℕ) → end ≡ place
     → take place grown ++ x ++ drop end grown ≡ put_at place x bs
 put_lengthened place end x bs grown at x7 = grind (arith, common_steps, length-append, length-replicate, drop_all, append-nil, put_opened)
 
--- the bytes that were put are right before the place after them
-before_put : (place : ℕ) (x bs : List ℕ) → bytes_before (place + length x) (put_at place x bs) ≡ bytes_before place bs ++ x
-before_put place x bs = grind (arith, common_steps)
-
 -- bytes are out as soon as they are accepted
 appends_moves : {old new x : List ℕ} {k : List ErrorKind} → new ≡ old ++ x → count_by is_interruption k ≡ 0
     → Moves (told_out old) x k (told_out new)
@@ -71,7 +63,7 @@ refused_fault place x e x4 = grind (arith, common_steps)
 -- x that was put goes out
 put_goes_out : (bs : List ℕ) (place : ℕ) (x bs' : List ℕ) (place' : ℕ) → bs' ≡ put_at place x bs
     → place' ≡ place + length x → bytes_before place' bs' ≡ bytes_before place bs ++ x
-put_goes_out bs place x bs' place' is at = grind (arith, common_steps, before_put)
+put_goes_out bs place x bs' place' is at = grind (arith, common_steps)
 
 -- the mishap of a write that returned `Ok`, if it is one, is no interruption
 quiet_count : (n : ℕ) (x : List ℕ) → count_by is_interruption (zero_write n x) ≡ 0
@@ -94,23 +86,19 @@ pub fits_moves : (bs : List ℕ) (place : ℕ) (x : List ℕ) {n : ℕ} {bs' : L
     → n ≡ min (length x) (length bs - place) → PutsFitting bs place x bs' place'
     → Moves (told_out (bytes_before place bs)) (take n x) (write_mishap (Ok n) x) (told_out (bytes_before place' bs'))
 fits_moves bs place x {n} {bs'} {place'} count h =
-    let part : take n x ≡ fitting place x bs =
-    ap (λ m. take m x) (let e : n ≡ min (length bs - place) (length x) = omega arith in e)
-    ∙ take_min (length bs - place) x in
+    let part : take n x ≡ fitting place x bs = grind (arith, common_steps) in
     appends_moves (fitting_goes_out bs place x bs' place' h ∙ ap (λ l. bytes_before place bs ++ l) (sym part)) (quiet_count n x)
 
 -- the same holds for a `write_all` of which not all fits
 fits_moves_part : (bs : List ℕ) (place : ℕ) {x : List ℕ} (e : Error) {bs' : List ℕ} {place' : ℕ}
     → error_kind e ≡ WriteZero → PutsFitting bs place x bs' place'
     → MovesFront (told_out (bytes_before place bs)) x (Err e) (told_out (bytes_before place' bs'))
-fits_moves_part bs place {x} e {bs'} {place'} kind h =
-    let room = length bs - place in
-    record {
-      accepted = fitting place x bs;
-      front = (drop room x, sym (take-append-drop room x));
-      whole = tt;
-      moves = appends_moves (fitting_goes_out bs place x bs' place' h) (ap (λ k. count_by is_interruption (k ∷ [])) kind);
-    }
+fits_moves_part bs place {x} e {bs'} {place'} kind h = record {
+  accepted = fitting place x bs;
+  front = (drop (length bs - place) x, sym (take-append-drop (length bs - place) x));
+  whole = tt;
+  moves = appends_moves (fitting_goes_out bs place x bs' place' h) (ap (λ k. count_by is_interruption (k ∷ [])) kind);
+}
 
 -- and for one of which all fits
 fits_moves_all : (bs : List ℕ) (place : ℕ) {x bs' : List ℕ} {place' : ℕ} → length x ≤ length bs - place

@@ -4,12 +4,11 @@ use Rattle.no_std_io2_base.proofs.PieceLaws.{pieces-first, pieces-last, ends_in-
 use Rattle.std.proofs.Common.{rules, ◌≡◌, ℕ, ◌+◌, ◌<◌, ◌≤◌, ◌⊎◌, false, cond, if◌then◌else◌, Option, Some, None, List, [], ◌∷◌, ◌++◌}
 use Rattle.std.proofs.Common.{length, filter, refl, sym, ap, ap₂, ◌∙◌, subst, arith, append-nil, append_assoc, Result, Ok, Err, inl, inr}
 use Rattle.std.proofs.Common.{⊎_elim, length-append, IfSome, OnSome, IfErr, Vec, String, vec_len, vec_capacity}
-use Rattle.std.proofs.{lemmas.Grind.{common_steps}, lemmas.List.{append_cancel_left, nil_from_length}}
+use Rattle.std.proofs.lemmas.{Grind.{common_steps}, List.{append_cancel_left, nil_from_length}}
 use Rattle.no_std_io2_base.specs.{declared.error.Error.{Error}, Errors.{IsFault, IsOutOfMemory}, Events.{Event, byte, fails, events_of}}
 use Rattle.no_std_io2_base.specs.{Events.{bytes, HasNoFault, EndsInFault, bytes_to_fault, first_fault}, Takes.{Tells, Takes, to_come}}
 use Rattle.no_std_io2_base.specs.{BufRead.{Lender, lender_tells, NextPieceLaw, ReadUntilLaw, ReadLineLaw, line_room}, Pieces.{Lacks}}
-use Rattle.no_std_io2_base.specs.Pieces.{EndsAt, PieceEnds, YieldsRead, ends_in, pieces, pieces_before, pieces_given, ends_at, items_left}
-use Rattle.no_std_io2_base.specs.Pieces.{newline}
+use Rattle.no_std_io2_base.specs.Pieces.{EndsAt, PieceEnds, ends_in, pieces, pieces_before, pieces_given, ends_at, items_left, newline}
 
 -- the first fault of events without a fault, followed by others, is that of the others
 pub first_fault-append : (P Q : List Event) → HasNoFault P → first_fault (P ++ Q) ≡ first_fault Q
@@ -161,23 +160,14 @@ module _ {X T : Type 0} {R : Lender X} {old new : X} {view : T → List ℕ} {tr
           → (after : List Event) × (to_come (lender_tells R new) ≡ Some after)
           × ((piece : List ℕ) × (view item ≡ trim piece) × GivesNext d E piece after)
       next_item {item} law =
-          let (after, still, split, given) = piece_given (λ _. Unit {0}) d _ _ E law.taken law.read law.takes law.ends told in
-          let shown = by_read law.read after law.yields given in
-          (after, still, (bytes law.taken, shown.0, shown.1))
-        where
-          by_read : (read : Result ℕ Error) (after : List Event) → YieldsRead view trim refuses (bytes law.taken) read (Some (Ok item))
-              → GivenRead d E (bytes law.taken) read after → (view item ≡ trim (bytes law.taken)) × GivesNext d E (bytes law.taken) after
-          by_read x1 after yields given = grind (arith, common_steps)
+          let all = piece_given (λ _. Unit {0}) d (lender_tells R old) (lender_tells R new) E law.taken law.read law.takes law.ends told in
+          grind (arith, common_steps)
 
       -- after the last item there is no piece, and no fault
       pub next_none : NextPieceLaw R old view trim refuses d None new → GivesNone d E
       next_none law =
-          let (after, still, split, given) = piece_given (λ _. Unit {0}) d _ _ E law.taken law.read law.takes law.ends told in
-          by_read law.read after law.yields given
-        where
-          by_read : (read : Result ℕ Error) (after : List Event) → YieldsRead view trim refuses (bytes law.taken) read None
-              → GivenRead d E (bytes law.taken) read after → GivesNone d E
-          by_read x1 after yields given = grind (arith, common_steps)
+          let all = piece_given (λ _. Unit {0}) d (lender_tells R old) (lender_tells R new) E law.taken law.read law.takes law.ends told in
+          grind (arith, common_steps)
 
       -- an error is the first fault, before which there is no piece; or it refuses the next piece;
       -- or memory was refused, and a byte was to come
@@ -186,11 +176,5 @@ module _ {X T : Type 0} {R : Lender X} {old new : X} {view : T → List ℕ} {tr
           ⊎ (((piece : List ℕ) × (after : List Event) × GivesNext d E piece after × refuses piece e)
           ⊎ (IsOutOfMemory e × (0 < length (bytes_to_fault E))))
       next_error {e} law =
-          let (after, still, split, given) = piece_given (λ _. Unit {0}) d _ _ E law.taken law.read law.takes law.ends told in
-          by_read law.read after law.yields given
-        where
-          by_read : (read : Result ℕ Error) (after : List Event) → YieldsRead view trim refuses (bytes law.taken) read (Some (Err e))
-              → GivenRead d E (bytes law.taken) read after → ((pieces_given d E ≡ []) × (first_fault E ≡ Some e))
-              ⊎ (((piece : List ℕ) × (after : List Event) × GivesNext d E piece after × refuses piece e)
-              ⊎ (IsOutOfMemory e × (0 < length (bytes_to_fault E))))
-          by_read x1 after yields given = grind (arith, common_steps)
+          let all = piece_given (λ _. Unit {0}) d (lender_tells R old) (lender_tells R new) E law.taken law.read law.takes law.ends told in
+          grind (arith, common_steps)

@@ -4,8 +4,7 @@ use Rattle.no_std_io2_base.proofs.{EventLemmas.{HasNoFault-behind, HasNoFault-ev
 use Rattle.no_std_io2_base.proofs.TakesLemmas.{all_taken, left_of, front_taken, TakesBytes-then}
 use Rattle.std.proofs.Common.{◌≤◌, take, drop, take-append-drop, length-take-le, append_assoc, ◌≡◌, ◌+◌, ◌-◌, ◌<◌, ℕ, List, ◌∷◌, ◌++◌, []}
 use Rattle.std.proofs.Common.{length, Result, Ok, Err, IfSome, IsOk, Some, inl, inr, ap, sym, ◌∙◌, subst, arith, append-nil, length-append}
-use Rattle.std.proofs.{Common.{length-take, ⊎_elim, refl}, lemmas.{Grind.{common_steps}, List.{append_cancel_left}, Bool.{cases_lt}}}
-use Rattle.std.proofs.Math.Seq.{take-append_seam}
+use Rattle.std.proofs.{Common.{length-take, refl}, lemmas.{Grind.{common_steps}, List.{append_cancel_left}}, Math.Seq.{take-append_seam}}
 use Rattle.no_std_io2_base.specs.{declared.error.Error.{Error}, Events.{Event, bytes, cut, events_of, fails, HasNoFault, EndsInFault}}
 use Rattle.no_std_io2_base.specs.{Takes.{Tells, Takes, to_come, TakesBytes}, Read.{Reader, tells, ReadExactLaw, AllOrNone, FillsOrEnds}}
 use Rattle.no_std_io2_base.specs.Read.{gave_whole, ReadFullLaw}
@@ -69,11 +68,8 @@ pub full_known : {S : Type 0} {R : Reader S} {old new : S} {buf buf' : List ℕ}
     → IsOk reply × (filled' ≡ filled + length x) × (take filled' buf' ≡ take filled buf ++ x) × (to_come (tells R new) ≡ Some rest)
 full_known {R = R} {old} {new} {buf} {filled = filled} (Ok u) x rest law long told =
     let few : length (bytes law.taken) ≤ length x = omega (arith, long, bytes_within (length buf - filled) law.taken law.ends.1) in
-    let many : length (bytes law.taken) ≡ length x = ⊎_elim
-    (λ short. absurd (not_too_few x rest told law.taken law.takes short
-    (all_taken law.taken (length x) (to_come (tells R new)) (law.ends.2 (omega (arith, short, long))))))
-    (λ enough. omega (arith, few, enough))
-    (cases_lt (length (bytes law.taken)) (length x)) in
+    let many : length (bytes law.taken) ≡ length x =
+    grind (arith, common_steps, few, all_taken, not_too_few x rest told law.taken law.takes) in
     let (same, behind) =
     whole_back x rest told law.taken law.takes (subst (λ n. cut n law.taken ≡ law.taken) (sym long) law.ends.1) many in
     (refl, law.counts ∙ ap (λ n. filled + n) many, law.fills ∙ ap (λ l. take filled buf ++ l) same, behind)
@@ -88,8 +84,7 @@ pub exact_cut : {S : Type 0} {R : Reader S} {old new : S} {buf buf' : List ℕ} 
 exact_cut {buf' = buf'} bs rest law told fits =
     let n = length buf' in
     let split : events_of bs ++ rest ≡ events_of (take n bs) ++ (events_of (drop n bs) ++ rest) =
-    ap (λ l. events_of l ++ rest) (sym (take-append-drop n bs)) ∙ ap (λ l. l ++ rest) (events_of-append (take n bs) (drop n bs))
-    ∙ append_assoc (events_of (take n bs)) (events_of (drop n bs)) rest in
+    grind (arith, take-append-drop n bs, events_of-append, append_assoc) in
     exact_known (take n bs) (events_of (drop n bs) ++ rest) law (length-take-le n bs fits) (told ∙ ap Some split)
 
 -- fronts of one length of one list are equal

@@ -1,14 +1,14 @@
 -- What a `Take` takes, its inner reader takes.
 use Rattle.std.proofs.{lemmas.Grind.{common_steps}, Common.{◌≡◌, ℕ, zero, suc, ◌+◌, ◌-◌, ◌<◌, ◌≤◌, min, List, [], ◌∷◌, ◌++◌, Result, Ok}}
-use Rattle.std.proofs.Common.{IsOkAnd, IfSome, length, take, drop, refl, sym, ap, subst, ◌∙◌, arith, Option, None, Some, inl, inr}
-use Rattle.std.proofs.{Common.{length-append, length-take, length-take-le, length-drop}, lemmas.{Bool.{cases_lt}, List.{drop-take}}}
+use Rattle.std.proofs.Common.{IsOkAnd, IfSome, length, take, drop, refl, sym, ap, subst, ◌∙◌, arith, Option, None, inl, inr, length-append}
+use Rattle.std.proofs.{Common.{length-take, length-take-le, length-drop}, lemmas.{Bool.{cases_lt}, List.{drop-take}}}
 use Rattle.no_std_io2_base.specs.{declared.{error.Error.{Error}, traits.take.Take.{Take}}, Events.{Event, byte, fails, events_of, bytes}}
 use Rattle.no_std_io2_base.specs.{Events.{cut, BeginsWith}, Takes.{Takes, AreTaken}, Read.{Reader, tells, ReadCall, Gave, Filled, Consumed}}
 use Rattle.no_std_io2_base.specs.{Read.{ReadCallLaw, GaveLaw, ReadLaw, gave, bytes_given, answered, fault_of}, ReadMeter.{FillsRoom}}
 use Rattle.no_std_io2_base.specs.{BufRead.{Lender, as_reader, lender_tells, ConsumeLaw}, Take.{limit_held, limit_inner, limit_left}}
 use Rattle.no_std_io2_base.specs.Take.{limit_set, limit_events, cut_to_come, lent_within, LimitTakes, LimitAsks, LimitMay}
 use Rattle.no_std_io2_base.proofs.{EventLemmas.{bytes-append, bytes-events_of}, FillBufHeld.{begins_cut}, TakesLemmas.{takes_then}}
-use Rattle.no_std_io2_base.proofs.TakesLemmas.{cut-none, cut-fitting, cut-error, read_law, read_by, lend_law}
+use Rattle.no_std_io2_base.proofs.TakesLemmas.{cut-none, cut-fitting, cut-error, read_law, read_by}
 use lib.Seq.{take-take}
 
 -- a `Take`, as the laws of its calls see it
@@ -141,8 +141,7 @@ module _ {T : Type 0} {inner : Reader T} where
   pub limit_fills : FillsRoom inner → FillsRoom (limit_reader inner)
   limit_fills fills = record {
     left = λ t. take (limit_left t) (fills.left (limit_inner t));
-    told = λ t. ap (cut_to_come (limit_left t)) (fills.told (limit_inner t))
-        ∙ ap Some (cut-events_of (limit_left t) (fills.left (limit_inner t)));
+    told = λ t. grind (arith, common_steps, cut-events_of, fills.told (limit_inner t));
     gives = λ old new room answer call. elim (cases_lt 0 (limit_left old)) [
       | inl some ↦
           gave_most room (limit_left old) _ _ answer (length-take (limit_left old) (fills.left (limit_inner old)))
@@ -173,19 +172,9 @@ module _ {T : Type 0} (inner : Lender T) where
       let held = inner.held (limit_inner old) in
       let within : (n ≤ length held) × (n ≤ limit_left old) = omega (arith, fits, length-take (limit_left old) held) in
       let part : take n (take (limit_left old) held) ≡ take n held = take-take n (limit_left old) held within.1 in
-      let call : LimitMay (as_reader inner) old (Consumed n) new = record {
-        limit = falls;
-        len = same;
-        at_limit = λ low. absurd (omega (arith, some, low));
-        asks = λ _. lend_law inner (limit_inner old) (limit_inner new) (Consumed n) (within.0, law);
-      } in
-      let took : LimitTakes (as_reader inner) old (events_of (take n held)) new = record {
-        takes = law.takes;
-        within = cut-fitting (limit_left old) (take n held) (omega (arith, within.1, length-take-le n held within.0));
-        limit = omega (arith, falls, ap length (bytes-events_of (take n held)), length-take-le n held within.0);
-        len = same;
-        at_limit = λ low. absurd (omega (arith, some, low));
-      } in
+      let call : LimitMay (as_reader inner) old (Consumed n) new = grind (arith, common_steps) in
+      let took : LimitTakes (as_reader inner) old (events_of (take n held)) new =
+      grind (arith, common_steps, cut-fitting, length-take-le, bytes-events_of) in
       record {
         held = ap (take (limit_left new)) law.held ∙ sym (subst (λ k. drop n (take k held) ≡ take (limit_left new) (drop n held)) falls'
             (drop-take n (limit_left new) held));

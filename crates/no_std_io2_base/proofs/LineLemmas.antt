@@ -96,10 +96,7 @@ lines_some xs has = grind (arith, common_steps, lacks_lines xs, lacks_contains n
 
 -- and only they
 pub contains_lines : (xs : List ℕ) {n : ℕ} → n ≡ lines_len xs → 0 < n → Contains xs newline
-contains_lines xs is some =
-    let last = lines_end xs (omega (arith, is, some)) in
-    subst (λ l. Contains l newline) (lines_split xs)
-    (Contains-append_left (lines_of xs) (unfinished_line xs) newline (ends_in-contains newline (lines_of xs) last))
+contains_lines xs is some = grind (arith, common_steps, lines_end xs, lines_split xs, Contains-append_left, ends_in-contains)
 
 -- the lines are the first bytes,
 pub take_lines : (xs : List ℕ) {n : ℕ} → n ≡ lines_len xs → take n xs ≡ lines_of xs

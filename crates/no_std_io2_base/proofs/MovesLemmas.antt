@@ -134,7 +134,7 @@ device_front {b = b} m empty =
 -- After a `flush` that returned `Ok`, a device behind a new buffer has all of the text.
 pub device_empty : {a b : Told} {text : List ℕ} {k : List ErrorKind} → Moves a text k b → a.held ≡ [] → b.held ≡ []
     → b.out ≡ a.out ++ text
-device_empty {a} {b} {text} moves empty flushed = grind (arith, common_steps, append-nil)
+device_empty {a} {b} {text} moves empty flushed = grind (arith, common_steps)
 
 -- After all of a list was written, and flushed, its elements are out, joined.
 pub all_passed : (a b : Told) (xs : List (List ℕ)) → MovesEach a xs b → a.held ≡ [] → b.held ≡ [] → b.out ≡ a.out ++ concat xs
@@ -158,8 +158,7 @@ module _ {X : Type 0} (text : X → List ℕ) (xs : List X) (i : ℕ) (d : X) (w
   text_more = ap (flat_map text) (take_more xs i d within) ∙ sym (flat_map_more text [] (take i xs) (get_or xs i d))
 
   text_all : flat_map text xs ≡ (flat_map text (take i xs) ++ text (get_or xs i d)) ++ flat_map text (drop (i + 1) xs)
-  text_all = ap (flat_map text) (sym (take-append-drop (i + 1) xs)) ∙ flat_map-append text (take (i + 1) xs) (drop (i + 1) xs)
-      ∙ ap (λ l. l ++ flat_map text (drop (i + 1) xs)) text_more
+  text_all = grind (arith, take-append-drop (i + 1) xs, flat_map-append, text_more)
 
   -- a loop that writes the text of each element has written one more
   pub MovesFront-next : {a b c : Told} {u v : Unit {0}} → MovesFront a (flat_map text (take i xs)) (Ok u) b

@@ -1,8 +1,7 @@
 -- The laws that determine the pieces of some bytes.
 use Rattle.std.proofs.{lemmas.Grind.{common_steps}, Common.{◌≡◌, ◌≢◌, ℕ, ◌==◌, true, false, Bool, if◌then◌else◌, List, [], ◌∷◌, ◌++◌}}
-use Rattle.std.proofs.Common.{length, refl, sym, ap, ◌∙◌, subst, arith, true≢false, eqb-true, eq-eqb, ne_eqb, suc-ne-zero, get_or, drop}
-use Rattle.std.proofs.{Common.{count_by, cond, ◌⊎◌, inl, inr}, lemmas.List.Sums.{sum_by-append, sum_by-cons}}
-use Rattle.std.specs.List.{concat}
+use Rattle.std.proofs.Common.{length, refl, sym, ap, ◌∙◌, arith, true≢false, eqb-true, eq-eqb, ne_eqb, suc-ne-zero, get_or, drop, count_by}
+use Rattle.std.proofs.{Common.{cond, ◌⊎◌, inl, inr}, lemmas.List.Sums.{sum_by-append, sum_by-cons}}
 use Rattle.no_std_io2_base.specs.{Pieces.{Lacks, ends_in, in_front, pieces, ArePieces, EndsPiece, EndsAt}, Events.{Event, byte, bytes}}
 use Rattle.no_std_io2_base.specs.Takes.{Tells, IsAll}
 use Rattle.no_std_io2_base.proofs.EventLemmas.{bytes-append}
@@ -15,13 +14,9 @@ pieces-at d b bs is = ap (λ t. if t then (b ∷ []) ∷ pieces d bs else in_fro
 pieces-other : (d b : ℕ) (bs : List ℕ) → b ≢ d → pieces d (b ∷ bs) ≡ in_front b (pieces d bs)
 pieces-other d b bs differ = ap (λ t. if t then (b ∷ []) ∷ pieces d bs else in_front b (pieces d bs)) (ne_eqb b d differ)
 
--- if the first byte is d, it is a piece by itself, followed by the pieces of the rest
-end_are : (d b : ℕ) (bs : List ℕ) (ps : List (List ℕ)) → b ≡ d → ArePieces d bs ps → ArePieces d (b ∷ bs) ((b ∷ []) ∷ ps)
-end_are d b bs x4 is h = grind (arith, common_steps)
-
 -- of one byte more, by whether that is d
 more_are : (d b : ℕ) (bs : List ℕ) (t : Bool) → (b == d) ≡ t → ArePieces d bs (pieces d bs) → ArePieces d (b ∷ bs) (pieces d (b ∷ bs))
-more_are d b bs true e h = let is = eqb-true b d e in subst (ArePieces d (b ∷ bs)) (sym (pieces-at d b bs is)) (end_are d b bs _ is h)
+more_are d b bs true e h = grind (arith, common_steps)
 more_are d b bs false e h = grind (arith, common_steps)
 
 -- what `pieces` gives keeps all the laws of the pieces
@@ -51,17 +46,9 @@ pieces_only d (b ∷ bs) [] h = absurd (suc-ne-zero _ (sym (ap length h.joined))
 pieces_only d (b ∷ bs) ([] ∷ ps) h = absurd (omega (arith, h.none_empty.0))
 -- d alone
 pieces_only d (b ∷ bs) ((c ∷ []) ∷ []) h = grind (arith, common_steps)
-pieces_only d (b ∷ bs) ((c ∷ []) ∷ q ∷ ps) h =
-    let is = joined_rest b c bs (concat (q ∷ ps)) h.joined in
-    let end : c ≡ d = eqb-true c d h.ended.0 in
-    let rest =
-    pieces_only d bs (q ∷ ps)
-    (record { joined = is.1; none_empty = h.none_empty.1; ended = h.ended.1; nowhere_else = h.nowhere_else.1 }) in
-    ap (λ l. (c ∷ []) ∷ l) rest ∙ ap (λ n. (n ∷ []) ∷ pieces d bs) is.0 ∙ sym (pieces-at d b bs (sym is.0 ∙ end))
+pieces_only d (b ∷ bs) ((c ∷ []) ∷ q ∷ ps) h = grind (arith, common_steps, pieces_only d bs (q ∷ ps), pieces-at, eqb-true)
 pieces_only d (b ∷ bs) ((c ∷ e ∷ p) ∷ ps) h =
-    let is = joined_rest b c bs (e ∷ p ++ concat ps) h.joined in
-    ap (in_front c) (pieces_only d bs ((e ∷ p) ∷ ps) (rest_are d b c e bs p ps h)) ∙ ap (λ n. in_front n (pieces d bs)) is.0
-    ∙ sym (pieces-other d b bs (λ same. h.nowhere_else.0.0 (is.0 ∙ same)))
+    grind (arith, common_steps, pieces_only d bs ((e ∷ p) ∷ ps), rest_are, pieces-other, joined_rest)
 
 -- the first piece ends at the first d
 pub pieces-first : (d : ℕ) (bs cs : List ℕ) → Lacks d bs → pieces d (bs ++ d ∷ cs) ≡ (bs ++ d ∷ []) ∷ pieces d cs
@@ -93,10 +80,7 @@ count-lacks d (b ∷ bs) none =
 
 -- bytes that end in d, the only one in them, have one
 pub count-piece : (d : ℕ) (bs : List ℕ) → EndsPiece d bs → count_by (λ b. b == d) bs ≡ 1
-count-piece d bs (front, is, none) =
-    let one : count_by (λ b. b == d) (d ∷ []) ≡ 1 =
-    omega (arith, sum_by-cons (λ b. cond (b == d) 1 0) d [], ap {B = ℕ} (λ t. cond t 1 0) (eq-eqb d d refl)) in
-    ap (count_by (λ b. b == d)) is ∙ sum_by-append _ front (d ∷ []) ∙ omega (arith, count-lacks d front none, one)
+count-piece d bs ends = grind (arith, common_steps, sum_by-append, sum_by-cons, count-lacks, eq-eqb)
 
 -- the bytes of a piece end in d, the only d in them
 pub piece_bytes : {d : ℕ} {P : List Event} → EndsAt d P → EndsPiece d (bytes P)

@@ -3,15 +3,15 @@ use Rattle.std.proofs.{lemmas.Grind.{common_steps}, Common.{◌≡◌, ℕ, ◌+
 use Rattle.std.proofs.Common.{Result, Ok, Err, Vec, vec_len, vec_capacity, length, take, refl, sym, ap, subst, ◌∙◌, arith, append_assoc}
 use Rattle.std.proofs.Common.{append-nil, le_refl, le_trans, inl, inr, length-append, length-take-le, take_all}
 use Rattle.std.specs.Borrow.{Bor}
-use Rattle.no_std_io2_base.specs.{declared.error.Error.{Error}, Errors.{IsInterruption, IsFault, IsOutOfMemory}, Events.{Event, byte}}
-use Rattle.no_std_io2_base.specs.{Events.{fails, events_of, bytes, HasNoFault}, Takes.{Tells, Takes, IsAll}, Read.{Filled}}
-use Rattle.no_std_io2_base.specs.{Read.{Consumed}, BufRead.{Lender, lender_tells, FillBufLaw, AfterLoan, ConsumeLaw, FilledLaw}}
-use Rattle.no_std_io2_base.specs.{BufRead.{LendCallLaw, ReadUntilLaw, lent_bytes}, Pieces.{Lacks, EndsPiece, EndsAt, FindsPiece, PieceEnds}}
-use Rattle.no_std_io2_base.specs.{Pieces.{PartCalls, no_part, and_part, and_waited, PieceCalls}, Write.{ByCalls}}
-use Rattle.no_std_io2_base.proofs.{CallsLemmas.{by_more, by_then}, EventLemmas.{events_of-append, HasNoFault-append}}
-use Rattle.no_std_io2_base.proofs.{EventLemmas.{HasNoFault-events_of, length-events_of}, PieceLemmas.{bytes-more, bytes-fails}}
-use Rattle.no_std_io2_base.proofs.{PieceLemmas.{Lacks-append, found_part, comes_behind}, TakesLemmas.{takes_none, takes_then, takes_still}}
-use Rattle.no_std_io2_base.proofs.TakesLemmas.{takes_turns, takes_all, spends, stays_at_end}
+use Rattle.no_std_io2_base.specs.{declared.error.Error.{Error}, Errors.{IsInterruption, IsFault, IsOutOfMemory}, Events.{Event, fails}}
+use Rattle.no_std_io2_base.specs.{Events.{events_of, bytes, HasNoFault}, Takes.{Tells, Takes, IsAll}, Read.{Filled, Consumed}}
+use Rattle.no_std_io2_base.specs.BufRead.{Lender, lender_tells, FillBufLaw, AfterLoan, ConsumeLaw, FilledLaw, LendCallLaw, ReadUntilLaw}
+use Rattle.no_std_io2_base.specs.{BufRead.{lent_bytes}, Pieces.{Lacks, EndsPiece, EndsAt, FindsPiece, PieceEnds, PartCalls, no_part}}
+use Rattle.no_std_io2_base.specs.{Pieces.{and_part, and_waited, PieceCalls}, Write.{ByCalls}}
+use Rattle.no_std_io2_base.proofs.{CallsLemmas.{by_more, by_then}, EventLemmas.{events_of-append, HasNoFault-append, HasNoFault-events_of}}
+use Rattle.no_std_io2_base.proofs.{EventLemmas.{length-events_of}, PieceLemmas.{bytes-more, bytes-fails, Lacks-append, found_part}}
+use Rattle.no_std_io2_base.proofs.{PieceLemmas.{comes_behind}, TakesLemmas.{takes_none, takes_then, takes_still, takes_turns, takes_all}}
+use Rattle.no_std_io2_base.proofs.TakesLemmas.{spends, stays_at_end}
 
 -- a `fill_buf` and its loan are a call
 fill_law : {X : Type 0} {R : Lender X} {old new : X} (reply : Result (Bor (List ℕ)) Error) → FillBufLaw R old reply
@@ -140,12 +140,11 @@ module _ {X : Type 0} {R : Lender X} {d : ℕ} {old now after : X} {P : List Eve
           ⊎ (Lacks d (bytes (P ++ events_of (take n lent))) × IsAll (lender_tells R old) (P ++ events_of (take n lent)))
       ended (inl end) = inl (
         P ++ events_of end.0,
-        ap (λ l. P ++ l) (ap events_of end.1 ∙ events_of-append end.0 (d ∷ [])) ∙ sym (append_assoc P (events_of end.0) (byte d ∷ [])),
-        subst (Lacks d) (sym (bytes-more P end.0)) (Lacks-append d (bytes P) end.0 before.lacks end.2),
+        grind (arith, common_steps, events_of-append, append_assoc),
+        grind (arith, common_steps, bytes-more, Lacks-append),
       )
       ended (inr none) =
-          let zero : n ≡ 0 = omega (arith, found.within, ap length none) in
-          let same : P ≡ P ++ events_of (take n lent) = sym (ap (λ k. P ++ events_of (take k lent)) zero ∙ append-nil P) in
+          let same : P ≡ P ++ events_of (take n lent) = grind (arith, common_steps) in
           let all = takes_all P before.takes (stays_at_end filled.takes (filled.end (ap Ok none))) in
           inr (subst (λ l. Lacks d (bytes l)) same before.lacks, subst (IsAll (lender_tells R old)) same all)
 

@@ -1,21 +1,19 @@
 -- A piece without what ended it.
-use Rattle.std.proofs.{lemmas.Grind.{common_steps}, Common.{◌≡◌, ℕ, zero, suc, ◌-◌, ◌==◌, true, false, List, [], ◌∷◌, length, take, get_or}}
-use Rattle.std.proofs.Common.{sym, ap, ◌∙◌, arith, eq-eqb, ne_eqb}
+use Rattle.std.proofs.{lemmas.Grind.{common_steps}, Common.{◌≡◌, ℕ, suc, ◌-◌, ◌==◌, true, false, List, [], ◌∷◌, length, take, get_or, sym}}
+use Rattle.std.proofs.Common.{ap, ◌∙◌, arith, eq-eqb, ne_eqb}
 use Rattle.no_std_io2_base.specs.Pieces.{ends_in, but_last, without}
 
 -- the last byte, by its place
 ends_in-at : (d d' : ℕ) (bs : List ℕ) (k : ℕ) → length bs ≡ suc k → ends_in d bs ≡ (get_or bs k d' == d)
 ends_in-at d d' [] k h = absurd (omega (arith, h))
 ends_in-at d d' (b ∷ []) k h = let first : k ≡ 0 = omega (arith, h) in ap (λ n. get_or (b ∷ []) n d' == d) (sym first)
-ends_in-at d d' (b ∷ c ∷ bs) zero h = absurd (omega (arith, h))
-ends_in-at d d' (b ∷ c ∷ bs) (suc k) h = ends_in-at d d' (c ∷ bs) k (omega (arith, h))
+ends_in-at d d' (b ∷ c ∷ bs) k h = grind (arith, common_steps, ends_in-at d d' (c ∷ bs) (k - 1))
 
 -- of k + 1 bytes all but the last are the first k
 but_last-at : (bs : List ℕ) (k : ℕ) → length bs ≡ suc k → but_last bs ≡ take k bs
 but_last-at [] k h = absurd (omega (arith, h))
 but_last-at (b ∷ []) k h = let first : k ≡ 0 = omega (arith, h) in ap (λ n. take n (b ∷ [])) (sym first)
-but_last-at (b ∷ c ∷ bs) zero h = absurd (omega (arith, h))
-but_last-at (b ∷ c ∷ bs) (suc k) h = ap (λ l. b ∷ l) (but_last-at (c ∷ bs) k (omega (arith, h)))
+but_last-at (b ∷ c ∷ bs) k h = grind (arith, common_steps, but_last-at (c ∷ bs) (k - 1))
 
 -- another byte is last
 pub other_last : (d b n : ℕ) (bs : List ℕ) → n ≡ length bs → (n ≡ 0 → ⊥) → b ≡ get_or bs (n - 1) b → (b ≡ d → ⊥) → ends_in d bs ≡ false

@@ -29,20 +29,18 @@ until_says {R = R} {d} {reply} {old} {new} law = by (to_come (lender_tells R old
     by : (t : Option (List Event)) → to_come (lender_tells R old) ≡ t
         → IfSome t (λ E. IsSomeAnd (to_come (lender_tells R new)) (Says d E (bytes law.taken) reply))
     by None is = tt
-    by (Some E) is =
-        let (after, still, split, read) = until_given law is in
-        grind (arith, common_steps, nil_from_length, same_pieces)
+    by (Some E) is = let given = until_given law is in grind (arith, common_steps, nil_from_length, same_pieces, given)
 
 -- the fault behind the pieces so far
 faulted : (d : ℕ) (a b c : Option (List Event)) (ps : List (List ℕ)) (x : List ℕ) (e : Error)
     → IfSome a (λ E. IsSomeAnd b (GivesFirst d E ps)) → IfSome b (λ E. IsSomeAnd c (Says d E x (Err e)))
     → IfSome a (λ E. (pieces_given d E ≡ ps) × (first_fault E ≡ Some e)) ⊎ IsOutOfMemory e
-faulted d a b c ps x e first next = grind (arith, common_steps, append-nil)
+faulted d a b c ps x e first next = grind (arith, common_steps)
 
 -- a part of a piece behind them
 parted : (d n : ℕ) (E F after : List Event) (ps : List (List ℕ)) (x part rest : List ℕ) → x ≡ part ++ rest → GivesFirst d E ps F
     → Says d F x (Ok n) after → bytes_to_fault E ≡ (concat ps ++ part) ++ (rest ++ bytes_to_fault after)
-parted d n E F after ps x part rest is first next = grind (arith, common_steps, append_assoc, nil_from_length)
+parted d n E F after ps x part rest is first next = grind (arith, common_steps)
 
 module _ {X A : Type 0} {R : Lender X} {d : ℕ} {a : Tells} {ps : List (List ℕ)} {mid new : X} {buf buf' : Vec ℕ A} where
   module _ (gives : GivesPieces d a ps (lender_tells R mid)) where

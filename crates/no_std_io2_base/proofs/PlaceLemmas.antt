@@ -34,7 +34,7 @@ reads_there {at} {n} {P} {buf} s m t kept sought took given =
     let split : front ≡ buf ++ rest =
     sym (bytes-events_of front) ∙ ap bytes took.split ∙ bytes-append P (events_of rest) ∙ ap (λ l. l ++ bytes (events_of rest)) given
     ∙ ap (λ l. buf ++ l) (bytes-events_of rest) in
-    let there : front ≡ drop n s.content = ap (λ k. drop k m.content) sought.1 ∙ ap (drop n) kept in
+    let there : front ≡ drop n s.content = grind (arith, common_steps) in
     record {
       place = n;
       target = sought.0;
@@ -58,8 +58,8 @@ module _ {X : Type 0} {R : Reader X} {mid new : X} {buf buf' : List ℕ} (s : Op
         by : (s m : Option Store) → KeepsContent s (λ len was now. Seeks len was at (Ok n) now) m
             → IfSome m (λ m. to_come (tells R mid) ≡ Some (events_of (drop m.position m.content)))
             → IsSomeAnd s (HasBytesAt at room) → IsOk reply
-        by None m sought told has = absurd has
-        by (Some s) None sought told has = absurd sought
+        by None m sought told has = grind (arith, common_steps)
+        by (Some s) None sought told has = grind (arith, common_steps)
         by (Some s) (Some m) sought told has =
             let bs = drop m.position m.content in
             let one = IsTarget-unique (length s.content) s.position at n has.0 sought.1.0 has.1 in

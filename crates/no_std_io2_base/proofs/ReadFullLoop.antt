@@ -1,14 +1,14 @@
 -- What a loop that fills a buffer by reads has done so far, and what it has done at each of its ends.
-use Rattle.std.proofs.Common.{◌≡◌, ℕ, ◌+◌, ◌-◌, ◌<◌, ◌≤◌, List, [], ◌∷◌, ◌++◌, Result, Ok, Err, length, take, drop, refl, sym, ap, subst}
-use Rattle.std.proofs.Common.{◌∙◌, arith, le_refl, inl, inr, length-take-le, length-take, length-drop, append_assoc, append-nil}
-use Rattle.std.proofs.{Common.{length-append}, lemmas.Slice.{take-put_mid_below}}
+use Rattle.std.proofs.{lemmas.Grind.{common_steps}, Common.{◌≡◌, ℕ, ◌+◌, ◌-◌, ◌<◌, ◌≤◌, List, [], ◌∷◌, ◌++◌, Result, Ok, Err, length, take}}
+use Rattle.std.proofs.Common.{drop, refl, sym, ap, subst, ◌∙◌, arith, le_refl, inl, inr, length-take-le, length-take, length-drop}
+use Rattle.std.proofs.{Common.{append_assoc, append-nil, length-append}, lemmas.Slice.{take-put_mid_below}}
 use borrow.Rule.Slice.PartMut.{put_mid}
 use Rattle.no_std_io2_base.specs.{declared.error.Error.{Error}, Errors.{IsInterruption, IsFault}, Events.{fails, bytes}, Read.{Reader}}
 use Rattle.no_std_io2_base.specs.{Read.{ReadLaw, ReadFullLaw, FullCalls, GathersUntil, ReadCallLaw, IsRest, Gives}, Write.{ByCalls}}
 use Rattle.no_std_io2_base.proofs.{CallsLemmas.{by_are}, ReadParts.{take-put_mid}, ReadExactExits.{length_stays, some_part, some_bytes}}
-use Rattle.no_std_io2_base.proofs.{EventLemmas.{bytes-append}, ReadLoop.{ReadsSoFar, reads_none, reads_more, reads_again}}
-use Rattle.no_std_io2_base.proofs.{ReadLoop.{reads_until}, TakesLemmas.{takes_then, takes_still, nothing_read, read_law, gives_none}}
-use Rattle.no_std_io2_base.proofs.TakesLemmas.{gives_bytes, gives_still, bytes_more, bytes_still}
+use Rattle.no_std_io2_base.proofs.{EventLemmas.{bytes-append}, ReadLoop.{ReadsSoFar, reads_none, reads_more, reads_again, reads_until}}
+use Rattle.no_std_io2_base.proofs.TakesLemmas.{takes_then, takes_still, nothing_read, read_law, gives_none, gives_bytes, gives_still}
+use Rattle.no_std_io2_base.proofs.TakesLemmas.{bytes_more, bytes_still}
 
 -- behind the first `start` bytes of the buffer stand those that were taken, up to `at`
 pub record FullSoFar {S : Type 0} (R : Reader S) (old : S) (buf : List ℕ) (start at : ℕ) (buf' : List ℕ) (now : S) : Type 0 where
@@ -54,7 +54,7 @@ module _ {S : Type 0} {R : Reader S} {old now : S} {buf xs : List ℕ} {start at
 
     -- what stood there stands
     kept : take at (put_mid at (length xs - at) xs ys) ≡ take start buf ++ bytes before.taken
-    kept = take-put_mid_below _ _ _ _ _ (le_refl _) (omega (arith, below)) ∙ before.filled ∙ ap (λ l. take start buf ++ l) (sym before.are)
+    kept = grind (arith, common_steps)
 
     -- a read gave some bytes more
     pub full_read : {new : S} {part : List ℕ} {n : ℕ} → ReadLaw R now part (Ok n) ys new → (n ≡ 0 → ⊥)

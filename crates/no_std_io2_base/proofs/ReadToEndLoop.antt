@@ -1,7 +1,7 @@
 -- What a loop that reads to the end into a vector has done so far, and what it has done at each of its ends.
 use Rattle.std.proofs.{lemmas.Grind.{common_steps}, Common.{◌≡◌, ℕ, ◌+◌, ◌-◌, ◌<◌, ◌≤◌, List, [], ◌∷◌, ◌++◌, Result, Ok, Err, length, take}}
-use Rattle.std.proofs.Common.{drop, refl, sym, ap, subst, ◌∙◌, arith, le_refl, le_trans, length-take, length-take-le, length-drop, Vec}
-use Rattle.std.proofs.Common.{vec_len, vec_capacity, inl, inr, append_assoc, append-nil, take_all, OnOk, IfOk, length-append}
+use Rattle.std.proofs.Common.{drop, refl, sym, ap, subst, ◌∙◌, arith, le_refl, le_trans, length-take, length-drop, Vec, vec_len}
+use Rattle.std.proofs.Common.{vec_capacity, inl, inr, append_assoc, append-nil, take_all, OnOk, IfOk, length-append}
 use Rattle.no_std_io2_base.specs.{declared.error.Error.{Error}, Errors.{IsInterruption, IsFault, IsOutOfMemory}, Events.{Event, fails}}
 use Rattle.no_std_io2_base.specs.{Events.{bytes, HasNoFault}, Read.{Reader, ReadLaw, ToEndLaw, ReadToEndLaw, IsRoom, no_read, GathersUntil}}
 use Rattle.no_std_io2_base.specs.{Read.{DrainsOrStops, least_room, ended}, Takes.{Tells}}
@@ -126,7 +126,7 @@ module _ {S A : Type 0} {R : Reader S} {old now : S} {buf xs : Vec ℕ A} {fille
         → vec_capacity xs ≤ vec_capacity xs' → ToEndSoFar R old buf (filled + n) xs' new
     to_end_read {n = n} read some w grown =
         let more = reads_more before.reads read some w.some in
-        grind (arith, common_steps, le_trans, length-append, length-take-le, append_assoc, more)
+        grind (arith, common_steps)
 
     -- a read was interrupted
     pub to_end_interruption : {xs' : Vec ℕ A} {e : Error} → ReadLaw R now room (Err e) part new → IsInterruption e

@@ -1,8 +1,8 @@
 -- How tries follow one another.
-use Rattle.std.proofs.{lemmas.Grind.{common_steps}, Common.{◌≡◌, ℕ, ◌+◌, List, ◌∷◌, length, true, Option, Result, Ok, Err, refl, subst}}
-use Rattle.std.proofs.{Common.{arith, count_by, []}, lemmas.List.Recursion.{is_count_by}}
-use Rattle.no_std_io2_base.specs.{declared.error.Error.{Error}, declared.error.ErrorKind.{ErrorKind}, Write.{Told, Sends, HasSpent}}
-use Rattle.no_std_io2_base.specs.Retries.{HasAtMost, HasSpentTries, Tries, again}
+use Rattle.std.proofs.{lemmas.Grind.{common_steps}, Common.{◌≡◌, ℕ, ◌+◌, List, ◌∷◌, length, true, Option, Result, Ok, Err, refl, arith}}
+use Rattle.std.proofs.{Common.{count_by, []}, lemmas.List.Recursion.{is_count_by}}
+use Rattle.no_std_io2_base.specs.{declared.error.{Error.{Error}, ErrorKind.{ErrorKind}}, Write.{Told, Sends, HasSpent}, Retries.{HasAtMost}}
+use Rattle.no_std_io2_base.specs.Retries.{HasSpentTries, Tries, again}
 use Rattle.no_std_io2_base.proofs.MovesLemmas.{Moves-refl}
 
 -- at the start nothing went, and all is still to go
@@ -37,5 +37,4 @@ pub tries_again : {W : Type 0} (law : W → List ℕ → Result (Unit {0}) Error
     {old mid new : W} {x rest left : List ℕ} {e : Error}
     {reply : Result (Unit {0}) Error} → retries ≡ less + 1 → law old x (Err e) mid rest → Tries law less mid rest reply new left
     → Tries law retries old x reply new left
-tries_again law retries less {old} {new = new} {x = x} {left = left} {reply = reply} is failed tries =
-    subst (λ n. Tries law n old x reply new left) (omega (arith, is)) (again failed tries)
+tries_again law retries less is failed tries = grind (arith, common_steps, again)

@@ -1,13 +1,13 @@
 -- Calls one after another: what they take, and what their laws say of it.
 use Rattle.std.proofs.{lemmas.Grind.{common_steps}, Common.{◌≡◌, ℕ, zero, suc, ◌+◌, ◌-◌, ◌<◌, ◌≤◌, List, [], ◌∷◌, ◌++◌, Result, Ok, Err}}
 use Rattle.std.proofs.Common.{length, take, Option, Some, refl, sym, ap, subst, ◌∙◌, arith, append_assoc, append-nil, length-append, drop}
-use Rattle.std.proofs.{Common.{length-take-le, IfOk, IfSome, OnOk}, lemmas.List.{append_cancel_left}}
+use Rattle.std.proofs.Common.{length-take-le, IfOk, IfSome, OnOk}
 use Rattle.no_std_io2_base.specs.{declared.error.Error.{Error}, Errors.{IsInterruption}, Events.{Event, byte, fails, events_of, bytes}}
 use Rattle.no_std_io2_base.specs.{Events.{HasNoFault, cut, EndsInFault}, Takes.{Tells, Takes, TakesBytes, to_come, IsAtEnd, IsAll}}
 use Rattle.no_std_io2_base.specs.Read.{Reader, tells, ReadCall, gave, ended, bytes_given, ReadCallLaw, GaveLaw, ReadLaw, ReadExactLaw}
 use Rattle.no_std_io2_base.specs.{Read.{Gives, AllOrNone, DrainsOrStops}, BufRead.{Lender, as_reader, LendCallLaw}, Write.{Made}}
-use Rattle.no_std_io2_base.proofs.{CallsLemmas.{made_map}, EventLemmas.{bytes-append, bytes-events_of, length-events_of, HasNoFault-append}}
-use Rattle.no_std_io2_base.proofs.{EventLemmas.{HasNoFault-events_of, cut-append}, ReadExactExits.{some_bytes}}
+use Rattle.no_std_io2_base.proofs.{CallsLemmas.{made_map}, EventLemmas.{bytes-append, bytes-events_of, HasNoFault-append}}
+use Rattle.no_std_io2_base.proofs.EventLemmas.{HasNoFault-events_of, cut-append}
 
 -- before the first call nothing is taken
 pub takes_none : (t : Tells) → Takes t [] t
@@ -63,7 +63,7 @@ left_of {a} {b} {P} {E} takes told = grind (arith, common_steps)
 
 -- if events were told, and all of them were taken, none are to come
 pub at_end_after : {a b : Tells} {P E : List Event} → Takes a P b → to_come a ≡ Some E → IsAll a P → IsAtEnd b
-at_end_after {a} {b} {P} {E} takes told all = grind (arith, common_steps, left_of, append_cancel_left, append-nil)
+at_end_after {a} {b} {P} {E} takes told all = grind (arith, common_steps)
 
 -- the events behind events that are only bytes are only bytes
 bytes_after : (bs : List ℕ) (P Q : List Event) → events_of bs ≡ P ++ Q → Q ≡ events_of (bytes Q)
@@ -169,12 +169,12 @@ read_by x1 bound law = grind (arith, common_steps)
 -- a read that gives some bytes spends a turn
 pub read_spends : {S : Type 0} {R : Reader S} {old new : S} {buf buf' : List ℕ} {n : ℕ} → ReadLaw R old buf (Ok n) buf' new → (n ≡ 0 → ⊥)
     → R.turns new < R.turns old
-read_spends {buf' = buf'} {n} law some = grind (arith, common_steps, length-events_of, length-take-le, some_bytes, spends)
+read_spends {buf' = buf'} {n} law some = grind (arith, common_steps)
 
 -- a read of no bytes
 pub nothing_read : {S : Type 0} {R : Reader S} {old new : S} {buf buf' : List ℕ} {reply : Result ℕ Error} {n : ℕ}
     → ReadLaw R old buf reply buf' new → reply ≡ Ok n → n ≡ 0 → GaveLaw R old (length buf') (Ok []) new
-nothing_read {R = R} {old} {new} {buf} {buf'} law is none = grind (arith, common_steps, read_law)
+nothing_read {R = R} {old} {new} {buf} {buf'} law is none = grind (arith, common_steps)
 
 -- a read of no bytes into some room met the end
 pub met_end : {S : Type 0} {R : Reader S} {old new : S} {buf buf' : List ℕ} {reply : Result ℕ Error} {n : ℕ}
@@ -222,16 +222,14 @@ gives_more {P = P} k Q so_far long some no_fault within = grind (arith, common_s
 pub gives_bytes : {room : ℕ} {P : List Event} {x : List ℕ} (more : List ℕ) → Gives room P x → length x + length more ≤ room
     → 0 < length more → Gives room (P ++ events_of more) (x ++ more)
 gives_bytes {room} {P} {x} more so_far fits some =
-    subst (λ l. Gives room (P ++ events_of more) (x ++ l)) (bytes-events_of more)
-    (gives_more (room - length x) (events_of more) so_far (omega arith) (omega arith) (HasNoFault-events_of more)
-    (cut-fitting _ more (omega arith)))
+    let fitting = cut-fitting (room - length x) more in
+    grind (arith, common_steps, gives_more (room - length x) (events_of more) so_far, HasNoFault-events_of, fitting, bytes-events_of)
 
 -- an interruption
 pub gives_still : {room : ℕ} {P : List Event} {x : List ℕ} (e : Error) → Gives room P x → length x < room → IsInterruption e
     → Gives room (P ++ fails e ∷ []) x
 gives_still {room} {P} {x} e so_far short again =
-    subst (Gives room (P ++ fails e ∷ [])) (append-nil x)
-    (gives_more (room - length x) (fails e ∷ []) so_far (omega arith) (omega arith) (again, tt) (cut-error _ e (omega arith)))
+    grind (arith, common_steps, gives_more (room - length x) (fails e ∷ []) so_far, append-nil, cut-error)
 
 -- bytes that fit fill the room alone
 pub gives_whole : {room : ℕ} (x : List ℕ) → length x ≤ room → Gives room (events_of x) x

@@ -1,14 +1,14 @@
 -- How the calls that print a text follow one another, and what is known after any formatter.
 use Rattle.std.proofs.{lemmas.Grind.{common_steps}, Common.{arith, ◌≡◌, ℕ, List, [], ◌++◌, Option, None, Some, Result, Ok, Err, OnOk}}
-use Rattle.std.proofs.Common.{OnErr, IsOk, is_ok, IfSome, ◌∷◌, ◌⊎◌, Bool, true, false, true≢false, IsErrAnd, refl, sym, ap, subst, ◌∙◌}
-use Rattle.std.proofs.{Common.{append-nil, length, drop, inl, inr, ⊎_elim}, Math.Seq.{drop-append_seam}, Math.Logic.{∥∥₁_elim, ∥∥₁_map}}
-use Rattle.std.proofs.{Props.{props}, lemmas.List.Folds.{concat-append}, lemmas.Fn.{chained_keeps}}
+use Rattle.std.proofs.Common.{OnErr, IsOk, is_ok, IfSome, ◌⊎◌, Bool, true, false, true≢false, IsErrAnd, refl, sym, ap, subst, ◌∙◌}
+use Rattle.std.proofs.{Common.{append-nil, length, drop, inl, inr, ⊎_elim}, Math.{Seq.{drop-append_seam}, Logic.{∥∥₁_elim, ∥∥₁_map}}}
+use Rattle.std.proofs.{Props.{props}, lemmas.{List.Folds.{concat-append}, Fn.{chained_keeps}}}
 use Rattle.std.specs.{Coded.{le_prop, Π_prop, Unit-prop}, List.{concat}, Fmt.{WritesInCalls, DisplaysOnOk, IsPlainFormatter}}
-use Rattle.std.specs.{Fmt.{formatter_writer}, declared.fmt.Formatter.{Formatter}, declared.fmt.Error.{Error as FormatError}}
+use Rattle.std.specs.{Fmt.{formatter_writer}, declared.fmt.{Formatter.{Formatter}, Error.{Error as FormatError}}}
 use mathlib.Core.HLevel.{⊥_prop}
-use Rattle.no_std_io2_base.specs.{declared.error.Error.{Error}, declared.error.ErrorKind.{ErrorKind}, Write.{Told, Moves, MovesFront}}
-use Rattle.no_std_io2_base.specs.{Write.{HasSpent, call_mishap}, Writers.{Writer, WriteAllOf, PrintsOf, WriteFmtOf}, Text.{nothing, piece}}
-use Rattle.no_std_io2_base.specs.{Text.{silent, IsTextError, FailsText, MovesText}, Errors.{IsNoInterruption}}
+use Rattle.no_std_io2_base.specs.{declared.error.{Error.{Error}, ErrorKind.{ErrorKind}}, Write.{Told, Moves, MovesFront, HasSpent}}
+use Rattle.no_std_io2_base.specs.{Write.{call_mishap}, Writers.{Writer, WriteAllOf, PrintsOf, WriteFmtOf}, Text.{nothing, piece, silent}}
+use Rattle.no_std_io2_base.specs.{Text.{IsTextError, FailsText, MovesText}, Errors.{IsNoInterruption}}
 use Rattle.no_std_io2_base.proofs.MovesLemmas.{after_ok, IsFront-refl, Moves-refl, MovesFront-join, MovesFront-first, MovesFront-flush}
 
 module _ {S : Type 0} {I : Writer S} {old : S} where
@@ -46,11 +46,8 @@ module _ {W S : Type 0} (prints : S → List ℕ → W → Type 0) where
   PrintsNext s bs t = (old : S) (text : List ℕ) → prints old text s → prints old (text ++ bs) t
 
   prints_calls : (s : W) {bs : List ℕ} (t : W) (old : S) → WritesInCalls PrintsNext s bs t → prints old [] s → prints old bs t
-  prints_calls s t old w start = subst (λ l. prints old l t) w.whole
-      (chained_keeps PrintsNext (λ xs q. prints old (concat xs) q)
-      (λ xs q x v so_far next. subst (λ l. prints old l v)
-      (sym (concat-append xs (x ∷ []) ∙ ap (λ l. concat xs ++ l) (append-nil x))) (next old (concat xs) so_far))
-      w.parts s t start w.calls)
+  prints_calls s t old w start = rw (← w.whole) (chained_keeps PrintsNext (λ xs q. prints old (concat xs) q)
+      (λ xs q x v so_far next. rw (concat-append, append-nil) (next old (concat xs) so_far)) w.parts s t start w.calls)
 
   -- a specified output was printed through a formatter, after `Ok`
   pub prints_output : (f g : Formatter W) {s t : W} (old : S) (output : Option (List ℕ)) (formatted : Result (Unit {0}) FormatError)

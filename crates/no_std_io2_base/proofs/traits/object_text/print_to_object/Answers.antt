@@ -20,7 +20,7 @@ returns g c =
     (page_none g.row.N (replicate g.row.N 0)) in
     short_prints g.row.N c.write_all.result (record {
       text = _;
-      short = grind (arith, common_steps, c.write.new.self.within);
+      short = grind (arith, common_steps);
       is = page_text g.row.N _ _ _ c.if-page.false refl has;
       moves = c.write_all.ensures.moves;
     })

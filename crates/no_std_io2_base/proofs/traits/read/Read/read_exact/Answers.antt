@@ -1,7 +1,7 @@
 -- The loop and each of its exits, by the lemmas of loops that fill a buffer.
 use Rattle.std.proofs.{lemmas.Grind.{common_steps}, Common.{sym, ◌∙◌, arith}}
-use Rattle.no_std_io2_base.proofs.{ReadExactLoop.{exact_end, exact_fault, exact_all}, ReadFullLoop.{full_none, full_read}}
-use Rattle.no_std_io2_base.proofs.{ReadFullLoop.{full_interruption, full_end, full_fault, full_all, stays}, TakesLemmas.{read_spends}}
+use Rattle.no_std_io2_base.proofs.{ReadExactLoop.{exact_end, exact_fault}, ReadFullLoop.{full_none, full_read, full_interruption, full_end}}
+use Rattle.no_std_io2_base.proofs.{ReadFullLoop.{full_fault, stays}, TakesLemmas.{read_spends}}
 use Rattle.no_std_io2_base.proofs.traits.read.Read.read_exact.Goals as goal
 
 pub reads-init : goal.reads-init
@@ -15,7 +15,7 @@ returns-in-Ok-eq0 g c =
     record { law = exact_end long full (omega (arith, c.reads-test.true, long, so_far.long)) c.failed_to_fill.ensures }
 
 pub returns : goal.returns
-returns g c = grind (arith, common_steps, exact_all, full_all)
+returns g c = grind (arith, common_steps)
 
 pub reads-preserved-in-Ok : goal.reads-preserved-in-Ok
 reads-preserved-in-Ok g c = full_read c.reads.invariant c.reads-test.true _ c.read.auto.buf c.in-Ok.ensures.law c.in-Ok.n-test.1

@@ -9,8 +9,8 @@ returns-then-is_ok g c = record {
     so_far.0,
     prints_next _ c.is_ok.ensures.value c.if-is_ok.true c.write_all-self.ensures.law c.as_bytes.ensures.value so_far.1,
   );
-  piece = grind (arith, common_steps, c.as_bytes.ensures.value);
-  silent = grind (arith, common_steps, c.is_ok.ensures.value, c.if-is_ok.true);
+  piece = grind (arith, common_steps);
+  silent = grind (arith, common_steps);
   never_fails = refl;
 }
 
