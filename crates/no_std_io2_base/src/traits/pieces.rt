@@ -15,13 +15,13 @@ use std::mem;
 // The room of a vector for a line, which comes by pieces: without it, the first ones would make the vector grow.
 const LINE_ROOM: usize = 64;
 
-// The number of bytes that are compared in one step.
-const STEP: usize = 16;
+/// The number of bytes that are compared in one step.
+pub const STEP: usize = 16;
 
-// Returns whether the byte is among the next `STEP`. It compares all of them, so that one vector
-// instruction does it.
+/// Returns whether the byte is among the next `STEP`. It compares all of them, so that one vector
+/// instruction does it.
 #[inline(always)]
-fn stands_in_step(bytes: &[u8], at: usize, wanted: u8) -> bool
+pub fn stands_in_step(bytes: &[u8], at: usize, wanted: u8) -> bool
     requires { at + 16 ≤ length bytes.now }
     ensures { result ≡ false → AllWithin (λ b. b ≢ wanted) bytes.now at (at + 16) }
 {
@@ -32,9 +32,9 @@ fn stands_in_step(bytes: &[u8], at: usize, wanted: u8) -> bool
     stands
 }
 
-// Returns the number of bytes in the first steps that do not have this byte.
+/// Returns the number of bytes in the first steps that do not have this byte.
 #[inline(always)]
-fn skip_steps(bytes: &[u8], wanted: u8) -> usize
+pub fn skip_steps(bytes: &[u8], wanted: u8) -> usize
     ensures within { result ≤ length bytes.now }
     ensures lacks { AllWithin (λ b. b ≢ wanted) bytes.now 0 result }
 {

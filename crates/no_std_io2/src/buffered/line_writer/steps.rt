@@ -1,5 +1,5 @@
 // The steps of the calls of a `LineWriter`.
-ghost use Rattle.std.specs.Prelude.{◌≡◌, ◌≢◌, ◌+◌, ◌<◌, ◌≤◌, true, false, length, slice_range};
+ghost use Rattle.std.specs.Prelude.{◌≡◌, ◌≢◌, ◌+◌, ◌<◌, ◌≤◌, true, length, slice_range};
 ghost use Rattle.std.specs.List.{AllWithin};
 ghost use Rattle.no_std_io2_base.specs.Lines.{IsLineState, lines_len};
 ghost use Rattle.no_std_io2_base.specs.Pieces.{ends_in, newline};
@@ -9,37 +9,16 @@ ghost use Rattle.no_std_io2.specs.BufWriter.{sender_inner, sender_buffer, TakesS
 use crate::buffered::sender::Sender;
 use memchr::memrchr;
 use no_std_io2_base::error::Result;
+use no_std_io2_base::internal::{STEP, skip_steps, stands_in_step};
 use no_std_io2_base::traits::Write;
-
-// The number of bytes that are compared in one step.
-const STEP: usize = 16;
-
-// Returns whether the byte is among the next `STEP`. One vector instruction does it.
-#[inline(always)]
-fn stands_in_step(bytes: &[u8], at: usize, wanted: u8) -> bool
-    requires { at + 16 ≤ length bytes.now }
-    ensures { result ≡ false → AllWithin (λ b. b ≢ wanted) bytes.now at (at + 16) }
-{
-    let mut stands = false;
-    'bytes: for i in 0..STEP {
-        stands |= bytes[at + i] == wanted;
-    }
-    stands
-}
 
 // Returns whether none of these bytes, of which there are at least `STEP`, is this one.
 fn lacks_byte(bytes: &[u8], wanted: u8) -> bool
     requires { 16 ≤ length bytes.now }
     ensures { result ≡ true → AllWithin (λ b. b ≢ wanted) bytes.now 0 (length bytes.now) }
 {
-    let mut at = 0;
-    'steps: while bytes.len() - at >= STEP {
-        if stands_in_step(bytes, at, wanted) {
-            return false;
-        }
-        at += STEP;
-    }
-    !stands_in_step(bytes, bytes.len() - STEP, wanted)
+    let lacking = skip_steps(bytes, wanted);
+    bytes.len() - lacking < STEP && !stands_in_step(bytes, bytes.len() - STEP, wanted)
 }
 
 // Returns whether the last byte is a newline.
