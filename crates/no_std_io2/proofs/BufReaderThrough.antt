@@ -191,30 +191,30 @@ full_through {inner = inner} {old} {new} {buf} {buf'} {filled} {filled'} reply l
         (λ x mid room before into last. Reads-fault before into last fault)
 
 -- what a `read_exact` of more than the held bytes leaves, by its `read_full`: these are the bytes of its buffer, up to `at`
-module _ {R : Type 0} {S : ℕ} {inner : Reader R} {old new : BufReader R S} {x : List ℕ} (buf buf' : List ℕ) (at : ℕ)
-    (past : length (reader_held old) < length buf) where
+module _ {R : Type 0} {S : ℕ} {inner : Reader R} {old new : BufReader R S} {x : List ℕ} (buf buf' : List ℕ) (at : ℕ) where
   whole : {how : Result Bool Error} → ReadsThrough inner old (length buf - 0) x how new → ReadsThrough inner old (length buf) x how new
   whole through = let same : length buf - 0 ≡ length buf = omega arith in rw same at through
 
   -- after a fault
-  pub leaves_fault : {e : Error} → take at buf' ≡ take 0 buf ++ x → ReadsThrough inner old (length buf - 0) x (Err e) new
-      → LeavesExact inner old (length buf) (Err e) buf' new
-  leaves_fault fills through =
+  pub leaves_fault : {e : Error} → length (reader_held old) < length buf → take at buf' ≡ take 0 buf ++ x
+      → ReadsThrough inner old (length buf - 0) x (Err e) new → LeavesExact inner old (length buf) (Err e) buf' new
+  leaves_fault past fills through =
       read_to_fault past (drop at buf', sym (take-append-drop at buf') ∙ ap (λ l. l ++ drop at buf') fills) (whole through)
 
   -- at the end
-  pub leaves_end : {u : Unit {0}} {e : Error} → IsUnexpectedEnd e → take at buf' ≡ take 0 buf ++ x → at < length buf'
+  pub leaves_end : {u : Unit {0}} {e : Error} → length (reader_held old) < length buf → IsUnexpectedEnd e
+      → take at buf' ≡ take 0 buf ++ x → at < length buf'
       → ReadsThrough inner old (length buf - 0) x (full_ended (Ok u) (nat_le (length buf') at)) new
       → LeavesExact inner old (length buf) (Err e) buf' new
-  leaves_end end fills short through =
+  leaves_end past end fills short through =
       read_to_end past end (drop at buf', sym (take-append-drop at buf') ∙ ap (λ l. l ++ drop at buf') fills)
       (whole (rw (lt-leb (length buf') at short) at through))
 
   -- when all were given
-  pub leaves_whole : {u : Unit {0}} → take at buf' ≡ take 0 buf ++ x → length buf' ≤ at
+  pub leaves_whole : {u : Unit {0}} → length (reader_held old) < length buf → take at buf' ≡ take 0 buf ++ x → length buf' ≤ at
       → ReadsThrough inner old (length buf - 0) x (full_ended (Ok u) (nat_le (length buf') at)) new
       → LeavesExact inner old (length buf) (Ok u) buf' new
-  leaves_whole fills all through =
+  leaves_whole past fills all through =
       let is : x ≡ buf' = sym fills ∙ take_all at buf' all in
       read_whole past
       (subst (λ l. ReadsThrough inner old (length buf) l (Ok true) new) is (whole (rw (le-leb (length buf') at all) at through)))

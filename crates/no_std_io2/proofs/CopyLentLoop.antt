@@ -44,13 +44,13 @@ module _ {R W : Type 0} {K : Lender R} {I : Writer W} {from : R} {old : W} where
     calls = record { lends = []; writes = []; asked = refl; made = refl; goes_on = λ C D reply h. h };
   }
 
-  module _ {mid : R} {now : W} (before : LentCalls K I from old mid now) (asks : List ReadCall) (calls : List WriteCall)
-      {after : R} {new : W} (asked : Made (LendCallLaw K) mid asks after) (made : Made (CallOf I) now calls new) where
+  module _ {mid after : R} {now new : W} (before : LentCalls K I from old mid now) (asks : List ReadCall) (calls : List WriteCall) where
     -- some calls more
-    calls_more : ((C : List ReadCall) (D : List WriteCall) (reply : Result ℕ CopyError) → HandsLent C D reply
+    calls_more : Made (LendCallLaw K) mid asks after → Made (CallOf I) now calls new
+        → ((C : List ReadCall) (D : List WriteCall) (reply : Result ℕ CopyError) → HandsLent C D reply
         → HandsLent (asks ++ C) (calls ++ D) reply)
         → LentCalls K I from old after new
-    calls_more on = record {
+    calls_more asked made on = record {
       lends = before.lends ++ asks;
       writes = before.writes ++ calls;
       asked = made_then (LendCallLaw K) before.lends from asks mid after before.asked asked;
@@ -60,9 +60,10 @@ module _ {R W : Type 0} {K : Lender R} {I : Writer W} {from : R} {old : W} where
     }
 
     -- the last calls
-    calls_end : {reply : Result ℕ CopyError} → HandsLent asks calls reply
+    calls_end : {reply : Result ℕ CopyError} → Made (LendCallLaw K) mid asks after → Made (CallOf I) now calls new
+        → HandsLent asks calls reply
         → (C : List ReadCall) × (D : List WriteCall) × Made (LendCallLaw K) from C after × Made (CallOf I) old D new × HandsLent C D reply
-    calls_end {reply} last = (
+    calls_end {reply} asked made last = (
       before.lends ++ asks,
       before.writes ++ calls,
       made_then (LendCallLaw K) before.lends from asks mid after before.asked asked,

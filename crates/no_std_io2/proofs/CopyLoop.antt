@@ -109,17 +109,17 @@ module _ {R W : Type 0} {K : Reader R} {I : Writer W} {S : ℕ} {from : R} {old 
     all = λ t. t;
   }
 
-  module _ {copied : ℕ} {buf part ys : List ℕ} {mid mid' : R} {now : W}
-      (before : CopySoFar K I S from old copied buf mid now) (long : length ys ≡ S) where
-    law : (reply : Result ℕ Error) → ReadLaw K mid part reply ys mid' → GaveLaw K mid S (gave reply ys) mid'
-    law reply read = subst (λ n. GaveLaw K mid n (gave reply ys) mid') long (read_law reply read)
+  module _ {copied : ℕ} {buf part ys : List ℕ} {mid mid' : R} {now : W} (before : CopySoFar K I S from old copied buf mid now) where
+    law : length ys ≡ S → (reply : Result ℕ Error) → ReadLaw K mid part reply ys mid' → GaveLaw K mid S (gave reply ys) mid'
+    law long reply read = subst (λ n. GaveLaw K mid n (gave reply ys) mid') long (read_law reply read)
 
     -- the reader's interruption is ignored
-    pub copy_again : {e : Error} → ReadLaw K mid part (Err e) ys mid' → IsInterruption e → CopySoFar K I S from old copied ys mid' now
+    pub copy_again : {e : Error} → length ys ≡ S → ReadLaw K mid part (Err e) ys mid' → IsInterruption e
+        → CopySoFar K I S from old copied ys mid' now
     unfolding hands_again
-    copy_again {e} read again = record {
+    copy_again {e} long read again = record {
       long = long;
-      hands = hands_again before.hands (law (Err e) read) again;
+      hands = hands_again before.hands (law long (Err e) read) again;
       took = Took-last before.took (Took-again read.takes again);
       moves = before.moves;
       count = before.count;
@@ -127,21 +127,22 @@ module _ {R W : Type 0} {K : Reader R} {I : Writer W} {S : ℕ} {from : R} {old 
     }
 
     -- its fault ends the loop
-    pub copy_faulted : {e : Error} → ReadLaw K mid part (Err e) ys mid' → IsFault e → SidesCopied K I S from old (Err (Read e)) mid' now
-    copy_faulted {e} read fault =
+    pub copy_faulted : {e : Error} → length ys ≡ S → ReadLaw K mid part (Err e) ys mid' → IsFault e
+        → SidesCopied K I S from old (Err (Read e)) mid' now
+    copy_faulted {e} long read fault =
         let took = Took-last before.took (Took-fault read.takes fault) in
         record {
           taken = took.taken;
           takes = took.takes;
           ends = (took.ends, rw took.are before.moves);
           all = before.all;
-          calls = hands_last before.hands (Err e) (law (Err e) read);
+          calls = hands_last before.hands (Err e) (law long (Err e) read);
         }
 
     -- and so does its end
-    pub copy_ended : {reply : Result ℕ Error} {n : ℕ} → ReadLaw K mid part reply ys mid' → reply ≡ Ok n → n ≡ 0
+    pub copy_ended : {reply : Result ℕ Error} {n : ℕ} → length ys ≡ S → ReadLaw K mid part reply ys mid' → reply ≡ Ok n → n ≡ 0
         → SidesCopied K I S from old (Ok copied) mid' now
-    copy_ended read is none =
+    copy_ended long read is none =
         let last = subst (λ n. GaveLaw K mid n (Ok []) mid') long (nothing_read read is none) in
         let took = Took-last before.took (Took-bytes [] last.takes) in
         record {
@@ -152,7 +153,7 @@ module _ {R W : Type 0} {K : Reader R} {I : Writer W} {S : ℕ} {from : R} {old 
           calls = hands_last before.hands (Ok []) last;
         }
 
-    module _ {n : ℕ} (read : ReadLaw K mid part (Ok n) ys mid') (some : n ≡ 0 → ⊥) where
+    module _ {n : ℕ} (long : length ys ≡ S) (read : ReadLaw K mid part (Ok n) ys mid') (some : n ≡ 0 → ⊥) where
       abbrev x : List ℕ
       x = take n ys
 
@@ -161,7 +162,7 @@ module _ {R W : Type 0} {K : Reader R} {I : Writer W} {S : ℕ} {from : R} {old 
 
       hands : {new : W} (reply : Result (Unit {0}) Error) → WriteAllOf I now x reply new → HandsOn K I S [] from old reply mid' new
       hands reply wrote =
-          hands_more before.hands x reply (law (Ok n) read) (omega (arith, size, some_bytes n some)) wrote
+          hands_more before.hands x reply (law long (Ok n) read) (omega (arith, size, some_bytes n some)) wrote
 
       took : Took (tells K from) (concat before.hands.pieces ++ x) (Ok true) (tells K mid')
       took = Took-then before.took (Took-bytes x read.takes)
