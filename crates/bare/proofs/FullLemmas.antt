@@ -53,21 +53,28 @@ module _ {S : ℕ} where
   send_failed a b made calls = omega (arith, blocked calls (writer_inner a) (writer_inner b) made, writes_left calls)
 
   -- bytes that are fewer than those of the buffer were put into it, or that failed
-  pub put : {A : Type 0} {x : List ℕ} {v : A} {past : List WriteCall → Result A Error → Type 0} {reply : Result A Error}
-      (a b : BufWriter Queue S) → length x < S → Taken (Buffered S x v past) a reply b → MatchResult reply (λ n. n ≡ v) (λ _. IsOverfull b)
-  put a b short (C, made, stops way) = elim way [
+  put_by : {A : Type 0} {x : List ℕ} {v : A} {past : List WriteCall → Result A Error → Type 0} {C : List WriteCall} {reply : Result A Error}
+      (a b : BufWriter Queue S) → length x < S → Made (CallOf queue) (writer_inner a) C (writer_inner b)
+      → Buffered S x v past (writer_buffer a) C reply (writer_buffer b) → MatchResult reply (λ n. n ≡ v) (λ _. IsOverfull b)
+  put_by a b short made (stops way) = elim way [
     | inl kept ↦ absurd (let no : ⊥ = cc (kept.2) in no)
     | inr calls ↦ send_failed a b made calls.1
   ]
-  put {v = v} a b short (C, made, goes_on way next) = elim next [
+  put_by {v = v} a b short made (goes_on way next) = elim next [
     | inl held ↦ subst (λ r. MatchResult r (λ n. n ≡ v) (λ _. IsOverfull b)) (sym held.2) refl
     | inr past ↦ absurd (omega (arith, short, past.0))
   ]
 
+  -- such a step
+  pub put : {A : Type 0} {x : List ℕ} {v : A} {past : List WriteCall → Result A Error → Type 0} {reply : Result A Error}
+      (a b : BufWriter Queue S) → length x < S → Taken (Buffered S x v past) a reply b → MatchResult reply (λ n. n ≡ v) (λ _. IsOverfull b)
+  put a b short taken = put_by a b short taken.made taken.are
+
   -- a flush failed
-  flush_failed : {e : Error} (a b : BufWriter Queue S) → Taken FlushCalls a (Err e) b → IsOverfull b
-  flush_failed a b (C, made, stops calls) = send_failed a b made calls
-  flush_failed a b (C, made, goes_on {C = D} {D = E} calls next) =
+  flush_failed : {C : List WriteCall} {e : Error} (a b : BufWriter Queue S) → Made (CallOf queue) (writer_inner a) C (writer_inner b)
+      → FlushCalls (writer_buffer a) C (Err e) (writer_buffer b) → IsOverfull b
+  flush_failed a b made (stops calls) = send_failed a b made calls
+  flush_failed a b made (goes_on {C = D} {D = E} calls next) =
       let parts = made_split (CallOf queue) D (writer_inner a) E (writer_inner b) made in
       let one = subst (λ K. Made (CallOf queue) parts.0 K (writer_inner b)) next.2 parts.2 in absurd (true≢false (sym one.1.call))
 
@@ -105,4 +112,4 @@ module _ {S : ℕ} where
       → FlushOf buffered b q c → OnErr q (capacity < size a + length x)
   flush_full (Ok u) moved law = tt
   flush_full {b = b} {c = c} (Err e) moved law =
-      omega (arith, flush_failed b c law.call, size-moves moved, size-moves law.moves)
+      omega (arith, flush_failed b c law.call.made law.call.are, size-moves moved, size-moves law.moves)

@@ -92,4 +92,4 @@ module _ {W B : Type 0} (I : Writer W) (cost : W → ℕ) (meter : IsMeter I.may
       paid_at last (omega arith) (omega arith) (ops_paid ops replies C joined whole old last made start) in
       let bound = Paid-bound S run.1 (flushes ops) (length (given_bytes ops)) (length (buffer last)) run.3 in
       let last_one = (does (send_does I) sent).counts run.0 in
-      omega (arith, meter_made I cost meter sent.0 (inner last) w sent.1, last_one.2, run.2, calls_for-min (buffer last), bound)
+      omega (arith, meter_made I cost meter sent.calls (inner last) w sent.made, last_one.2, run.2, calls_for-min (buffer last), bound)

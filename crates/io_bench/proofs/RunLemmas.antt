@@ -128,25 +128,24 @@ module _ {W : Type 0} (I : Writer W) where
 pub below_first : {W B : Type 0} (I : Writer W) {K : Writer B} (inner : B → W) (buffer : B → List ℕ)
     (level : List ℕ → WriteCall → List WriteCall → List ℕ → Type 0)
     → ((a b : B) (call : WriteCall) → K.may a call b
-    → (D : List WriteCall) × Made (CallOf I) (inner a) D (inner b) × level (buffer a) call D (buffer b))
+    → ByCalls (CallOf I) (inner a) (λ D. level (buffer a) call D (buffer b)) (inner b))
     → {a b : B} (ops : List Op) (replies : List Reply) → RunCalls K a ops replies b
     → RunBelow I (λ calls below. Through level (buffer a) calls below (buffer b)) (inner a) ops replies (inner b)
 below_first I {K = K} inner buffer level each {a = a} {b = b} ops replies r =
-    let (below, made, is) = through I K inner buffer level each r.calls a b r.made in
-    record { calls = below; made = made; are = (r.calls, r.are, is) }
+    by_are (through I K inner buffer level each r.calls a b r.made) (λ below is. (r.calls, r.are, is))
 
 -- and one through two buffers
 pub below_more : {W B : Type 0} (I : Writer W) {K : Writer B} (inner : B → W) (buffer : B → List ℕ)
     (level : List ℕ → WriteCall → List WriteCall → List ℕ → Type 0)
     → ((a b : B) (call : WriteCall) → K.may a call b
-    → (D : List WriteCall) × Made (CallOf I) (inner a) D (inner b) × level (buffer a) call D (buffer b))
+    → ByCalls (CallOf I) (inner a) (λ D. level (buffer a) call D (buffer b)) (inner b))
     → {tower : List WriteCall → List WriteCall → Type 0} {a b : B} (ops : List Op) (replies : List Reply)
     → RunBelow K tower a ops replies b
     → RunBelow I (λ calls below. (mid : List WriteCall) × tower calls mid × Through level (buffer a) mid below (buffer b))
     (inner a) ops replies (inner b)
 below_more I {K = K} inner buffer level each {a = a} {b = b} ops replies r =
-    let (below, made, is) = through I K inner buffer level each r.calls a b r.made in
-    let (calls, joined, upper) = r.are in record { calls = below; made = made; are = (calls, joined, (r.calls, upper, is)) }
+    let (calls, joined, upper) = r.are in
+    by_are (through I K inner buffer level each r.calls a b r.made) (λ below is. (calls, joined, (r.calls, upper, is)))
 
 -- such a run, if the calls of the device are related otherwise too
 pub below_map : {W : Type 0} (I : Writer W) {tower tower' : List WriteCall → List WriteCall → Type 0} {a b : W} (ops : List Op)

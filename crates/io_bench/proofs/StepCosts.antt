@@ -17,4 +17,4 @@ module _ {W : Type 0} (I : Writer W) where
       → TakesAll I (inner new) × IsOk reply × (cost (inner new) ≡ cost (inner old) + n (buffer old))
   step_cost cost meter inner buffer always old new takes all =
       let done = (does always takes).counts all in
-      (done.0, done.1, omega (arith, meter_made I cost meter takes.0 (inner old) (inner new) takes.1, done.2))
+      (done.0, done.1, omega (arith, meter_made I cost meter takes.calls (inner old) (inner new) takes.made, done.2))

@@ -3,7 +3,7 @@ use Rattle.no_std_io2.proofs.Words.{Some, nil_from_length, ◌≡◌, ℕ, ◌+�
 use Rattle.no_std_io2.proofs.Words.{Writer, error_kind, Moves, WriteCall, call_mishap, none as no_write, writer_inner, writer_buffer}
 use Rattle.no_std_io2.proofs.Words.{writer_told, TakesStep, WayCalls, SendCalls}
 use Rattle.no_std_io2.specs.{declared.io.Error.{Error}, declared.io.BufWriter.{BufWriter}, BufWriter.{Puts}}
-use Rattle.no_std_io2.proofs.{MovesLemmas.{Moves-ends, Moves-steady}, StepLemmas.{then_stops, then_goes_on}, WritesFacts.{writes_left}}
+use Rattle.no_std_io2.proofs.{CallsLemmas.{by_are}, MovesLemmas.{Moves-ends, Moves-steady}, StepLemmas.{then_stops, then_goes_on}, WritesFacts.{writes_left}}
 use Rattle.line_log.specs.Log.{Logs, IsLogged}
 
 -- to make room for a whole buffer is to send
@@ -27,14 +27,14 @@ module _ {W : Type 0} {S : ℕ} (I : Writer W) (x : List ℕ) {old mid new : Buf
       → Moves (writer_told I.told mid) [] (call_mishap met) (writer_told I.told new)
       → OnOk met (length (writer_buffer new) + S ≤ S) → Logs I x old (Ok tt) new
   log_goes met put way moves room = record {
-    ok = of_met met moves room (way_all S way.2);
+    ok = of_met met moves room (way_all S way.are);
     err = tt;
     fault = tt;
-    calls = then_goes_on _ put.calls (way.0, way.1, (refl, (met, way_all S way.2)));
+    calls = then_goes_on _ put.calls (by_are way (λ C calls. (refl, (met, way_all S calls))));
   }
     where
       of_met : (r : Result (Unit {0}) Error) → Moves (writer_told I.told mid) [] (call_mishap r) (writer_told I.told new)
-          → OnOk r (length (writer_buffer new) + S ≤ S) → SendCalls (writer_buffer mid) way.0 r (writer_buffer new)
+          → OnOk r (length (writer_buffer new) + S ≤ S) → SendCalls (writer_buffer mid) way.calls r (writer_buffer new)
           → IsLogged (writer_told I.told old) x (writer_told I.told new) (writer_buffer new)
       of_met (Ok u) m fits sent = inl (nil_from_length (writer_buffer new) (omega (arith, fits)), Moves-ends put.moves m)
       of_met (Err e) m fits sent = inr (writes_left sent, (error_kind e, Moves-ends put.moves m))

@@ -1,18 +1,19 @@
 -- What the steps of a buffered writer do, and what follows for its calls. For `Sender` and `BufWriter`, and for counts of calls.
-use Rattle.no_std_io2.proofs.Words.{TakesAll, CallOf, Writer, Told, Moves, MovesFront, WriteCall, Made, call_mishap, Wrote, Flushed}
-use Rattle.no_std_io2.proofs.Words.{AllCalls, calls_for, none as no_write, charges, [], ◌≡◌, ◌+◌, ℕ, ◌<◌, ◌≤◌, List, ◌∷◌, ◌++◌, length}
+use Rattle.no_std_io2.proofs.Words.{TakesAll, CallOf, Writer, Told, Moves, MovesFront, WriteCall, Made, ByCalls, call_mishap, Wrote}
+use Rattle.no_std_io2.proofs.Words.{Flushed, AllCalls, calls_for, none as no_write, charges, [], ◌≡◌, ◌+◌, ℕ, ◌<◌, ◌≤◌, List, ◌∷◌, ◌++◌, length}
 use Rattle.no_std_io2.proofs.Words.{Result, Ok, OnOk, IsOk, IfOk, refl, sym, subst, ap, ◌∙◌, arith, le_refl, append-nil, if◌then◌else◌}
 use Rattle.no_std_io2.proofs.Words.{nat_lt, ⊎_elim, inl, inr, common_steps, nil_from_length, cases_lt, nat_tests, stops, goes_on, Stepped}
 use Rattle.no_std_io2.proofs.Words.{TakesStep, sender_inner, sender_buffer, Only, SendCalls, WayCalls, Buffered, WriteCalls}
 use Rattle.no_std_io2.proofs.Words.{WriteAllCalls, FlushCalls, writing_calls, buffer_after}
 use Rattle.no_std_io2_base.specs.{declared.error.Error.{Error}, Errors.{IsNoInterruption}, Write.{taken, write_mishap}}
 use Rattle.std.proofs.{Common.{take_all, nat_le}, lemmas.Result.{on_ok_weaker}}
-use Rattle.no_std_io2_base.proofs.{MovesLemmas.{IsFront-refl, Moves-then, zero_write-whole}, CallsLemmas.{made_split, writes_whole}}
+use Rattle.no_std_io2_base.proofs.{MovesLemmas.{IsFront-refl, Moves-then, zero_write-whole}}
+use Rattle.no_std_io2_base.proofs.{CallsLemmas.{by_are, by_call, made_split, writes_whole}}
 use Rattle.no_std_io2_base.proofs.{WritesFacts.{writes_fault, writes_sends}, AllFacts.{all_calls, call_steady}}
 use Rattle.no_std_io2_base.proofs.{MeterLemmas.{writes_count, all_count}}
 use Rattle.no_std_io2.specs.{declared.buffered.sender.Sender.{Sender}, BufWriter.{PutCalls, PastEmpty, way_calls, Buffers, BuffersAll}}
 use Rattle.no_std_io2.proofs.{BufWriterLemmas.{Moves-kept, Moves-emptied, MovesFront-emptied}}
-use Rattle.no_std_io2.proofs.StepLemmas.{no_ok, then_goes_on, then_does, does, Does, Always, Exactly, Emptied, Sending, StepsJoin}
+use Rattle.no_std_io2.proofs.StepLemmas.{no_ok, then_goes_on, then_does, does, Does, Effect, Always, Exactly, Emptied, Sending, StepsJoin}
 
 -- in front of fewer than S bytes there is room then,
 pub way_room : (S n : ℕ) {held left : List ℕ} {C : List WriteCall} → n < S → WayCalls S n held C (Ok tt) left → length left + n ≤ S
@@ -25,12 +26,12 @@ way_none S n {held = held} long way = grind (arith, common_steps, nil_from_lengt
 module _ {W : Type 0} {I : Writer W} {S : ℕ} where
   -- there is room beside what is held,
   pub way_kept : (n : ℕ) {held : List ℕ} {a : W} → length held + n ≤ S → Stepped I (WayCalls S n) a held (Ok tt) held a
-  way_kept n room = ([], refl, inl (room, refl, refl, refl))
+  way_kept n room = record { calls = []; made = refl; are = inl (room, refl, refl, refl) }
 
   -- or nothing is held
   way_empty : (n : ℕ) {held : List ℕ} {a : W} → held ≡ [] → Stepped I (WayCalls S n) a held (Ok tt) held a
   way_empty n {held} empty = ⊎_elim
-      (λ over. ([], refl, inr (over, subst (λ l. SendCalls l [] (Ok tt) l) (sym empty) no_write)))
+      (λ over. record { calls = []; made = refl; are = inr (over, subst (λ l. SendCalls l [] (Ok tt) l) (sym empty) no_write) })
       (λ room. way_kept n room)
       (cases_lt S (length held + n))
 
@@ -38,17 +39,17 @@ module _ {W : Type 0} {I : Writer W} {S : ℕ} where
     -- x is held after the held bytes,
     pub puts : {held left : List ℕ} {a b : W} → length x < S → b ≡ a → left ≡ held ++ x
         → Stepped I (PutCalls S x v past) a held (Ok v) left b
-    puts short same put = ([], same, inl (short, refl, refl, put))
+    puts short same put = record { calls = []; made = same; are = inl (short, refl, refl, put) }
 
     -- or goes past it
     pub passes : {held left : List ℕ} {reply : Result A Error} {a b : W} → S ≤ length x → held ≡ [] → left ≡ []
-        → (C : List WriteCall) × Made (CallOf I) a C b × past C reply → Stepped I (PutCalls S x v past) a held reply left b
-    passes long none empty calls = (calls.0, calls.1, inr (long, (none, empty, calls.2)))
+        → ByCalls (CallOf I) a (λ C. past C reply) b → Stepped I (PutCalls S x v past) a held reply left b
+    passes long none empty calls = by_are calls (λ C is. inr (long, (none, empty, is)))
 
 -- past a buffer with nothing held
 pub buffered_past : {W A : Type 0} {S : ℕ} {I : Writer W} {old mid : Sender W S} {inner : W} (x : List ℕ) (v : A)
     (past : List WriteCall → Result A Error → Type 0) {reply : Result A Error} → mid ≡ old → sender_buffer mid ≡ [] → S ≤ length x
-    → (C : List WriteCall) × Made (CallOf I) (sender_inner mid) C inner × past C reply
+    → ByCalls (CallOf I) (sender_inner mid) (λ C. past C reply) inner
     → TakesStep I sender_inner sender_buffer (Buffered S x v past) old reply (record mid { inner = inner })
 buffered_past {S} {I} {mid = mid} {inner = inner} x v past {reply = reply} same none long calls =
     subst (λ w. TakesStep I sender_inner sender_buffer (Buffered S x v past) w reply (record mid { inner = inner })) same
@@ -56,8 +57,8 @@ buffered_past {S} {I} {mid = mid} {inner = inner} x v past {reply = reply} same 
 
 -- one call
 pub one_made : {W : Type 0} {I : Writer W} (call : WriteCall) {a b : W} → CallOf I a call b
-    → (C : List WriteCall) × Made (CallOf I) a C b × (C ≡ call ∷ [])
-one_made call {b = b} law = (call ∷ [], (b, law, refl), refl)
+    → ByCalls (CallOf I) a (λ C. C ≡ call ∷ []) b
+one_made call law = by_call call law refl
 
 -- if both fit, x is held and there is no inner call
 pub buffered_fits : {A : Type 0} (S : ℕ) (x : List ℕ) (v : A) (past : List WriteCall → Result A Error → Type 0) {held left : List ℕ}
@@ -87,7 +88,7 @@ abbrev pub writing_all_calls : ℕ → List ℕ → List ℕ → ℕ
 writing_all_calls S x held = way_calls S held (length x) + past_calls S (length x) (calls_for x)
 
 -- a `flush` accepts no byte
-abbrev pub Flushing : Told → Result (Unit {0}) Error → Told → Type 0
+abbrev pub Flushing : Effect (Unit {0})
 Flushing old reply new = Moves old [] (call_mishap reply) new
 
 -- it may follow a sending,
@@ -95,7 +96,7 @@ flushing_joins : StepsJoin Sending Flushing Flushing
 flushing_joins = record { fails = λ s t e f. f.1; joins = λ s m t r f g. Moves-then {k = []} f.1 g }
 
 -- a `write` accepts the bytes that its result reports
-abbrev pub Writing : List ℕ → Told → Result ℕ Error → Told → Type 0
+abbrev pub Writing : List ℕ → Effect ℕ
 Writing x old reply new = Moves old (taken reply x) (write_mishap reply x) new
 
 -- so may it,
@@ -103,7 +104,7 @@ pub writing_joins : (x : List ℕ) → StepsJoin Sending (Writing x) (Writing x)
 writing_joins x = record { fails = λ s t e f. f.1; joins = λ s m t r f g. Moves-then {k = []} f.1 g }
 
 -- a `write_all` accepts some front of x, all of it after `Ok`, and returns no interruption
-abbrev pub WritingAll : List ℕ → Told → Result (Unit {0}) Error → Told → Type 0
+abbrev pub WritingAll : List ℕ → Effect (Unit {0})
 WritingAll x old reply new = IsNoInterruption reply × MovesFront old x reply new
 
 -- and so may it
@@ -146,38 +147,36 @@ module _ {W : Type 0} (I : Writer W) where
         counts = λ t. grind (arith, common_steps, sends.counts t, sent.0);
       }
 
-  module _ {A : Type 0} (S : ℕ) (x : List ℕ) (v : A) (past : List WriteCall → Result A Error → Type 0)
-      {R : Told → Result A Error → Told → Type 0} {m : ℕ} (follows : StepsJoin Sending R R)
-      (hold : (s t : Told) → Moves s x [] t → R s (Ok v) t)
-      (gone : Always I (PastEmpty past) R Emptied (λ _. m)) where
-    -- one that holds x or passes it on,
-    put_does : Always I (PutCalls S x v past) R (Exactly (put_left S x)) (λ _. past_calls S (length x) m)
-    put_does a b held left C reply (inl kept) made =
-        let same = subst (λ K. Made (CallOf I) a K b) kept.1 made in record {
-          tells = rw kept.2 (hold _ _ (Moves-kept I.told a b held left x same kept.3));
-          leaves = grind (arith, common_steps, kept.3, kept.0);
-          counts = λ t. grind (arith, nat_tests, common_steps, same, kept.0, kept.1, kept.2);
-        }
-    put_does a b held left C reply (inr passed) made =
-        let past = gone a b held left C reply passed.1 made in record {
-          tells = past.tells;
-          leaves = grind (arith, common_steps, past.leaves, passed.0);
-          counts = λ t. grind (arith, common_steps, past.counts t, passed.0);
-        }
+  module _ {A : Type 0} (S : ℕ) (x : List ℕ) (v : A) (past : List WriteCall → Result A Error → Type 0) {R : Effect A} {m : ℕ} where
+    module _ (hold : (s t : Told) → Moves s x [] t → R s (Ok v) t) (gone : Always I (PastEmpty past) R Emptied (λ _. m)) where
+      -- one that holds x or passes it on,
+      put_does : Always I (PutCalls S x v past) R (Exactly (put_left S x)) (λ _. past_calls S (length x) m)
+      put_does a b held left C reply (inl kept) made =
+          let same = subst (λ K. Made (CallOf I) a K b) kept.1 made in record {
+            tells = rw kept.2 (hold _ _ (Moves-kept I.told a b held left x same kept.3));
+            leaves = grind (arith, common_steps, kept.3, kept.0);
+            counts = λ t. grind (arith, nat_tests, common_steps, same, kept.0, kept.1, kept.2);
+          }
+      put_does a b held left C reply (inr passed) made =
+          let past = gone a b held left C reply passed.1 made in record {
+            tells = past.tells;
+            leaves = grind (arith, common_steps, past.leaves, passed.0);
+            counts = λ t. grind (arith, common_steps, past.counts t, passed.0);
+          }
 
-    -- and both: x goes through the buffer
-    buffered_does : Always I (Buffered S x v past) R (Exactly (λ held. buffer_after S held x))
-        (λ held. way_calls S held (length x) + past_calls S (length x) m)
-    buffered_does a b held left C reply write made =
-        let both = then_does (WayCalls S (length x)) (PutCalls S x v past) follows (way_does S (length x)) put_does a b held left C reply
-        write made in
-        record { tells = both.tells; leaves = grind (arith, common_steps, on_ok_weaker, both.leaves); counts = both.counts }
+      -- and both: x goes through the buffer
+      buffered_does : StepsJoin Sending R R → Always I (Buffered S x v past) R (Exactly (λ held. buffer_after S held x))
+          (λ held. way_calls S held (length x) + past_calls S (length x) m)
+      buffered_does follows a b held left C reply write made =
+          let both = then_does (WayCalls S (length x)) (PutCalls S x v past) follows (way_does S (length x)) put_does a b held left C reply
+          write made in
+          record { tells = both.tells; leaves = grind (arith, common_steps, on_ok_weaker, both.leaves); counts = both.counts }
 
   -- `write(x)`,
   pub write_does : (S : ℕ) (x : List ℕ)
       → Always I (WriteCalls S x) (Writing x) (Exactly (λ held. buffer_after S held x)) (λ held. writing_calls S held x)
-  write_does S x = buffered_does S x (length x) (Only (Wrote x)) (writing_joins x)
-      (λ s t m. rw (take_all _ x (le_refl (length x)), zero_write-whole x) m) passed
+  write_does S x = buffered_does S x (length x) (Only (Wrote x))
+      (λ s t m. rw (take_all _ x (le_refl (length x)), zero_write-whole x) m) passed (writing_joins x)
     where
       passed : Always I (PastEmpty (Only (Wrote x))) (Writing x) Emptied (λ _. 1)
       passed a b held left C reply gone made =
@@ -190,8 +189,8 @@ module _ {W : Type 0} (I : Writer W) where
   -- `write_all(x)`
   pub write_all_does : (S : ℕ) (x : List ℕ)
       → Always I (WriteAllCalls S x) (WritingAll x) (Exactly (λ held. buffer_after S held x)) (writing_all_calls S x)
-  write_all_does S x = buffered_does S x tt (λ C. AllCalls C x) (writing_all_joins x)
-      (λ s t m. (tt, record { accepted = x; front = IsFront-refl x; whole = refl; moves = m })) passed
+  write_all_does S x = buffered_does S x tt (λ C. AllCalls C x)
+      (λ s t m. (tt, record { accepted = x; front = IsFront-refl x; whole = refl; moves = m })) passed (writing_all_joins x)
     where
       passed : Always I (PastEmpty (λ C. AllCalls C x)) (WritingAll x) Emptied (λ _. calls_for x)
       passed a b held left C reply gone made =
@@ -224,7 +223,7 @@ module _ {W : Type 0} (I : Writer W) where
     -- and all of it, over an inner writer that takes all
     pub write_takes : (S : ℕ) {x : List ℕ} {reply : Result ℕ Error} → Stepped I (WriteCalls S x) a held reply left b → TakesAll I a
         → reply ≡ Ok (length x)
-    write_takes S {x} p takes = by p.2 p.1
+    write_takes S {x} p takes = by p.are p.made
       where
         by : {C : List WriteCall} {reply : Result ℕ Error} → WriteCalls S x held C reply left → Made (CallOf I) a C b
             → reply ≡ Ok (length x)

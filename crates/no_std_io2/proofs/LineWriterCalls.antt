@@ -149,10 +149,10 @@ module _ {W : Type 0} (I : Writer W) where
   module _ {a b : W} {held left : List ℕ} where
     -- the calls of a `write` do that,
     pub line_write_does : (S : ℕ) {x : List ℕ} {reply : Result ℕ Error} (p : Stepped I (LineWriteCalls S x) a held reply left b)
-        → LineWrites I S x a held p.0 reply left b
-    line_write_does S {x} {reply} p = elim p.2 [
+        → LineWrites I S x a held p.calls reply left b
+    line_write_does S {x} {reply} p = elim p.are [
       | inl plain ↦
-          let done = then_does SendLineCalls (WriteCalls S x) (writing_joins x) send_line_does (write_does I S x) _ _ _ _ _ _ plain.1 p.1 in
+          let done = then_does SendLineCalls (WriteCalls S x) (writing_joins x) send_line_does (write_does I S x) _ _ _ _ _ _ plain.1 p.made in
           record {
             tells = done.tells;
             keeps = λ t. let c = done.counts t in (c.0, c.1, omega (arith, c.2, line_write_few S held x));
@@ -162,11 +162,11 @@ module _ {W : Type 0} (I : Writer W) where
           }
       | inr lines ↦
           let some = lines_some x lines.0 in
-          let done = then_does SendCalls (LinesCalls S x) (writing_joins x) (send_does I) (lines_do S x some) _ _ _ _ _ _ lines.1 p.1 in
+          let done = then_does SendCalls (LinesCalls S x) (writing_joins x) (send_does I) (lines_do S x some) _ _ _ _ _ _ lines.1 p.made in
           record {
             tells = done.tells;
             keeps = λ t. let c = done.counts t in (c.0, c.1, omega (arith, c.2, lines_few held));
-            filled = λ line t. grind (arith, nat_tests, tail_filled S x lines.1 some a b p.1 t, some);
+            filled = λ line t. grind (arith, nat_tests, tail_filled S x lines.1 some a b p.made t, some);
           }
     ]
 
@@ -177,11 +177,11 @@ module _ {W : Type 0} (I : Writer W) where
 
     -- and those of a `write_all` that
     pub line_write_all_does : (S : ℕ) {x : List ℕ} {reply : Result (Unit {0}) Error}
-        (p : Stepped I (LineWriteAllCalls S x) a held reply left b) → LineWritesAll I S x a held p.0 reply left b
-    line_write_all_does S {x} {reply} p = elim p.2 [
+        (p : Stepped I (LineWriteAllCalls S x) a held reply left b) → LineWritesAll I S x a held p.calls reply left b
+    line_write_all_does S {x} {reply} p = elim p.are [
       | inl plain ↦
           let done = then_does SendLineCalls (WriteAllCalls S x) (writing_all_joins x) send_line_does (write_all_does I S x) _ _ _ _ _ _
-          plain.1 p.1 in
+          plain.1 p.made in
           record {
             tells = done.tells;
             keeps = λ t. let c = done.counts t in (c.0, c.1, omega (arith, c.2, line_write_all_few S held x));
@@ -190,7 +190,7 @@ module _ {W : Type 0} (I : Writer W) where
           }
       | inr lines ↦
           let done = then_does (SendLinesCalls S (lines_of x)) (WriteAllCalls S (unfinished_line x)) (lines_joins x)
-          (send_lines_does S (lines_of x)) (write_all_does I S (unfinished_line x)) _ _ _ _ _ _ lines.1 p.1 in
+          (send_lines_does S (lines_of x)) (write_all_does I S (unfinished_line x)) _ _ _ _ _ _ lines.1 p.made in
           record {
             tells = done.tells;
             keeps = λ t. let c = done.counts t in (c.0, c.1, omega (arith, c.2, all_lines_few S held (lines_of x) (unfinished_line x)));

@@ -6,7 +6,7 @@ use Rattle.no_std_io2.proofs.Words.{subst, arith, if◌then◌else◌, inl, inr,
 use Rattle.no_std_io2.proofs.Words.{WayCalls, Buffered, WriteCalls, WriteAllCalls, FlushCalls, SendLinesCalls, LineWriteCalls}
 use Rattle.no_std_io2.proofs.Words.{LineWriteAllCalls}
 use Rattle.no_std_io2_base.specs.{declared.error.Error.{Error}, Pieces.{Lacks}}
-use Rattle.no_std_io2_base.proofs.{CallsLemmas.{writes_whole}}
+use Rattle.no_std_io2_base.proofs.{CallsLemmas.{by_call, writes_whole}}
 use Rattle.no_std_io2_base.proofs.LineLemmas.{lines_end, lines_some, unfinished_lacks, unfinished_none, lacks_contains, contains_lines}
 use Rattle.no_std_io2_base.proofs.{LineLemmas.{take_lines, drop_lines, lines_split, plain_state, lacks_rest, state_rest, ends_in-append}}
 use Rattle.no_std_io2_base.proofs.{MovesLemmas.{after_ok}, PieceLemmas.{Lacks-append}}
@@ -192,4 +192,4 @@ pub wrote_lines : {W : Type 0} {I : Writer W} (S : ℕ) (x : List ℕ) {len : �
     → Stepped I (LinesCalls S x) a held reply left b
 wrote_lines {I} S x {answer = answer} {a = a} {b = b} is law none tail =
     let lines = subst (λ y. CallOf I a (Wrote y answer) b) (take_lines x is) law in
-    (Wrote (lines_of x) answer ∷ [], (b, lines, refl), (none, answer, refl, tail))
+    by_call (Wrote (lines_of x) answer) lines (none, answer, refl, tail)

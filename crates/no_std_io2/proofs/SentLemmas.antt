@@ -33,7 +33,7 @@ position_sought (b ∷ held) s (Err e) at = tt
 module _ {W : Type 0} {I : Writer W} {a b : W} {held left : List ℕ} where
   -- with nothing held there was no inner call
   pub sent_idle : {reply : Result (Unit {0}) Error} → Stepped I SendCalls a held reply left b → held ≡ [] → (b ≡ a) × IsOk reply
-  sent_idle calls none = let idle = writes_idle calls.2 none in (subst (λ K. Made (CallOf I) a K b) idle.0 calls.1, idle.1)
+  sent_idle calls none = let idle = writes_idle calls.are none in (subst (λ K. Made (CallOf I) a K b) idle.0 calls.made, idle.1)
 
   -- all was sent
   pub sends_all : Stepped I SendCalls a held (Ok tt) left b
@@ -44,7 +44,7 @@ module _ {W B : Type 0} {I : Writer W} {inner : B → W} {buffer : B → List �
   -- the sending before a seek failed
   pub seek_failed : {K : Seeker W} {to : SeekFrom} {new : B} {e : Error} → TakesStep I inner buffer SendCalls old (Err e) new
       → SeeksSent I K inner buffer old to (Err e) new
-  seek_failed calls = failed calls (does (send_does I) calls).tells.1 (writes_left calls.2)
+  seek_failed calls = failed calls (does (send_does I) calls).tells.1 (writes_left calls.are)
 
   -- after an `Ok` of a seek nothing is held
   pub seek_empties : {K : Seeker W} {to : SeekFrom} {reply : Result ℕ Error} {new : B} → SeeksSent I K inner buffer old to reply new

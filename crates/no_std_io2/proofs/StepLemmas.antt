@@ -3,7 +3,7 @@ use Rattle.no_std_io2.proofs.Words.{TakesAll, CallOf, Writer, Told, Moves, Write
 use Rattle.no_std_io2.proofs.Words.{◌+◌, List, ◌++◌, Result, Ok, Err, OnOk, IsOk, ap, subst, arith, [], Step, Stepped, Then, stops}
 use Rattle.no_std_io2.proofs.Words.{goes_on, with_buffer}
 use Rattle.no_std_io2_base.specs.{declared.error.Error.{Error}, Errors.{IsNoInterruption}}
-use Rattle.no_std_io2_base.proofs.{CallsLemmas.{made_then, made_split}, MeterLemmas.{charges-append}}
+use Rattle.no_std_io2_base.proofs.{CallsLemmas.{by_are, by_then, made_split}, MeterLemmas.{charges-append}}
 
 -- no error is `Ok`
 pub no_ok : {T : Type 0} → false ≡ true → T
@@ -13,15 +13,19 @@ module _ {W A : Type 0} {I : Writer W} {first : Step (Unit {0})} {next : Step A}
   -- the first step failed, and its error is the result
   pub then_stops : {held left : List ℕ} {e : Error} {a b : W} → Stepped I first a held (Err e) left b
       → Stepped I (Then first next) a held (Err e) left b
-  then_stops p = (p.0, p.1, stops p.2)
+  then_stops p = by_are p (λ C f. stops f)
 
   -- it did not, and the next one followed
   pub then_goes_on : {held left : List ℕ} {reply : Result A Error} {a m b : W} (mid : List ℕ)
       → Stepped I first a held (Ok tt) mid m → Stepped I next m mid reply left b → Stepped I (Then first next) a held reply left b
-  then_goes_on {a = a} {m = m} {b = b} mid p q = (p.0 ++ q.0, made_then (CallOf I) p.0 a q.0 m b p.1 q.1, goes_on p.2 q.2)
+  then_goes_on mid p q = by_then p q (λ C D f g. goes_on f g)
+
+-- how a step with its result changes what is told
+abbrev pub Effect : Type 0 → Type 1
+Effect A = Told → Result A Error → Told → Type 0
 
 -- What a step does, from the inner writer a with `held` to b with `left`, by the calls C.
-pub record Does {W A : Type 0} (I : Writer W) (R : Told → Result A Error → Told → Type 0) (F : List ℕ → List ℕ → Type 0)
+pub record Does {W A : Type 0} (I : Writer W) (R : Effect A) (F : List ℕ → List ℕ → Type 0)
     (n : List ℕ → ℕ) (a : W) (held : List ℕ) (C : List WriteCall) (reply : Result A Error) (left : List ℕ) (b : W) : Type 0 where
   -- how it changes what is told
   pub tells : R (with_buffer (I.told a) held) reply (with_buffer (I.told b) left)
@@ -31,16 +35,16 @@ pub record Does {W A : Type 0} (I : Writer W) (R : Told → Result A Error → T
   pub counts : TakesAll I a → TakesAll I b × IsOk reply × (charges C ≡ n held)
 
 -- however a step is taken, it does that
-abbrev pub Always : {W A : Type 0} → Writer W → Step A → (Told → Result A Error → Told → Type 0) → (List ℕ → List ℕ → Type 0)
+abbrev pub Always : {W A : Type 0} → Writer W → Step A → Effect A → (List ℕ → List ℕ → Type 0)
     → (List ℕ → ℕ) → Type 0
 Always {W} {A} I step R F n = (a b : W) (held left : List ℕ) (C : List WriteCall) (reply : Result A Error) → step held C reply left
     → Made (CallOf I) a C b → Does I R F n a held C reply left b
 
 -- also this time
-pub does : {W A : Type 0} {I : Writer W} {step : Step A} {R : Told → Result A Error → Told → Type 0} {F : List ℕ → List ℕ → Type 0}
+pub does : {W A : Type 0} {I : Writer W} {step : Step A} {R : Effect A} {F : List ℕ → List ℕ → Type 0}
     {n : List ℕ → ℕ} {a b : W} {held left : List ℕ} {reply : Result A Error} → Always I step R F n
-    → (p : Stepped I step a held reply left b) → Does I R F n a held p.0 reply left b
-does always p = always _ _ _ _ _ _ p.2 p.1
+    → (p : Stepped I step a held reply left b) → Does I R F n a held p.calls reply left b
+does always p = always _ _ _ _ _ _ p.are p.made
 
 -- exactly this is held then,
 abbrev pub Exactly : (List ℕ → List ℕ) → List ℕ → List ℕ → Type 0
@@ -51,20 +55,19 @@ abbrev pub Emptied : List ℕ → List ℕ → Type 0
 Emptied held left = left ≡ []
 
 -- no byte is accepted, and an error is a mishap and no interruption
-abbrev pub Sending : Told → Result (Unit {0}) Error → Told → Type 0
+abbrev pub Sending : Effect (Unit {0})
 Sending old reply new = IsNoInterruption reply × Moves old [] (call_mishap reply) new
 
 -- What P tells of a first step and Q of the next, R tells of both.
-pub record StepsJoin {A : Type 0} (P : Told → Result (Unit {0}) Error → Told → Type 0)
-    (Q R : Told → Result A Error → Told → Type 0) : Type 0 where
+pub record StepsJoin {A : Type 0} (P : Effect (Unit {0})) (Q R : Effect A) : Type 0 where
   -- the first failed
   pub fails : (s t : Told) (e : Error) → P s (Err e) t → R s (Err e) t
   -- it did not, and the next one followed
   pub joins : (s m t : Told) (reply : Result A Error) → P s (Ok tt) m → Q m reply t → R s reply t
 
 -- `first?; next`
-pub then_does : {W A : Type 0} {I : Writer W} {P : Told → Result (Unit {0}) Error → Told → Type 0}
-    {Q R : Told → Result A Error → Told → Type 0} (first : Step (Unit {0})) (next : Step A) {f : List ℕ → List ℕ} {n : List ℕ → ℕ}
+pub then_does : {W A : Type 0} {I : Writer W} {P : Effect (Unit {0})}
+    {Q R : Effect A} (first : Step (Unit {0})) (next : Step A) {f : List ℕ → List ℕ} {n : List ℕ → ℕ}
     {G : List ℕ → List ℕ → Type 0} {k : List ℕ → ℕ}
     → StepsJoin P Q R → Always I first P (Exactly f) n → Always I next Q G k
     → Always I (Then first next) R (λ held. G (f held)) (λ held. n held + k (f held))

@@ -2,7 +2,7 @@
 -- K those of the inner writer as a seeker.
 use Rattle.std.specs.Prelude.{◌≡◌, ℕ, ◌+◌, List, [], ◌++◌, length, nat_lt, nat_le, ◌&&◌, if◌then◌else◌, ◌<◌, ◌≤◌, ◌⊎◌, ◌∷◌, Some, Result}
 use Rattle.std.specs.{Prelude.{Ok, Err, IsOk, IsOkAnd, IfOk, IfErr, OnOk, codes, Option, None}, Mem.{FitsInMemory}}
-use Rattle.no_std_io2_base.specs.{declared.error.Error.{Error}, Write.{Told, Moves, call_mishap, WriteCall, Wrote, WroteAll, Flushed, Made}}
+use Rattle.no_std_io2_base.specs.{declared.error.Error.{Error}, Write.{Told, Moves, call_mishap, WriteCall, Wrote, WroteAll, Flushed, ByCalls}}
 use Rattle.no_std_io2_base.specs.{Write.{Writes, AllCalls}, Writers.{Writer, TakesAll, CallOf}, Errors.{error_kind, IsFault}}
 use Rattle.no_std_io2_base.specs.{Errors.{IsNoInterruption}, declared.traits.seek.SeekFrom.{SeekFrom}, Seek.{Seeker, SeekCall, Sought}}
 use Rattle.no_std_io2_base.specs.{Seek.{SeekLaw}, Takes.{Store}}
@@ -113,7 +113,7 @@ FlushCalls = Then SendCalls (PastEmpty (Only Flushed))
 
 -- This step was taken by inner calls that kept their laws. They led from the inner writer `old` to `new`.
 abbrev pub Stepped : {W A : Type 0} → Writer W → Step A → W → List ℕ → Result A Error → List ℕ → W → Type 0
-Stepped I step old held reply left new = (C : List WriteCall) × Made (CallOf I) old C new × step held C reply left
+Stepped I step old held reply left new = ByCalls (CallOf I) old (λ C. step held C reply left) new
 
 -- a writer B with a buffer in front of its inner writer took it
 abbrev pub TakesStep : {W B A : Type 0} → Writer W → (B → W) → (B → List ℕ) → Step A → B → Result A Error → B → Type 0
@@ -128,8 +128,7 @@ InnerCalls S held (Flushed reply) C left = FlushCalls held C reply left
 -- what a call may do to a writer B with a buffer: inner calls that `level` lists, with the bytes held before and after it
 abbrev pub BufferMay : {W B : Type 0} → Writer W → (List ℕ → WriteCall → List WriteCall → List ℕ → Type 0) → (B → W) → (B → List ℕ)
     → B → WriteCall → B → Type 0
-BufferMay I level inner buffer old call new =
-    (C : List WriteCall) × Made (CallOf I) (inner old) C (inner new) × level (buffer old) call C (buffer new)
+BufferMay I level inner buffer old call new = ByCalls (CallOf I) (inner old) (λ C. level (buffer old) call C (buffer new)) (inner new)
 
 -- What `write(x)` does through a buffer of S bytes.
 pub record Buffers {W B : Type 0} (I : Writer W) (S : ℕ) (inner : B → W) (buffer : B → List ℕ) (old : B) (x : List ℕ)

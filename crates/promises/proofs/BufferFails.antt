@@ -70,7 +70,7 @@ module _ {W : Type 0} (I : Writer W) (Q : Error → Type 0) (fails : FailsOnly Q
   -- such a step of a writer with a buffer
   by_step : {A B : Type 0} {P : Result A Error → Type 0} {step : Step A} (inner : B → W) (buffer : B → List ℕ) (old new : B)
       (reply : Result A Error) → Gives P step → TakesStep I inner buffer step old reply new → P reply
-  by_step inner buffer old new reply gives (C, made, is) = gives _ C reply _ is (inner old) (inner new) made
+  by_step inner buffer old new reply gives taken = gives _ taken.calls reply _ taken.are (inner old) (inner new) taken.made
 
   -- A writer with a buffer fails with the errors of its inner writer only.
   pub buffer_fails : {B : Type 0} (S : ℕ) (inner : B → W) (buffer : B → List ℕ) → FailsOnly Q (BufferMay I (InnerCalls S) inner buffer)

@@ -1,7 +1,7 @@
 -- A copy, piece by piece.
 use Rattle.no_std_io2.proofs.Words.{◌≡◌, ℕ, ◌<◌, List, [], ◌∷◌, ◌++◌, ap, ◌∙◌, subst, arith, Ok, Err, Result, Some, None, Option}
 use Rattle.no_std_io2.proofs.Words.{append-nil, inl, inr, ◌⊎◌, Bool, length, length-append, nil_from_length, error_kind, Event, bytes}
-use Rattle.no_std_io2.proofs.Words.{HasNoFault, Tells, to_come, Reader, tells, ReadCall, Told, Moves, WriteCall, Flushed, Made, Writer}
+use Rattle.no_std_io2.proofs.Words.{HasNoFault, Tells, to_come, Reader, tells, ReadCall, Told, Moves, WriteCall, Flushed, Made, ByCalls, Writer}
 use Rattle.no_std_io2.proofs.Words.{CallOf, with_buffer, Copied, Through}
 use Rattle.std.proofs.Common.{IfSome}
 use Rattle.no_std_io2.specs.{declared.io.Error.{Error}, Takes.{IsAll}, Writers.{FlushOf}, Copy.{SidesCopied, side_error, HandsOn}}
@@ -97,8 +97,8 @@ flushed_behind {I = I} {old = old} hands flushed = record {
 
 -- through a buffer that was empty, is empty, and is taken off again
 pub handed_through : {W B E : Type 0} (I : Writer W) {K : Writer B} (line : Bool) (inner : B → W) (buffer : B → List ℕ)
-    → ((a b : B) (call : WriteCall) → K.may a call b → (D : List WriteCall) × Made (CallOf I) (inner a) D (inner b)
-    × BufferCalls line (buffer a) call D (buffer b))
+    → ((a b : B) (call : WriteCall) → K.may a call b
+    → ByCalls (CallOf I) (inner a) (λ D. BufferCalls line (buffer a) call D (buffer b)) (inner b))
     → {output w : W} {old new : B} (held : List ℕ) → inner old ≡ output → buffer old ≡ [] → held ++ buffer new ≡ []
     → (buffer new ≡ [] → ◌≡◌ {A = Result W E} (Ok w) (Ok (inner new)))
     → HandsAndFlushes K old new → HandsThrough I line output w
@@ -111,9 +111,9 @@ handed_through I {K} line inner buffer each {output = output} {w = w} {old = old
       pieces = hands.pieces;
       calls = hands.calls;
       handed = hands.handed;
-      below = below.0;
+      below = below.calls;
       through =
-          subst (λ l. Through (BufferCalls line) [] calls below.0 l) gone
-          (subst (λ h. Through (BufferCalls line) h calls below.0 (buffer new)) empty below.2);
-      made = subst (λ v. Made (CallOf I) v below.0 w) at (subst (λ v. Made (CallOf I) (inner old) below.0 v) same below.1);
+          subst (λ l. Through (BufferCalls line) [] calls below.calls l) gone
+          (subst (λ h. Through (BufferCalls line) h calls below.calls (buffer new)) empty below.are);
+      made = subst (λ v. Made (CallOf I) v below.calls w) at (subst (λ v. Made (CallOf I) (inner old) below.calls v) same below.made);
     }

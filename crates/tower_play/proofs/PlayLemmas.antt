@@ -1,7 +1,7 @@
 -- For `play`: what it writes, and which calls its tower made of the device.
 use Rattle.no_std_io2.proofs.Words.{CallOf, Vec, told_out, arith, common_steps, ◌≡◌, ℕ, List, [], ◌∷◌, ◌++◌, subst, ap, ap₂, refl}
 use Rattle.no_std_io2.proofs.Words.{append_assoc, Ok, Err, Result, IfOk, ◌∙◌}
-use Rattle.no_std_io2.proofs.Words.{error_kind, Told, Moves, MovesFront, Writer, WriteCall, Made, InnerCalls, with_buffer, Through}
+use Rattle.no_std_io2.proofs.Words.{error_kind, Told, Moves, MovesFront, Writer, WriteCall, ByCalls, InnerCalls, with_buffer, Through}
 use Rattle.no_std_io2.specs.{declared.io.Error.{Error}, Faults.{MayFail}}
 use Rattle.no_std_io2.proofs.{MovesLemmas.{Moves-ends}, FaultLemmas.{may_fail}}
 use Rattle.io_bench.specs.{declared.faulty.Act.{Act}, declared.faulty.Faulty.{Faulty}}
@@ -28,7 +28,7 @@ Level = List ℕ → WriteCall → List WriteCall → List ℕ → Type 0
 -- each call of a writer is such calls of its inner one
 abbrev pub Each : {W B : Type 0} → Writer W → Writer B → (B → W) → (B → List ℕ) → Level → Type 0
 Each {B = B} I K inner buffer level = (a b : B) (call : WriteCall) → K.may a call b
-    → (D : List WriteCall) × Made (CallOf I) (inner a) D (inner b) × level (buffer a) call D (buffer b)
+    → ByCalls (CallOf I) (inner a) (λ D. level (buffer a) call D (buffer b)) (inner b)
 
 -- an empty vector with these acts in front has taken nothing
 pub fresh_at : {Z : Type 0} {v : Vec ℕ Z} (base : Faulty (Vec ℕ Z)) {acts : List Act} → faulty_inner base ≡ v → v.items ≡ []

@@ -5,6 +5,4 @@ use Rattle.examples.proofs.SumLemmas.{sums_join}
 use Rattle.examples.proofs.summed.flush_summed.Goals as goal
 
 pub returns : goal.returns
-returns g c =
-    let made = c.flush.ensures.law.call in
-    flush_adds sums_join (law_may _) made.0 _ _ _ _ _ made.1 made.2
+returns g c = flush_adds sums_join (law_may _) c.flush.ensures.law.call

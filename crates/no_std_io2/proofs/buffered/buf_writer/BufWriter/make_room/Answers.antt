@@ -13,4 +13,4 @@ pub returns : goal.returns
 returns g c =
     let calls = c.make_room.ensures in
     let told = (does (way_does g.W.Write g.row.S c.args.n) calls).tells in
-    record { calls = calls; moves = told.1; never_interrupted = told.0; room = λ h. way_fits g.row.S c.args.n h calls.2 }
+    record { calls = calls; moves = told.1; never_interrupted = told.0; room = λ h. way_fits g.row.S c.args.n h calls.are }

@@ -4,7 +4,7 @@ use Rattle.no_std_io2.proofs.LineWriterStates.{flush_state}
 use Rattle.no_std_io2.proofs.buffered.line_writer.LineWriterWrite.flush.Goals as goal
 
 pub invariant_of-self : goal.invariant_of-self
-invariant_of-self g c = record { line = flush_state c.flush.ensures.2 c.args.self.now.core.line }
+invariant_of-self g c = record { line = flush_state c.flush.ensures.are c.args.self.now.core.line }
 
 pub returns : goal.returns
 returns g c =

@@ -5,7 +5,7 @@ use Rattle.no_std_io2.proofs.LineWriterCalls.{line_write_does, line_write_bound}
 use Rattle.no_std_io2.proofs.buffered.line_writer.LineWriterWrite.write.Goals as goal
 
 pub invariant_of-self : goal.invariant_of-self
-invariant_of-self g c = record { line = line_write_state g.row.S c.write.ensures.2 c.args.self.now.core.line }
+invariant_of-self g c = record { line = line_write_state g.row.S c.write.ensures.are c.args.self.now.core.line }
 
 pub returns : goal.returns
 returns g c =
@@ -14,10 +14,10 @@ returns g c =
     let done = line_write_does g.W.Write S calls in
     record {
       law = record { bound = line_write_bound g.W.Write S calls; moves = done.tells; all = λ no. absurd no.0; call = calls };
-      short = line_write_short S calls.2;
+      short = line_write_short S calls.are;
       fits = λ short plain room.
-          let fits = line_write_fits S calls.2 short plain room in
-          (fits.1, subst (λ C. Made (CallOf g.W.Write) (line_inner c.args.self.now) C (sender_inner c.write.new.w)) fits.0 calls.1, fits.2);
+          let fits = line_write_fits S calls.are short plain room in
+          (fits.1, subst (λ C. Made (CallOf g.W.Write) (line_inner c.args.self.now) C (sender_inner c.write.new.w)) fits.0 calls.made, fits.2);
       held = done.filled c.args.self.now.core.line;
       inner = λ t. let k = done.keeps t in (k.0, k.1);
     }

@@ -1,16 +1,15 @@
 -- The last byte decides between the two cases of the step: the search does not choose one.
 use Rattle.no_std_io2.proofs.Words.{ap, sym, refl, ◌∙◌, inl, inr, [], newline}
 use Rattle.no_std_io2_base.specs.Pieces.{ends_in}
-use Rattle.no_std_io2_base.proofs.LineLemmas.{ends_in-contains, unended_lacks}
+use Rattle.no_std_io2_base.proofs.{CallsLemmas.{by_are}, LineLemmas.{ends_in-contains, unended_lacks}}
 use Rattle.no_std_io2.proofs.buffered.line_writer.steps.send_line.Goals as goal
 
 pub returns-then-ends_in_newline : goal.returns-then-ends_in_newline
 returns-then-ends_in_newline g c =
     let last = ap (ends_in newline) (sym c.buffer.ensures.value) ∙ sym c.ends_in_newline.ensures ∙ c.if-ends_in_newline.true in
-    let sent = c.send.ensures.calls in
-    (sent.0, sent.1, inr (ends_in-contains newline _ last, sent.2))
+    by_are c.send.ensures.calls (λ C sent. inr (ends_in-contains newline _ last, sent))
 
 pub returns : goal.returns
 returns g c =
     let other = ap (ends_in newline) (sym c.buffer.ensures.value) ∙ sym c.ends_in_newline.ensures ∙ c.if-ends_in_newline.false in
-    ([], refl, inl (unended_lacks _ c.requires other, refl, refl, refl))
+    record { calls = []; made = refl; are = inl (unended_lacks _ c.requires other, refl, refl, refl) }

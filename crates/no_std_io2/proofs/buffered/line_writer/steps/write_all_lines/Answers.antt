@@ -2,7 +2,7 @@
 use Rattle.no_std_io2.proofs.Words.{◌∙◌, inr, subst, err_from_is_err_and, TakesStep, sender_inner, sender_buffer, WriteAllCalls}
 use Rattle.no_std_io2.proofs.Words.{SendLinesCalls}
 use Rattle.std.proofs.lemmas.List.{take_rest}
-use Rattle.no_std_io2_base.proofs.LineLemmas.{take_lines, drop_lines, contains_lines}
+use Rattle.no_std_io2_base.proofs.{CallsLemmas.{by_are}, LineLemmas.{take_lines, drop_lines, contains_lines}}
 use Rattle.no_std_io2.proofs.StepLemmas.{then_stops, then_goes_on}
 use Rattle.no_std_io2.proofs.buffered.line_writer.steps.write_all_lines.Goals as goal
 
@@ -15,7 +15,7 @@ returns-in_err-send_lines g c =
     (SendLinesCalls g.row.S y) c.args.w.now c.send_lines.result c.send_lines.new.w) is
     c.send_lines.ensures in
     let stopped = then_stops (rw c.in_err-send_lines.was at sent) in
-    rw (p.1, p.2) (stopped.0, stopped.1, inr (contains_lines x c.requires.lines c.requires.some, stopped.2))
+    rw (p.1, p.2) (by_are stopped (λ C calls. inr (contains_lines x c.requires.lines c.requires.some, calls)))
 
 pub returns : goal.returns
 returns g c =
@@ -27,4 +27,4 @@ returns g c =
     let wrote = c.write_all.ensures in
     let went = then_goes_on {first = SendLinesCalls S _} {next = WriteAllCalls S _} _ sent wrote in
     let all = rw (is, rest) at went in
-    (all.0, all.1, inr (contains_lines x c.requires.lines c.requires.some, all.2))
+    by_are all (λ C calls. inr (contains_lines x c.requires.lines c.requires.some, calls))

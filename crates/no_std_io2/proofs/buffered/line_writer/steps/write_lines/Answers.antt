@@ -2,7 +2,7 @@
 use Rattle.no_std_io2.proofs.Words.{common_steps, ◌≡◌, ◌+◌, ◌-◌, ◌++◌, Ok, length, arith, ◌∙◌, sym, refl, ap, inr, length-take, length-drop}
 use Rattle.no_std_io2.proofs.Words.{drop, err_from_is_err_and, sender_buffer}
 use Rattle.std.specs.List.{slice_range}
-use Rattle.no_std_io2_base.proofs.{CallsLemmas.{writes_whole}, LineLemmas.{contains_lines}}
+use Rattle.no_std_io2_base.proofs.{CallsLemmas.{by_are, writes_whole}, LineLemmas.{contains_lines}}
 use Rattle.no_std_io2.specs.LineWriter.{held_tail}
 use Rattle.no_std_io2.proofs.{StepLemmas.{then_stops, then_goes_on}, LineWriterStates.{wrote_lines}}
 use Rattle.no_std_io2.proofs.buffered.line_writer.steps.write_lines.Goals as goal
@@ -11,27 +11,27 @@ pub returns-in_err-send : goal.returns-in_err-send
 returns-in_err-send g c =
     let p = err_from_is_err_and c.from_residual.result c.from_residual.ensures.1 in
     let stopped = then_stops c.in_err-send.ensures.calls in
-    rw (p.1, p.2) (stopped.0, stopped.1, inr (contains_lines _ c.requires.lines c.requires.some, stopped.2))
+    rw (p.1, p.2) (by_are stopped (λ C calls. inr (contains_lines _ c.requires.lines c.requires.some, calls)))
 
 -- the write of the lines failed
 pub returns-in_err-n : goal.returns-in_err-n
 returns-in_err-n g c =
     let p = err_from_is_err_and c.from_residual-in_err-n.result c.from_residual-in_err-n.ensures.1 in
-    let none = writes_whole c.in_ok-send.ensures.calls.2 in
+    let none = writes_whole c.in_ok-send.ensures.calls.are in
     let went = then_goes_on _ c.in_ok-send.ensures.calls
     (wrote_lines g.row.S _ c.requires.lines c.in_err-n.ensures.law none (none, refl)) in
-    rw (p.1, p.2) (went.0, went.1, inr (contains_lines _ c.requires.lines c.requires.some, went.2))
+    rw (p.1, p.2) (by_are went (λ C calls. inr (contains_lines _ c.requires.lines c.requires.some, calls)))
 
 -- none of them were taken
 pub returns-then-n-eq0 : goal.returns-then-n-eq0
 returns-then-n-eq0 g c =
-    let none = writes_whole c.in_ok-send.ensures.calls.2 in
+    let none = writes_whole c.in_ok-send.ensures.calls.are in
     let empty = none ∙ sym (ap (held_tail g.row.S c.args.x.now) c.if-n-eq0.true) in
     let zero = ap Ok (let sum : 0 ≡ c.in_ok-n.n + length (sender_buffer c.send.new.self) = omega
     (arith, c.if-n-eq0.true, ap length none) in sum) in
     let went = then_goes_on _ c.in_ok-send.ensures.calls
     (wrote_lines g.row.S _ c.requires.lines c.in_ok-n.ensures.law none (empty, zero)) in
-    (went.0, went.1, inr (contains_lines _ c.requires.lines c.requires.some, went.2))
+    by_are went (λ C calls. inr (contains_lines _ c.requires.lines c.requires.some, calls))
 
 pub hold-requires : goal.hold-requires
 hold-requires g c = grind (arith, common_steps, writes_whole, length-take)
@@ -42,7 +42,7 @@ returns g c =
     let x = c.args.x.now in
     let n = c.in_ok-n.n in
     let end = c.tail_end-end.result in
-    let none = writes_whole c.in_ok-send.ensures.calls.2 in
+    let none = writes_whole c.in_ok-send.ensures.calls.are in
     let held = c.hold.ensures.buffer ∙ ap (λ l. l ++ slice_range x n end) none in
     let count : end ≡ n + length (sender_buffer c.hold.new.self) = omega (
       arith,
@@ -55,4 +55,4 @@ returns g c =
     let law = rw (sym c.hold.ensures.same) at c.in_ok-n.ensures.law in
     let went = then_goes_on _ c.in_ok-send.ensures.calls
     (wrote_lines g.row.S _ c.requires.lines law none (held ∙ c.tail_end-end.ensures.tail, ap Ok count)) in
-    (went.0, went.1, inr (contains_lines _ c.requires.lines c.requires.some, went.2))
+    by_are went (λ C calls. inr (contains_lines _ c.requires.lines c.requires.some, calls))

@@ -1,6 +1,6 @@
 -- All was sent, and then the inner writer was flushed.
-use Rattle.no_std_io2.proofs.Words.{refl, ◌∷◌, [], err_from_is_err_and, Flushed}
-use Rattle.no_std_io2_base.proofs.CallsLemmas.{writes_whole}
+use Rattle.no_std_io2.proofs.Words.{refl, err_from_is_err_and, Flushed}
+use Rattle.no_std_io2_base.proofs.CallsLemmas.{by_call, writes_whole}
 use Rattle.no_std_io2.proofs.StepLemmas.{then_stops, then_goes_on}
 use Rattle.no_std_io2.proofs.buffered.sender.Sender.flush.Goals as goal
 
@@ -11,5 +11,5 @@ returns-in_err-send g c =
 
 pub returns : goal.returns
 returns g c =
-    let none = writes_whole c.in_ok-send.ensures.calls.2 in
-    then_goes_on _ c.in_ok-send.ensures.calls (Flushed c.flush.result ∷ [], (_, c.flush.ensures.law, refl), (none, none, refl))
+    let none = writes_whole c.in_ok-send.ensures.calls.are in
+    then_goes_on _ c.in_ok-send.ensures.calls (by_call (Flushed c.flush.result) c.flush.ensures.law (none, none, refl))

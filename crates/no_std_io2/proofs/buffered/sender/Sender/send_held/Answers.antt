@@ -45,21 +45,18 @@ returns-in-Ok-eq0-clause-calls g c =
     let wrote : List ℕ → Result ℕ Error → Type 0 = λ y a. CallOf g.W.Write c.sends.self.inner (Wrote y a) c.write.new.self in
     let none = subst (wrote c.as_slice.result.now) (c.in-Ok-eq0.is ∙ ap Ok c.in-Ok-eq0.field-0-test) c.write.ensures.law in
     let last = subst (λ y. wrote y (Ok 0)) c.as_slice.ensures.value none in
-    let all = calls_end c.sends.invariant.made (Err c.new.result) held (Wrote held (Ok 0) ∷ []) (_, last, refl)
-    (stuck (omega arith) (c.new.ensures.kind, c.new.ensures.text)) in
-    (all.calls, all.made, all.are)
+    calls_end c.sends.invariant.made (Err c.new.result) held (Wrote held (Ok 0) ∷ []) (_, last, refl)
+    (stuck (omega arith) (c.new.ensures.kind, c.new.ensures.text))
 
 pub returns-in-Err-2-clause-calls : goal.returns-in-Err-2-clause-calls
 returns-in-Err-2-clause-calls g c =
     let held = sender_buffer c.sends.self in
     let wrote : List ℕ → Type 0 = λ y. CallOf g.W.Write c.sends.self.inner (Wrote y (Err c.in-Err.e)) c.write.new.self in
     let last = subst wrote c.as_slice.ensures.value c.in-Err.ensures.law in
-    let all = calls_end c.sends.invariant.made (Err c.in-Err.e) held (Wrote held (Err c.in-Err.e) ∷ []) (_, last, refl)
-    (fault (omega arith) (sym c.is_interrupted.ensures ∙ c.if-is_interrupted.false)) in
-    (all.calls, all.made, all.are)
+    calls_end c.sends.invariant.made (Err c.in-Err.e) held (Wrote held (Err c.in-Err.e) ∷ []) (_, last, refl)
+    (fault (omega arith) (sym c.is_interrupted.ensures ∙ c.if-is_interrupted.false))
 
 pub returns-clause-calls : goal.returns-clause-calls
 returns-clause-calls g c =
     let empty = nil_from_length (sender_buffer c.sends.self) (omega arith) in
-    let all = calls_end c.sends.invariant.made (Ok tt) _ [] refl (subst (λ l. SendCalls l [] (Ok tt) l) (sym empty) no_write) in
-    (all.calls, all.made, all.are)
+    calls_end c.sends.invariant.made (Ok tt) _ [] refl (subst (λ l. SendCalls l [] (Ok tt) l) (sym empty) no_write)

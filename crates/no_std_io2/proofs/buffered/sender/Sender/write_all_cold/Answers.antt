@@ -11,12 +11,11 @@ returns-in_err-make_room g c =
 pub returns-then-buf : goal.returns-then-buf
 returns-then-buf g c =
     let way = c.in_ok-make_room.ensures in
-    let none = way_none _ _ c.if-buf.true way.2 in
-    let all = c.write_all.ensures.law.calls in
-    then_goes_on _ way (passes _ (λ C. AllCalls C c.args.buf.now) c.if-buf.true none none (all.calls, all.made, all.are))
+    let none = way_none _ _ c.if-buf.true way.are in
+    then_goes_on _ way (passes _ (λ C. AllCalls C c.args.buf.now) c.if-buf.true none none c.write_all.ensures.law.calls)
 
 pub push-requires : goal.push-requires
-push-requires g c = (search rules, way_room _ _ (omega (arith, c.if-buf.false)) c.in_ok-make_room.ensures.2)
+push-requires g c = (search rules, way_room _ _ (omega (arith, c.if-buf.false)) c.in_ok-make_room.ensures.are)
 
 pub returns : goal.returns
 returns g c =

@@ -11,12 +11,12 @@ returns-in_err-make_room g c =
 pub returns-then-buf : goal.returns-then-buf
 returns-then-buf g c =
     let way = c.in_ok-make_room.ensures in
-    let none = way_none _ _ c.if-buf.true way.2 in
+    let none = way_none _ _ c.if-buf.true way.are in
     then_goes_on _ way (passes _ (Only (Wrote c.args.buf.now)) c.if-buf.true none none (one_made
     (Wrote c.args.buf.now c.write.result) c.write.ensures.law))
 
 pub push-requires : goal.push-requires
-push-requires g c = (search rules, way_room _ _ (omega (arith, c.if-buf.false)) c.in_ok-make_room.ensures.2)
+push-requires g c = (search rules, way_room _ _ (omega (arith, c.if-buf.false)) c.in_ok-make_room.ensures.are)
 
 pub returns : goal.returns
 returns g c =

@@ -25,7 +25,7 @@ pub returns : goal.returns
 returns g c =
     let inner = rw c.get_mut.ensures.value at c.seek.ensures.law in
     let sent = c.in_ok-send.ensures.calls in
-    let none = writes_whole sent.2 in
+    let none = writes_whole sent.are in
     let all = sends_all sent in
     let seeks = went (sender_inner c.send.new.self) all.1 all.0 inner none in
     record {
