@@ -97,8 +97,8 @@ impl<R: Read> Read for Summed<R> {
 /// `Ok` they are all of `buf`.
 ///
 /// # Errors
-/// Returns the inner reader's first fault, and `UnexpectedEof` if it ends before `buf` is full. The bytes before it are
-/// taken.
+/// Returns the inner reader's first fault, and `UnexpectedEof` if it ends before `buf` is full. The
+/// bytes before it are taken.
 pub fn read_summed<R: Read>(r: &mut Summed<R>, buf: &mut [u8]) -> Result<()>
     ensures { (x : List ℕ) × OnOk result (x ≡ buf.new) × Sums r.old x r.new }
 {
