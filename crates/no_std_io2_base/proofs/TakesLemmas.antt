@@ -1,6 +1,6 @@
 -- Calls one after another: what they take, and what their laws say of it.
 use Rattle.std.proofs.{lemmas.Grind.{common_steps}, Common.{◌≡◌, ℕ, zero, suc, ◌+◌, ◌-◌, ◌<◌, ◌≤◌, List, [], ◌∷◌, ◌++◌, Result, Ok, Err}}
-use Rattle.std.proofs.Common.{length, take, Option, Some, refl, sym, ap, subst, ◌∙◌, arith, append_assoc, append-nil, length-append, drop}
+use Rattle.std.proofs.Common.{length, Option, Some, refl, sym, ap, subst, ◌∙◌, arith, append_assoc, append-nil, length-append, drop}
 use Rattle.std.proofs.Common.{length-take-le, IfOk, IfSome, OnOk}
 use Rattle.no_std_io2_base.specs.{declared.error.Error.{Error}, Errors.{IsInterruption}, Events.{Event, byte, fails, events_of, bytes}}
 use Rattle.no_std_io2_base.specs.{Events.{HasNoFault, cut, EndsInFault}, Takes.{Tells, Takes, TakesBytes, to_come, IsAtEnd, IsAll}}
