@@ -1,17 +1,14 @@
 -- What a writer in hexadecimal wrote, one call after another.
-use Rattle.no_std_io2.proofs.Words.{◌≡◌, ℕ, ◌/◌, ◌≤◌, List, [], ◌∷◌, ◌++◌, take, Option, Some, None, Ok, sym, ap, subst, ◌∙◌, arith}
+use Rattle.no_std_io2.proofs.Words.{◌≡◌, ℕ, ◌/◌, ◌≤◌, List, [], ◌∷◌, ◌++◌, take, Option, Some, None, Ok, sym, subst, ◌∙◌, arith}
 use Rattle.no_std_io2.proofs.Words.{append_assoc, append-nil, common_steps, Told, Moves, WroteAll, Flushed}
 use Rattle.std.specs.Option.{option_to_list}
 use Rattle.no_std_io2.specs.Write.{CallAdds, zero_write}
 use Rattle.no_std_io2.proofs.CallsAdd.{Joins}
-use Rattle.examples.specs.{declared.hex.Hex.{Hex}, Hex.{digit, hex, half, owed, hex_told, written, Encodes}}
+use Rattle.examples.specs.{declared.hex.Hex.{Hex}, Hex.{digit, hex, half, owed, hex_told, Encodes}}
 
 -- bytes that were written one after another have their digits joined
 pub encodes_join : {W : Type 0} (told : W → Told) → Joins (Encodes told)
-encodes_join told = record {
-  none = λ a. sym (append-nil (written told a));
-  more = λ a b c x y first next. grind (arith, common_steps, first, next);
-}
+encodes_join told = grind (arith, common_steps, append-nil)
 
 -- The first digit of a byte was written.
 pub record WritesHalf {W : Type 0} (told : W → Told) (old : Hex W) (b : ℕ) (new : Hex W) : Type 0 where
@@ -47,8 +44,4 @@ pub hexed : {W : Type 0} (told : W → Told) (old mid new : Hex W) (x : List ℕ
     → CallAdds (Encodes told) old (WroteAll x (Ok tt)) mid → CallAdds (Encodes told) mid (Flushed (Ok tt)) new
     → option_to_list (half new) ≡ []
     → (told new.inner).out ++ (told new.inner).held ≡ (told old.inner).out ++ (told old.inner).held ++ hex x
-hexed told old mid new x none (accepted, front, all, first) next held =
-    let now = (told new.inner).out ++ (told new.inner).held in
-    let before = (told old.inner).out ++ (told old.inner).held in
-    sym (append-nil now) ∙ ap (λ l. now ++ l) (sym (none_held new.half held)) ∙ next ∙ append-nil (written told mid) ∙ first
-    ∙ ap (λ l. written told old ++ hex l) all ∙ ap (λ l. l ++ hex x) (ap (λ o. before ++ owed o) none ∙ append-nil before)
+hexed told old mid new x none (accepted, front, all, first) next held = grind (arith, append-nil, none_held)

@@ -1,8 +1,8 @@
 -- Records that are skipped one after another.
-use Rattle.no_std_io2.proofs.Words.{◌≡◌, ℕ, ◌<◌, List, [], ◌∷◌, ◌++◌, length, take, get_or, Ok, Err, true, refl, sym, ap, subst, ◌∙◌, arith}
-use Rattle.no_std_io2.proofs.Words.{false, inl, inr, append-nil, IsInterruption, IsFault, events_of, bytes, Takes, Lender, lender_tells}
+use Rattle.no_std_io2.proofs.Words.{common_steps, ◌≡◌, ℕ, ◌<◌, List, [], ◌∷◌, ◌++◌, length, take, get_or, Ok, Err, true, refl, sym, arith}
+use Rattle.no_std_io2.proofs.Words.{false, inl, inr, append-nil, IsInterruption, IsFault, bytes, Lender, lender_tells}
 use Rattle.no_std_io2.specs.{declared.io.Error.{Error}, Reads.{Took}, BufRead.{FilledLaw, ConsumeLaw}, Passing.{Skipped}}
-use Rattle.no_std_io2.proofs.TookLemmas.{Took-none, Took-then, Took-bytes, Took-again, Took-end, Took-fault}
+use Rattle.no_std_io2.proofs.TookLemmas.{Took-none, Took-then, Took-again, Took-end, Took-fault}
 use Rattle.examples.specs.Lengths.{AreRecords, none, more, IsCutOff, SkipsRecords}
 
 -- whole records were skipped so far
@@ -42,11 +42,7 @@ module _ {X : Type 0} {R : Lender X} {old now after : X} (before : RecordsTaken 
     module _ (is : len ≡ get_or lent 0 0) (dropped : ConsumeLaw R after 1 mid) where
       -- the length of the next record was taken
       length_taken : Took (lender_tells R now) (len ∷ []) (Ok true) (lender_tells R mid)
-      length_taken =
-          let front : take 1 (R.held after) ≡ len ∷ [] =
-          ap (take 1) filled.lends ∙ first_of lent some ∙ ap (λ b. b ∷ []) (sym is) in
-          Took-then (record { taken = []; takes = filled.takes; are = refl; ends = tt })
-          (Took-bytes (len ∷ []) (subst (λ l. Takes (lender_tells R after) (events_of l) (lender_tells R mid)) front dropped.takes))
+      length_taken = grind (arith, common_steps, first_of)
 
       -- and so was the rest of it
       pub records_more : {new : X} {left : ℕ} {u : Unit {0}} → Skipped R mid len (Ok u) left new → RecordsTaken R old new

@@ -1,5 +1,5 @@
 -- The law of a call of an object is named whole; the search does not join its turns of the loop.
-use Rattle.no_std_io2.proofs.Words.{◌+◌, ◌%◌, ◌^◌, ◌∙◌, ap, arith, refl, ◌++◌, err_from_is_err_and, sum, bytes}
+use Rattle.no_std_io2.proofs.Words.{common_steps, ◌+◌, ◌%◌, ◌^◌, ◌∙◌, ap, arith, refl, ◌++◌, err_from_is_err_and, sum, bytes}
 use Rattle.no_std_io2.proofs.{GivenPieces.{piece_spends}, TookLemmas.{Took-then}}
 use Rattle.examples.proofs.ChecksumLemmas.{sums_none, sums_more}
 use Rattle.examples.proofs.checksum.checksum_of.Goals as goal
@@ -23,9 +23,7 @@ pieces-preserved g c =
 
 -- a full buffer took some bytes
 pub pieces-smaller : goal.pieces-smaller
-pieces-smaller g c =
-    let law = c.in_ok-read_full.ensures in
-    piece_spends law.takes (omega (arith, law.counts, c.if-filled-buf.false, c.pieces.invariant.room, c.read_full.auto.buf, c.requires))
+pieces-smaller g c = grind (arith, common_steps, piece_spends)
 
 pub returns-then-filled-buf : goal.returns-then-filled-buf
 returns-then-filled-buf g c =
