@@ -1,9 +1,9 @@
 -- For `run_reads`: asks in a row, and what they take.
+use Rattle.std.proofs.lemmas.Grind.{common_steps}
 use Rattle.no_std_io2.proofs.Words.{ℕ, zero, suc, ◌<◌, Bool, List, [], ◌∷◌, ◌++◌, length, get_or, Result, arith, Event, Takes, Lender}
 use Rattle.no_std_io2.proofs.{Words.{as_reader, lender_tells}, TakesLemmas.{takes_none, takes_then, made_takes, made_lend}}
 use Rattle.no_std_io2.specs.declared.io.Error.{Error}
-use Rattle.io_bench.specs.{declared.asks.Ask.{Ask, TheVariants.{Read, Exact, Fill}}, Asks.{Fits, AllFit, Answered, CameTo, no_ask}}
-use Rattle.io_bench.specs.Asks.{next_ask, fill_calls}
+use Rattle.io_bench.specs.{declared.asks.Ask.{Ask}, Asks.{Fits, AllFit, Answered, CameTo, no_ask, next_ask}}
 
 -- if a buffer has room for each ask of a list, it has room for the one at i
 pub fits_at : (room : ℕ) (asks : List Ask) (i : ℕ) (d : Ask) → i < length asks → AllFit room asks → Fits room (get_or asks i d)
@@ -15,10 +15,7 @@ module _ {B : Type 0} (L : Lender B) where
   -- what one ask takes
   answered_takes : (ask : Ask) (a b : B) (answer : Result Bool Error) → Answered L ask a answer b
       → (P : List Event) × Takes (lender_tells L a) P (lender_tells L b)
-  answered_takes (Read len) a b answer (reply, is, law) = (_, law.takes)
-  answered_takes (Exact len) a b answer (reply, is, (buf, buf', long, law)) = (_, law.takes)
-  answered_takes (Fill most) a b answer (reply, is, made) =
-      made_takes (as_reader L) (fill_calls most reply) a b (made_lend L (fill_calls most reply) a b made)
+  answered_takes ask a b answer h4 = grind (arith, common_steps, as_reader, made_lend, made_takes)
 
   -- what asks in a row take
   pub came_takes : {asks : List Ask} {a b : B} {at_end failed : ℕ} → CameTo L asks a at_end failed b

@@ -72,23 +72,16 @@ module _ {R : Type 0} {S : ℕ} (I : Reader R) (fills : FillsRoom I) where
       → ((x : List ℕ) → answer ≡ Ok x → length (reader_held b) ≤ length x) → Once a b
   once_reads a b room answer none wide law kept =
       let one = drawn fills answer law in
-      let read = one_read (length one.gave) none (omega (arith, one.rest)) (kept one.gave one.is) (λ few. omega (arith, one.count, one.rest)) in
+      let read =
+      one_read (length one.gave) none (omega (arith, one.rest)) (kept one.gave one.is) (λ few. omega (arith, one.count, one.rest)) in
       (1, λ cost meter. omega (arith, meter _ _ room answer law.call, some_room a), read)
 
   once_read : (a b : BufReader R S) (room : ℕ) (answer : Result (List ℕ) Error) → ReadsBelow I a room answer b → Once a b
-  once_read a b room answer (of_held some held) =
-      once_none a b some (passes_fits (reader_behind a) (Ok (reader_held a)) room answer b (reader_held a) held.1 refl) held.0
-  once_read a b room answer (went_past none many law empty) =
-      once_reads a b room answer (ap length none) many law (λ x is. omega (arith, ap length empty.1))
-  once_read a b room answer (was_filled none few read law passes) =
-      once_reads a b S read (ap length none) (le_refl S) law (λ x is. passes_fits [] read room answer b x passes is)
+  once_read a b room answer h4 =
+      grind (arith, common_steps, le_refl, of_held, once_none, once_reads, passes_fits, reader_behind, reader_held, was_filled, went_past)
 
   once_fill : (a b : BufReader R S) (answer : Result (List ℕ) Error) → FillsBelow I a answer b → Once a b
-  once_fill a b answer (lent_held some is same) =
-      once_none a b some (omega (arith, ap (λ r. length (reader_held r)) same)) (ap reader_inner same)
-  once_fill a b answer (lent_read none law buffer) =
-      once_reads a b S answer (ap length none) (le_refl S) law
-      (λ x is. omega (arith, ap length buffer.1, ap (λ r. length (bytes_given r)) is))
+  once_fill a b answer h3 = grind (arith, bytes_given, le_refl, lent_held, lent_read, once_none, once_reads, reader_held, reader_inner)
 
 module _ {R : Type 0} {S : ℕ} (I : Reader R) (fills : FillsRoom I) (start : BufReader R S) where
   abbrev L : Lender (BufReader R S)

@@ -1,21 +1,18 @@
 -- For `run_closed`: a run through a new buffer that is then closed, over a writer that takes all.
+use Rattle.std.proofs.{lemmas.Grind.{common_steps}, Common.{take_all}}
 use Rattle.no_std_io2.proofs.Words.{◌≡◌, ◌+◌, ◌*◌, ◌/◌, ℕ, ◌<◌, List, [], ◌∷◌, ◌++◌, length, Ok, refl, sym, ap, subst, ◌∙◌, arith, CallOf}
-use Rattle.no_std_io2.proofs.Words.{WriteCall, Moves, Wrote, WroteAll, Flushed, Writer, TakesAll, IsMeter, BufferMay, InnerCalls}
-use Rattle.no_std_io2.proofs.{Words.{writer_buffer, writer_inner, writer_told}, CallsLemmas.{made_map, law_may}, MovesLemmas.{Moves-ends}}
+use Rattle.no_std_io2.proofs.Words.{WriteCall, Moves, Writer, TakesAll, IsMeter, BufferMay, InnerCalls, writer_buffer, writer_inner}
+use Rattle.no_std_io2.proofs.{Words.{writer_told}, CallsLemmas.{made_map, law_may}, MovesLemmas.{Moves-ends}}
 use Rattle.no_std_io2.proofs.BufWriterLemmas.{Moves-device, buffer-le}
-use Rattle.std.proofs.Common.{take_all}
 use Rattle.no_std_io2.specs.{Meter.{CostsAtMost}, declared.buffered.buf_writer.BufWriter.{BufWriter}, BufWriter.{Unwraps}}
-use Rattle.io_bench.specs.declared.runs.{Op.{Op, TheVariants.{Write, WriteAll, Flush}}, Reply.{Reply, TheVariants.{Took, Done}}}
-use Rattle.io_bench.specs.{Runs.{Accepts, AreWhole, IsWhole, Ran, Run, RunCalls}, declared.tally.Tally.{Tally}, Tally.{TallyMay}}
-use Rattle.io_bench.specs.{Tally.{tally_inner, tally_writes}, Closed.{flushes, given_bytes, op_bytes}}
+use Rattle.io_bench.specs.{declared.runs.{Op.{Op}, Reply.{Reply}}, Runs.{Accepts, AreWhole, IsWhole, Ran, Run, RunCalls}}
+use Rattle.io_bench.specs.{declared.tally.Tally.{Tally}, Tally.{TallyMay, tally_inner, tally_writes}, Closed.{flushes, given_bytes}}
+use Rattle.io_bench.specs.Closed.{op_bytes}
 use Rattle.io_bench.proofs.RunCharges.{closed_bound}
 
 -- a whole call accepted all its bytes
 whole_call : (op : Op) (reply : Reply) (x : List ℕ) → IsWhole op reply → Accepts op reply x → x ≡ op_bytes op
-whole_call (Write x) (Took n) y whole accepts = accepts.1 ∙ take_all n x.now (omega (arith, whole))
-whole_call (WriteAll x) Done y whole accepts = accepts
-whole_call Flush Done y whole accepts = accepts
-whole_call _ _ y whole accepts = grind (arith, whole)
+whole_call op reply x h3 h4 = grind (arith, common_steps, take_all)
 
 -- a run of whole calls accepted all bytes
 whole_run : (ops : List Op) (replies : List Reply) (x : List ℕ) → AreWhole ops replies → Run ops replies x → x ≡ given_bytes ops
@@ -53,9 +50,7 @@ module _ {W : Type 0} (I : Writer W) {S : ℕ} (some : 0 < S) (w : W) (ops : Lis
 
 -- the exact count of a `Tally` counts its writes
 pub tally_meters : {T : Type 0} (I : Writer T) → IsMeter (TallyMay I) tally_writes
-tally_meters I old new (Wrote x reply) made = made.writes
-tally_meters I old new (WroteAll x reply) made = absurd made
-tally_meters I old new (Flushed reply) made = made.writes
+tally_meters {T = T} I = grind (arith, common_steps)
 
 -- a `Tally` as a writer
 abbrev pub tallied_writer : {T : Type 0} → Writer T → Writer (Tally T)

@@ -1,10 +1,10 @@
 -- For `Feed`: what its script's events give to a reader.
-use Rattle.no_std_io2.proofs.Words.{common_steps, ◌≡◌, ℕ, zero, suc, ◌+◌, ◌<◌, ◌≤◌, List, [], ◌∷◌, ◌++◌, length, take, drop, true, false}
-use Rattle.no_std_io2.proofs.Words.{◌==◌, nat_lt, if◌then◌else◌, Some, None, Ok, refl, sym, ap, ap₂, ◌∙◌, arith, length-drop}
-use Rattle.no_std_io2.proofs.{Words.{length-take-le, nat_tests, byte, events_of, Reader, ReadLaw}, EventLemmas.{length-events_of}}
+use Rattle.no_std_io2.proofs.Words.{common_steps, ◌≡◌, ℕ, zero, suc, ◌+◌, ◌<◌, ◌≤◌, List, [], ◌∷◌, ◌++◌, length, take, drop, false, ◌==◌}
+use Rattle.no_std_io2.proofs.Words.{nat_lt, Some, None, Ok, refl, sym, ap, ◌∙◌, arith, length-drop, length-take-le, nat_tests, byte}
+use Rattle.no_std_io2.proofs.{Words.{events_of, Reader, ReadLaw}, EventLemmas.{length-events_of}}
 use Rattle.std.proofs.{Common.{set}, Math.Seq.{take-add}, lemmas.List.{take_more_set, drop-drop}}
 use Rattle.io_bench.specs.{declared.feed.{Event.{Event, TheVariants.{Byte}}, Feed.{Feed}}, Feed.{all_to_come, leading_bytes, first_failure}}
-use Rattle.io_bench.specs.Feed.{feed_left, feed_piece, feed_gives, failed_or_gave, FeedMay}
+use Rattle.io_bench.specs.Feed.{feed_left, feed_piece, feed_gives, FeedMay}
 
 -- the first n bytes are given, and the events after them are left
 pub given_first : (n : ℕ) (left : List Event) → n ≤ length (leading_bytes left)
@@ -66,31 +66,5 @@ pub feed_reads : (old mid new : Feed) (n : ℕ) (buf buf' : List ℕ) → length
     → None ≡ first_failure (feed_left old) → feed_left mid ≡ feed_left old → feed_piece mid ≡ feed_piece old
     → n ≡ feed_gives mid (length buf) → take n buf' ≡ take n (leading_bytes (feed_left mid)) → feed_left new ≡ drop n (feed_left mid)
     → feed_piece new ≡ feed_piece mid → ReadLaw feeds old buf (Ok n) buf' new
-feed_reads old mid new n buf buf' long some none same kept count given rest piece =
-    let left = feed_left old in
-    let is : n ≡ feed_gives old (length buf) = grind (arith, count, same, kept) in
-    let front : take n buf' ≡ take n (leading_bytes left) = given ∙ ap (λ l. take n (leading_bytes l)) same in
-    let behind : feed_left new ≡ drop n left = rest ∙ ap (drop n) same in
-    let fits : n ≤ length (leading_bytes left) = omega (arith, is) in
-    let gives : n ≡ feed_gives old (length buf') = is ∙ ap (feed_gives old) (sym long) in
-    let answer = take (feed_gives old (length buf')) (leading_bytes left) in
-    let room : true ≡ nat_lt 0 (length buf') = grind (arith, nat_tests, some, long) in
-    let took : length (take n buf') ≡ n = length-take-le n buf' (omega (arith, is, long)) in
-    record {
-      bound = omega (arith, is, long);
-      takes = record {
-        events = given_first n left fits ∙ ap₂ (λ x l. events_of x ++ all_to_come l) (sym front) (sym behind);
-        store = tt;
-        turns =
-            omega (arith, fits, leading-le left, ap length behind, length-drop n left, length-events_of (take n buf'), took);
-      };
-      end = λ zero room.
-          let empty : left ≡ [] = nothing_left left (omega (arith, is, zero, room, long, old.some)) (sym none) in
-          ap all_to_come (behind ∙ ap (λ k. drop k left) zero ∙ empty);
-      call = (
-        ap Ok (front ∙ ap (λ k. take k (leading_bytes left)) gives) ∙ ap (λ f. failed_or_gave f answer) none
-            ∙ ap (λ t. if t then failed_or_gave (first_failure left) answer else Ok []) room,
-        behind ∙ ap (λ k. drop k left) (sym (length-events_of (take n buf') ∙ took)),
-        piece ∙ kept,
-      );
-    }
+feed_reads old mid new n buf buf' h6 h7 h8 h9 h10 h11 h12 h13 h14 =
+    grind (arith, nat_tests, events_of, given_first, leading-le, length-drop, length-events_of, length-take-le, nat_lt, nothing_left)

@@ -1,7 +1,7 @@
 -- Reads of a reader that fills its room.
 use Rattle.no_std_io2.proofs.Words.{◌≡◌, ℕ, ◌+◌, min, List, Result, Ok, Err, length, refl, ap, subst, ◌∙◌, arith, Some, length-append}
 use Rattle.no_std_io2.proofs.{Words.{events_of, AreTaken, to_come, Reader, tells, GaveLaw, FillsRoom}, EventLemmas.{length-events_of}}
-use Rattle.no_std_io2.specs.{declared.io.Error.{Error}}
+use Rattle.no_std_io2.specs.declared.io.Error.{Error}
 
 -- a read of a reader that fills its room
 pub record Drawn {R : Type 0} {K : Reader R} (fills : FillsRoom K) (a : R) (room : ℕ) (answer : Result (List ℕ) Error)

@@ -50,13 +50,7 @@ Paid-same c f n h (open_one p a b) = open_one p (omega arith) (omega arith)
 -- a write of x is one of them
 pub write_call : (S : ℕ) (buffer x : List ℕ) → 0 < S → length buffer ≤ S
     → BufferStep S (length buffer) (length x) (length (buffer_after S buffer x)) (writing_calls S buffer x) 0
-write_call S buffer x some fits = ⊎_elim
-    (λ short. ⊎_elim
-    (λ over. sent (grind (arith, nat_tests)) (omega arith) (omega arith) over (grind (arith, nat_tests)))
-    (λ under. held (grind (arith, nat_tests)) (omega arith) (grind (arith, nat_tests, length-append)))
-    (cases_lt S (length buffer + length x)))
-    (λ long. past (grind (arith, nat_tests)) (omega arith) some long (grind (arith, nat_tests)))
-    (cases_lt (length x) S)
+write_call S buffer x h3 h4 = grind (arith, common_steps, nat_tests, cases_lt, length-append)
 
 -- the held bytes are sent by one call, or by none if nothing is held
 pub calls_for-min : (buffer : List ℕ) → calls_for buffer ≡ min (length buffer) 1

@@ -204,11 +204,9 @@ module _ {R : Type 0} {S : ℕ} (K : Reader R) (old : BufReader R S) (d : ℕ) w
           subst (IsSuffix (reader_behind old ++ x)) (ap reader_behind (sym split.2.2.2))
           (subst (λ l. IsSuffix l (reader_behind split.2.2.0))
           (append_assoc (reader_behind old) y (take n lent) ∙ ap (λ l. reader_behind old ++ l) (sym is)) after)
-      by (Err e) (D, parts, inl (fault, calls)) =
-          let split = made_split (LendCallLaw (buf_lender K)) D old (Filled (Err e) ∷ []) new (made _ calls) in
-          subst (IsSuffix (reader_behind old ++ x)) (ap reader_behind (sym split.2.2))
-          (filled_behind (reader_behind old ++ x) split.0 split.2.0 split.2.1.call (parts_behind parts split.0 split.1))
-      by (Err e) (D, parts, inr (_, memory, lent, _, calls)) =
-          let split = made_split (LendCallLaw (buf_lender K)) D old (Filled (Ok lent) ∷ []) new (made _ calls) in
+      by (Err e) (D, parts, stopped) =
+          let last : (answer : Result (List ℕ) Error) × (m.calls ≡ D ++ Filled answer ∷ []) =
+          elim stopped [ inl fault ↦ (Err e, fault.1) | inr refused ↦ (Ok refused.2, refused.4) ] in
+          let split = made_split (LendCallLaw (buf_lender K)) D old (Filled last.0 ∷ []) new (made _ last.1) in
           subst (IsSuffix (reader_behind old ++ x)) (ap reader_behind (sym split.2.2))
           (filled_behind (reader_behind old ++ x) split.0 split.2.0 split.2.1.call (parts_behind parts split.0 split.1))

@@ -1,15 +1,13 @@
 -- A copy, piece by piece.
-use Rattle.no_std_io2.proofs.Words.{◌≡◌, ℕ, ◌<◌, List, [], ◌∷◌, ◌++◌, ap, ◌∙◌, subst, arith, Ok, Err, Result, Some, None, Option}
-use Rattle.no_std_io2.proofs.Words.{append-nil, inl, inr, ◌⊎◌, Bool, length, length-append, nil_from_length, error_kind, Event, bytes}
-use Rattle.no_std_io2.proofs.Words.{HasNoFault, Tells, to_come, Reader, tells, ReadCall, Told, Moves, WriteCall, Flushed, Made, ByCalls, Writer}
-use Rattle.no_std_io2.proofs.Words.{CallOf, with_buffer, Copied, Through}
+use Rattle.no_std_io2.proofs.Words.{◌≡◌, ℕ, List, [], ◌∷◌, ◌++◌, ap, ◌∙◌, subst, arith, Ok, Err, Result, Some, None, Option, append-nil}
+use Rattle.no_std_io2.proofs.Words.{inr, ◌⊎◌, Bool, length, length-append, nil_from_length, error_kind, Event, bytes, HasNoFault, Tells}
+use Rattle.no_std_io2.proofs.Words.{to_come, Reader, tells, ReadCall, Told, Moves, WriteCall, Flushed, Made, ByCalls, Writer, CallOf}
+use Rattle.no_std_io2.proofs.{Words.{with_buffer, Copied, Through}, TakesLemmas.{takes_all}, MovesLemmas.{Moves-then, Moves-ends}}
+use Rattle.no_std_io2.proofs.{BufWriterLemmas.{Moves-bare}, CallsLemmas.{made_more}, CopyLemmas.{copied_ok, copied_err}}
+use Rattle.no_std_io2.proofs.{TowerCalls.{through}, FaultLemmas.{first_fault_taken, may_fail, no_failure}}
 use Rattle.std.proofs.Common.{IfSome}
 use Rattle.no_std_io2.specs.{declared.io.Error.{Error}, Takes.{IsAll}, Writers.{FlushOf}, Copy.{SidesCopied, side_error, HandsOn}}
-use Rattle.no_std_io2.specs.{declared.io.CopyError.{CopyError}, declared.io.CopyError.TheVariants.{Read, Write}}
-use Rattle.no_std_io2.specs.{Faults.{HasFirstFault, TellsMishap, MayFail, IsFaultOf}}
-use Rattle.no_std_io2.proofs.{TakesLemmas.{takes_all}, MovesLemmas.{Moves-then, Moves-ends}, BufWriterLemmas.{Moves-bare}}
-use Rattle.no_std_io2.proofs.{CallsLemmas.{made_more}, CopyLemmas.{copied_ok, copied_err}, TowerCalls.{through}}
-use Rattle.no_std_io2.proofs.{FaultLemmas.{first_fault_taken, may_fail, no_failure}}
+use Rattle.no_std_io2.specs.{declared.io.CopyError.{CopyError}, Faults.{HasFirstFault, MayFail, IsFaultOf}}
 use Rattle.system_streams.specs.Copies.{CopiesAll, HandsAndFlushes, HandsThrough, BufferCalls}
 
 -- a copy, and then a flush
@@ -33,8 +31,7 @@ copies_err {K = K} {I} {from} {from'} {old} {mid} err =
   where
     of_side : (side : CopyError) → SidesCopied K I 64 from old (Err side) from' mid
         → IsFaultOf (tells K from) (I.told old) (side_error side)
-    of_side (Read e) copied = inl (first_fault_taken copied.takes copied.ends.0)
-    of_side (Write e) copied = inr (may_fail copied.ends.1.2.2)
+    of_side side h1 = grind (arith, first_fault_taken, may_fail)
 
 -- and if the flush after it failed, that was a mishap of the writer's too
 pub flush_err : {R W : Type 0} {K : Reader R} {I : Writer W} {from from' : R} {old mid : W} {n : ℕ} {e : Error} {end : Told}
@@ -48,11 +45,7 @@ all_through a b P same all = subst (λ E. IfSome E (λ l. l ≡ P)) same all
 -- and a fault of the two is one of those behind the buffers
 pub fault_through : {E F : Option (List Event)} {old new : Told} {e : Error} → E ≡ F → old.mishaps ≡ new.mishaps → old.turns ≡ new.turns
     → IfSome E (λ l. HasFirstFault l e) ⊎ MayFail old e → IfSome F (λ l. HasFirstFault l e) ⊎ MayFail new e
-fault_through {e = e} same mishaps turns (inl fault) = inl (subst (λ E. IfSome E (λ l. HasFirstFault l e)) same fault)
-fault_through {e = e} same mishaps turns (inr fails) = inr (record {
-  mishap = subst (λ m. TellsMishap m (error_kind e)) mishaps fails.mishap;
-  turn = λ again. subst (λ n. 0 < n) turns (fails.turn again);
-})
+fault_through {E = E} {F = F} {old = old} {new = new} {e = e} h5 h6 h7 h8 = grind (arith, IfSome, error_kind)
 
 -- a reader without a fault and a writer without a mishap leave none
 pub is_steady : (E : Option (List Event)) {old : Told} {e : Error} (P : Type 0) → IfSome E (λ l. HasFirstFault l e) ⊎ MayFail old e
@@ -88,12 +81,8 @@ comes_apart held buffer none back =
 pub flushed_behind : {R W : Type 0} {K : Reader R} {I : Writer W} {last : List ReadCall} {from from' : R} {old mid new : W}
     → HandsOn K I 64 last from old (Ok tt) from' mid → FlushOf I mid (Ok tt) new
     → HandsAndFlushes I old new
-flushed_behind {I = I} {old = old} hands flushed = record {
-  pieces = hands.pieces;
-  calls = hands.calls;
-  handed = hands.handed;
-  made = made_more (CallOf I) hands.calls old hands.made flushed;
-}
+flushed_behind {R = R} {W = W} {K = K} {I = I} {last = last} {from = from} {from' = from'} {old = old} {mid = mid} {new = new} h10 h11 =
+    grind (arith, made_more)
 
 -- through a buffer that was empty, is empty, and is taken off again
 pub handed_through : {W B E : Type 0} (I : Writer W) {K : Writer B} (line : Bool) (inner : B → W) (buffer : B → List ℕ)

@@ -1,4 +1,5 @@
 -- One read of a patient.
+use Rattle.std.proofs.lemmas.Grind.{common_steps}
 use Rattle.no_std_io2.proofs.Words.{◌≡◌, ℕ, zero, suc, ◌+◌, ◌<◌, ◌≤◌, List, None, Result, Ok, Err, length, refl, arith, IfOk, ⊤, Reader}
 use Rattle.no_std_io2.proofs.Words.{ReadLaw, answered}
 use Rattle.std.specs.{Prelude.{min}, Io.KnownBytes.{ReadConsumes}}
@@ -47,5 +48,4 @@ module _ {D : Type 0} (I : Source D) where
   }
     where
       any_end : (reply : Result ℕ Error) → IfOk reply (λ n. n ≡ 0 → 0 < length buf' → ⊤)
-      any_end (Ok n) = λ _ _. tt
-      any_end (Err e) = tt
+      any_end reply = grind (arith, common_steps)

@@ -1,12 +1,7 @@
 -- What a copy through buffers takes, and what it does to the writer.
 use Rattle.std.specs.Prelude.{◌≡◌, ℕ, Bool, true, false, List, [], ◌∷◌, ◌++◌, Ok}
-use Rattle.no_std_io2.specs.Events.{Event, bytes, HasNoFault}
-use Rattle.no_std_io2.specs.Takes.{Tells, IsAll}
-use Rattle.no_std_io2.specs.Writers.{Writer, CallOf}
-use Rattle.no_std_io2.specs.Write.{Told, Moves, WriteCall, Flushed, Made}
-use Rattle.no_std_io2.specs.BufWriter.{InnerCalls}
-use Rattle.no_std_io2.specs.LineWriter.{LineCalls}
-use Rattle.no_std_io2.specs.Copy.{counted, Handed}
+use Rattle.no_std_io2.specs.{Events.{Event, bytes, HasNoFault}, Takes.{Tells, IsAll}, Writers.{Writer, CallOf}, Write.{Told, Moves}}
+use Rattle.no_std_io2.specs.{Write.{WriteCall, Flushed, Made}, BufWriter.{InnerCalls}, LineWriter.{LineCalls}, Copy.{counted, Handed}}
 use Rattle.no_std_io2.specs.Towers.{Through}
 
 -- A copy took all events of a reader that told this, and no fault. The writer accepted their bytes without a mishap, and n is their count.

@@ -1,20 +1,14 @@
 -- What a `Patient` tells.
 use Rattle.std.specs.Prelude.{◌≡◌, ℕ, ◌<◌, ◌-◌, ◌^◌, List, [], ◌++◌, length, Option, None, Some, Ok, Err, Result, IsErrAnd}
 use Rattle.std.specs.Io.KnownBytes.{ReadConsumes}
+use Rattle.no_std_io2.specs.{declared.io.{Error.{Error}, SeekFrom.{SeekFrom, TheVariants.{Start, End, Current}}}, Read.{ReadCall, Gave}}
+use Rattle.no_std_io2.specs.{Read.{gave}, Seek.{SeekCall, Sought, Measured, Moved}, Write.{Told, WriteCall, Wrote, WroteAll, Flushed}}
+use Rattle.no_std_io2.specs.Write.{taken}
+use Rattle.system_streams.specs.declared.{patient.Patient.{Patient}, system.{SystemWrite.{Ghosts as Device}, SystemRead.{Ghosts as Source}}}
+use Rattle.system_streams.specs.{declared.system.SystemSeek.{Ghosts as Place}, Turns.{AnswersFor, AnswersRead, GivesOn, IsOutOfTurns}}
 use Rattle.std.specs.declared.io.Error as Std
 use Rattle.std.specs.declared.io.SeekFrom as StdPlace
 use Rattle.std.specs.declared.io.SeekFrom.TheVariants as place
-use Rattle.no_std_io2.specs.declared.io.Error.{Error}
-use Rattle.no_std_io2.specs.declared.io.SeekFrom.{SeekFrom}
-use Rattle.no_std_io2.specs.declared.io.SeekFrom.TheVariants.{Start, End, Current}
-use Rattle.no_std_io2.specs.Read.{ReadCall, Gave, gave}
-use Rattle.no_std_io2.specs.Seek.{SeekCall, Sought, Measured, Moved}
-use Rattle.no_std_io2.specs.Write.{Told, WriteCall, Wrote, WroteAll, Flushed, taken}
-use Rattle.system_streams.specs.declared.patient.Patient.{Patient}
-use Rattle.system_streams.specs.declared.system.SystemWrite.{Ghosts as Device}
-use Rattle.system_streams.specs.declared.system.SystemRead.{Ghosts as Source}
-use Rattle.system_streams.specs.declared.system.SystemSeek.{Ghosts as Place}
-use Rattle.system_streams.specs.Turns.{AnswersFor, AnswersRead, GivesOn, IsOutOfTurns}
 
 -- `p.into_inner()`
 abbrev pub patient_device : {D : Type 0} → Patient D → D

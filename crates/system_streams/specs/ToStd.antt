@@ -1,23 +1,16 @@
 -- The stream in a `ToStd`, the bytes that it tells, and its results.
 use Rattle.std.specs.Prelude.{◌≡◌, ℕ, List, ◌++◌, Ok, Err, Result, Option, option_map}
+use Rattle.no_std_io2.specs.declared.io.{Error.{Error}, ErrorKind.{ErrorKind, TheVariants.{NotFound, PermissionDenied, ConnectionRefused}}}
+use Rattle.no_std_io2.specs.declared.io.ErrorKind.TheVariants.{ConnectionReset, ConnectionAborted, NotConnected, AddrInUse}
+use Rattle.no_std_io2.specs.declared.io.ErrorKind.TheVariants.{AddrNotAvailable, BrokenPipe, AlreadyExists, WouldBlock, InvalidInput}
+use Rattle.no_std_io2.specs.declared.io.ErrorKind.TheVariants.{InvalidData, TimedOut, WriteZero, Interrupted, Other, UnexpectedEof}
+use Rattle.no_std_io2.specs.{declared.io.ErrorKind.TheVariants.{Unsupported, OutOfMemory, Uncategorized}, Errors.{error_kind}}
+use Rattle.no_std_io2.specs.{Events.{bytes}, Takes.{Store, Tells, to_come}, Write.{Told}}
+use Rattle.system_streams.specs.declared.to_std.ToStd.{ToStd}
 use Rattle.std.specs.IoError as Io
 use Rattle.std.specs.declared.io.Error as Std
 use Rattle.std.specs.declared.io.ErrorKind as StdKind
 use Rattle.std.specs.declared.io.ErrorKind.TheVariants as kind
-use Rattle.no_std_io2.specs.declared.io.Error.{Error}
-use Rattle.no_std_io2.specs.declared.io.ErrorKind.{ErrorKind}
-use Rattle.no_std_io2.specs.declared.io.ErrorKind.TheVariants.{NotFound, PermissionDenied, ConnectionRefused}
-use Rattle.no_std_io2.specs.declared.io.ErrorKind.TheVariants.{ConnectionReset, ConnectionAborted, NotConnected}
-use Rattle.no_std_io2.specs.declared.io.ErrorKind.TheVariants.{AddrInUse, AddrNotAvailable, BrokenPipe}
-use Rattle.no_std_io2.specs.declared.io.ErrorKind.TheVariants.{AlreadyExists, WouldBlock, InvalidInput}
-use Rattle.no_std_io2.specs.declared.io.ErrorKind.TheVariants.{InvalidData, TimedOut, WriteZero, Interrupted}
-use Rattle.no_std_io2.specs.declared.io.ErrorKind.TheVariants.{Other, UnexpectedEof, Unsupported, OutOfMemory}
-use Rattle.no_std_io2.specs.declared.io.ErrorKind.TheVariants.{Uncategorized}
-use Rattle.no_std_io2.specs.Errors.{error_kind}
-use Rattle.no_std_io2.specs.Events.{bytes}
-use Rattle.no_std_io2.specs.Takes.{Store, Tells, to_come}
-use Rattle.no_std_io2.specs.Write.{Told}
-use Rattle.system_streams.specs.declared.to_std.ToStd.{ToStd}
 
 -- `s.into_inner()`
 abbrev pub std_inner : {T : Type 0} → ToStd T → T

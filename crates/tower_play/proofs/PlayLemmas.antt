@@ -90,7 +90,8 @@ module _ {W : Type 0} (I : Writer (Faulty W)) (none : (w : Faulty W) → (I.told
         subst (λ h. Through level h calls mid (above run.new)) empty' upper,
         subst (λ h. Through (InnerCalls 8) h mid below (buffer (outer run.new))) empty lower,
         refl,
-      )) (below_more I inner buffer (InnerCalls 8) each ops run.replies (below_first J outer above level each' ops run.replies run.law.calls)))
+      )) (below_more I inner buffer (InnerCalls 8) each ops run.replies
+      (below_first J outer above level each' ops run.replies run.law.calls)))
 
 -- one text is written and flushed
 pub writes_text : {P : List ℕ → Type 0} {a b c : Told} {x shown : List ℕ} → P x → shown ≡ x

@@ -1,7 +1,6 @@
 -- The prover does not find what holds of the calls before the one that is tested.
 use Rattle.no_std_io2.proofs.Words.{common_steps, arith, refl, sym}
 use Rattle.std.proofs.lemmas.Slice.Zip.{AllZip-long}
-use Rattle.io_bench.specs.Joined.{IsClear, AreClear}
 use Rattle.io_bench.proofs.{RunLemmas.{AllZip-more}, JoinedLemmas.{one_more, all_through, clear_at}}
 use Rattle.io_bench.proofs.accepted.are_clear.Goals as goal
 
@@ -9,8 +8,7 @@ pub returns-then-ops-replies-clause-no : goal.returns-then-ops-replies-clause-no
 returns-then-ops-replies-clause-no c e clear = absurd (c.if-ops-replies.true (sym (AllZip-long _ _ _ clear)))
 
 pub calls-preserved : goal.calls-preserved
-calls-preserved c = one_more AreClear _ _ _ _ c.calls-test.true (omega (arith, c.if-ops-replies.false))
-    (AllZip-more IsClear _ _ _ _ c.calls.invariant c.in-Some.ensures.some.0)
+calls-preserved c = grind (arith, common_steps, AllZip-more, one_more)
 
 pub returns-in_default-clause-no : goal.returns-in_default-clause-no
 returns-in_default-clause-no c e clear = absurd (c.in_default.ensures.none refl (clear_at _ _ _ _ _ c.calls-test.true clear))

@@ -1,6 +1,6 @@
 -- The prover does not find that one more ask joins those before it, nor the bound over all of them.
-use Rattle.no_std_io2.proofs.Words.{ap, ◌+◌, common_steps, Bool, true, false, Ok, Err, if◌then◌else◌, ◌≡◌, get_or, arith, refl, ◌∙◌}
-use Rattle.no_std_io2.proofs.{Words.{take_more}, Readers.{reader}, BufReaderCalls.{buf_lender}}
+use Rattle.no_std_io2.proofs.Words.{ap, ◌+◌, common_steps, Bool, Ok, Err, if◌then◌else◌, ◌≡◌, get_or, arith, refl, ◌∙◌, take_more}
+use Rattle.no_std_io2.proofs.{Readers.{reader}, BufReaderCalls.{buf_lender}}
 use Rattle.std.proofs.Common.{take_all}
 use Rattle.io_bench.specs.{declared.asks.Ask.TheVariants.{Read}, Asks.{no_ask, next_ask}}
 use Rattle.io_bench.proofs.{AskLemmas.{fits_at, came_takes}, AskSteps.{came_went, few_reads}}
@@ -8,8 +8,7 @@ use mir.Val.{bool_byte}
 use Rattle.io_bench.proofs.asks.run_reads.Goals as goal
 
 byte_is : (b : Bool) → bool_byte b ≡ (if b then 1 else 0)
-byte_is true = refl
-byte_is false = refl
+byte_is b = grind arith
 
 pub make_ask-requires : goal.make_ask-requires
 make_ask-requires g c = grind (arith, common_steps, get_or, fits_at)

@@ -1,5 +1,6 @@
 -- The prover does not find the bytes and the bound, which need all calls of the run, nor that the
 -- `into_inner` cannot fail.
+use Rattle.std.proofs.Common.{arith}
 use Rattle.no_std_io2.proofs.Words.{subst, sym, TakesAll}
 use Rattle.io_bench.specs.Tally.{tally_writes}
 use Rattle.io_bench.proofs.ClosedLemmas.{closes, tally_meters, tallied_writer}
@@ -25,7 +26,4 @@ returns-in-Ok g c =
     }
 
 pub returns-in-Err-clause-kind : goal.returns-in-Err-clause-kind
-returns-in-Err-clause-kind g c =
-    let all = subst (TakesAll (tallied_writer g.W.Write)) (sym c.new-buffered.ensures.inner) c.requires.all in
-    let fails = c.in-Err.ensures.law.steady (c.in_ok-run_writes.ensures.law.all all).0.1 in
-    absurd (let no : ⊥ = cc in no)
+returns-in-Err-clause-kind g c = grind (arith, tallied_writer)

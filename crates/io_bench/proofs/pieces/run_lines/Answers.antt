@@ -1,6 +1,6 @@
 -- The prover does not go over the items of a run.
+use Rattle.std.proofs.Common.{arith, string_bytes}
 use Rattle.no_std_io2.proofs.{Words.{◌≡◌, false, newline}, Readers.{lends}}
-use Rattle.std.proofs.Common.{string_bytes}
 use Rattle.no_std_io2.specs.Pieces.{RefusesLine, line_text, lines_is_ended, lines_reader}
 use Rattle.io_bench.proofs.PieceRunLemmas.{lines_faults, lines_next, lines_takes, run_faults, run_gathers}
 use Rattle.io_bench.proofs.pieces.run_lines.Goals as goal
@@ -13,7 +13,4 @@ returns-clause-told g c = λ fresh.
     c.run_items.new.iter c.run_items.result fresh c.run_items.ensures.calls
 
 pub returns-clause-never_interrupted : goal.returns-clause-never_interrupted
-returns-clause-never_interrupted g c =
-    let R = lends g.R.Stored g.R.Read g.R.BufRead in
-    run_faults (lines_next R string_bytes) _ _ c.args.lines.now c.run_items.new.iter c.run_items.result (lines_faults R string_bytes)
-    c.run_items.ensures.calls
+returns-clause-never_interrupted g c = grind (arith, lends, lines_faults, lines_next, run_faults, string_bytes)

@@ -1,6 +1,6 @@
 -- The prover does not go over the items of a run.
+use Rattle.std.proofs.Common.{arith, vec_items}
 use Rattle.no_std_io2.proofs.{Words.{◌≡◌, false, refl, split_delim, split_reader, without}, Readers.{lends}}
-use Rattle.std.proofs.Common.{vec_items}
 use Rattle.no_std_io2.specs.Pieces.{split_is_ended}
 use Rattle.io_bench.proofs.PieceRunLemmas.{run_faults, run_gathers, split_faults, split_next, split_takes}
 use Rattle.io_bench.proofs.pieces.run_split.Goals as goal
@@ -14,7 +14,4 @@ returns-clause-told g c = λ fresh.
     c.run_items.new.iter c.run_items.result (fresh, refl) c.run_items.ensures.calls
 
 pub returns-clause-never_interrupted : goal.returns-clause-never_interrupted
-returns-clause-never_interrupted g c =
-    let R = lends g.R.Stored g.R.Read g.R.BufRead in
-    run_faults (split_next R vec_items) _ _ c.args.split.now c.run_items.new.iter c.run_items.result (split_faults R vec_items)
-    c.run_items.ensures.calls
+returns-clause-never_interrupted g c = grind (arith, lends, run_faults, split_faults, split_next, vec_items)

@@ -1,14 +1,11 @@
 -- The prover does not find what the buffers around a copy change: they hold nothing before and after (`passes_off`).
+use Rattle.std.proofs.{Common.{arith}, lemmas.Grind.{common_steps}}
 use Rattle.no_std_io2.proofs.Words.{ap, true, false, err_from_is_err_and, writer_inner, writer_buffer, line_inner, line_buffer}
 use Rattle.system_streams.proofs.CopyLemmas.{passes_off, fault_through, is_steady, none_held, comes_apart, handed_through}
 use Rattle.system_streams.proofs.copy.copy_through.Goals as goal
 
 pub returns-in_err-count-clause-err : goal.returns-in_err-count-clause-err
-returns-in_err-count-clause-err g c =
-    let p = err_from_is_err_and c.from_residual.result c.from_residual.ensures.1 in
-    let same = c.new.ensures.inner in
-    rw (p.1, p.2) (fault_through c.new-input.ensures.events (ap (λ w. (g.W.Write.told w).mishaps) same)
-    (ap (λ w. (g.W.Write.told w).turns) same) c.in_err-count.ensures.err)
+returns-in_err-count-clause-err g c = grind (arith, common_steps, err_from_is_err_and, fault_through)
 
 pub returns-in_err-count-clause-steady : goal.returns-in_err-count-clause-steady
 returns-in_err-count-clause-steady g c =
@@ -17,16 +14,10 @@ returns-in_err-count-clause-steady g c =
     (ap (λ w. (g.W.Write.told w).turns) same) c.in_err-count.ensures.err)
 
 pub returns-in_ok-into_inner-clause-all : goal.returns-in_ok-into_inner-clause-all
-returns-in_ok-into_inner-clause-all g c =
-    passes_off _ c.new-input.ensures.events (ap g.W.Write.told c.new.ensures.inner) c.new.ensures.empty c.in_ok-count.ensures.all
-    c.in_ok-into_inner.ensures.law.ok
+returns-in_ok-into_inner-clause-all g c = grind (arith, passes_off)
 
 pub returns-in_err-count-2-clause-err : goal.returns-in_err-count-2-clause-err
-returns-in_err-count-2-clause-err g c =
-    let p = err_from_is_err_and c.from_residual-in_err-count-2.result c.from_residual-in_err-count-2.ensures.1 in
-    let same = c.new-else-line.ensures.inner in
-    rw (p.1, p.2) (fault_through c.new-input.ensures.events (ap (λ w. (g.W.Write.told w).mishaps) same)
-    (ap (λ w. (g.W.Write.told w).turns) same) c.in_err-count-2.ensures.err)
+returns-in_err-count-2-clause-err g c = grind (arith, common_steps, err_from_is_err_and, fault_through)
 
 pub returns-in_err-count-2-clause-steady : goal.returns-in_err-count-2-clause-steady
 returns-in_err-count-2-clause-steady g c =
@@ -35,13 +26,10 @@ returns-in_err-count-2-clause-steady g c =
     (ap (λ w. (g.W.Write.told w).turns) same) c.in_err-count-2.ensures.err)
 
 pub returns-in_ok-into_inner-2-clause-all : goal.returns-in_ok-into_inner-2-clause-all
-returns-in_ok-into_inner-2-clause-all g c =
-    passes_off _ c.new-input.ensures.events (ap g.W.Write.told c.new-else-line.ensures.inner) c.new-else-line.ensures.empty
-    c.in_ok-count-2.ensures.all c.in_ok-into_inner-2.ensures.law.ok
+returns-in_ok-into_inner-2-clause-all g c = grind (arith, passes_off)
 
 pub returns-in_err-into_inner-clause-err : goal.returns-in_err-into_inner-clause-err
-returns-in_err-into_inner-clause-err g c =
-    absurd (comes_apart _ _ c.in_ok-count.ensures.empty c.in_err-into_inner.ensures.law.empty)
+returns-in_err-into_inner-clause-err g c = grind (arith, comes_apart)
 
 pub returns-in_err-into_inner-clause-steady : goal.returns-in_err-into_inner-clause-steady
 returns-in_err-into_inner-clause-steady g c =
@@ -57,8 +45,7 @@ returns-in_ok-into_inner-clause-calls g c =
     c.new.ensures.inner c.new.ensures.empty c.in_ok-count.ensures.empty c.in_ok-into_inner.ensures.law.empty c.in_ok-count.ensures.calls)
 
 pub returns-in_err-into_inner-2-clause-err : goal.returns-in_err-into_inner-2-clause-err
-returns-in_err-into_inner-2-clause-err g c =
-    absurd (comes_apart _ _ c.in_ok-count-2.ensures.empty c.in_err-into_inner-2.ensures.law.empty)
+returns-in_err-into_inner-2-clause-err g c = grind (arith, comes_apart)
 
 pub returns-in_err-into_inner-2-clause-steady : goal.returns-in_err-into_inner-2-clause-steady
 returns-in_err-into_inner-2-clause-steady g c =
