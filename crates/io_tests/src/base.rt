@@ -130,7 +130,7 @@ fn read(rt: &(impl Abort + AllocGlobal)) -> Result<(), Fail> {
 
 fn bytes(rt: &(impl Abort + AllocGlobal)) -> Result<(), Fail> {
     let mut content = Vec::<u8>::new(rt.alloc());
-    for byte in Cursor::new(*b"abc").bytes() {
+    'bytes: for byte in Cursor::new(*b"abc").bytes() {
         content.push(byte?)?;
     }
     assert!(rt; content.as_slice() == b"abc".as_slice());
@@ -210,13 +210,13 @@ fn buf_read(rt: &(impl Abort + AllocGlobal)) -> Result<(), Fail> {
     assert!(rt; line.as_str() == "one\ntwo");
 
     let mut lens = Vec::<usize>::new(rt.alloc());
-    for piece in Cursor::new(*b"ab,,c").split(rt.alloc(), b',') {
+    'pieces: for piece in Cursor::new(*b"ab,,c").split(rt.alloc(), b',') {
         lens.push(piece?.len())?;
     }
     assert!(rt; lens.as_slice() == [2, 0, 1].as_slice());
 
     let mut text = String::new(rt.alloc());
-    for line in Cursor::new(*b"one\r\ntwo\n").lines(rt.alloc()) {
+    'lines: for line in Cursor::new(*b"one\r\ntwo\n").lines(rt.alloc()) {
         text.push_str(line?.as_str())?;
     }
     assert!(rt; text.as_str() == "onetwo");

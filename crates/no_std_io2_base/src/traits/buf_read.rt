@@ -160,7 +160,7 @@ pub trait BufRead: Read {
     ///
     /// ```rust
     /// let mut lens = Vec::<usize>::new(rt.alloc());
-    /// for piece in Cursor::new(*b"ab,,c").split(rt.alloc(), b',') {
+    /// 'pieces: for piece in Cursor::new(*b"ab,,c").split(rt.alloc(), b',') {
     ///     lens.push(piece?.len())?;
     /// }
     /// assert!(rt; lens.as_slice() == [2, 0, 1].as_slice());
@@ -180,7 +180,7 @@ pub trait BufRead: Read {
     ///
     /// ```rust
     /// let mut text = String::new(rt.alloc());
-    /// for line in Cursor::new(*b"one\r\ntwo\n").lines(rt.alloc()) {
+    /// 'lines: for line in Cursor::new(*b"one\r\ntwo\n").lines(rt.alloc()) {
     ///     text.push_str(line?.as_str())?;
     /// }
     /// assert!(rt; text.as_str() == "onetwo");

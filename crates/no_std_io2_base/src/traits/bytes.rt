@@ -15,7 +15,7 @@ use crate::error::Result;
 ///
 /// ```rust
 /// let mut content = Vec::<u8>::new(rt.alloc());
-/// for byte in Cursor::new(*b"abc").bytes() {
+/// 'bytes: for byte in Cursor::new(*b"abc").bytes() {
 ///     content.push(byte?)?;
 /// }
 /// assert!(rt; content.as_slice() == b"abc".as_slice());
