@@ -1,9 +1,11 @@
 // The examples in the comments of `framing`, `line_log`, `system_streams` and `io_bench`, one function for each of their modules.
-use examples::{checksum_of, entry_of_file, save};
+use examples::{checksum_of, entry_of_file, head, save};
 use framing::{FrameReader, FrameWriter};
-use io_bench::{Act, Faulty, Op, Reply, joined};
+use io_bench::{Act, Event, Faulty, Feed, Op, Reply, joined};
 use line_log::LineLog;
-use no_std_io2::io::{BufWriter, Cursor, ErrorKind, Read, SeekFrom, Write, read_exact_at};
+use no_std_io2::io::{
+    BufReader, BufWriter, Cursor, ErrorKind, Read, SeekFrom, Write, read_exact_at,
+};
 use std::fs::remove_file;
 use std::io;
 use std::process::Abort;
@@ -126,6 +128,29 @@ fn checksum(rt: &(impl Abort + AllocGlobal)) -> Result<(), Fail> {
     Ok(())
 }
 
+// The loop of PROVING.md over lines. A line too many or too few; the part of a line before a fault, which is lost.
+fn lines(rt: &(impl Abort + AllocGlobal)) -> Result<(), Fail> {
+    let mut r = Cursor::new(*b"a\nbc\nd");
+    let mut out = Vec::<u8>::new(rt.alloc());
+    assert!(rt; head(rt.alloc(), &mut r, &mut out, 2)? == 2);
+    assert!(rt; out.as_slice() == b"a\nbc\n".as_slice());
+    assert!(rt; head(rt.alloc(), &mut r, &mut out, 2)? == 1);
+    assert!(rt; out.as_slice() == b"a\nbc\nd".as_slice());
+
+    let fault = Event::Fail(ErrorKind::WouldBlock);
+    let events = vec![in rt.alloc();
+        Event::Byte(b'a'),
+        Event::Byte(b'\n'),
+        Event::Byte(b'b'),
+        fault,
+    ]?;
+    let mut r = BufReader::<_, 4>::new(Feed::new(events, 4));
+    let mut out = Vec::<u8>::new(rt.alloc());
+    assert!(rt; head(rt.alloc(), &mut r, &mut out, 2).is_err());
+    assert!(rt; out.as_slice() == b"a\nb".as_slice());
+    Ok(())
+}
+
 // The test of CALLING.md of `io_bench`.
 // The device takes three bytes, and then fails twice: no byte is lost, and none is sent again.
 #[test]
@@ -183,6 +208,7 @@ fn each_example(rt: HostRuntime) -> Result<(), Fail> {
     accepted(rt)?;
     saved(rt)?;
     checksum(rt)?;
+    lines(rt)?;
     indexed(rt)?;
     Ok(())
 }
