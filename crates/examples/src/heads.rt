@@ -6,8 +6,8 @@ ghost use Rattle.examples.specs.Head.{Heads, HeadStops};
 use no_std_io2::io::{BufRead, Result, Write};
 use std::alloc::Global;
 
-/// Writes the first `wanted` lines of a reader to a writer, and returns their number. It is lower only at the end of the
-/// reader. A line ends in a newline, except the last if the reader has none there.
+/// Writes the first `wanted` lines of a reader to a writer, and returns their number. It is lower only at the end of
+/// the reader. A line ends in a newline, except the last if the reader has none there.
 ///
 /// # Errors
 /// Returns the reader's first fault, and `OutOfMemory` if an allocation failed; the writer has then accepted every byte

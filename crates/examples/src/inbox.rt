@@ -5,8 +5,8 @@ ghost use Rattle.examples.specs.Inbox.{InboxMay};
 
 use no_std_io2::io::{Error, ErrorKind, Read, Result, Stored};
 
-/// The receiving half of a port. That of real hardware has a field of type `GhostBytes` for `given`, and its `receive` adds each byte that
-/// it returns.
+/// The receiving half of a port. That of real hardware has a field of type `GhostBytes` for `given`, and its `receive`
+/// adds each byte that it returns.
 pub trait Source {
     // The bytes that it gave, in order.
     ghost given: { Self → List ℕ };

@@ -1,5 +1,5 @@
-//! Reads an entry of a file with an index. The last four bytes of the file are the place of the index. The index has the place of
-//! each entry, in four bytes each. All numbers are little-endian.
+//! Reads an entry of a file with an index. The last four bytes of the file are the place of the index. The index has
+//! the place of each entry, in four bytes each. All numbers are little-endian.
 ghost use Rattle.std.specs.Prelude.{◌≡◌, length, take, drop, Ok, Err, IfOk, IfErr, OnOk, IfSome, IsSomeAnd};
 ghost use Rattle.examples.specs.Indexed.{IsNumberAt, ReadsEntry, ReadsNumber, entry_place};
 ghost use Rattle.no_std_io2.specs.declared.io.Error.{Error};

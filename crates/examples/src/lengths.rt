@@ -6,8 +6,8 @@ use no_std_io2::io::{BufRead, Result, skip};
 /// Skips all remaining records. Each length that is taken spends a turn, so the loop ends.
 ///
 /// # Errors
-/// Returns the reader's first fault, and `UnexpectedEof` if the bytes end inside a record. Only a part of that record may
-/// be skipped then, so the next byte may be no length.
+/// Returns the reader's first fault, and `UnexpectedEof` if the bytes end inside a record. Only a part of that record
+/// may be skipped then, so the next byte may be no length.
 pub fn pass_records<B: BufRead>(r: &mut B) -> Result<()>
     ensures { SkipsRecords B.BufRead r.old result r.new }
 {

@@ -1,5 +1,5 @@
-//! First proofs and devices to copy, which the gate proves. Only `indexed` uses another crate than `no_std_io2`. PROVING and
-//! the CALLING pages of `no_std_io2` and `system_streams` show or name all modules except `records`.
+//! First proofs and devices to copy, which the gate proves. Only `indexed` uses another crate than `no_std_io2`.
+//! PROVING and the CALLING pages of `no_std_io2` and `system_streams` show or name all modules except `records`.
 #![tactic(auto)]
 
 ghost use Rattle.std.specs.Prelude.{◌≡◌, [], ◌++◌, IfOk};

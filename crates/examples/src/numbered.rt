@@ -4,8 +4,8 @@ ghost use Rattle.no_std_io2.specs.Write.{PartMay};
 use no_std_io2::io::{Read, Result, Stored, Write};
 use std::alloc::Allocator;
 
-/// A stream with a number, for messages. It passes `write_all`, `read_exact` and `read_to_end` on too, so that the stream's own bodies of
-/// these run.
+/// A stream with a number, for messages. It passes `write_all`, `read_exact` and `read_to_end` on too, so that the
+/// stream's own bodies of these run.
 #[derive(Drop)]
 pub struct Numbered<T> {
     /// The number.

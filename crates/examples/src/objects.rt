@@ -46,8 +46,8 @@ pub fn double_to(w: &mut Narrow, text: &[u8]) -> Result<()>
 /// Fills two buffers from an object, one after the other.
 ///
 /// # Errors
-/// Returns the error of the reader behind the object, and `UnexpectedEof` if there are too few bytes. Some of them may be
-/// taken then.
+/// Returns the error of the reader behind the object, and `UnexpectedEof` if there are too few bytes. Some of them may
+/// be taken then.
 pub fn take_pair(r: &mut dyn Read, a: &mut [u8], b: &mut [u8]) -> Result<()>
     ensures { OnOk result (TakesBytes (record { events = events r.old; store = store r.old; turns = turns r.old }) (a.new ++ b.new)
         (record { events = events r.new; store = store r.new; turns = turns r.new })) }

@@ -1,4 +1,5 @@
-//! [`write_reading`], [`send_reading`] and [`write_readings`], which print readings of an instrument straight to a writer.
+//! [`write_reading`], [`send_reading`] and [`write_readings`], which print readings of an instrument straight to
+//! a writer.
 ghost use Rattle.std.specs.Prelude.{◌≡◌, ◌⊎◌, [], IsErrAnd, OnOk};
 ghost use Rattle.std.specs.List.{flat_map};
 ghost use Rattle.no_std_io2.specs.Text.{IsTextError};

@@ -36,7 +36,8 @@ pub fn peek_header<R: Read, const S: usize>(r: &mut BufReader<R, S>) -> Result<(
     }
 }
 
-// Returns the payload of the next record, which has `len` bytes and whose header is held. If an allocation fails, the record is kept.
+// Returns the payload of the next record, which has `len` bytes and whose header is held. If an allocation fails, the
+// record is kept.
 fn read_payload<R: Read, const S: usize>(
     alloc: Global,
     r: &mut BufReader<R, S>,
@@ -59,11 +60,13 @@ fn read_payload<R: Read, const S: usize>(
     Ok(payload)
 }
 
-/// Returns the payload of the next record if it has this tag, and else `None`. A record with another tag stays to be read.
+/// Returns the payload of the next record if it has this tag, and else `None`. A record with another tag stays to
+/// be read.
 ///
 /// # Errors
-/// Returns the errors that [`peek_header`] returns; nothing is taken then. Returns `OutOfMemory` if an allocation failed; the record then
-/// stays to be read. Returns the error of a `read_exact` of the payload that fails; some first bytes of the record are then taken.
+/// Returns the errors that [`peek_header`] returns; nothing is taken then. Returns `OutOfMemory` if an allocation
+/// failed; the record then stays to be read. Returns the error of a `read_exact` of the payload that fails; some first
+/// bytes of the record are then taken.
 pub fn read_record<R: Read, const S: usize>(
     alloc: Global,
     r: &mut BufReader<R, S>,
@@ -80,7 +83,8 @@ pub fn read_record<R: Read, const S: usize>(
         × OnOk result (reader_held r.new ≡ rest)
         × IfErr result IsOutOfMemory × OnErr result (KeepsBuffer r.old r.new) × (reader_inner r.new ≡ reader_inner r.old) }
 
-    // If it is known what is to come, exactly the record is taken, and nothing if it has another tag; after an error some first bytes are.
+    // If it is known what is to come, exactly the record is taken, and nothing if it has another tag; after an error
+    // some first bytes are.
     ensures told { IfOk result (λ found. LosesFirst (tells ⟦<BufReader<R, S> as Read>⟧ r.old)
         (record_bytes wanted (option_map (λ v. v.items) found)) (tells ⟦<BufReader<R, S> as Read>⟧ r.new)) }
     ensures failed { OnErr result ((x : List ℕ)

@@ -5,8 +5,8 @@ ghost use Rattle.examples.specs.Serial.{if_taken, SerialMay};
 
 use no_std_io2::io::{Error, ErrorKind, Result, Write};
 
-/// The sending half of a port. The port of real hardware keeps no byte: it has a field of type `GhostBytes` for `taken`, and its `send`
-/// adds each byte that the hardware took.
+/// The sending half of a port. The port of real hardware keeps no byte: it has a field of type `GhostBytes` for
+/// `taken`, and its `send` adds each byte that the hardware took.
 pub trait Port {
     // The bytes that it took, in order.
     ghost taken: { Self → List ℕ };

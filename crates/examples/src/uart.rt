@@ -5,8 +5,8 @@ ghost use Rattle.examples.specs.Serial.{if_taken};
 
 use crate::serial::Port;
 
-/// The registers of a serial chip. Hardware keeps no byte that it sends: an `impl` for it has a field of type `GhostBytes` for `sent`, and
-/// its `put` adds the byte.
+/// The registers of a serial chip. Hardware keeps no byte that it sends: an `impl` for it has a field of type
+/// `GhostBytes` for `sent`, and its `put` adds the byte.
 pub trait Registers {
     // The bytes that were put, in order.
     ghost sent: { Self → List ℕ };
@@ -34,8 +34,8 @@ pub struct Uart<R> {
     pub looks: u32,
 }
 
-// Waits until the chip is ready, and returns whether it is. The loop is a function of its own: what it does to the registers is then a
-// clause, and all else of the port is as before.
+// Waits until the chip is ready, and returns whether it is. The loop is a function of its own: what it does to the
+// registers is then a clause, and all else of the port is as before.
 fn wait<R: Registers>(registers: &mut R, looks: u32) -> bool
     ensures ready { OnTrue result (R.ready registers.new ≡ true) }
     ensures late { OnFalse result (0 < looks → R.ready registers.new ≡ false) }

@@ -1,8 +1,8 @@
 //! Reads frames from standard input, and prints a line for each: its payload, with each byte escaped that is not
 //! printable ASCII. A frame is a length, as a little-endian `u32`, followed by that many bytes.
 //!
-//! The status is 0 if the input ends after a frame, 1 after a fault, whose text is printed to standard error, and 2 if there is an
-//! argument. If a line does not go out whole, its rest is tried once more before the next frame is read.
+//! The status is 0 if the input ends after a frame, 1 after a fault, whose text is printed to standard error, and 2 if
+//! there is an argument. If a line does not go out whole, its rest is tried once more before the next frame is read.
 #![tactic(auto)]
 
 ghost use Rattle.std.specs.Prelude.{◌≡◌, [], OnOk, replicate};

@@ -76,11 +76,12 @@ impl<R: Read, const S: usize> FrameReader<R, S> {
     /// than the frame's.
     ///
     /// # Errors
-    /// Returns the first fault of the reader below; the next call continues after it. Returns `UnexpectedEof` if the
-    /// bytes end inside a frame. Returns `InvalidInput` if the payload is longer than `room`; no read is made for it
-    /// once its header is seen. After each of these errors the frame is still to come, with all its bytes, if the next
-    /// call gets the same room, or a longer one that begins with the same bytes. The room behind the payload is unchanged,
-    /// and so is the whole room after an error, unless the frame is longer than the buffer. Never returns `Interrupted`.
+    /// Returns the first fault of the reader below; the next call continues after it. Returns `UnexpectedEof` if
+    /// the bytes end inside a frame. Returns `InvalidInput` if the payload is longer than `room`; no read is made
+    /// for it once its header is seen. After each of these errors the frame is still to come, with all its bytes,
+    /// if the next call gets the same room, or a longer one that begins with the same bytes. The room behind the
+    /// payload is unchanged, and so is the whole room after an error, unless the frame is longer than the buffer.
+    /// Never returns `Interrupted`.
     pub fn next(&mut self, room: &mut [u8]) -> Result<Option<usize>>
         ensures takes { TakesFrame R.Read self.old room.old result self.new room.new }
         // If the frames of these payloads are told to come, they come back, one after another.
@@ -191,7 +192,8 @@ impl<R: Read, const S: usize> FrameReader<R, S> {
         told_len(self.inner.buffer())
     }
 
-    // Reads until the next frame is seen, whose payload has this length and fits the room. `false` means that the end came first.
+    // Reads until the next frame is seen, whose payload has this length and fits the room. `false` means that the end
+    // came first.
     fn see_frame(&mut self, len: usize, room: &mut [u8]) -> Result<bool>
         requires header { (room : List ℕ) → HasHeader len (seen_bytes self.old room) }
         requires small { len < 2 ^ 32 }

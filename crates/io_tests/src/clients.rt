@@ -1,4 +1,5 @@
-// The examples in the comments of `framing`, `line_log`, `system_streams` and `io_bench`, one function for each of their modules.
+// The examples in the comments of `framing`, `line_log`, `system_streams` and `io_bench`, one function for each of
+// their modules.
 use examples::{checksum_of, entry_of_file, head, save};
 use framing::{FrameReader, FrameWriter};
 use io_bench::{Act, Event, Faulty, Feed, Op, Reply, joined};
@@ -167,8 +168,8 @@ fn a_record_outlives_faults(rt: HostRuntime) -> Result<(), Fail> {
     Ok(())
 }
 
-// The example of `indexed` of `examples`, over a file with three entries and their index. An entry of another place; one that is not there,
-// or cut off, taken for one; an error of the system without its kind.
+// The example of `indexed` of `examples`, over a file with three entries and their index. An entry of another place;
+// one that is not there, or cut off, taken for one; an error of the system without its kind.
 fn indexed(rt: &(impl Abort + Files)) -> Result<(), Fail> {
     let file = b"onetwosix\0\0\0\0\x03\0\0\0\x06\0\0\0\x09\0\0\0".as_slice();
     create(rt, "entries")?.write_all(file)?;

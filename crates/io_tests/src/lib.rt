@@ -1,8 +1,8 @@
 //! Tests of what no clause and no row of a table can show: printed texts, kinds as keys, files. The comment above each
 //! names the mistake that it would find.
 //!
-//! And the examples of comments, one function for each module: those of the library are in `base` and `buffers`, and those of its
-//! clients in `clients`. One test in each of these files plays its functions.
+//! And the examples of comments, one function for each module: those of the library are in `base` and `buffers`, and
+//! those of its clients in `clients`. One test in each of these files plays its functions.
 #![tactic(auto)]
 
 #[cfg(test)]

@@ -57,8 +57,8 @@ const TEXTS: [(ErrorKind, &str); 21] = [
     (ErrorKind::Uncategorized, "uncategorized"),
 ];
 
-// A kind that prints another text, or that fails after it printed; an error that prints its kind's text in place of its own, or that
-// ignores a writer's error.
+// A kind that prints another text, or that fails after it printed; an error that prints its kind's text in place of its
+// own, or that ignores a writer's error.
 #[test]
 fn kinds_and_errors_print_their_texts(rt: HostRuntime) -> Result<(), Fail> {
     let alloc = rt.alloc();

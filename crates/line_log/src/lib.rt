@@ -67,24 +67,25 @@ impl<W: Write + Drop, const S: usize> LineLog<W, S> {
         !self.inner.buffer().is_empty()
     }
 
-    /// Logs a line: the text, followed by a newline. After `Ok` the whole line was accepted, and the writer below has all
-    /// of it; or a fault came, and the end of it, or all, is held until the next call, which sends it first.
+    /// Logs a line: the text, followed by a newline. After `Ok` the whole line was accepted, and the writer below has
+    /// all of it; or a fault came, and the end of it, or all, is held until the next call, which sends it first.
     ///
     /// # Errors
-    /// Returns `InvalidInput` if the line is not shorter than the buffer, or else if the text has a newline in it. Otherwise
-    /// returns the fault of the sending of earlier lines, if there is no room beside them. After each error nothing of this
-    /// line was accepted. Never returns `Interrupted`.
+    /// Returns `InvalidInput` if the line is not shorter than the buffer, or else if the text has a newline in it.
+    /// Otherwise returns the fault of the sending of earlier lines, if there is no room beside them. After each error
+    /// nothing of this line was accepted. Never returns `Interrupted`.
     pub fn log(&mut self, line: &str) -> Result<()>
         ensures logs { LogsLine W.Write line.now self.old result self.new }
     {
         self.log_bytes(line.as_bytes())
     }
 
-    /// Logs the printed text of a value, followed by a newline, like [`log`](LineLog::log). The text is first printed into an
-    /// array of `S` bytes, so it is accepted whole or not at all.
+    /// Logs the printed text of a value, followed by a newline, like [`log`](LineLog::log). The text is first printed
+    /// into an array of `S` bytes, so it is accepted whole or not at all.
     ///
     /// # Errors
-    /// Returns `Other`, `formatter error`, if the value's own `fmt` failed, and the errors that `log` returns for the text.
+    /// Returns `Other`, `formatter error`, if the value's own `fmt` failed, and the errors that `log` returns for
+    /// the text.
     ///
     /// ```rust
     /// let (name, value) = ("volts", 12);
@@ -134,8 +135,8 @@ impl<W: Write + Drop, const S: usize> LineLog<W, S> {
     /// Sends all held bytes, and flushes. After `Ok` nothing is held.
     ///
     /// # Errors
-    /// Returns the sending's fault, or the device's error if its `flush` fails. Bytes that were not sent are still held,
-    /// and a later call continues.
+    /// Returns the sending's fault, or the device's error if its `flush` fails. Bytes that were not sent are still
+    /// held, and a later call continues.
     pub fn flush(&mut self) -> Result<()>
         ensures law { FlushOf ⟦<BufWriter<W, S> as Write>⟧ (log_writer self.old) result (log_writer self.new) }
     {

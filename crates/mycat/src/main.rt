@@ -1,9 +1,9 @@
-//! Writes files to standard output, one after the other, like Unix's `cat`. The argument `-` is standard input, which is
-//! also read if there are no arguments.
+//! Writes files to standard output, one after the other, like Unix's `cat`. The argument `-` is standard input, which
+//! is also read if there are no arguments.
 //!
-//! If a file cannot be opened or read, its name and the system's reason go to standard error, and the next file follows.
-//! If standard output fails, the reason goes to standard error, and no file follows; if it is a pipe that nobody reads any
-//! more, the program stops without a message. The status is 0 if nothing failed, and else 1.
+//! If a file cannot be opened or read, its name and the system's reason go to standard error, and the next file
+//! follows. If standard output fails, the reason goes to standard error, and no file follows; if it is a pipe that
+//! nobody reads any more, the program stops without a message. The status is 0 if nothing failed, and else 1.
 #![tactic(auto)]
 
 ghost use Rattle.std.specs.Prelude.{◌≢◌, [], ◌∷◌, IfOk, drop, map, codes, string_bytes};

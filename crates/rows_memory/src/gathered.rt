@@ -1,7 +1,7 @@
 // Whole runs of `split` and `lines` over a borrowed reader.
 //
-// After a failed allocation, the items and the rest of the reader are the whole text, except for the first bytes of the item
-// that was being read.
+// After a failed allocation, the items and the rest of the reader are the whole text, except for the first bytes of the
+// item that was being read.
 use crate::outcome::Outcome;
 use crate::texts::{behind, front};
 use io_bench::{run_lines, run_split};

@@ -1,10 +1,10 @@
-//! Plays rows of calls that allocate. `scripts/check_memory` runs it so that in each run one allocation fails, and once to measure
-//! how much each call allocates.
+//! Plays rows of calls that allocate. `scripts/check_memory` runs it so that in each run one allocation fails, and once
+//! to measure how much each call allocates.
 //!
-//! A row of standard input is a call, with a number or without, followed by a bar and the sizes of its allocations, or `none`, which the
-//! script compares. The program prints the call and how it ended: `whole`; `refused`, if an allocation failed and nothing else went wrong
-//! (then the call was made once more, if it can continue); or what it returned instead. Each line is one write, so that the script
-//! knows which row allocated.
+//! A row of standard input is a call, with a number or without, followed by a bar and the sizes of its allocations, or
+//! `none`, which the script compares. The program prints the call and how it ended: `whole`; `refused`, if an
+//! allocation failed and nothing else went wrong (then the call was made once more, if it can continue); or what it
+//! returned instead. Each line is one write, so that the script knows which row allocated.
 #![tactic(auto)]
 
 mod gathered;

@@ -107,7 +107,8 @@ pub fn by_run_writes(alloc: Global) -> Outcome {
         .if_right(room == *b"heldab123456789\0")
 }
 
-/// Makes a run of writes on a new buffer over a sink whose writes are counted, and closes it. A refused run makes no call.
+/// Makes a run of writes on a new buffer over a sink whose writes are counted, and closes it. A refused run makes
+/// no call.
 pub fn by_run_closed(alloc: Global) -> Outcome {
     let mut replies = Vec::new(alloc);
     match run_closed::<Sink, 8>(Tally::new(Sink::new()), &OPS, &mut replies) {

@@ -1,8 +1,8 @@
-//! `tar_list` lists the members of the tar archive on standard input, one in each line: its size and its name. `tar_list NAME`
-//! copies the member with this name to standard output.
+//! `tar_list` lists the members of the tar archive on standard input, one in each line: its size and its name.
+//! `tar_list NAME` copies the member with this name to standard output.
 //!
-//! The status is 0 if the archive was read to its end or the member was copied, 1 after a fault, whose text is printed to standard
-//! error, and 2 if there are more arguments or one is not UTF-8.
+//! The status is 0 if the archive was read to its end or the member was copied, 1 after a fault, whose text is printed
+//! to standard error, and 2 if there are more arguments or one is not UTF-8.
 #![tactic(auto)]
 
 ghost use Rattle.std.specs.Prelude.{◌<◌, length, IfSome, IfNone};
