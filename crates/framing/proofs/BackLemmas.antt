@@ -4,11 +4,11 @@ use Rattle.no_std_io2.proofs.Words.{Bool, false, Result, Ok, Err, IsSomeAnd, ref
 use Rattle.no_std_io2.proofs.Words.{append-nil, length-append, length-take, take-append_seam, drop-append_seam, take-append-le, IsFault}
 use Rattle.no_std_io2.proofs.Words.{Event, fails, bytes, events_of, HasNoFault, first_fault, AreTaken, to_come, IsAtEnd, Reader, tells}
 use Rattle.no_std_io2.proofs.Words.{Told, behind_held}
-use Rattle.std.proofs.{Common.{All}, lemmas.List.Elements.{All-head}}
+use Rattle.std.proofs.{Common.{All}, lemmas.{List.{append_cancel_left}, List.Elements.{All-head}}}
 use Rattle.std.specs.Int.{w32, to_le_bytes, from_le_bytes}
 use Rattle.no_std_io2.specs.{declared.io.Error.{Error}, Reads.{GathersTo, Took}}
 use Rattle.no_std_io2.proofs.{EventLemmas.{bytes-append, bytes-behind, HasNoFault-append, HasNoFault-events_of}}
-use Rattle.no_std_io2.proofs.{GivenPieces.{first_fault-append}, ReadsLemmas.{Reads-takes}}
+use Rattle.no_std_io2.proofs.{GivenPieces.{first_fault-append}, MovesLemmas.{device_empty}, ReadsLemmas.{Reads-takes}}
 use Rattle.framing.specs.{Frames.{frame, frames, told_length, IsPart}}
 use Rattle.framing.specs.{Taking.{seen_bytes, reads_from, frame_to_come, given_frame, EndsFrame, TakesFrame}}
 use Rattle.framing.specs.{Back.{AreToCome, GivesBack, WentOut}, declared.reader.FrameReader.{FrameReader}}
@@ -147,11 +147,7 @@ module _ {R : Type 0} {S : ℕ} {I : Reader R} {old new : FrameReader R S} {room
 
 -- what went out are these frames
 went_out : {a b : Told} (sent : List (List ℕ)) (bs : List ℕ) → WentOut a sent b bs → bs ≡ frames sent
-went_out {a} {b} sent bs w =
-    let whole : b.out ≡ a.out ++ frames sent =
-    sym (append-nil b.out) ∙ ap (λ l. b.out ++ l) (sym w.flushed) ∙ w.moves.bytes ∙ ap (λ l. a.out ++ l ++ frames sent) w.empty
-    ∙ ap (λ l. l ++ frames sent) (append-nil a.out) in
-    sym (drop-append_seam a.out bs) ∙ ap (drop (length a.out)) (sym w.out ∙ whole) ∙ drop-append_seam a.out (frames sent)
+went_out {a} sent bs w = append_cancel_left a.out bs (frames sent) (sym w.out ∙ device_empty w.moves w.empty w.flushed)
 
 -- and if they are told to come, so are the frames
 pub round : (a b : Told) (sent : List (List ℕ)) (told : Option (List Event)) → IsSomeAnd told (λ E. WentOut a sent b (bytes E))

@@ -1,16 +1,15 @@
 -- Frames are sent one after another.
-use Rattle.no_std_io2.proofs.Words.{◌==◌, ◌<◌, ◌-◌, Bool, true, false, true≢false, length, take, drop, get_or, arith, ◌≡◌, ℕ, List, [], ◌∷◌}
+use Rattle.no_std_io2.proofs.Words.{◌==◌, ◌<◌, ◌-◌, Bool, true, false, length, take, drop, get_or, arith, ◌≡◌, ℕ, List, [], ◌∷◌}
 use Rattle.no_std_io2.proofs.Words.{◌++◌, Ok, map, refl, sym, ap, subst, ◌∙◌, append_assoc, append-nil, inl, inr, nil_from_length, Writer}
-use Rattle.no_std_io2.proofs.Words.{Moves}
-use Rattle.std.proofs.Common.{take_all, Bor, eqb-true}
+use Rattle.no_std_io2.proofs.Words.{Moves, common_steps}
+use Rattle.std.proofs.{Common.{take_all, Bor, eqb-true}, lemmas.{List.{map-append}, List.Folds.{concat-append}}}
 use Rattle.no_std_io2.proofs.MovesLemmas.{Moves-refl, Moves-trans}
 use Rattle.framing.specs.{declared.writer.FrameWriter.{FrameWriter}, Frames.{frame, frames}}
 use Rattle.framing.specs.{Sending.{writer_tells, PutsEach, SendsFrame, SentSoFar}}
 
 -- one frame more
 frames_more : (ps : List (List ℕ)) (p : List ℕ) → frames (ps ++ p ∷ []) ≡ frames ps ++ frame p
-frames_more [] p = append-nil (frame p)
-frames_more (x ∷ ps) p = ap (λ l. frame x ++ l) (frames_more ps p) ∙ sym (append_assoc (frame x) (frames ps) (frame p))
+frames_more ps p = rw (map-append, concat-append, append-nil)
 
 module _ {W : Type 0} {S : ℕ} (I : Writer W) where
   -- what the sending of a frame tells
@@ -33,14 +32,12 @@ module _ {W : Type 0} {S : ℕ} (I : Writer W) where
     sent = before.sent ++ p ∷ [];
     split = before.split ∙ ap (λ l. before.sent ++ l) is ∙ sym (append_assoc before.sent (p ∷ []) others);
     each = each_more old before.sent before.each sends;
-    moves = subst (λ l. Moves (writer_tells I.told old) l [] (writer_tells I.told new)) (sym (frames_more before.sent p))
-        (Moves-trans before.moves (frame_moves sends));
+    moves = rw (frames_more before.sent p) (Moves-trans before.moves (frame_moves sends));
   }
 
 -- whether a slice has elements
 pub some_there : {X : Type 0} (b : Bool) (xs : List X) → b ≡ (length xs == 0) → b ≡ false → 0 < length xs
-some_there b [] is h = absurd (true≢false (sym is ∙ h))
-some_there b (x ∷ xs) is h = omega arith
+some_there b xs is h = grind (arith, common_steps)
 
 pub none_there : {X : Type 0} (b : Bool) (xs : List X) → b ≡ (length xs == 0) → b ≡ true → xs ≡ []
 none_there b xs is h = nil_from_length xs (eqb-true (length xs) 0 (sym is ∙ h))

@@ -1,7 +1,7 @@
 -- The lines of members, one after another.
-use Rattle.no_std_io2.proofs.Words.{◌≡◌, ◌⊎◌, List, ℕ, [], ◌∷◌, ◌++◌, Result, Ok, sym, ap, ◌∙◌, append-nil, append_assoc, inl, inr, Told}
+use Rattle.no_std_io2.proofs.Words.{◌≡◌, ◌⊎◌, List, ℕ, [], ◌∷◌, ◌++◌, Result, Ok, append-nil, inl, inr, Told}
 use Rattle.no_std_io2.proofs.Words.{Moves, MovesFront, Err, Option, Some, None, refl, ⊤, IfOk, Lender, Reader, Writer}
-use Rattle.std.proofs.Common.{IsErrAnd, IfSome}
+use Rattle.std.proofs.{Common.{IsErrAnd, IfSome}, lemmas.{List.{map-append}, List.Folds.{concat-append}}}
 use Rattle.no_std_io2.specs.{declared.io.{Error.{Error}, Take.{Take}}, Text.{IsTextError}}
 use Rattle.no_std_io2.proofs.MovesLemmas.{Moves-then, MovesFront-whole}
 use Rattle.tar_reader.specs.{declared.archive.Archive.{Archive}, declared.header.Header.{Header}, Members.{NextHeaderLaw, FindHeaderLaw}}
@@ -16,9 +16,7 @@ printed_whole x is (inr failed) = absurd (rw is at failed)
 
 -- one line more
 lines_more : (headers : List Header) (h : Header) → member_lines (headers ++ h ∷ []) ≡ member_lines headers ++ member_line h
-lines_more [] h = append-nil (member_line h)
-lines_more (header ∷ headers) h = ap (λ l. member_line header ++ l) (lines_more headers h)
-    ∙ sym (append_assoc (member_line header) (member_lines headers) (member_line h))
+lines_more headers h = rw (map-append, concat-append, append-nil)
 
 -- it was printed whole
 pub prints_more : {a b c : Told} (headers : List Header) (h : Header) {r : Result (Unit {0}) Error} {u : Unit {0}} → r ≡ Ok u

@@ -29,6 +29,4 @@ returns-else-self-eq0-clause-len g c =
 
 pub returns-else-self-eq0-clause-long : goal.returns-else-self-eq0-clause-long
 returns-else-self-eq0-clause-long g c =
-    let r = c.args.self.now in
-    let some : 0 < r.len = omega (arith, c.if-self-eq0.false) in
-    omega (arith, r.is_long some, one_length r.len c.args.len (seen_bytes r []) (seen_header r [] some) (c.requires.header []))
+    omega (arith, c.args.self.now.is_long (omega (arith, c.if-self-eq0.false)), returns-else-self-eq0-clause-len g c)
