@@ -50,9 +50,9 @@ pub record Lists {X : Type 0} (R : Lender X) (old : Archive X) (was : Told) (rep
 
 -- how a copy of a member's bytes ended, after this result of `copy`, with so many bytes left: its error; or the writer was flushed; or the
 -- archive ended inside the member
-abbrev pub CopyEnds : {W : Type 0} → Writer W → Result ℕ Error → ℕ → W → Result (Unit {0}) Error → W → Type 0
-CopyEnds I (Err e) left out reply now = (reply ≡ Err e) × (now ≡ out)
-CopyEnds I (Ok n) left out reply now = ((left ≡ 0) × FlushOf I out reply now)
+abbrev pub BytesEnd : {W : Type 0} → Writer W → Result ℕ Error → ℕ → W → Result (Unit {0}) Error → W → Type 0
+BytesEnd I (Err e) left out reply now = (reply ≡ Err e) × (now ≡ out)
+BytesEnd I (Ok n) left out reply now = ((left ≡ 0) × FlushOf I out reply now)
     ⊎ ((0 < left) × IsErrAnd reply (SaysError UnexpectedEof (codes "the archive ends inside a member")) × (now ≡ out))
 
 -- The bytes of the member that was found were copied, until all were, or a fault came, or the archive ended.
@@ -62,7 +62,7 @@ pub record CopiesBytes {X W : Type 0} (K : Reader (Take X)) (I : Writer W) (mid 
   pub out : W
   pub copies : Copied K I 65536 (member_of mid) was copied (member_of new) out
   pub rest : new ≡ with_member mid (member_of new)
-  pub ends : CopyEnds I copied (left_of_member new) out reply now
+  pub ends : BytesEnd I copied (left_of_member new) out reply now
 
 -- no byte was copied: the archive and the writer are as they were
 abbrev pub CopiesNone : {X W : Type 0} → Archive X → W → Archive X → W → Type 0
