@@ -3,8 +3,9 @@ ghost use Rattle.std.specs.Prelude.{◌≡◌, ◌≤◌, ◌<◌, ◌++◌, ◌
 ghost use Rattle.no_std_io2_base.specs.Text.{HasText, PrintsOrRefuses};
 
 use super::write::Write;
-use crate::error::{Error, ErrorKind, Result};
+use crate::error::{Error, Result};
 use crate::impls::copy_bytes;
+use crate::internal::failed_to_write;
 use std::fmt;
 use std::fmt::Display;
 
@@ -61,7 +62,7 @@ pub fn print_to_object<D: Display + Drop, const N: usize>(w: &mut dyn Write, tex
         return Err(Error::other("formatter error"));
     }
     if page.is_over {
-        return Err(Error::new(ErrorKind::WriteZero, "failed to write whole buffer"));
+        return Err(failed_to_write());
     }
     let Page { bytes, len, .. } = page;
     w.write_all(&bytes[..len])

@@ -111,9 +111,9 @@ fn append_line(buf: &mut String, line: &[u8], read: Result<usize>) -> Result<usi
     read
 }
 
-/// Appends a line to a string if it is UTF-8 and the string has room for it, and returns whether it
-/// did. If not, the string is unchanged.
-pub fn append_text(buf: &mut String, line: &[u8]) -> bool
+// Appends a line to a string if it is UTF-8 and the string has room for it, and returns whether it
+// did. If not, the string is unchanged.
+pub(super) fn append_text(buf: &mut String, line: &[u8]) -> bool
     ensures appended { OnTrue result (Follows line.now (string_bytes buf.old) (string_bytes buf.new)
         × (string_len buf.new ≡ string_len buf.old + length line.now)) }
     ensures same { OnFalse result (buf.new ≡ buf.old) }
@@ -131,10 +131,10 @@ pub fn append_text(buf: &mut String, line: &[u8]) -> bool
     true
 }
 
-/// Returns an empty vector. It has the memory of the string if the string is empty. If not, it has room for a short
-/// line, unless the allocation fails.
+// Returns an empty vector. It has the memory of the string if the string is empty. If not, it has room for a short
+// line, unless the allocation fails.
 #[inline(always)]
-pub fn take_memory(alloc: Global, buf: &mut String) -> Vec<u8>
+pub(super) fn take_memory(alloc: Global, buf: &mut String) -> Vec<u8>
     ensures items { result.items ≡ [] }
     ensures bytes { string_bytes buf.new ≡ string_bytes buf.old }
     ensures len { string_len buf.new ≡ string_len buf.old }
@@ -149,15 +149,15 @@ pub fn take_memory(alloc: Global, buf: &mut String) -> Vec<u8>
     }
 }
 
-/// Appends a line's bytes to a string if they are UTF-8, and returns the result of their read. If the
-/// string is empty, the line becomes the string, without a copy and without an allocation; if the
-/// bytes are not UTF-8, the string gets only the line's memory.
-///
-/// # Errors
-/// Returns the read's error if the read failed, `InvalidData` if the bytes are not UTF-8, and
-/// `OutOfMemory` if the string could not grow. The string is unchanged if the bytes are not UTF-8,
-/// and after every `OutOfMemory`, also the read's.
-pub fn put_line(buf: &mut String, mut line: Vec<u8>, read: Result<usize>) -> Result<usize>
+// Appends a line's bytes to a string if they are UTF-8, and returns the result of their read. If the
+// string is empty, the line becomes the string, without a copy and without an allocation; if the
+// bytes are not UTF-8, the string gets only the line's memory.
+//
+// # Errors
+// Returns the read's error if the read failed, `InvalidData` if the bytes are not UTF-8, and
+// `OutOfMemory` if the string could not grow. The string is unchanged if the bytes are not UTF-8,
+// and after every `OutOfMemory`, also the read's.
+pub(super) fn put_line(buf: &mut String, mut line: Vec<u8>, read: Result<usize>) -> Result<usize>
     ensures answers { AnswersLine line.items read (string_len buf.old) (text_room buf.old line) result
         (string_bytes buf.old) (string_bytes buf.new) }
     ensures capacity { text_room buf.old line ≤ string_capacity buf.new }

@@ -10,7 +10,7 @@ returns-then-page g c =
     let has =
     page_has (λ text p. HasText g.row.N p.bytes.now p.len p.is_over text) _ c.write.new.self _ written
     (page_none g.row.N (replicate g.row.N 0)) in
-    inr (inl ((c.new.ensures.kind, c.new.ensures.text), page_over g.row.N _ _ _ c.if-page.true has), refl)
+    inr (inl (c.failed_to_write.ensures, page_over g.row.N _ _ _ c.if-page.true has), refl)
 
 pub returns : goal.returns
 returns g c =
