@@ -13,7 +13,7 @@ use Rattle.no_std_io2_base.proofs.{WritesFacts.{writes_fault, writes_sends}, All
 use Rattle.no_std_io2_base.proofs.{MeterLemmas.{writes_count, all_count}}
 use Rattle.no_std_io2.specs.{declared.buffered.sender.Sender.{Sender}, BufWriter.{PutCalls, PastEmpty, way_calls, Buffers, BuffersAll}}
 use Rattle.no_std_io2.proofs.{BufWriterLemmas.{Moves-kept, Moves-emptied, MovesFront-emptied}}
-use Rattle.no_std_io2.proofs.StepLemmas.{no_ok, then_goes_on, then_does, does, Does, Effect, Always, Exactly, Emptied, Sending, StepsJoin}
+use Rattle.no_std_io2.proofs.StepLemmas.{no_ok, then_goes_on, then_does, done, does, Does, Effect, Always, Exactly, Emptied, Sending, StepsJoin}
 
 -- in front of fewer than S bytes there is room then,
 pub way_room : (S n : ℕ) {held left : List ℕ} {C : List WriteCall} → n < S → WayCalls S n held C (Ok tt) left → length left + n ≤ S
@@ -141,7 +141,7 @@ module _ {W : Type 0} (I : Writer W) where
       kept_does (Exactly (way_left S n)) (λ held. way_calls S held n) a b kept.1 kept.2 kept.3 (grind (arith, nat_tests, kept.0))
       (grind (arith, nat_tests, kept.0)) made
   way_does S n a b held left C reply (inr sent) made =
-      let sends = send_does a b held left C reply sent.1 made in record {
+      let sends = done send_does sent.1 made in record {
         tells = sends.tells;
         leaves = grind (arith, common_steps, on_ok_weaker, sends.leaves, sent.0);
         counts = λ t. grind (arith, common_steps, sends.counts t, sent.0);
@@ -158,7 +158,7 @@ module _ {W : Type 0} (I : Writer W) where
             counts = λ t. grind (arith, nat_tests, common_steps, same, kept.0, kept.1, kept.2);
           }
       put_does a b held left C reply (inr passed) made =
-          let past = gone a b held left C reply passed.1 made in record {
+          let past = done gone passed.1 made in record {
             tells = past.tells;
             leaves = grind (arith, common_steps, past.leaves, passed.0);
             counts = λ t. grind (arith, common_steps, past.counts t, passed.0);
@@ -168,8 +168,7 @@ module _ {W : Type 0} (I : Writer W) where
       buffered_does : StepsJoin Sending R R → Always I (Buffered S x v past) R (Exactly (λ held. buffer_after S held x))
           (λ held. way_calls S held (length x) + past_calls S (length x) m)
       buffered_does follows a b held left C reply write made =
-          let both = then_does (WayCalls S (length x)) (PutCalls S x v past) follows (way_does S (length x)) put_does a b held left C reply
-          write made in
+          let both = done (then_does (WayCalls S (length x)) (PutCalls S x v past) follows (way_does S (length x)) put_does) write made in
           record { tells = both.tells; leaves = grind (arith, common_steps, on_ok_weaker, both.leaves); counts = both.counts }
 
   -- `write(x)`,
@@ -203,7 +202,7 @@ module _ {W : Type 0} (I : Writer W) where
   -- and `flush()`
   pub flush_does : Always I FlushCalls Flushing Emptied calls_for
   flush_does a b held left C reply flush made =
-      let both = then_does SendCalls (PastEmpty (Only Flushed)) flushing_joins send_does passed a b held left C reply flush made in
+      let both = done (then_does SendCalls (PastEmpty (Only Flushed)) flushing_joins send_does passed) flush made in
       record { tells = both.tells; leaves = both.leaves; counts = λ t. let c = both.counts t in (c.0, c.1, omega (arith, c.2)) }
     where
       passed : Always I (PastEmpty (Only Flushed)) Flushing Emptied (λ _. 0)
@@ -227,11 +226,11 @@ module _ {W : Type 0} (I : Writer W) where
       where
         by : {C : List WriteCall} {reply : Result ℕ Error} → WriteCalls S x held C reply left → Made (CallOf I) a C b
             → reply ≡ Ok (length x)
-        by (stops way) made = no_ok ((way_does S (length x) _ _ _ _ _ _ way made).counts takes).1
+        by (stops way) made = no_ok ((done (way_does S (length x)) way made).counts takes).1
         by (goes_on {C = C} {D = D} way (inl kept)) made = kept.2
         by (goes_on {C = C} {D = D} way (inr gone)) made =
             let parts = made_split (CallOf I) C a D b made in
-            ((one_inner_call parts.0 b gone.1.2 parts.2).all ((way_does S (length x) _ _ _ _ _ _ way parts.1).counts takes).0).1
+            ((one_inner_call parts.0 b gone.1.2 parts.2).all ((done (way_does S (length x)) way parts.1).counts takes).0).1
 
     -- `flush` leaves nothing held, here or further in
     pub flush_empty : {reply : Result (Unit {0}) Error} → Stepped I FlushCalls a held reply left b

@@ -40,11 +40,16 @@ abbrev pub Always : {W A : Type 0} → Writer W → Step A → Effect A → (Lis
 Always {W} {A} I step R F n = (a b : W) (held left : List ℕ) (C : List WriteCall) (reply : Result A Error) → step held C reply left
     → Made (CallOf I) a C b → Does I R F n a held C reply left b
 
--- also this time
-pub does : {W A : Type 0} {I : Writer W} {step : Step A} {R : Effect A} {F : List ℕ → List ℕ → Type 0}
-    {n : List ℕ → ℕ} {a b : W} {held left : List ℕ} {reply : Result A Error} → Always I step R F n
-    → (p : Stepped I step a held reply left b) → Does I R F n a held p.calls reply left b
-does always p = always _ _ _ _ _ _ p.are p.made
+module _ {W A : Type 0} {I : Writer W} {step : Step A} {R : Effect A} {F : List ℕ → List ℕ → Type 0} {n : List ℕ → ℕ} {a b : W} where
+  -- also by these calls,
+  pub done : {held left : List ℕ} {C : List WriteCall} {reply : Result A Error} → Always I step R F n → step held C reply left
+      → Made (CallOf I) a C b → Does I R F n a held C reply left b
+  done always is made = always _ _ _ _ _ _ is made
+
+  -- and this time
+  pub does : {held left : List ℕ} {reply : Result A Error} → Always I step R F n → (p : Stepped I step a held reply left b)
+      → Does I R F n a held p.calls reply left b
+  does always p = done always p.are p.made
 
 -- exactly this is held then,
 abbrev pub Exactly : (List ℕ → List ℕ) → List ℕ → List ℕ → Type 0
@@ -72,12 +77,12 @@ pub then_does : {W A : Type 0} {I : Writer W} {P : Effect (Unit {0})}
     → StepsJoin P Q R → Always I first P (Exactly f) n → Always I next Q G k
     → Always I (Then first next) R (λ held. G (f held)) (λ held. n held + k (f held))
 then_does first next follows one two a b held left _ _ (stops p) made =
-    let x = one _ _ _ _ _ _ p made in
+    let x = done one p made in
     record { tells = follows.fails _ _ _ x.tells; leaves = tt; counts = λ t. no_ok (x.counts t).1 }
 then_does {I} first next {G = G} {k = k} follows one two a b held left _ reply (goes_on {C = C} {D = D} p q) made =
     let parts = made_split (CallOf I) C a D b made in
-    let x = one _ _ _ _ _ _ p parts.1 in
-    let y = two _ _ _ _ _ _ q parts.2 in
+    let x = done one p parts.1 in
+    let y = done two q parts.2 in
     record {
       tells = follows.joins _ _ _ reply x.tells y.tells;
       leaves = subst (λ l. OnOk reply (G l left)) x.leaves y.leaves;
