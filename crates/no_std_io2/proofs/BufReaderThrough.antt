@@ -1,5 +1,5 @@
 -- Which inner reads a `BufReader` makes for its reads, one after another, and what is in the buffer then: for `read_full` and `read_exact`.
-use Rattle.no_std_io2.proofs.Words.{common_steps, ◌≡◌, ℕ, ◌+◌, ◌-◌, ◌<◌, ◌≤◌, ◌⊎◌, List, [], ◌∷◌, ◌++◌, Bool, true, false, Result, Ok, Err}
+use Rattle.no_std_io2.proofs.Words.{common_steps, ◌≡◌, ℕ, ◌-◌, ◌<◌, ◌≤◌, ◌⊎◌, List, [], ◌∷◌, ◌++◌, Bool, true, false, Result, Ok, Err}
 use Rattle.no_std_io2.proofs.Words.{length, take, drop, refl, sym, ap, subst, ◌∙◌, arith, append_assoc, append-nil, length-append}
 use Rattle.no_std_io2.proofs.Words.{take-append-drop, length-take, length-take-le, length-drop, inl, inr, le_refl, nil_from_length}
 use Rattle.no_std_io2.proofs.Words.{IsInterruption, bytes, events_of, Takes, Made, Reader, ReadCall, Gave, Gathers, no_read, and_gave}
@@ -38,26 +38,12 @@ module _ {R : Type 0} {S : ℕ} (inner : Reader R) (old : BufReader R S) (wanted
   module _ {x : List ℕ} {now : BufReader R S} {size : ℕ} (before : Below x now) (into : IsRest wanted (length x) size) where
     -- the next inner read is as large as that
     into_rest : {n : ℕ} → n ≡ max S size → reader_held now ≡ [] → asks (length before.given) n
-    into_rest is none =
-        let long = sym (length-append (reader_held old) before.given) ∙ ap length before.split ∙ length-append x (reader_held now) in
-        let rest : size ≡ wanted - (length (reader_held old) + length before.given) = omega (arith, long, ap length none, into.0) in
-        (omega (arith, long, ap length none, into.0, into.1), is ∙ ap (max S) rest)
+    into_rest is none = grind (arith, common_steps, length-append, reader_held)
 
   module _ {x : List ℕ} {now new : BufReader R S} {size : ℕ} (before : Below x now) (into : IsRest wanted (length x) size) where
     -- held bytes were given
     gave_held : (y : List ℕ) → 0 < length (reader_held now) → GivesHeld now size (Ok y) new → Below (x ++ y) new
-    gave_held y some call =
-        let is : y ≡ take size (reader_held now) = ap bytes_given call.1.0 in
-        record {
-          given = before.given;
-          reads = subst (Reads inner asks (reader_inner old) before.given (Ok true)) (sym call.0) before.reads;
-          split = split_given (reader_held old) before.given x y (reader_held new) before.split
-              (grind (arith, common_steps, take-append-drop));
-          stage = elim before.stage [
-            | inl none ↦ inl none
-            | inr clear ↦ absurd (omega (arith, some, ap length (clear.0 (omega (arith, into.0, into.1)))))
-          ];
-        }
+    gave_held y some call = grind (arith, common_steps, reader_held, bytes_given, reader_inner, split_given, take-append-drop)
 
     -- an inner read gave r, and y of it was given
     gave_read : (y r : List ℕ) {n : ℕ} → n ≡ max S size → reader_held now ≡ [] → 0 < length y

@@ -62,8 +62,7 @@ module _ {R A : Type 0} {S : ℕ} {K : Reader R} {old new : BufReader R S} {buf 
 
       counts : (reply : Result ℕ Error) → OnOk reply (k ≡ vec_len buf' - vec_len buf)
           → IfOk (recount reply k) (λ n. n ≡ length (bytes taken))
-      counts (Ok n) is = omega (arith, is, ap length shown, length-append buf.items (bytes taken), buf'.ok.0, buf.ok.0)
-      counts (Err e) is = tt
+      counts reply is = grind (arith, common_steps, shown, length-append, taken)
 
       ends : (reply : Result ℕ Error)
           → DrainsOrStops (vec_capacity mid < vec_len mid + (length (bytes inner.taken) + least_room)) inner.taken reply
@@ -90,8 +89,7 @@ module _ {R A : Type 0} {S : ℕ} {K : Reader R} {old new : BufReader R S} {buf 
       call = inr (bytes inner.taken, refl, rw (sym (same reply)) inner.calls, empty)
         where
           same : (reply : Result ℕ Error) → ended reply ≡ ended (recount reply k)
-          same (Ok n) = refl
-          same (Err e) = refl
+          same reply = grind (arith, common_steps)
 
   -- nothing was held: it is just that inner call
   pub to_end_alone : (reply : Result ℕ Error) → reader_held old ≡ [] → ReadToEndLaw K (reader_inner old) buf reply buf' (reader_inner new)

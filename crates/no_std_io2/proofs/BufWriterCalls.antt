@@ -1,19 +1,18 @@
 -- What the steps of a buffered writer do, and what follows for its calls. For `Sender` and `BufWriter`, and for counts of calls.
 use Rattle.no_std_io2.proofs.Words.{TakesAll, CallOf, Writer, Told, Moves, MovesFront, WriteCall, Made, ByCalls, call_mishap, Wrote}
-use Rattle.no_std_io2.proofs.Words.{Flushed, AllCalls, calls_for, none as no_write, charges, [], ◌≡◌, ◌+◌, ℕ, ◌<◌, ◌≤◌, List, ◌∷◌, ◌++◌, length}
-use Rattle.no_std_io2.proofs.Words.{Result, Ok, OnOk, IsOk, IfOk, refl, sym, subst, ap, ◌∙◌, arith, le_refl, append-nil, if◌then◌else◌}
-use Rattle.no_std_io2.proofs.Words.{nat_lt, ⊎_elim, inl, inr, common_steps, nil_from_length, cases_lt, nat_tests, stops, goes_on, Stepped}
-use Rattle.no_std_io2.proofs.Words.{TakesStep, sender_inner, sender_buffer, Only, SendCalls, WayCalls, Buffered, WriteCalls}
-use Rattle.no_std_io2.proofs.Words.{WriteAllCalls, FlushCalls, writing_calls, buffer_after}
+use Rattle.no_std_io2.proofs.Words.{Flushed, AllCalls, calls_for, none as no_write, charges, [], ◌≡◌, ◌+◌, ℕ, ◌<◌, ◌≤◌, List, ◌∷◌, ◌++◌}
+use Rattle.no_std_io2.proofs.Words.{length, Result, Ok, OnOk, IfOk, refl, subst, arith, le_refl, append-nil, if◌then◌else◌, nat_lt, inl}
+use Rattle.no_std_io2.proofs.Words.{inr, common_steps, nil_from_length, cases_lt, nat_tests, stops, goes_on, Stepped, TakesStep}
+use Rattle.no_std_io2.proofs.Words.{sender_inner, sender_buffer, Only, SendCalls, WayCalls, Buffered, WriteCalls, WriteAllCalls, FlushCalls}
+use Rattle.no_std_io2.proofs.{Words.{writing_calls, buffer_after}, BufWriterLemmas.{Moves-kept, Moves-emptied, MovesFront-emptied}}
+use Rattle.no_std_io2.proofs.StepLemmas.{no_ok, then_goes_on, then_does, done, does, Does, Effect, Always, Exactly, Emptied, Sending}
+use Rattle.no_std_io2.proofs.StepLemmas.{StepsJoin}
 use Rattle.no_std_io2_base.specs.{declared.error.Error.{Error}, Errors.{IsNoInterruption}, Write.{taken, write_mishap}}
 use Rattle.std.proofs.{Common.{take_all, nat_le}, lemmas.Result.{on_ok_weaker}}
-use Rattle.no_std_io2_base.proofs.{MovesLemmas.{IsFront-refl, Moves-then, zero_write-whole}}
-use Rattle.no_std_io2_base.proofs.{CallsLemmas.{by_are, by_call, made_split, writes_whole}}
-use Rattle.no_std_io2_base.proofs.{WritesFacts.{writes_fault, writes_sends}, AllFacts.{all_calls, call_steady}}
-use Rattle.no_std_io2_base.proofs.{MeterLemmas.{writes_count, all_count}}
+use Rattle.no_std_io2_base.proofs.{MovesLemmas.{IsFront-refl, Moves-then, zero_write-whole}, CallsLemmas.{by_are, by_call, made_split}}
+use Rattle.no_std_io2_base.proofs.{CallsLemmas.{writes_whole}, WritesFacts.{writes_fault, writes_sends}, AllFacts.{all_calls, call_steady}}
+use Rattle.no_std_io2_base.proofs.MeterLemmas.{writes_count, all_count}
 use Rattle.no_std_io2.specs.{declared.buffered.sender.Sender.{Sender}, BufWriter.{PutCalls, PastEmpty, way_calls, Buffers, BuffersAll}}
-use Rattle.no_std_io2.proofs.{BufWriterLemmas.{Moves-kept, Moves-emptied, MovesFront-emptied}}
-use Rattle.no_std_io2.proofs.StepLemmas.{no_ok, then_goes_on, then_does, done, does, Does, Effect, Always, Exactly, Emptied, Sending, StepsJoin}
 
 -- in front of fewer than S bytes there is room then,
 pub way_room : (S n : ℕ) {held left : List ℕ} {C : List WriteCall} → n < S → WayCalls S n held C (Ok tt) left → length left + n ≤ S
@@ -30,10 +29,7 @@ module _ {W : Type 0} {I : Writer W} {S : ℕ} where
 
   -- or nothing is held
   way_empty : (n : ℕ) {held : List ℕ} {a : W} → held ≡ [] → Stepped I (WayCalls S n) a held (Ok tt) held a
-  way_empty n {held} empty = ⊎_elim
-      (λ over. record { calls = []; made = refl; are = inr (over, subst (λ l. SendCalls l [] (Ok tt) l) (sym empty) no_write) })
-      (λ room. way_kept n room)
-      (cases_lt S (length held + n))
+  way_empty n {held} empty = grind (arith, common_steps, no_write, way_kept, cases_lt)
 
   module _ {A : Type 0} (x : List ℕ) {v : A} (past : List WriteCall → Result A Error → Type 0) where
     -- x is held after the held bytes,
@@ -178,12 +174,7 @@ module _ {W : Type 0} (I : Writer W) where
       (λ s t m. rw (take_all _ x (le_refl (length x)), zero_write-whole x) m) passed (writing_joins x)
     where
       passed : Always I (PastEmpty (Only (Wrote x))) (Writing x) Emptied (λ _. 1)
-      passed a b held left C reply gone made =
-          let law = one_inner_call a b gone.2 made in record {
-            tells = Moves-emptied gone.0 gone.1 law.moves;
-            leaves = grind (arith, common_steps, gone.1);
-            counts = λ t. let all = law.all t in (all.0, subst IsOk (sym all.1) refl, ap charges gone.2 ∙ omega arith);
-          }
+      passed a b held left C reply gone made = grind (arith, common_steps, one_inner_call, Moves-emptied, charges)
 
   -- `write_all(x)`
   pub write_all_does : (S : ℕ) (x : List ℕ)
@@ -206,12 +197,7 @@ module _ {W : Type 0} (I : Writer W) where
       record { tells = both.tells; leaves = both.leaves; counts = λ t. let c = both.counts t in (c.0, c.1, omega (arith, c.2)) }
     where
       passed : Always I (PastEmpty (Only Flushed)) Flushing Emptied (λ _. 0)
-      passed a b held left C reply gone made =
-          let law = one_inner_call a b gone.2 made in record {
-            tells = Moves-emptied gone.0 gone.1 law.moves;
-            leaves = grind (arith, common_steps, gone.1);
-            counts = λ t. (law.all t, call_steady reply t.1 law.moves, ap charges gone.2);
-          }
+      passed a b held left C reply gone made = grind (arith, common_steps, one_inner_call, Moves-emptied, call_steady, charges)
 
   module _ {a b : W} {held left : List ℕ} where
     -- a `write` takes no more than it is given,

@@ -68,16 +68,14 @@ pub MovesFront-device : {W : Type 0} {S : ℕ} (told : W → Told) (w v : BufWri
     → MovesFront (writer_told told w) x r (writer_told told v) → writer_buffer w ≡ []
     → OnOk r ((writer_told told v).held ≡ [])
     → OnOk r (Moves (told (writer_inner w)) x [] (told (writer_inner v)))
-MovesFront-device told w v x r f none flushed =
-    device_moves _ _ r (writer_buffer w) (writer_buffer v) none (buffer_none r (told (writer_inner v)).held (writer_buffer v) flushed) f
+MovesFront-device told w v x r f none flushed = grind (arith, common_steps, device_moves, writer_buffer, buffer_none, writer_inner)
 
 -- the same of a `LineWriter` as `MovesFront-device`
 pub MovesFront-line_device : {W : Type 0} {S : ℕ} (told : W → Told) (w v : LineWriter W S) (x : List ℕ) (r : Result (Unit {0}) Error)
     → MovesFront (line_told told w) x r (line_told told v) → line_buffer w ≡ []
     → OnOk r ((line_told told v).held ≡ [])
     → OnOk r (Moves (told (line_inner w)) x [] (told (line_inner v)))
-MovesFront-line_device told w v x r f none flushed =
-    device_moves _ _ r (line_buffer w) (line_buffer v) none (buffer_none r (told (line_inner v)).held (line_buffer v) flushed) f
+MovesFront-line_device told w v x r f none flushed = grind (arith, common_steps, device_moves, line_buffer, buffer_none, line_inner)
 
 -- an empty `LineWriter` in front of a device, as `Moves-device`
 pub Moves-line_device : {W : Type 0} {S : ℕ} {a : Told} {b : Told} {x : List ℕ} {k : List ErrorKind} (told : W → Told)

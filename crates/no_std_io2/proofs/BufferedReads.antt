@@ -6,7 +6,7 @@ use Rattle.no_std_io2.proofs.Words.{Event, events_of, bytes, Store, Tells, Takes
 use Rattle.no_std_io2.proofs.Words.{bytes_given, behind_held, step_back, store_if, store_before, IsCutOn}
 use Rattle.std.proofs.{Common.{IfSome}, Math.Nat.{mul-le-mul_left, mul-suc}, Math.Seq.{drop-append-add}}
 use Rattle.std.proofs.{lemmas.List.{drop-drop, drop-append-le}, lemmas.Bool.Decides.{Decides-and}, lemmas.Bool.{leb-true, le-leb}}
-use Rattle.std.specs.{Bool.{Decides}, Prelude.{nat_le, nat_eq}}
+use Rattle.std.specs.{Bool.{Decides}}
 use lib.Pointwise.{pointwise, bytes_decides}
 use Rattle.no_std_io2_base.specs.{declared.error.Error.{Error}, Events.{BeginsWith}, Takes.{events_by}, Read.{fault_of}}
 use Rattle.no_std_io2_base.proofs.{EventLemmas.{bytes-append, bytes-events_of, length-events_of, events_of-append}}
@@ -19,10 +19,7 @@ IsBefore whole s = (length whole ≤ s.position) × (drop (s.position - length w
 
 -- the test of a store
 pub before_decides : (whole : List ℕ) (s : Store) → Decides (is_before whole s) (IsBefore whole s)
-before_decides whole s =
-    Decides-and (nat_le (length whole) s.position)
-    (pointwise nat_eq (drop (s.position - length whole) s.content) (whole ++ drop s.position s.content))
-    (leb-true _ _, le-leb _ _) (bytes_decides _ _)
+before_decides whole s = grind (arith, common_steps, Decides-and, pointwise, leb-true, le-leb, bytes_decides)
 
 -- the held bytes are right before the position too
 pub held_before : (behind held : List ℕ) (s : Store) → IsBefore (behind ++ held) s → IsBefore held s
@@ -44,8 +41,7 @@ told_by true held s sound = ap (λ l. Some (events_of l)) (sound refl).1 ∙ ap 
 
 told_before : (held : List ℕ) (s : Option Store) (E : Option (List Event))
     → events_by (store_before held s) (behind_held held (events_by s E)) ≡ behind_held held (events_by s E)
-told_before held None E = refl
-told_before held (Some s) E = told_by (is_before held s) held s (before_decides held s).0
+told_before held s E = grind (arith, common_steps, told_by, before_decides)
 
 -- with or without a store: the held bytes, and then what the inner reader tells
 pub told_behind : (room : ℕ) (held : List ℕ) (t : Tells) → to_come (reader_told room held t) ≡ behind_held held (to_come t)
@@ -115,11 +111,7 @@ turns_behind room h h' p (suc q) t t' is fits less =
 
 taken_behind : (held held' : List ℕ) (P Q : List Event) (E E' : Option (List Event)) → AreTaken E Q E'
     → events_of held ++ Q ≡ P ++ events_of held' → AreTaken (behind_held held E) P (behind_held held' E')
-taken_behind held held' P Q None E' taken is = tt
-taken_behind held held' P Q (Some E) None taken is = absurd taken
-taken_behind held held' P Q (Some E) (Some E') taken is =
-    ap (λ l. events_of held ++ l) taken ∙ sym (append_assoc (events_of held) Q E') ∙ ap (λ l. l ++ E') is
-    ∙ append_assoc P (events_of held') E'
+taken_behind held held' P Q E E' taken is = grind (arith, common_steps, append_assoc)
 
 -- The inner reader took Q. The held bytes and then Q are P and then the bytes that are now held. So P was taken.
 takes_behind : (room : ℕ) (held held' : List ℕ) (P Q : List Event) {a b : Tells} → Takes a Q b
@@ -192,8 +184,7 @@ steps_over room o behind held behind' held' t within cut fits fits' = by o withi
         takes_held room held' t (drop n behind) held left fits'
 
 end_behind : (E : Option (List Event)) → IfSome E (λ l. l ≡ []) → IfSome (behind_held [] E) (λ l. l ≡ [])
-end_behind None end = tt
-end_behind (Some E) end = end
+end_behind E end = grind (arith, common_steps)
 
 -- with nothing held, the inner reader's end is the end
 pub ends_unheld : (room : ℕ) (held : List ℕ) (t : Tells) → held ≡ [] → IsAtEnd t → IsAtEnd (reader_told room held t)
@@ -203,8 +194,7 @@ ends_unheld room held t none end = grind (arith, common_steps, end_behind, told_
 pub end_read : (a : Tells) (room : ℕ) (held buf : List ℕ) (reply : Result ℕ Error) → held ≡ []
     → IfOk reply (λ n. n ≡ 0 → 0 < length buf → IsAtEnd a)
     → IfOk reply (λ n. n ≡ 0 → 0 < length buf → IsAtEnd (reader_told room held a))
-end_read a room held buf (Ok n) none end = λ zero some. ends_unheld room held a none (end zero some)
-end_read a room held buf (Err e) none end = tt
+end_read a room held buf reply none end = grind (arith, common_steps, ends_unheld)
 
 begins_by : (held : List ℕ) (E : Option (List Event)) → IfSome (behind_held held E) (λ l. BeginsWith l held)
 begins_by held None = tt
@@ -220,9 +210,4 @@ begins_lent room {held} t is =
 -- if nothing was taken, what comes next now came next before
 pub begins_filled : {a b : Tells} (x : List ℕ) → Takes a [] b → IfSome (to_come b) (λ E. BeginsWith E x)
     → IfSome (to_come a) (λ E. BeginsWith E x)
-begins_filled {a} {b} x takes begins = by (to_come a) (to_come b) takes.events begins
-  where
-    by : (E E' : Option (List Event)) → AreTaken E [] E' → IfSome E' (λ l. BeginsWith l x) → IfSome E (λ l. BeginsWith l x)
-    by None E' taken begins = tt
-    by (Some E) None taken begins = absurd taken
-    by (Some E) (Some E') taken begins = subst (λ l. BeginsWith l x) (sym taken) begins
+begins_filled {a} {b} x takes begins = grind (arith, common_steps, to_come)

@@ -1,15 +1,12 @@
 -- What follows of a copy, if its reader tells its events or its writer its mishaps.
 use Rattle.no_std_io2.proofs.Words.{common_steps, ◌≡◌, Option, None, Some, true, ℕ, List, ◌∷◌, ◌++◌, [], refl, subst, arith, Err}
-use Rattle.no_std_io2.proofs.Words.{append-nil, Ok, Result, IsInterruption, IsFault, Event, byte, fails}
-use Rattle.no_std_io2.proofs.Words.{HasNoFault, Reader, ReadCall, Tells, Takes}
-use Rattle.no_std_io2.proofs.Words.{to_come, IsAtEnd, Told, Moves, Made, WriteCall, Writer, CallOf, Copied}
+use Rattle.no_std_io2.proofs.Words.{append-nil, Ok, Result, IsInterruption, IsFault, Event, byte, fails, HasNoFault, Reader, ReadCall}
+use Rattle.no_std_io2.proofs.Words.{Tells, Takes, to_come, IsAtEnd, Told, Moves, Made, WriteCall, Writer, CallOf, Copied}
 use Rattle.std.proofs.lemmas.List.Sums.{sum_by-cons}
-use Rattle.no_std_io2_base.specs.{declared.error.Error.{Error}, declared.error.ErrorKind.{ErrorKind}, Events.{EndsInFault}}
-use Rattle.no_std_io2_base.specs.{Write.{HasSpent}}
-use Rattle.no_std_io2_base.proofs.{EventLemmas.{HasNoFault-front}, MovesLemmas.{Moves-steady}}
-use Rattle.no_std_io2_base.proofs.{TakesLemmas.{left_of}}
-use Rattle.no_std_io2.specs.{Copy.{CopyEnds, SidesCopied, side_error, Handed, nothing, piece, refused, HandsOn}}
-use Rattle.no_std_io2.specs.{declared.util.sides.CopyError.{CopyError}, declared.util.sides.CopyError.TheVariants.{Read, Write}}
+use Rattle.no_std_io2_base.specs.{declared.error.{Error.{Error}, ErrorKind.{ErrorKind}}, Events.{EndsInFault}, Write.{HasSpent}}
+use Rattle.no_std_io2_base.proofs.{EventLemmas.{HasNoFault-front}, MovesLemmas.{Moves-steady}, TakesLemmas.{left_of}}
+use Rattle.no_std_io2.specs.{Copy.{CopyEnds, SidesCopied, side_error, Handed, HandsOn}, declared.util.sides.CopyError.{CopyError}}
+use Rattle.no_std_io2.specs.declared.util.sides.CopyError.TheVariants.{Read, Write}
 
 -- events without a fault do not end in one
 pub no_fault_at_end : (P : List Event) (e : Error) → HasNoFault P → EndsInFault P e → ⊥
@@ -36,14 +33,12 @@ copies_steadily room (Write e) old new takes told none ends steady = Moves-stead
 module _ {R W : Type 0} {K : Reader R} {I : Writer W} {S : ℕ} {from from' : R} {old new : W} where
   -- a `copy` that returned `Ok` is a `copy_sided` that did
   pub copied_ok : {n : ℕ} → Copied K I S from old (Ok n) from' new → SidesCopied K I S from old (Ok n) from' new
-  copied_ok {n} (Ok m, same, copied) = let is : m ≡ n = cc in subst (λ k. SidesCopied K I S from old (Ok k) from' new) is copied
-  copied_ok (Err side, same, copied) = absurd (let no : ⊥ = cc in no)
+  copied_ok copied = grind (arith, common_steps)
 
   -- and one that failed is a `copy_sided` of which one side failed
   pub copied_err : {e : Error} → Copied K I S from old (Err e) from' new
       → (side : CopyError) × (side_error side ≡ e) × SidesCopied K I S from old (Err side) from' new
-  copied_err (Ok m, same, copied) = absurd (let no : ⊥ = cc in no)
-  copied_err {e} (Err side, same, copied) = let is : side_error side ≡ e = cc in (side, is, copied)
+  copied_err copied = grind (arith, common_steps)
 
 -- a steady writer is steady afterwards
 pub stays_steady : {a c : Told} {x : List ℕ} → a.mishaps ≡ Some [] → Moves a x [] c → c.mishaps ≡ Some []
@@ -61,9 +56,7 @@ flushed a {b = b} {c = c} m n empty = grind (arith, common_steps)
 
 -- no piece fits an empty buffer, so nothing was passed on
 none_handed : {xs : List (List ℕ)} {C : List WriteCall} {reply : Result (Unit {0}) Error} → Handed 0 xs C reply → C ≡ []
-none_handed nothing = refl
-none_handed (piece some fits calls more) = absurd (omega (arith, some, fits))
-none_handed (refused some fits calls) = absurd (omega (arith, some, fits))
+none_handed handed = grind (arith, common_steps)
 
 module _ {R W : Type 0} {K : Reader R} {I : Writer W} where
   hands_none : {last : List ReadCall} {from from' : R} {old new : W} {reply : Result (Unit {0}) Error}
@@ -72,9 +65,7 @@ module _ {R W : Type 0} {K : Reader R} {I : Writer W} where
 
   -- a `copy_with` through an empty buffer, and a `copy_sided` with S = 0, leave the writer as it was,
   pub sides_none : {from from' : R} {old new : W} (reply : Result ℕ CopyError) → SidesCopied K I 0 from old reply from' new → new ≡ old
-  sides_none (Ok n) copied = hands_none copied.calls
-  sides_none (Err (Read e)) copied = hands_none copied.calls
-  sides_none (Err (Write e)) copied = hands_none copied.calls
+  sides_none reply copied = grind (arith, common_steps, hands_none)
 
   -- and so does a `copy` with S = 0
   pub copied_none : {from from' : R} {old new : W} (reply : Result ℕ Error) → Copied K I 0 from old reply from' new → new ≡ old

@@ -1,17 +1,14 @@
 -- The loop of `copy_lent`: it passes on what a reader lends, piece by piece.
-use Rattle.no_std_io2.proofs.Words.{◌≡◌, ℕ, ◌+◌, ◌-◌, ◌^◌, ◌<◌, ◌≤◌, min, List, [], ◌∷◌, ◌++◌, Result, Ok, Err, true, length, take, refl}
-use Rattle.no_std_io2.proofs.Words.{ap}
-use Rattle.no_std_io2.proofs.Words.{◌∙◌, arith, append_assoc, length-append, IsInterruption, IsFault}
-use Rattle.no_std_io2.proofs.Words.{ReadCall, Filled, Consumed, Lender, LendCallLaw, lender_tells}
-use Rattle.no_std_io2.proofs.Words.{WriteCall, Made, Moves, Writer, CallOf, TakesAll}
+use Rattle.no_std_io2.proofs.Words.{common_steps, ◌≡◌, ℕ, ◌+◌, ◌-◌, ◌^◌, ◌<◌, ◌≤◌, min, List, [], ◌∷◌, ◌++◌, Result, Ok, Err, true, length}
+use Rattle.no_std_io2.proofs.Words.{take, refl, ap, ◌∙◌, arith, append_assoc, length-append, IsInterruption, IsFault, ReadCall, Filled}
+use Rattle.no_std_io2.proofs.Words.{Consumed, Lender, LendCallLaw, lender_tells, WriteCall, Made, Moves, Writer, CallOf, TakesAll}
+use Rattle.no_std_io2.proofs.CopyLoop.{Took-last}
 use Rattle.std.proofs.Common.{take_all}
 use Rattle.no_std_io2_base.specs.{declared.error.Error.{Error}, BufRead.{FilledLaw, ConsumeLaw}, Reads.{Took}, Writers.{WriteAllOf}}
-use Rattle.no_std_io2_base.proofs.{CallsLemmas.{made_then}, MovesLemmas.{Moves-refl, Moves-then}}
-use Rattle.no_std_io2_base.proofs.TookLemmas.{Took-none, Took-then, Took-bytes, Took-again, Took-end, Took-fault}
-use Rattle.no_std_io2.proofs.CopyLoop.{Took-last}
-use Rattle.no_std_io2.specs.{Copy.{counted}}
-use Rattle.no_std_io2.specs.{CopyLent.{HandsLent, LentCopied, lends_none, lends_fault, again_lent, piece_lent, piece_refused}}
-use Rattle.no_std_io2.specs.{declared.util.sides.CopyError.{CopyError}, declared.util.sides.CopyError.TheVariants.{Read, Write}}
+use Rattle.no_std_io2_base.proofs.{CallsLemmas.{made_then}, MovesLemmas.{Moves-refl, Moves-then}, TookLemmas.{Took-none, Took-then}}
+use Rattle.no_std_io2_base.proofs.TookLemmas.{Took-bytes, Took-again, Took-end, Took-fault}
+use Rattle.no_std_io2.specs.{Copy.{counted}, CopyLent.{HandsLent, LentCopied, lends_none, lends_fault, again_lent, piece_lent}}
+use Rattle.no_std_io2.specs.{CopyLent.{piece_refused}, declared.util.sides.CopyError.{CopyError, TheVariants.{Read, Write}}}
 
 module _ {R W : Type 0} (K : Lender R) (I : Writer W) (from : R) (old : W) where
   -- These calls were made. Whatever calls follow, they follow these.
@@ -50,26 +47,13 @@ module _ {R W : Type 0} {K : Lender R} {I : Writer W} {from : R} {old : W} where
         → ((C : List ReadCall) (D : List WriteCall) (reply : Result ℕ CopyError) → HandsLent C D reply
         → HandsLent (asks ++ C) (calls ++ D) reply)
         → LentCalls K I from old after new
-    calls_more asked made on = record {
-      lends = before.lends ++ asks;
-      writes = before.writes ++ calls;
-      asked = made_then (LendCallLaw K) before.lends from asks mid after before.asked asked;
-      made = made_then (CallOf I) before.writes old calls now new before.made made;
-      goes_on = λ C D reply h. rw (append_assoc before.lends asks C, append_assoc before.writes calls D)
-          (before.goes_on (asks ++ C) (calls ++ D) reply (on C D reply h));
-    }
+    calls_more asked made on = grind (arith, common_steps, made_then, append_assoc)
 
     -- the last calls
     calls_end : {reply : Result ℕ CopyError} → Made (LendCallLaw K) mid asks after → Made (CallOf I) now calls new
         → HandsLent asks calls reply
         → (C : List ReadCall) × (D : List WriteCall) × Made (LendCallLaw K) from C after × Made (CallOf I) old D new × HandsLent C D reply
-    calls_end {reply} asked made last = (
-      before.lends ++ asks,
-      before.writes ++ calls,
-      made_then (LendCallLaw K) before.lends from asks mid after before.asked asked,
-      made_then (CallOf I) before.writes old calls now new before.made made,
-      before.goes_on asks calls reply last,
-    )
+    calls_end {reply} asked made last = grind (arith, common_steps, made_then)
 
   module _ {copied : ℕ} {mid : R} {now : W} (before : LentSoFar K I from old copied mid now) {after : R} where
     -- the reader's interruption is ignored

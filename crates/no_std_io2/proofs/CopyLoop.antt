@@ -1,16 +1,15 @@
 -- The loop of `copy_with`, and so of `copy_sided` and `copy`: it passes on what it reads, piece by piece.
-use Rattle.no_std_io2.proofs.Words.{◌≡◌, ℕ, ◌+◌, ◌-◌, ◌^◌, ◌<◌, ◌≤◌, min, List, [], ◌∷◌, ◌++◌, Result, Ok, Err, true, length, take}
-use Rattle.no_std_io2.proofs.Words.{refl, sym, ap, subst, ◌∙◌, arith, append_assoc, append-nil, length-append, length-take-le, concat}
+use Rattle.no_std_io2.proofs.Words.{common_steps, ◌≡◌, ℕ, ◌+◌, ◌-◌, ◌^◌, ◌<◌, ◌≤◌, min, List, [], ◌∷◌, ◌++◌, Result, Ok, Err, true, length}
+use Rattle.no_std_io2.proofs.Words.{take, refl, sym, ap, subst, ◌∙◌, arith, append_assoc, append-nil, length-append, length-take-le, concat}
 use Rattle.no_std_io2.proofs.Words.{IsInterruption, IsFault, bytes, Tells, Bool, Reader, Gave, ReadLaw, GaveLaw, ReadCallLaw, tells}
-use Rattle.no_std_io2.proofs.Words.{no_read}
-use Rattle.no_std_io2.proofs.Words.{and_gave, and_again, WriteCall, Made, AllCalls, Moves, Writer, CallOf, TakesAll}
+use Rattle.no_std_io2.proofs.Words.{no_read, and_gave, and_again, WriteCall, Made, AllCalls, Moves, Writer, CallOf, TakesAll}
 use Rattle.std.proofs.lemmas.List.Folds.{concat-append}
 use Rattle.no_std_io2_base.specs.{declared.error.Error.{Error}, Read.{gave}, Reads.{Took}, Writers.{WriteAllOf}}
-use Rattle.no_std_io2_base.proofs.{CallsLemmas.{made_more, made_then}, EventLemmas.{length-events_of}}
-use Rattle.no_std_io2_base.proofs.{MovesLemmas.{Moves-refl, Moves-then}, ReadExactExits.{some_bytes}, TakesLemmas.{read_law, nothing_read}}
-use Rattle.no_std_io2_base.proofs.TookLemmas.{Took-none, Took-then, Took-bytes, Took-again, Took-fault}
-use Rattle.no_std_io2.specs.{Copy.{Handed, nothing, piece, refused, HandsOn, counted, SidesCopied}}
-use Rattle.no_std_io2.specs.{declared.util.sides.CopyError.TheVariants.{Read, Write}}
+use Rattle.no_std_io2_base.proofs.{CallsLemmas.{made_more, made_then}, EventLemmas.{length-events_of}, MovesLemmas.{Moves-refl, Moves-then}}
+use Rattle.no_std_io2_base.proofs.{ReadExactExits.{some_bytes}, TakesLemmas.{read_law, nothing_read}, TookLemmas.{Took-none, Took-then}}
+use Rattle.no_std_io2_base.proofs.TookLemmas.{Took-bytes, Took-again, Took-fault}
+use Rattle.no_std_io2.specs.Copy.{Handed, nothing, piece, refused, HandsOn, counted, SidesCopied}
+use Rattle.no_std_io2.specs.declared.util.sides.CopyError.TheVariants.{Read, Write}
 
 -- one piece more
 handed_more : {S : ℕ} {xs : List (List ℕ)} {x : List ℕ} {C D : List WriteCall} {so_far : Result (Unit {0}) Error}
@@ -51,16 +50,7 @@ module _ {R W : Type 0} {K : Reader R} {I : Writer W} {S : ℕ} {from : R} {old 
     -- the pieces so far were passed on, and then came a last read
     hands_last : (answer : Result (List ℕ) Error) → GaveLaw K mid S answer mid'
         → HandsOn K I S (Gave S answer ∷ []) from old (Ok tt) mid' now
-    hands_last answer law = record {
-      pieces = before.pieces;
-      calls = before.calls;
-      handed = before.handed;
-      made = before.made;
-      reads = before.reads;
-      gathered = before.gathered;
-      asked = asked_more law;
-      turns = omega (arith, before.turns, law.takes.turns);
-    }
+    hands_last answer law = grind (arith, common_steps, asked_more)
 
     -- or a read that was interrupted
     hands_again : {e : Error} → GaveLaw K mid S (Err e) mid' → IsInterruption e → HandsOn K I S [] from old (Ok tt) mid' now
@@ -161,8 +151,7 @@ module _ {R W : Type 0} {K : Reader R} {I : Writer W} {S : ℕ} {from : R} {old 
       size = length-take-le n ys read.bound
 
       hands : {new : W} (reply : Result (Unit {0}) Error) → WriteAllOf I now x reply new → HandsOn K I S [] from old reply mid' new
-      hands reply wrote =
-          hands_more before.hands x reply (law long (Ok n) read) (omega (arith, size, some_bytes n some)) wrote
+      hands reply wrote = grind (arith, common_steps, hands_more, law, size, some_bytes)
 
       took : Took (tells K from) (concat before.hands.pieces ++ x) (Ok true) (tells K mid')
       took = Took-then before.took (Took-bytes x read.takes)

@@ -1,7 +1,7 @@
 -- What the calls of a line writer tell and count, by the calls of its inner writer. For `LineWriter`, and for counts of calls.
 use Rattle.no_std_io2.proofs.Words.{TakesAll, CallOf, Writer, WriteCall, Wrote, Made, calls_for, IsLineState, lines_of, lines_len}
 use Rattle.no_std_io2.proofs.Words.{unfinished_line, charges, [], ◌≡◌, ◌+◌, ℕ, ◌<◌, ◌≤◌, ◌==◌, List, ◌++◌, length, take, Result, Ok, Err}
-use Rattle.no_std_io2.proofs.Words.{OnOk, IsOk, IfOk, refl, ap, subst, arith, if◌then◌else◌, inl, inr, ◌∙◌, common_steps, nat_lt}
+use Rattle.no_std_io2.proofs.Words.{OnOk, IsOk, IfOk, refl, subst, arith, if◌then◌else◌, inl, inr, common_steps, nat_lt}
 use Rattle.no_std_io2.proofs.Words.{nat_tests, stops, goes_on, with_buffer, Stepped, SendCalls, WriteCalls, WriteAllCalls, buffer_after}
 use Rattle.no_std_io2.proofs.Words.{writing_calls, SendLinesCalls, LineWriteCalls, LineWriteAllCalls, Then}
 use Rattle.no_std_io2_base.specs.declared.error.Error.{Error}
@@ -10,7 +10,7 @@ use Rattle.std.proofs.lemmas.Result.{on_ok_weaker}
 use Rattle.no_std_io2_base.proofs.{MovesLemmas.{MovesFront-ends, MovesFront-whole, MovesFront-join, MovesFront-first, after_ok}}
 use Rattle.no_std_io2_base.proofs.{CallsLemmas.{made_split}, AllFacts.{all_calls}, MeterLemmas.{all_count}}
 use Rattle.no_std_io2_base.proofs.LineLemmas.{lines_some, lines_none, lines_split, take_lines, lines_bound, unfinished_all}
-use Rattle.no_std_io2.specs.LineWriter.{SendLineCalls, HoldsTail, LinesCalls, line_buffer_after, line_buffer_filled, held_tail}
+use Rattle.no_std_io2.specs.LineWriter.{SendLineCalls, HoldsTail, LinesCalls, line_buffer_after, line_buffer_filled}
 use Rattle.no_std_io2.proofs.{BufWriterLemmas.{Moves-buffered, Moves-emptied, MovesFront-emptied}}
 use Rattle.no_std_io2.proofs.StepLemmas.{no_ok, then_does, done, Always, Exactly, Emptied, Sending, StepsJoin}
 use Rattle.no_std_io2.proofs.BufWriterCalls.{one_inner_call, send_does, kept_does, write_does, write_all_does, write_bound, Writing}
@@ -115,20 +115,11 @@ module _ {W : Type 0} (I : Writer W) where
     tail_tells : 0 < lines_len x → (answer reply : Result ℕ Error) (held left : List ℕ) → held ≡ [] → HoldsTail S x answer reply left
         → (a b : W) → CallOf I a (Wrote (lines_of x) answer) b
         → Writing x (with_buffer (I.told a) held) reply (with_buffer (I.told b) left)
-    tail_tells some (Ok n) reply held left none tail a b call =
-        rw (none, tail.1, tail.0) (put_tells some n (held_tail S x n) (took_tail S x n) (ap (held_tail S x)) a b call)
-    tail_tells some (Err e) reply held left none tail a b call = grind (arith, common_steps, Moves-emptied)
+    tail_tells some answer reply held left none tail a b call = grind (arith, common_steps, put_tells, took_tail, Moves-emptied)
 
     -- one write of lines
     lines_do : 0 < lines_len x → Always I (LinesCalls S x) (Writing x) (λ _ _. Unit {0}) (λ _. 1)
-    lines_do some a b held left C reply (none, answer, is, tail) made =
-        let law = one_inner_call I a b is made in record {
-          tells = tail_tells some answer reply held left none tail a b law;
-          leaves = after_ok reply tt;
-          counts = λ t.
-              let all = law.all t in
-              (all.0, (tail_whole S x answer reply left all.1 some tail).0, ap charges is ∙ omega arith);
-        }
+    lines_do some a b held left C reply lines made = grind (arith, common_steps, one_inner_call, tail_tells, after_ok, tail_whole, charges)
 
     -- what is taken and held is no more than x
     tail_bound : (answer reply : Result ℕ Error) (left : List ℕ) → HoldsTail S x answer reply left
@@ -179,7 +170,8 @@ module _ {W : Type 0} (I : Writer W) where
         (p : Stepped I (LineWriteAllCalls S x) a held reply left b) → LineWritesAll I S x a held p.calls reply left b
     line_write_all_does S {x} {reply} p = elim p.are [
       | inl plain ↦
-          let both = done (then_does SendLineCalls (WriteAllCalls S x) (writing_all_joins x) send_line_does (write_all_does I S x)) plain.1 p.made in
+          let both = done (then_does SendLineCalls (WriteAllCalls S x) (writing_all_joins x) send_line_does (write_all_does I S x))
+          plain.1 p.made in
           record {
             tells = both.tells;
             keeps = λ t. let c = both.counts t in (c.0, c.1, omega (arith, c.2, line_write_all_few S held x));

@@ -1,18 +1,16 @@
 -- The calls of a line writer leave line states, and hold a short text without a call. For `LineWriter`: its invariant and its clauses.
 use Rattle.no_std_io2.proofs.Words.{Stepped, CallOf, Writer, WriteCall, Wrote, Writes, none as no_write, took, again, stuck, fault}
 use Rattle.no_std_io2.proofs.Words.{AllCalls, newline, IsLineState, lines_of, lines_len, unfinished_line, common_steps, ◌≡◌, ◌+◌, ℕ, ◌<◌}
-use Rattle.no_std_io2.proofs.Words.{◌≤◌, ◌==◌, ◌∙◌, List, ◌∷◌, ◌++◌, length, take, drop, Result, [], Ok, OnOk, IsOk, IfOk, refl, sym}
-use Rattle.no_std_io2.proofs.Words.{subst, arith, if◌then◌else◌, inl, inr, take-append-drop, IsSuffix, Then, stops, goes_on, SendCalls}
-use Rattle.no_std_io2.proofs.Words.{WayCalls, Buffered, WriteCalls, WriteAllCalls, FlushCalls, SendLinesCalls, LineWriteCalls}
-use Rattle.no_std_io2.proofs.Words.{LineWriteAllCalls}
+use Rattle.no_std_io2.proofs.Words.{◌≤◌, ◌==◌, ◌∙◌, List, ◌++◌, length, take, drop, Result, [], Ok, OnOk, IsOk, IfOk, refl, sym, subst}
+use Rattle.no_std_io2.proofs.Words.{arith, if◌then◌else◌, inl, inr, take-append-drop, IsSuffix, Then, stops, goes_on, SendCalls, WayCalls}
+use Rattle.no_std_io2.proofs.Words.{Buffered, WriteCalls, WriteAllCalls, FlushCalls, SendLinesCalls, LineWriteCalls, LineWriteAllCalls}
+use Rattle.no_std_io2.proofs.{BufWriterLemmas.{IsSuffix-trans}, BufWriterCalls.{buffered_fits, write_whole}, HeldTail.{tail_state}}
 use Rattle.no_std_io2_base.specs.{declared.error.Error.{Error}, Pieces.{Lacks}}
-use Rattle.no_std_io2_base.proofs.{CallsLemmas.{by_call, writes_whole}}
-use Rattle.no_std_io2_base.proofs.LineLemmas.{lines_end, lines_some, unfinished_lacks, unfinished_none, lacks_contains, contains_lines}
-use Rattle.no_std_io2_base.proofs.{LineLemmas.{take_lines, drop_lines, lines_split, plain_state, lacks_rest, state_rest, ends_in-append}}
-use Rattle.no_std_io2_base.proofs.{MovesLemmas.{after_ok}, PieceLemmas.{Lacks-append}}
+use Rattle.no_std_io2_base.proofs.{CallsLemmas.{by_call, writes_whole}, LineLemmas.{lines_end, lines_some, unfinished_lacks}}
+use Rattle.no_std_io2_base.proofs.LineLemmas.{unfinished_none, lacks_contains, contains_lines, take_lines, drop_lines, lines_split}
+use Rattle.no_std_io2_base.proofs.{LineLemmas.{plain_state, lacks_rest, state_rest, ends_in-append}, MovesLemmas.{after_ok}}
+use Rattle.no_std_io2_base.proofs.PieceLemmas.{Lacks-append}
 use Rattle.no_std_io2.specs.LineWriter.{SendLineCalls, HoldsTail, LinesCalls, IsShortText}
-use Rattle.no_std_io2.proofs.BufWriterLemmas.{IsSuffix-trans}
-use Rattle.no_std_io2.proofs.{BufWriterCalls.{buffered_fits, write_whole}, HeldTail.{tail_state}}
 
 -- what is left of some bytes that were sent is an end of them
 pub writes_end : {text : List ℕ} {C : List WriteCall} {x left : List ℕ} {reply : Result (Unit {0}) Error}

@@ -1,34 +1,28 @@
 -- The calls of a buffered writer that first send the held bytes: its seeks and `into_inner`.
-use Rattle.no_std_io2.proofs.Words.{Stepped, CallOf, Writer, Moves, Made, Store, KeepsContent, common_steps, ◌≡◌, ℕ, List, Result, Ok}
-use Rattle.no_std_io2.proofs.Words.{Err, OnOk, IsOk, IfOk, Option, refl, sym, ap, subst, arith, [], ◌∷◌, SendCalls, TakesStep}
-use Rattle.no_std_io2.proofs.Words.{with_buffer}
-use Rattle.no_std_io2_base.specs.{declared.error.Error.{Error}, Seek.{IsPosition, Seeker}}
-use Rattle.no_std_io2_base.specs.declared.traits.seek.SeekFrom.{SeekFrom}
-use Rattle.no_std_io2_base.proofs.{MovesLemmas.{Moves-steady, after_ok}, CallsLemmas.{writes_whole}}
-use Rattle.no_std_io2_base.proofs.{WritesFacts.{writes_left, writes_idle, writes_sends}}
-use Rattle.no_std_io2.specs.{BufWriter.{SeeksSent, went, failed, Unwraps, store_unheld, into_inner_error_writer, into_inner_error_cause}}
-use Rattle.no_std_io2.specs.{declared.buffered.into_inner_error.IntoInnerError.{IntoInnerError}}
+use Rattle.no_std_io2.proofs.Words.{Stepped, CallOf, Writer, Moves, Made, Store, KeepsContent, common_steps, ◌≡◌, ℕ, List, Result, Ok, Err}
+use Rattle.no_std_io2.proofs.Words.{OnOk, IsOk, IfOk, Option, subst, arith, [], SendCalls, TakesStep, with_buffer}
 use Rattle.no_std_io2.proofs.{BufWriterCalls.{send_does}, StepLemmas.{no_ok, does}}
+use Rattle.no_std_io2_base.specs.{declared.{error.Error.{Error}, traits.seek.SeekFrom.{SeekFrom}}, Seek.{IsPosition, Seeker}}
+use Rattle.no_std_io2_base.proofs.{MovesLemmas.{Moves-steady, after_ok}, CallsLemmas.{writes_whole}, WritesFacts.{writes_left, writes_idle}}
+use Rattle.no_std_io2_base.proofs.WritesFacts.{writes_sends}
+use Rattle.no_std_io2.specs.BufWriter.{SeeksSent, failed, Unwraps, store_unheld, into_inner_error_writer, into_inner_error_cause}
+use Rattle.no_std_io2.specs.declared.buffered.into_inner_error.IntoInnerError.{IntoInnerError}
 
 -- the told store of a writer with a buffer, if the sending failed: then some bytes were held
 pub store_refused : (Goes : ℕ → ℕ → ℕ → Type 0) (held : List ℕ) (s s' : Option Store) → (held ≡ [] → ⊥)
     → KeepsContent (store_unheld held s) Goes s'
-store_refused Goes [] s s' some = absurd (some refl)
-store_refused Goes (b ∷ held) s s' some = tt
+store_refused Goes held s s' some = grind (arith, common_steps)
 
 -- if all was sent, it is what a seek made of the inner writer's, which without held bytes was the same before
 pub store_sought : (Goes : ℕ → ℕ → ℕ → Type 0) (held held' : List ℕ) (s s' : Option Store) → held' ≡ []
     → (held ≡ [] → KeepsContent s Goes s')
     → KeepsContent (store_unheld held s) Goes (store_unheld held' s')
-store_sought Goes [] held' s s' none seek = subst (λ l. KeepsContent s Goes (store_unheld l s')) (sym none) (seek refl)
-store_sought Goes (b ∷ held) held' s s' none seek = tt
+store_sought Goes held held' s s' none seek = grind (arith, common_steps)
 
 -- and so is its position
 pub position_sought : (held : List ℕ) (s : Option Store) (reply : Result ℕ Error) → IfOk reply (IsPosition s)
     → IfOk reply (IsPosition (store_unheld held s))
-position_sought [] s reply at = at
-position_sought (b ∷ held) s (Ok n) at = tt
-position_sought (b ∷ held) s (Err e) at = tt
+position_sought held s reply at = grind (arith, common_steps)
 
 module _ {W : Type 0} {I : Writer W} {a b : W} {held left : List ℕ} where
   -- with nothing held there was no inner call
@@ -49,22 +43,11 @@ module _ {W B : Type 0} {I : Writer W} {inner : B → W} {buffer : B → List �
   -- after an `Ok` of a seek nothing is held
   pub seek_empties : {K : Seeker W} {to : SeekFrom} {reply : Result ℕ Error} {new : B} → SeeksSent I K inner buffer old to reply new
       → OnOk reply (buffer new ≡ [])
-  seek_empties {reply = reply} (went sent calls moves law none) = after_ok reply none
-  seek_empties (failed calls moves some) = tt
+  seek_empties seek = grind (arith, common_steps, after_ok)
 
   -- `into_inner`: all was sent, and the inner writer comes back
   pub unwraps_ok : {w : W} {left : List ℕ} → Stepped I SendCalls (inner old) (buffer old) (Ok tt) left w → Unwraps I inner buffer old (Ok w)
-  unwraps_ok calls =
-      let sent = sends_all calls in
-      record {
-        calls = sent.1;
-        ok = sent.0;
-        err = tt;
-        fault = tt;
-        empty = λ none. ap Ok (sent_idle calls none).0;
-        steady = λ _. refl;
-        all = λ t. ((does (send_does I) calls).counts t).0;
-      }
+  unwraps_ok calls = grind (arith, common_steps, sends_all, sent_idle, does, send_does)
 
   -- or a fault came, with the writer
   pub unwraps_err : (e : IntoInnerError B)

@@ -1,12 +1,12 @@
 -- A sound `BufReader` stays sound: what its reads do to the bytes behind and the held bytes, over a told store.
-use Rattle.no_std_io2.proofs.Words.{◌≡◌, ℕ, List, [], ◌∷◌, ◌++◌, Result, Ok, Err, take, drop, refl, sym, ap, ap₂, subst, ◌∙◌, append_assoc}
-use Rattle.no_std_io2.proofs.Words.{append-nil, inl, inr, take-append-drop, Event, bytes, Takes, Made, Reader, ReadCall, Gave, GaveAll}
-use Rattle.no_std_io2.proofs.Words.{Filled, Consumed, ReadCallLaw, tells, answered, bytes_given, reader_held, reader_behind, reader_inner}
-use Rattle.no_std_io2.proofs.Words.{ReadsBelow, FillsBelow, of_held, went_past, was_filled, lent_held, lent_read}
+use Rattle.no_std_io2.proofs.Words.{arith, common_steps, ◌≡◌, ℕ, List, [], ◌∷◌, ◌++◌, Result, Ok, Err, take, drop, sym, ap, ap₂, subst, ◌∙◌}
+use Rattle.no_std_io2.proofs.Words.{append_assoc, append-nil, inl, inr, take-append-drop, Event, bytes, Takes, Made, Reader, ReadCall, Gave}
+use Rattle.no_std_io2.proofs.Words.{GaveAll, Filled, Consumed, ReadCallLaw, tells, answered, bytes_given, reader_held, reader_behind}
+use Rattle.no_std_io2.proofs.{Words.{reader_inner, ReadsBelow, FillsBelow, of_held, went_past, was_filled}, BufferedReads.{goes_before}}
+use Rattle.no_std_io2.proofs.BufReaderCalls.{buf_reader}
 use Rattle.no_std_io2_base.specs.{declared.error.Error.{Error}, Read.{GaveExactly}}
 use Rattle.no_std_io2_base.proofs.{EventLemmas.{bytes-events_of}, TakesLemmas.{made_may, made_takes}}
 use Rattle.no_std_io2.specs.{declared.buffered.buf_reader.BufReader.{BufReader}, BufReader.{HasBuffer, ReaderIsSound, ReaderMay}}
-use Rattle.no_std_io2.proofs.{BufferedReads.{goes_before}, BufReaderCalls.{buf_reader}}
 
 -- the bytes in the buffer, from the first that lies behind
 abbrev in_buffer : {R : Type 0} {S : ℕ} → BufReader R S → List ℕ
@@ -14,8 +14,7 @@ in_buffer r = reader_behind r ++ reader_held r
 
 -- the bytes that a read took
 bytes_answered : (answer : Result (List ℕ) Error) → bytes (answered answer) ≡ bytes_given answer
-bytes_answered (Ok x) = bytes-events_of x
-bytes_answered (Err e) = refl
+bytes_answered answer = grind (arith, common_steps, bytes-events_of)
 
 module _ {R : Type 0} {S : ℕ} (I : Reader R) (old new : BufReader R S) where
   -- the same bytes are in the buffer, and there was no inner call
@@ -25,8 +24,7 @@ module _ {R : Type 0} {S : ℕ} (I : Reader R) (old new : BufReader R S) where
   -- some first held bytes went behind
   given_sound : (x left : List ℕ) → reader_inner new ≡ reader_inner old → reader_held old ≡ x ++ left
       → HasBuffer new (reader_behind old ++ x) left → ReaderIsSound I.store old → ReaderIsSound I.store new
-  given_sound x left same split has = still_sound same (ap₂ (λ a b. a ++ b) has.0 has.1 ∙ append_assoc (reader_behind old) x left
-      ∙ ap (λ l. reader_behind old ++ l) (sym split))
+  given_sound x left same split has = grind (arith, common_steps, still_sound, append_assoc, reader_behind)
 
   -- the inner reader took Q, and the bytes in the buffer are the last of its bytes
   read_sound : (front : List ℕ) (Q : List Event) → Takes (tells I (reader_inner old)) Q (tells I (reader_inner new))
@@ -52,9 +50,7 @@ module _ {R : Type 0} {S : ℕ} (I : Reader R) (old new : BufReader R S) where
 
   -- a `fill_buf`
   fills_below_sound : (answer : Result (List ℕ) Error) → FillsBelow I old answer new → ReaderIsSound I.store old → ReaderIsSound I.store new
-  fills_below_sound answer (lent_held some is same) = λ sound. subst (ReaderIsSound I.store) (sym same) sound
-  fills_below_sound answer (lent_read none read has) = read_sound [] (answered answer) read.takes
-      (bytes_answered answer ∙ ap₂ (λ a b. a ++ b) (sym has.0) (sym has.1))
+  fills_below_sound answer fills = grind (arith, common_steps, read_sound, answered, bytes_answered)
 
   -- any call
   pub call_stays_sound : (call : ReadCall) → ReaderMay I old call new → ReaderIsSound I.store old → ReaderIsSound I.store new

@@ -1,6 +1,6 @@
 -- Steps of a writer with a buffer: what two steps do, they do one after another. For the lemmas of both buffered writers.
 use Rattle.no_std_io2.proofs.Words.{TakesAll, CallOf, Writer, Told, Moves, WriteCall, Made, call_mishap, charges, false, true, ◌≡◌, ℕ}
-use Rattle.no_std_io2.proofs.Words.{◌+◌, List, ◌++◌, Result, Ok, Err, OnOk, IsOk, ap, subst, arith, [], Step, Stepped, Then, stops}
+use Rattle.no_std_io2.proofs.Words.{◌+◌, List, Result, Ok, Err, OnOk, IsOk, ap, subst, arith, [], Step, Stepped, Then, stops}
 use Rattle.no_std_io2.proofs.Words.{goes_on, with_buffer}
 use Rattle.no_std_io2_base.specs.{declared.error.Error.{Error}, Errors.{IsNoInterruption}}
 use Rattle.no_std_io2_base.proofs.{CallsLemmas.{by_are, by_then, made_split}, MeterLemmas.{charges-append}}

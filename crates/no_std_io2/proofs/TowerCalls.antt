@@ -1,5 +1,5 @@
 -- The calls of a tower are calls of the device below it. For callers over towers.
-use Rattle.no_std_io2.proofs.Words.{CallOf, Writer, WriteCall, Made, ByCalls, List, ◌∷◌, ◌++◌, ℕ, refl, ap, [], Through}
+use Rattle.no_std_io2.proofs.Words.{CallOf, Writer, WriteCall, Made, ByCalls, List, ◌∷◌, ℕ, refl, ap, [], Through}
 use Rattle.no_std_io2_base.proofs.CallsLemmas.{by_then, law_may}
 
 -- if each call makes such inner calls, calls one after another do

@@ -2,8 +2,8 @@
 -- K those of the inner writer as a seeker.
 use Rattle.std.specs.Prelude.{◌≡◌, ℕ, ◌+◌, List, [], ◌++◌, length, nat_lt, nat_le, ◌&&◌, if◌then◌else◌, ◌<◌, ◌≤◌, ◌⊎◌, ◌∷◌, Some, Result}
 use Rattle.std.specs.{Prelude.{Ok, Err, IsOk, IsOkAnd, IfOk, IfErr, OnOk, codes, Option, None}, Mem.{FitsInMemory}}
-use Rattle.no_std_io2_base.specs.{declared.error.Error.{Error}, Write.{Told, Moves, call_mishap, WriteCall, Wrote, WroteAll, Flushed, ByCalls}}
-use Rattle.no_std_io2_base.specs.{Write.{Writes, AllCalls}, Writers.{Writer, TakesAll, CallOf}, Errors.{error_kind, IsFault}}
+use Rattle.no_std_io2_base.specs.{declared.error.Error.{Error}, Write.{Told, Moves, call_mishap, WriteCall, Wrote, WroteAll, Flushed}}
+use Rattle.no_std_io2_base.specs.{Write.{ByCalls, Writes, AllCalls}, Writers.{Writer, TakesAll, CallOf}, Errors.{error_kind, IsFault}}
 use Rattle.no_std_io2_base.specs.{Errors.{IsNoInterruption}, declared.traits.seek.SeekFrom.{SeekFrom}, Seek.{Seeker, SeekCall, Sought}}
 use Rattle.no_std_io2_base.specs.{Seek.{SeekLaw}, Takes.{Store}}
 use Rattle.no_std_io2.specs.{Buffer.{buffer_held}, declared.buffered.{sender.Sender.{Sender}, buf_writer.BufWriter.{BufWriter}}}

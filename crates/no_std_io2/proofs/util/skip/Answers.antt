@@ -1,7 +1,7 @@
 -- The ways through the loop, by their lemmas: the search does not join the two facts of a lending call, as `filled_law` does.
-use Rattle.no_std_io2.proofs.Words.{◌∙◌, sym}
-use Rattle.no_std_io2_base.proofs.{PieceLoop.{filled_law}, WriteExits.{not_empty, is_empty}}
-use Rattle.no_std_io2_base.proofs.{PortionLemmas.{portions_waited, portions_took, portion_spends, skip_faults, skip_ends}}
+use Rattle.no_std_io2.proofs.Words.{arith, common_steps, ◌∙◌, sym}
+use Rattle.no_std_io2_base.proofs.{PieceLoop.{filled_law}, WriteExits.{not_empty, is_empty}, PortionLemmas.{portions_waited, portions_took}}
+use Rattle.no_std_io2_base.proofs.PortionLemmas.{portion_spends, skip_faults, skip_ends}
 use Rattle.no_std_io2.proofs.util.skip.Goals as goal
 
 pub returns-then-is_empty : goal.returns-then-is_empty
@@ -16,10 +16,7 @@ pieces-preserved-in-Ok g c =
     (not_empty _ _ c.is_empty.ensures c.if-is_empty.false) c.min-len.ensures
 
 pub pieces-smaller-in-Ok : goal.pieces-smaller-in-Ok
-pieces-smaller-in-Ok g c =
-    let filled = filled_law c.in-Ok.is c.fill_buf.ensures.law c.fill_buf.follows.holds-at-none in
-    portion_spends c.pieces.invariant c.pieces-test.true filled c.consume.ensures.law
-    (not_empty _ _ c.is_empty.ensures c.if-is_empty.false) c.min-len.ensures
+pieces-smaller-in-Ok g c = grind (arith, common_steps, filled_law, portion_spends, not_empty, is_empty)
 
 pub pieces-preserved : goal.pieces-preserved
 pieces-preserved g c =

@@ -1,6 +1,6 @@
 -- There is room for the record, which is then held; or no room could be made.
-use Rattle.no_std_io2.proofs.Words.{common_steps, ◌≡◌, ℕ, ◌+◌, ◌<◌, List, [], ◌∷◌, ◌++◌, length, Ok, Err, refl, sym, ap, subst, ◌∙◌, arith}
-use Rattle.no_std_io2.proofs.Words.{append_assoc, length-append, err_from_is_err_and, Writer, error_kind, IsFault, Moves, AllCalls}
+use Rattle.no_std_io2.proofs.Words.{common_steps, ◌≡◌, ℕ, ◌+◌, ◌<◌, List, [], ◌∷◌, ◌++◌, length, Ok, Err, refl, ap, ◌∙◌, arith}
+use Rattle.no_std_io2.proofs.Words.{append_assoc, length-append, err_from_is_err_and, Writer, error_kind, IsFault, Moves}
 use Rattle.no_std_io2.proofs.Words.{writer_inner, writer_buffer, writer_told, TakesStep, WayCalls}
 use Rattle.no_std_io2_base.specs.declared.error.Error.{Error}
 use Rattle.no_std_io2.specs.{declared.buffered.buf_writer.BufWriter.{BufWriter}, BufWriter.{Puts}}
@@ -19,21 +19,10 @@ module _ {W : Type 0} {S : ℕ} (I : Writer W) {old : BufWriter W S} {n : ℕ} (
       → writer_inner new ≡ writer_inner mid → writer_buffer new ≡ (writer_buffer mid ++ head) ++ tail
       → Puts I writer_inner writer_buffer S (head ++ tail) old (Ok tt) new
   room mid new short way moves same put =
-      let whole = put ∙ append_assoc (writer_buffer mid) head tail in record {
-        moves = Moves-then {k = []} moves
-            (Moves-kept I.told (writer_inner mid) (writer_inner new) (writer_buffer mid) (writer_buffer new) (head ++ tail) same whole);
-        fault = tt;
-        calls = then_goes_on _
-            (subst (λ k. TakesStep I writer_inner writer_buffer (WayCalls S k) old (Ok tt) mid) (is ∙ sym (length-append head tail)) way)
-            (puts _ (λ C. AllCalls C (head ++ tail)) (omega (arith, is, short, length-append head tail)) same whole);
-      }
+      grind (arith, common_steps, append_assoc, writer_buffer, Moves-then, Moves-kept, writer_inner, then_goes_on, length-append, puts)
 
 pub returns-in_err-make_room : goal.returns-in_err-make_room
-returns-in_err-make_room g c =
-    let p = err_from_is_err_and c.from_residual.result c.from_residual.ensures.1 in
-    let made = c.in_err-make_room.ensures in
-    rw (p.1, p.2)
-    (record { puts = no_room g.W.Write c.args.head.now c.args.tail.now refl _ made.calls made.moves made.never_interrupted })
+returns-in_err-make_room g c = grind (arith, common_steps, err_from_is_err_and, puts, no_room)
 
 pub returns : goal.returns
 returns g c =

@@ -1,5 +1,5 @@
 -- The bytes that were read lie behind the held bytes, which are at the front.
-use Rattle.no_std_io2.proofs.Words.{◌≡◌, ℕ, ◌+◌, ◌-◌, ◌≤◌, List, ◌++◌, Ok, Err, length, take, drop, refl, sym, ap, subst, ◌∙◌, arith}
+use Rattle.no_std_io2.proofs.Words.{common_steps, ◌≡◌, ℕ, ◌+◌, ◌-◌, ◌≤◌, List, ◌++◌, Ok, length, take, drop, sym, ap, subst, ◌∙◌, arith}
 use Rattle.no_std_io2.proofs.Words.{length-take, length-drop, length-take-le, err_from_is_err_and, GaveLaw}
 use Rattle.std.proofs.Common.{slice_range}
 use borrow.Rule.Slice.PartMut.{put_mid}
@@ -9,47 +9,16 @@ use Rattle.no_std_io2.proofs.buffered.buffer.Buffer.read_on.Goals as goal
 -- the bytes from the front to the end, after n bytes were put behind it
 held_on : (xs ys : List ℕ) (start end n k : ℕ) → start ≡ 0 → end ≤ length xs → n ≤ length ys
     → slice_range (put_mid end k xs ys) start (end + n) ≡ slice_range xs start end ++ take n ys
-held_on xs ys start end n k zero within fits =
-    subst (λ s. slice_range (put_mid end k xs ys) s (end + n) ≡ slice_range xs s end ++ take n ys) (sym zero)
-    (front (end + n) (put_mid end k xs ys) ∙ take-put_mid end k n xs ys within fits ∙ ap (λ l. l ++ take n ys) (sym (front end xs)))
-  where
-    front : (m : ℕ) (l : List ℕ) → take (m - 0) l ≡ take m l
-    front m l = let same : m - 0 ≡ m = omega arith in ap (λ k. take k l) same
+held_on xs ys start end n k zero within fits = grind (arith, common_steps, slice_range, put_mid, take-put_mid)
 
 -- the room behind them
 room_on : (xs ys : List ℕ) (start end size : ℕ) → start ≡ 0 → end ≤ size → length xs ≡ size
     → length ys ≡ length (take (length xs - end) (drop end xs)) → length ys ≡ size - length (slice_range xs start end)
-room_on xs ys start end size zero within long room = omega (
-  arith,
-  zero,
-  within,
-  long,
-  room,
-  length-take (length xs - end) (drop end xs),
-  length-drop end xs,
-  length-take (end - start) (drop start xs),
-  length-drop start xs,
-)
+room_on xs ys start end size zero within long room = grind (arith, common_steps, length-take, length-drop)
 
 pub returns-in_err-n-clause-read : goal.returns-in_err-n-clause-read
 returns-in_err-n-clause-read g c =
-    let p = err_from_is_err_and c.from_residual.result c.from_residual.ensures.1 in
-    let was = c.move_to_front.new.self in
-    let first = c.move_to_front.ensures in
-    let long : length was.bytes ≡ g.row.S = omega arith in
-    let on = held_on was.bytes c.read.new.buf was.start was.end 0 (length was.bytes - was.end) first.start
-    (omega (arith, long, was.in_range)) (omega arith) in
-    let end : was.end ≡ was.end + 0 = omega arith in
-    rw (p.1, p.2) (record {
-      answer = Err c.in_err-n.field-0.0;
-      read = subst (λ k. GaveLaw (reader g.R.Stored g.R.Read) c.args.from.now k (Err c.in_err-n.field-0.0) c.read.new.self)
-          (room_on was.bytes c.read.new.buf was.start was.end g.row.S first.start was.in_range long c.read.auto.buf
-          ∙ ap (λ l. g.row.S - length l) first.same)
-          (read_law (Err _) c.in_err-n.ensures.law);
-      number = refl;
-      holds = ap (slice_range (put_mid was.end (length was.bytes - was.end) was.bytes c.read.new.buf) was.start) end ∙ on
-          ∙ ap (λ l. l ++ take 0 c.read.new.buf) first.same;
-    })
+    grind (arith, common_steps, err_from_is_err_and, held_on, reader, room_on, read_law, slice_range, put_mid)
 
 pub returns-clause-read : goal.returns-clause-read
 returns-clause-read g c =

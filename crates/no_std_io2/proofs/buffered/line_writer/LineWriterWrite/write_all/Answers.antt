@@ -1,8 +1,7 @@
 -- The line state and the clauses, by lemmas about the inner calls: the search does not apply these to a whole step.
 use Rattle.no_std_io2.proofs.Words.{CallOf, List, Made, WriteCall, subst, sender_inner, line_inner}
+use Rattle.no_std_io2.proofs.{LineWriterStates.{line_write_all_state, line_write_all_fits}, LineWriterCalls.{line_write_all_does}}
 use Rattle.no_std_io2_base.proofs.CallsLemmas.{own_law}
-use Rattle.no_std_io2.proofs.{LineWriterStates.{line_write_all_state, line_write_all_fits}}
-use Rattle.no_std_io2.proofs.LineWriterCalls.{line_write_all_does}
 use Rattle.no_std_io2.proofs.buffered.line_writer.LineWriterWrite.write_all.Goals as goal
 
 pub invariant_of-self : goal.invariant_of-self

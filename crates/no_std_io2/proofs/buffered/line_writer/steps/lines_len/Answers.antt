@@ -20,9 +20,7 @@ returns-in-None-clause-lines c =
     c.in-None.ensures has.0 (omega arith) has.1 (grind (arith, common_steps, has.2))))))
 
 pub returns-then-lacks_byte-clause-lines : goal.returns-then-lacks_byte-clause-lines
-returns-then-lacks_byte-clause-lines c =
-    ap length (sym (lines_none c.args.x.now (contains_lacks newline c.args.x.now (λ has.
-    c.lacks_byte.ensures c.if-lacks_byte.true has.0 0 (omega arith) has.1 (grind (arith, common_steps, has.2))))))
+returns-then-lacks_byte-clause-lines c = grind (arith, common_steps, lines_none, contains_lacks, newline)
 
 pub returns-then-ends_in_newline-clause-lines : goal.returns-then-ends_in_newline-clause-lines
 returns-then-ends_in_newline-clause-lines c =

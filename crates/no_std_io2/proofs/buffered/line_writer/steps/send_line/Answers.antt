@@ -1,13 +1,11 @@
 -- The last byte decides between the two cases of the step: the search does not choose one.
-use Rattle.no_std_io2.proofs.Words.{ap, sym, refl, ◌∙◌, inl, inr, [], newline}
+use Rattle.no_std_io2.proofs.Words.{arith, common_steps, ap, sym, refl, ◌∙◌, inl, [], newline}
 use Rattle.no_std_io2_base.specs.Pieces.{ends_in}
 use Rattle.no_std_io2_base.proofs.{CallsLemmas.{by_are}, LineLemmas.{ends_in-contains, unended_lacks}}
 use Rattle.no_std_io2.proofs.buffered.line_writer.steps.send_line.Goals as goal
 
 pub returns-then-ends_in_newline : goal.returns-then-ends_in_newline
-returns-then-ends_in_newline g c =
-    let last = ap (ends_in newline) (sym c.buffer.ensures.value) ∙ sym c.ends_in_newline.ensures ∙ c.if-ends_in_newline.true in
-    by_are c.send.ensures.calls (λ C sent. inr (ends_in-contains newline _ last, sent))
+returns-then-ends_in_newline g c = grind (arith, common_steps, newline, by_are, ends_in-contains)
 
 pub returns : goal.returns
 returns g c =

@@ -1,9 +1,8 @@
 -- The lines, and then the rest: the search does not join the two calls.
 use Rattle.no_std_io2.proofs.Words.{◌∙◌, inr, subst, err_from_is_err_and, TakesStep, sender_inner, sender_buffer, WriteAllCalls}
-use Rattle.no_std_io2.proofs.Words.{SendLinesCalls}
+use Rattle.no_std_io2.proofs.{Words.{SendLinesCalls}, StepLemmas.{then_stops, then_goes_on}}
 use Rattle.std.proofs.lemmas.List.{take_rest}
 use Rattle.no_std_io2_base.proofs.{CallsLemmas.{by_are}, LineLemmas.{take_lines, drop_lines, contains_lines}}
-use Rattle.no_std_io2.proofs.StepLemmas.{then_stops, then_goes_on}
 use Rattle.no_std_io2.proofs.buffered.line_writer.steps.write_all_lines.Goals as goal
 
 pub returns-in_err-send_lines : goal.returns-in_err-send_lines

@@ -1,6 +1,5 @@
 -- The hot paths: there is room, or nothing is held, so nothing has to be sent.
-use Rattle.no_std_io2.proofs.Words.{common_steps, nil_from_length, arith, subst, Wrote, Only, TakesStep, WriteCalls, sender_inner}
-use Rattle.no_std_io2.proofs.Words.{sender_buffer}
+use Rattle.no_std_io2.proofs.Words.{common_steps, nil_from_length, arith, Wrote, Only}
 use Rattle.no_std_io2.proofs.{StepLemmas.{then_goes_on}, BufWriterCalls.{way_kept, puts, buffered_past, one_made}}
 use Rattle.no_std_io2.proofs.buffered.sender.Sender.write.Goals as goal
 
@@ -11,10 +10,3 @@ returns-then-hold_if_room g c =
 
 pub returns-then-len-eq0 : goal.returns-then-len-eq0
 returns-then-len-eq0 g c = grind (arith, common_steps, nil_from_length, buffered_past, one_made)
-
--- nothing was held by the first call
-pub returns : goal.returns
-returns g c =
-    subst (λ w. TakesStep g.W.Write sender_inner sender_buffer (WriteCalls g.row.S c.args.buf.now) w c.write_out_of_line.result
-    c.write_out_of_line.new.self)
-    c.if-hold_if_room.ensures.same c.write_out_of_line.ensures

@@ -1,12 +1,10 @@
 -- A `write` off the hot path: room is made, and then the bytes go past the buffer or into it.
-use Rattle.no_std_io2.proofs.Words.{Only, refl, arith, rules, err_from_is_err_and, Wrote}
-use Rattle.no_std_io2.proofs.{StepLemmas.{then_stops, then_goes_on}, BufWriterCalls.{way_none, way_room, puts, passes, one_made}}
+use Rattle.no_std_io2.proofs.{Words.{common_steps, Only, arith, rules, err_from_is_err_and, Wrote}, StepLemmas.{then_stops, then_goes_on}}
+use Rattle.no_std_io2.proofs.BufWriterCalls.{way_none, way_room, puts, passes, one_made}
 use Rattle.no_std_io2.proofs.buffered.sender.Sender.write_cold.Goals as goal
 
 pub returns-in_err-make_room : goal.returns-in_err-make_room
-returns-in_err-make_room g c =
-    let p = err_from_is_err_and c.from_residual.result c.from_residual.ensures.1 in
-    rw (p.1, p.2) (then_stops c.in_err-make_room.ensures)
+returns-in_err-make_room g c = grind (arith, common_steps, err_from_is_err_and, then_stops)
 
 pub returns-then-buf : goal.returns-then-buf
 returns-then-buf g c =
@@ -19,5 +17,4 @@ pub push-requires : goal.push-requires
 push-requires g c = (search rules, way_room _ _ (omega (arith, c.if-buf.false)) c.in_ok-make_room.ensures.are)
 
 pub returns : goal.returns
-returns g c =
-    then_goes_on _ c.in_ok-make_room.ensures (puts _ (Only (Wrote c.args.buf.now)) (omega (arith, c.if-buf.false)) refl c.push.ensures.held)
+returns g c = grind (arith, common_steps, then_goes_on, puts)

@@ -1,25 +1,14 @@
 -- Sending failed, with bytes still held, or nothing is held, and the inner writer was sought.
-use Rattle.no_std_io2.proofs.Words.{err_from_is_err_and, sender_inner, writer_inner, writer_buffer}
+use Rattle.no_std_io2.proofs.Words.{arith, common_steps, err_from_is_err_and, sender_inner, writer_inner, writer_buffer}
+use Rattle.no_std_io2.proofs.{StepLemmas.{no_ok}, SentLemmas.{store_refused, store_sought, position_sought, sent_idle, sends_all}}
+use Rattle.no_std_io2.proofs.SentLemmas.{seek_failed}
 use Rattle.no_std_io2.specs.BufWriter.{went}
 use Rattle.no_std_io2_base.proofs.CallsLemmas.{writes_whole}
-use Rattle.no_std_io2.proofs.{StepLemmas.{no_ok}}
-use Rattle.no_std_io2.proofs.SentLemmas.{store_refused, store_sought, position_sought, sent_idle, sends_all, seek_failed}
 use Rattle.no_std_io2.proofs.buffered.buf_writer.seeking.BufWriterSeek.seek.Goals as goal
 
 pub returns-in_err-send : goal.returns-in_err-send
 returns-in_err-send g c =
-    let p = err_from_is_err_and c.from_residual.result c.from_residual.ensures.1 in
-    let sent = c.in_err-send.ensures.calls in
-    rw (p.1, p.2) (record {
-      law = record {
-        store = store_refused _ (writer_buffer c.args.self.now) (g.W.Stored.store (writer_inner c.args.self.now)) _
-            (λ none. no_ok (sent_idle sent none).1);
-        sound = λ is. is;
-        position = tt;
-        call = seek_failed sent;
-      };
-      seeks = seek_failed sent;
-    })
+    grind (arith, common_steps, err_from_is_err_and, store_refused, writer_buffer, writer_inner, no_ok, sent_idle, seek_failed)
 
 pub returns : goal.returns
 returns g c =
