@@ -15,7 +15,7 @@ module _ {B : Type 0} (L : Lender B) where
   -- what one ask takes
   answered_takes : (ask : Ask) (a b : B) (answer : Result Bool Error) → Answered L ask a answer b
       → (P : List Event) × Takes (lender_tells L a) P (lender_tells L b)
-  answered_takes ask a b answer h4 = grind (arith, common_steps, as_reader, made_lend, made_takes)
+  answered_takes ask a b answer answered = grind (arith, common_steps, as_reader, made_lend, made_takes)
 
   -- what asks in a row take
   pub came_takes : {asks : List Ask} {a b : B} {at_end failed : ℕ} → CameTo L asks a at_end failed b

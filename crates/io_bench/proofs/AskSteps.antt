@@ -77,11 +77,11 @@ module _ {R : Type 0} {S : ℕ} (I : Reader R) (fills : FillsRoom I) where
       (1, λ cost meter. omega (arith, meter _ _ room answer law.call, some_room a), read)
 
   once_read : (a b : BufReader R S) (room : ℕ) (answer : Result (List ℕ) Error) → ReadsBelow I a room answer b → Once a b
-  once_read a b room answer h4 =
+  once_read a b room answer read =
       grind (arith, common_steps, le_refl, of_held, once_none, once_reads, passes_fits, reader_behind, reader_held, was_filled, went_past)
 
   once_fill : (a b : BufReader R S) (answer : Result (List ℕ) Error) → FillsBelow I a answer b → Once a b
-  once_fill a b answer h3 = grind (arith, bytes_given, le_refl, lent_held, lent_read, once_none, once_reads, reader_held, reader_inner)
+  once_fill a b answer fill = grind (arith, bytes_given, le_refl, lent_held, lent_read, once_none, once_reads, reader_held, reader_inner)
 
 module _ {R : Type 0} {S : ℕ} (I : Reader R) (fills : FillsRoom I) (start : BufReader R S) where
   abbrev L : Lender (BufReader R S)

@@ -12,7 +12,7 @@ use Rattle.io_bench.proofs.RunCharges.{closed_bound}
 
 -- a whole call accepted all its bytes
 whole_call : (op : Op) (reply : Reply) (x : List ℕ) → IsWhole op reply → Accepts op reply x → x ≡ op_bytes op
-whole_call op reply x h3 h4 = grind (arith, common_steps, take_all)
+whole_call op reply x whole accepts = grind (arith, common_steps, take_all)
 
 -- a run of whole calls accepted all bytes
 whole_run : (ops : List Op) (replies : List Reply) (x : List ℕ) → AreWhole ops replies → Run ops replies x → x ≡ given_bytes ops

@@ -44,7 +44,7 @@ fewer_of kind ops replies old new h = grind (arith, common_steps)
 -- these facts are enough for a run
 pub ran_by : {old new : Told} {ops : List Op} {replies : List Reply} (accepted : List ℕ) → Run ops replies accepted
     → Moves old accepted (mishaps_of ops replies) new → (EndsFlushed ops replies → new.held ≡ []) → Ran old ops replies new
-ran_by {old = old} {new = new} {ops = ops} {replies = replies} accepted h5 h6 h7 = grind (arith, common_steps, failures_told, fewer_of)
+ran_by accepted run moves flushed = grind (arith, common_steps, failures_told, fewer_of)
 
 -- over no mishap to come no call fails
 pub none_failed : {old new : Told} {ops : List Op} {replies : List Reply} → Ran old ops replies new → old.mishaps ≡ Some []

@@ -66,5 +66,5 @@ pub feed_reads : (old mid new : Feed) (n : ℕ) (buf buf' : List ℕ) → length
     → None ≡ first_failure (feed_left old) → feed_left mid ≡ feed_left old → feed_piece mid ≡ feed_piece old
     → n ≡ feed_gives mid (length buf) → take n buf' ≡ take n (leading_bytes (feed_left mid)) → feed_left new ≡ drop n (feed_left mid)
     → feed_piece new ≡ feed_piece mid → ReadLaw feeds old buf (Ok n) buf' new
-feed_reads old mid new n buf buf' h6 h7 h8 h9 h10 h11 h12 h13 h14 =
+feed_reads old mid new n buf buf' long some none same kept count given rest piece =
     grind (arith, nat_tests, events_of, given_first, leading-le, length-drop, length-events_of, length-take-le, nat_lt, nothing_left)

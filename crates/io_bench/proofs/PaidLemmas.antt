@@ -50,7 +50,7 @@ Paid-same c f n h (open_one p a b) = open_one p (omega arith) (omega arith)
 -- a write of x is one of them
 pub write_call : (S : ℕ) (buffer x : List ℕ) → 0 < S → length buffer ≤ S
     → BufferStep S (length buffer) (length x) (length (buffer_after S buffer x)) (writing_calls S buffer x) 0
-write_call S buffer x h3 h4 = grind (arith, common_steps, nat_tests, cases_lt, length-append)
+write_call S buffer x some fits = grind (arith, common_steps, nat_tests, cases_lt, length-append)
 
 -- the held bytes are sent by one call, or by none if nothing is held
 pub calls_for-min : (buffer : List ℕ) → calls_for buffer ≡ min (length buffer) 1

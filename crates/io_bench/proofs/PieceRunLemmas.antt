@@ -21,14 +21,14 @@ record GatheredSoFar (trim : List ℕ → List ℕ) (d : ℕ) (E : List Event) (
 
 -- what holds of the events if they are told
 pub if_told : (told : Option (List Event)) {P : List Event → Type 0} → ((E : List Event) → told ≡ Some E → P E) → IfSome told P
-if_told told {P = P} h2 = grind (arith, common_steps)
+if_told told holds = grind (arith, common_steps)
 
 -- one item more was yielded
 pub one_yielded : {S T : Type 0} (next : S → Option (Result T Error) → S → Type 0) (from mid now : S) (old : List T) {items items' : List T}
     (x : T) {r : Option (Result T Error)} → items ≡ old ++ appended old items → items' ≡ items ++ x ∷ []
     → Made (λ s x t. next s (Some (Ok x)) t) from (appended old items) mid → next mid r now → r ≡ Some (Ok x)
     → Made (λ s x t. next s (Some (Ok x)) t) from (appended old items') now
-one_yielded {S = S} {T = T} next from mid now old {items = items} {items' = items'} x {r = r} h11 h12 h13 h14 h15 =
+one_yielded next from mid now old x h pushed made one is =
     grind (arith, common_steps, appended-one, made_more)
 
 -- the same items were yielded
@@ -154,7 +154,7 @@ module _ {S X T : Type 0} (R : Lender X) (reader : S → X) (view : T → List �
 pub run_faults : {S T A : Type 0} (next : S → Option (Result T Error) → S → Type 0) (full : Type 0) (xs : List T) (s now : S)
     (reply : Result A Error) → ((s t : S) (e : Error) → next s (Some (Err e)) t → IsFault e) → RunsNexts next full s xs reply now
     → IfErr reply IsFault
-run_faults {S = S} {T = T} {A = A} next full xs s now reply h9 h10 = grind (arith, common_steps)
+run_faults next full xs s now reply faults run = grind (arith, common_steps)
 
 -- what one `next` of a `split` does, as its iterator says it
 abbrev pub split_next : {X T : Type 0} → Lender X → (T → List ℕ) → Split X → Option (Result T Error) → Split X → Type 0
@@ -171,12 +171,12 @@ lines_next R view s r t = (lines_is_ended s ≡ true → (r ≡ None) × (t ≡ 
 
 -- an iterator that yields an item had not ended
 not_ended : {A X : Type 0} (was : Bool) {item : A} → (was ≡ true → (Some item ≡ None) × X) → was ≡ false
-not_ended {A = A} {X = X} was {item = item} h4 = grind (arith, common_steps)
+not_ended was ended = grind (arith, common_steps)
 
 -- so each of their errors is a fault
 pub split_faults : {X T : Type 0} (R : Lender X) (view : T → List ℕ) (s t : Split X) (e : Error) → split_next R view s (Some (Err e)) t
     → IsFault e
-split_faults {X = X} {T = T} R view s t e h7 = grind (arith, common_steps, next_fault, not_ended)
+split_faults R view s t e does = grind (arith, common_steps, next_fault, not_ended)
 
 pub lines_faults : {X T : Type 0} (R : Lender X) (view : T → List ℕ) (s t : Lines X) (e : Error) → lines_next R view s (Some (Err e)) t
     → IsFault e

@@ -28,7 +28,7 @@ AllZip-more P _ _ op reply r a = absurd r
 -- the calls of one more
 pub RunCalls-more : {W : Type 0} (I : Writer W) {a b c : W} (ops : List Op) (op : Op) (replies : List Reply) (reply : Reply)
     → RunCalls I a ops replies b → ByCalls (CallOf I) b (OpCalls op reply) c → RunCalls I a (ops ++ op ∷ []) (replies ++ reply ∷ []) c
-RunCalls-more {W = W} I {a = a} {b = b} {c = c} ops op replies reply h9 h10 = grind (arith, common_steps, JoinsEach-more, by_then)
+RunCalls-more I ops op replies reply before one = grind (arith, common_steps, JoinsEach-more, by_then)
 
 -- what the calls did that one call of a run made
 record OpLaw {W : Type 0} (I : Writer W) (old : W) (op : Op) (reply : Reply) (new : W) : Type 0 where
@@ -99,7 +99,7 @@ module _ {W : Type 0} (I : Writer W) where
   last_flushed : (op : Op) (ops : List Op) (reply : Reply) (replies : List Reply) (mid b : W)
       → (IsFlushed op reply → (I.told mid).held ≡ []) → (ops ≡ [] → b ≡ mid) → (EndsFlushed ops replies → (I.told b).held ≡ [])
       → EndsFlushed (op ∷ ops) (reply ∷ replies) → (I.told b).held ≡ []
-  last_flushed op ops reply replies mid b h6 h7 h8 h9 = grind (arith, common_steps)
+  last_flushed op ops reply replies mid b now same later ends = grind (arith, common_steps)
 
   -- so does what a run did
   joined_law : (ops : List Op) (replies : List Reply) (C : List WriteCall) → JoinsEach OpCalls ops replies C → (a b : W)

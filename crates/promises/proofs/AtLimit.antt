@@ -1,13 +1,13 @@
 -- For `adaptors`: at limit 0 a `Take` gives nothing, over every reader.
+use Rattle.std.proofs.{lemmas.{Grind.{common_steps}, Str.{IsUtf8-nil}}, Common.{IsUtf8, String, string_bytes, string_len, string_capacity}}
 use Rattle.no_std_io2.proofs.Words.{◌≡◌, ℕ, ◌<◌, ◌⊎◌, List, [], ◌∷◌, ◌++◌, Result, Ok, Err, OnOk, IfOk, IfErr, length, refl, sym, ap, subst}
-use Rattle.no_std_io2.proofs.Words.{◌∙◌, arith, inl, inr, append-nil, Vec, Event, bytes, Reader, ReadCall, Gave, GaveAll, Filled, Consumed}
-use Rattle.no_std_io2.proofs.Words.{ReadCallLaw, Lender, as_reader, lender_tells, LendCallLaw, newline, Made}
-use Rattle.std.proofs.{Common.{IsUtf8, String, string_bytes, string_len, string_capacity}, lemmas.Str.{IsUtf8-nil}}
-use Rattle.no_std_io2.specs.{declared.io.Error.{Error}, declared.io.Take.{Take}, Errors.{IsUnexpectedEnd}, Events.{cut}}
-use Rattle.no_std_io2.specs.{Read.{GaveExactly, ReadExactLaw, FillCalls, gave_whole}, BufRead.{ReadUntilLaw, ReadLineLaw, line_room}}
+use Rattle.no_std_io2.proofs.Words.{◌∙◌, arith, inl, inr, append-nil, Vec, Event, bytes, Reader, ReadCall, Filled, ReadCallLaw, Lender}
+use Rattle.no_std_io2.proofs.{Words.{as_reader, lender_tells, LendCallLaw, newline, Made}, CallsLemmas.{made_split}, ReadsAdd.{each_of}}
+use Rattle.no_std_io2.proofs.{ReadsAdd.{piece_adds}, TakesLemmas.{lend_law, made_lend}, LimitLemmas.{limit_reader, limit_lender}}
+use Rattle.no_std_io2.proofs.LimitLoops.{limit_each, limit_exact}
+use Rattle.no_std_io2.specs.{declared.io.{Error.{Error}, Take.{Take}}, Errors.{IsUnexpectedEnd}, Events.{cut}, Read.{GaveExactly}}
+use Rattle.no_std_io2.specs.{Read.{ReadExactLaw, FillCalls, gave_whole}, BufRead.{ReadUntilLaw, ReadLineLaw, line_room}}
 use Rattle.no_std_io2.specs.{Pieces.{PieceCalls, PieceEnds, AnswersLine}, Write.{ByCalls}, Take.{limit_left, LimitTakes}}
-use Rattle.no_std_io2.proofs.{CallsLemmas.{made_split}, ReadsAdd.{each_of, piece_adds}, TakesLemmas.{lend_law, made_lend}}
-use Rattle.no_std_io2.proofs.{LimitLemmas.{limit_reader, limit_lender}, LimitLoops.{limit_each, limit_exact}}
 
 -- nothing is taken
 pub took_nothing : {T : Type 0} {inner : Reader T} {old new : Take T} {P : List Event} → LimitTakes inner old P new → limit_left old ≡ 0
@@ -17,11 +17,7 @@ took_nothing {P = P} took low = sym took.within ∙ ap (λ k. cut k P) low
 module _ {T : Type 0} (inner : Reader T) where
   -- a call changes nothing
   still : (a b : Take T) (call : ReadCall) → ReadCallLaw (limit_reader inner) a call b → limit_left a ≡ 0 → b ≡ a
-  still a b (Gave room answer) law low = law.call.1.at_limit low
-  still a b (GaveExactly room answer) law low = absurd law.0
-  still a b (GaveAll x answer) law low = absurd law.0
-  still a b (Filled answer) law low = law.0.3.at_limit low
-  still a b (Consumed n) law low = law.0.at_limit low
+  still a b call law low = grind (arith, common_steps)
 
   stands : (C : List ReadCall) (a b : Take T) → Made (ReadCallLaw (limit_reader inner)) a C b → limit_left a ≡ 0 → b ≡ a
   stands [] a b made low = made
@@ -38,12 +34,7 @@ module _ {T : Type 0} (inner : Reader T) where
   -- the reads of a `read_exact` meet the end
   fill_at_limit : (C : List ReadCall) (buf : List ℕ) (old new : Take T) (e : Error) → Made (ReadCallLaw (limit_reader inner)) old C new
       → FillCalls C (Err e) buf → limit_left old ≡ 0 → IsUnexpectedEnd e
-  fill_at_limit C buf old new e made (x, front, inl end) low = end.0
-  fill_at_limit C buf old new e made (x, front, inr fault) low =
-      let until = fault.1 in
-      let last = last_call until.0 (Gave until.1 (Err e)) old new
-      (subst (λ K. Made (ReadCallLaw (limit_reader inner)) old K new) until.4 made) low in
-      absurd (let is = last.3.call.0 last.2 in let no : ⊥ = cc in no)
+  fill_at_limit C buf old new e made calls low = grind (arith, common_steps, last_call, limit_reader)
 
   pub exact_at_limit : {old new : Take T} {buf buf' : List ℕ} (reply : Result (Unit {0}) Error)
       → ReadExactLaw (limit_reader inner) old buf reply buf' new → limit_left old ≡ 0 → OnOk reply (buf' ≡ []) × IfErr reply IsUnexpectedEnd

@@ -1,13 +1,12 @@
 -- For `towers`: which errors a writer with a buffer returns, if each call of its inner writer fails with such errors only.
 use Rattle.no_std_io2.proofs.Words.{common_steps, ◌≡◌, ℕ, ◌<◌, List, ◌∷◌, [], Result, Ok, Err, IfErr, IfOk, length, arith, subst, sym, inl}
 use Rattle.no_std_io2.proofs.Words.{inr, WriteCall, Wrote, WroteAll, Flushed, Made, AllCalls, Writer, CallOf, Step, TakesStep, Then, stops}
-use Rattle.no_std_io2.proofs.Words.{goes_on, SendCalls}
-use Rattle.no_std_io2.proofs.Words.{WayCalls, Buffered, WriteCalls, Only, WriteAllCalls, FlushCalls, InnerCalls, BufferMay, lines_of}
-use Rattle.no_std_io2.proofs.Words.{unfinished_line, SendLinesCalls, LineWriteCalls, LineWriteAllCalls}
-use Rattle.no_std_io2.specs.{declared.io.Error.{Error}, BufWriter.{PastEmpty, PutCalls}}
-use Rattle.no_std_io2.specs.{LineWriter.{SendLineCalls, LinesCalls, HoldsTail, LineCalls}}
-use Rattle.promises.specs.Fails.{FailsBy, FailsOnly}
+use Rattle.no_std_io2.proofs.Words.{goes_on, SendCalls, WayCalls, Buffered, WriteCalls, Only, WriteAllCalls, FlushCalls, InnerCalls}
+use Rattle.no_std_io2.proofs.Words.{BufferMay, lines_of, unfinished_line, SendLinesCalls, LineWriteCalls, LineWriteAllCalls}
 use Rattle.no_std_io2.proofs.{CallsLemmas.{made_split}, LineLemmas.{lines_some}}
+use Rattle.no_std_io2.specs.{declared.io.Error.{Error}, BufWriter.{PastEmpty, PutCalls}, LineWriter.{SendLineCalls, LinesCalls, HoldsTail}}
+use Rattle.no_std_io2.specs.LineWriter.{LineCalls}
+use Rattle.promises.specs.Fails.{FailsBy, FailsOnly}
 use Rattle.promises.proofs.FailsLemmas.{call_fails, writes_fail, all_fails}
 
 module _ {W : Type 0} (I : Writer W) (Q : Error → Type 0) (fails : FailsOnly Q I.may) where
@@ -74,9 +73,7 @@ module _ {W : Type 0} (I : Writer W) (Q : Error → Type 0) (fails : FailsOnly Q
 
   -- A writer with a buffer fails with the errors of its inner writer only.
   pub buffer_fails : {B : Type 0} (S : ℕ) (inner : B → W) (buffer : B → List ℕ) → FailsOnly Q (BufferMay I (InnerCalls S) inner buffer)
-  buffer_fails S inner buffer old new (Wrote x reply) may = by_step inner buffer old new reply (write_some S x) may
-  buffer_fails S inner buffer old new (WroteAll x reply) may = by_step inner buffer old new reply (write_all_fails S x) may
-  buffer_fails S inner buffer old new (Flushed reply) may = by_step inner buffer old new reply flush_fails may
+  buffer_fails {B = B} S inner buffer = grind (arith, common_steps, by_step, flush_fails, write_all_fails, write_some)
 
   -- and so does a line writer
   send_line_fails : Fails SendLineCalls
@@ -85,9 +82,7 @@ module _ {W : Type 0} (I : Writer W) (Q : Error → Type 0) (fails : FailsOnly Q
   tail_some : (S : ℕ) (x lines : List ℕ) (answer reply : Result ℕ Error) (left : List ℕ) → 0 < length lines
       → HoldsTail S x answer reply left
       → Some lines answer → Some x reply
-  tail_some S x lines (Ok n) reply left some tail gave =
-      subst (Some x) (sym tail.1) (tt, λ any. omega (arith, gave.1 some))
-  tail_some S x lines (Err e) reply left some tail gave = subst (Some x) (sym tail.1) (gave.0, tt)
+  tail_some S x lines answer reply left some tail gave = grind (arith, common_steps)
 
   send_lines_fails : (S : ℕ) (y : List ℕ) → Fails (SendLinesCalls S y)
   send_lines_fails S y = λ held C reply left sends a b made. elim sends [

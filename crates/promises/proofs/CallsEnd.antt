@@ -1,14 +1,14 @@
 -- Which call of a buffer's inner writer is the last.
-use Rattle.no_std_io2.proofs.Words.{ℕ, List, [], ◌∷◌, ◌++◌, Result, Ok, Err, IfOk, IfErr, OnOk, length, refl, subst, sym, inl, inr}
-use Rattle.no_std_io2.proofs.Words.{WriteCall, Wrote, WroteAll, Flushed, AllCalls, Writes, none, took, again, stuck, fault, stops, goes_on}
-use Rattle.no_std_io2.proofs.Words.{WayCalls, FlushCalls, WriteCalls, Only}
+use Rattle.std.proofs.{Common.{arith}, lemmas.Grind.{common_steps}}
+use Rattle.no_std_io2.proofs.Words.{ℕ, List, [], ◌∷◌, ◌++◌, Result, Ok, Err, IfOk, IfErr, OnOk, length, refl, WriteCall, Wrote, WroteAll}
+use Rattle.no_std_io2.proofs.Words.{Flushed, AllCalls, Writes, none, took, again, stuck, fault, stops, goes_on, WayCalls, FlushCalls}
+use Rattle.no_std_io2.proofs.Words.{WriteCalls, Only}
 use Rattle.no_std_io2.specs.{declared.io.Error.{Error}, BufWriter.{PutCalls}}
 use Rattle.promises.specs.Promises.{HasNoFlush, FailedWith, EndsIn, EndsInFlush}
 
 -- one more call before the others changes nothing, if there are others
 ends_before : (call : WriteCall) (C : List WriteCall) (e : Error) → EndsIn C e → EndsIn (call ∷ C) e
-ends_before call [] e ends = absurd ends
-ends_before call (next ∷ C) e ends = ends
+ends_before call C e ends = grind (arith, common_steps)
 
 -- the last call ends them
 ends_last : (C : List WriteCall) (call : WriteCall) (e : Error) → FailedWith call e → EndsIn (C ++ call ∷ []) e
@@ -39,9 +39,7 @@ writes_end (fault some is) = refl
 
 -- and so does a `write_all`
 pub all_end : {C : List WriteCall} {x : List ℕ} {reply : Result (Unit {0}) Error} → AllCalls C x reply → IfErr reply (EndsIn C)
-all_end {x = x} {reply = Ok u} calls = tt
-all_end {x = x} {reply = Err e} (inl own) = subst (λ C. EndsIn C e) (sym own) refl
-all_end {x = x} {reply = Err e} (inr loop) = writes_end loop.1
+all_end calls = grind (arith, common_steps, writes_end)
 
 -- a loop has no flush
 writes_only : {text : List ℕ} {C : List WriteCall} {x left : List ℕ} {reply : Result (Unit {0}) Error} → Writes text C x reply left
@@ -61,38 +59,29 @@ both_only (Flushed reply ∷ C) D c d = absurd c
 -- a `flush`
 pub flush_ends : {held left : List ℕ} {C : List WriteCall} {reply : Result (Unit {0}) Error} → FlushCalls held C reply left
     → IfErr reply (EndsIn C)
-flush_ends (stops sent) = writes_end sent
-flush_ends {reply = Ok u} (goes_on sent next) = tt
-flush_ends {reply = Err e} (goes_on {C} sent next) =
-    subst (λ D. EndsIn (C ++ D) e) (sym next.2) (ends_last C (Flushed (Err e)) e refl)
+flush_ends calls = grind (arith, common_steps, ends_last, goes_on, stops, writes_end)
 
 -- one that succeeded ends in a flush
 pub flush_flushed : {held left : List ℕ} {C : List WriteCall} {reply : Result (Unit {0}) Error} → FlushCalls held C reply left
     → OnOk reply (EndsInFlush C)
-flush_flushed (stops sent) = tt
-flush_flushed {reply = Ok u} (goes_on {C} sent next) = subst (λ D. EndsInFlush (C ++ D)) (sym next.2) (flushed_last C)
-flush_flushed {reply = Err e} (goes_on sent next) = tt
+flush_flushed calls = grind (arith, common_steps, flushed_last, goes_on, stops)
 
 -- the way for a write
 way_ends : (n : ℕ) {S : ℕ} {held left : List ℕ} {C : List WriteCall} {e : Error} → WayCalls S n held C (Err e) left → EndsIn C e
-way_ends n (inl fits) = absurd (let no : ⊥ = cc in no)
-way_ends n (inr sends) = writes_end sends.1
+way_ends n way = grind (arith, common_steps, writes_end)
 
 way_only : (n : ℕ) {S : ℕ} {held left : List ℕ} {C : List WriteCall} {reply : Result (Unit {0}) Error} → WayCalls S n held C reply left
     → HasNoFlush C
-way_only n (inl fits) = subst HasNoFlush (sym fits.1) tt
-way_only n (inr sends) = writes_only sends.1
+way_only n way = grind (arith, common_steps, writes_only)
 
 -- what is written after it
 put_only : {S : ℕ} {x held left : List ℕ} {D : List WriteCall} {reply : Result ℕ Error}
     → PutCalls S x (length x) (Only (Wrote x)) held D reply left → HasNoFlush D
-put_only (inl fits) = subst HasNoFlush (sym fits.1) tt
-put_only (inr past) = subst HasNoFlush (sym past.1.2) tt
+put_only put = grind (arith, common_steps)
 
 put_ends : {S : ℕ} {x held left : List ℕ} {D : List WriteCall} {e : Error} (C : List WriteCall)
     → PutCalls S x (length x) (Only (Wrote x)) held D (Err e) left → EndsIn (C ++ D) e
-put_ends C (inl fits) = absurd (let no : ⊥ = cc in no)
-put_ends {x = x} {e = e} C (inr past) = subst (λ D. EndsIn (C ++ D) e) (sym past.1.2) (ends_last C (Wrote x (Err e)) e refl)
+put_ends C put = grind (arith, common_steps, ends_last)
 
 -- a `write`
 pub write_only : {S : ℕ} {x held left : List ℕ} {C : List WriteCall} {reply : Result ℕ Error} → WriteCalls S x held C reply left
@@ -108,15 +97,12 @@ write_ends {reply = Err e} (goes_on {C} way put) = put_ends C put
 
 -- what holds for each value holds for that of the result
 pub if_ok : {A E : Type 0} (reply : Result A E) {P Q : A → Type 0} → ((a : A) → P a → Q a) → IfOk reply P → IfOk reply Q
-if_ok (Ok a) f p = f a p
-if_ok (Err e) f p = tt
+if_ok reply each holds = grind (arith, common_steps)
 
 -- behind other calls
 pub ends_after_both : (C D : List WriteCall) (reply : Result (Unit {0}) Error) → IfErr reply (EndsIn D) → IfErr reply (EndsIn (C ++ D))
-ends_after_both C D (Ok u) ends = tt
-ends_after_both C D (Err e) ends = ends_after C D e ends
+ends_after_both C D reply ends = grind (arith, common_steps, ends_after)
 
 -- a flush behind other calls
 pub flushed_end : (C : List WriteCall) (reply : Result (Unit {0}) Error) → IfErr reply (EndsIn (C ++ Flushed reply ∷ []))
-flushed_end C (Ok u) = tt
-flushed_end C (Err e) = ends_last C (Flushed (Err e)) e refl
+flushed_end C reply = grind (arith, common_steps, ends_last)

@@ -1,7 +1,6 @@
 -- For `adaptors`: what the reader that a `Chain` is at lends, the chain lends.
-use Rattle.no_std_io2.proofs.Words.{◌+◌, None, Lender, as_reader}
+use Rattle.no_std_io2.proofs.{Words.{◌+◌, None, Lender, as_reader}, ChainLemmas.{chain_reader}}
 use Rattle.no_std_io2.specs.{declared.io.Chain.{Chain}, Chain.{chain_first, chain_second, chain_held, ChainMay}}
-use Rattle.no_std_io2.proofs.ChainLemmas.{chain_reader}
 
 -- a chain that lends
 abbrev pub chain_lender : {T U : Type 0} → Lender T → Lender U → Lender (Chain T U)

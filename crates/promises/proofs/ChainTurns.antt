@@ -1,7 +1,6 @@
 -- For `adaptors`: the calls of a `Chain` use one reader after the other.
-use Rattle.no_std_io2.proofs.Words.{common_steps, arith, Reader, ReadCallLaw}
+use Rattle.no_std_io2.proofs.{Words.{common_steps, arith, Reader, ReadCallLaw}, ReadsAdd.{EachAdds}, ChainLemmas.{chain_reader}}
 use Rattle.no_std_io2.specs.Chain.{InTurn}
-use Rattle.no_std_io2.proofs.{ReadsAdd.{EachAdds}, ChainLemmas.{chain_reader}}
 
 module _ {T U : Type 0} where
   -- Each call does. So `exact_adds (chain_each R S)` proves this for a `read_exact`, and the other calls are

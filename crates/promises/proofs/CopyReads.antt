@@ -1,10 +1,10 @@
 -- For `counts`: how many reads a copy makes of a reader that fills its room.
-use Rattle.no_std_io2.proofs.Words.{common_steps, ◌≡◌, ℕ, ◌+◌, ◌<◌, min, List, [], ◌∷◌, length, Result, Ok, Err, Some, sym, ap, subst, ◌∙◌}
-use Rattle.no_std_io2.proofs.Words.{arith, length-append, OnOk, events_of, Reader, ReadCall, Gave, GaveLaw, ReadCallLaw, Gathers, no_read}
-use Rattle.no_std_io2.proofs.Words.{and_gave, and_again, IsReadMeter, FillsRoom, Made, Writer, Copied}
+use Rattle.no_std_io2.proofs.Words.{common_steps, ◌≡◌, ℕ, ◌+◌, ◌<◌, min, List, [], ◌∷◌, length, Result, Ok, Err, sym, ap, subst, arith}
+use Rattle.no_std_io2.proofs.Words.{length-append, OnOk, events_of, Reader, ReadCall, Gave, GaveLaw, ReadCallLaw, Gathers, no_read}
+use Rattle.no_std_io2.proofs.{Words.{and_gave, and_again, IsReadMeter, FillsRoom, Made, Writer, Copied}, CallsLemmas.{made_split}}
+use Rattle.no_std_io2.proofs.{EventLemmas.{length-events_of}, TakesLemmas.{left_of}, CopyLemmas.{copied_ok}}
 use Rattle.std.specs.Int.{div_ceil}
 use Rattle.no_std_io2.specs.declared.io.Error.{Error}
-use Rattle.no_std_io2.proofs.{CallsLemmas.{made_split}, EventLemmas.{length-events_of}, TakesLemmas.{left_of}, CopyLemmas.{copied_ok}}
 
 -- a read into the whole room that gave bytes
 one_read : (room : ℕ) {size : ℕ} (n : ℕ) {left : ℕ} (left' cost : ℕ) {cost' all : ℕ} → 0 < room → size ≡ room
@@ -20,19 +20,7 @@ last_read room left cost some gave paid before = grind (arith, common_steps)
 module _ {R : Type 0} (K : Reader R) (cost : R → ℕ) (meter : IsReadMeter K.may cost) (fills : FillsRoom K) where
   -- as many bytes as a read gives are no longer to come
   fewer : (a b : R) {room : ℕ} (y : List ℕ) → GaveLaw K a room (Ok y) b → length (fills.left a) ≡ length y + length (fills.left b)
-  fewer a b y law =
-      let left = left_of law.takes (fills.told a) in
-      let rest : Some (events_of (fills.left b)) ≡ Some left.0 = sym (fills.told b) ∙ left.1 in
-      let same : events_of (fills.left b) ≡ left.0 = cc in
-      omega (
-        arith,
-        ap length left.2,
-        length-append (events_of y) left.0,
-        ap length same,
-        length-events_of y,
-        length-events_of (fills.left a),
-        length-events_of (fills.left b),
-      )
+  fewer a b y law = grind (arith, common_steps, events_of, left_of, length-append, length-events_of)
 
   module _ (S : ℕ) (some : 0 < S) where
     -- what reads into the whole buffer cost
@@ -51,12 +39,4 @@ module _ {R : Type 0} (K : Reader R) (cost : R → ℕ) (meter : IsReadMeter K.m
     -- a copy that came to the end makes one read for each S bytes, rounded up, and one more
     pub copy_cost : {W : Type 0} {I : Writer W} {a b : R} {old new : W} (reply : Result ℕ Error) → Copied K I S a old reply b new
         → OnOk reply (cost b ≡ cost a + (div_ceil (length (fills.left a)) S + 1))
-    copy_cost {a = a} {b} (Ok n) copied =
-        let hands = (copied_ok copied).calls in
-        let (mid, first, last) = made_split (ReadCallLaw K) hands.reads a (Gave S (Ok []) ∷ []) b hands.asked in
-        let call = meter mid b S (Ok []) in
-        let law : GaveLaw K mid S (Ok []) b = subst (λ r. GaveLaw K mid S (Ok []) r) (sym last.2) last.1 in
-        let all = last_read S (length (fills.left mid)) (cost mid) some (fills.gives mid b S (Ok []) law.call) (call law.call)
-        (reads_cost hands.gathered a mid first) in
-        omega (arith, all)
-    copy_cost (Err e) copied = tt
+    copy_cost reply copied = grind (arith, copied_ok, last_read, made_split, reads_cost)

@@ -2,12 +2,10 @@
 use Rattle.no_std_io2.proofs.Words.{nat_tests, cases_lt, ◌≡◌, ℕ, ◌+◌, ◌-◌, ◌<◌, ◌≤◌, ◌⊎◌, min, List, [], ◌∷◌, ◌++◌, Result, Ok, Err, length}
 use Rattle.no_std_io2.proofs.Words.{true, false, refl, sym, ap, subst, ◌∙◌, arith, inl, inr, ⊎_elim, length-append, length-drop, Made}
 use Rattle.no_std_io2.proofs.Words.{Reader, ReadCall, ReadCallLaw, GaveLaw, Gave, Gathers, no_read, and_gave, and_again, bytes_given}
-use Rattle.no_std_io2.proofs.Words.{IsReadMeter, FillsRoom}
-use Rattle.no_std_io2.proofs.Words.{reader_held, reader_inner, AsksExact}
+use Rattle.no_std_io2.proofs.{Words.{IsReadMeter, FillsRoom, reader_held, reader_inner, AsksExact}, CallsLemmas.{made_split}}
 use Rattle.std.proofs.{Common.{max}, Math.Nat.{le-max_left, le-max_right, max-eq_left, max-eq_right}}
-use Rattle.no_std_io2.specs.{declared.io.Error.{Error}, declared.buffered.buf_reader.BufReader.{BufReader}}
-use Rattle.no_std_io2.specs.{BufReader.{ReadsThrough, LeavesExact, only_held, read_whole, read_to_end, read_to_fault}}
-use Rattle.no_std_io2.proofs.CallsLemmas.{made_split}
+use Rattle.no_std_io2.specs.{declared.{io.Error.{Error}, buffered.buf_reader.BufReader.{BufReader}}, BufReader.{ReadsThrough, LeavesExact}}
+use Rattle.no_std_io2.specs.BufReader.{only_held, read_whole, read_to_end, read_to_fault}
 use Rattle.io_bench.proofs.FillsRoomLemmas.{drawn}
 use Rattle.promises.specs.Counts.{exact_reads, exact_left}
 

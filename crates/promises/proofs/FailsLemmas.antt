@@ -1,10 +1,8 @@
 -- For `towers`: which errors the loops of a writer return, if each of its calls fails with such errors only.
 use Rattle.no_std_io2.proofs.Words.{Ok, Err, Wrote, common_steps, ℕ, List, Result, IfErr, arith, IsOutOfMemory, WriteCall, Flushed, Made}
-use Rattle.no_std_io2.proofs.Words.{AllCalls, Writes}
-use Rattle.no_std_io2.proofs.Words.{none, took, again, stuck, fault, Writer, CallOf}
+use Rattle.no_std_io2.proofs.{Words.{AllCalls, Writes, none, took, again, stuck, fault, Writer, CallOf}, CallsLemmas.{law_may}}
 use Rattle.no_std_io2.specs.{declared.io.Error.{Error}, Writers.{WriteAllOf, FlushOf}, Appends.{AppendsWhole, AppendsMay}}
 use Rattle.promises.specs.Fails.{FailsBy, FailsOnly}
-use Rattle.no_std_io2.proofs.CallsLemmas.{law_may}
 
 -- a vector fails by `OutOfMemory` only
 whole_fails : {A : Type 0} (old new x : List ℕ) (len capacity : ℕ) (reply : Result A Error) → AppendsWhole old len capacity x reply new

@@ -3,14 +3,12 @@ use Rattle.no_std_io2.proofs.Words.{common_steps, ◌≡◌, ℕ, ◌<◌, Bool,
 use Rattle.no_std_io2.proofs.Words.{subst, ◌∙◌, arith, Result, Ok, Err, ⊎_elim, inl, inr, append_assoc, append-nil, length-append}
 use Rattle.no_std_io2.proofs.Words.{length-take-le, take-append-drop, Vec, IfOk, IsOutOfMemory, Made, bytes, Reader, ReadCall, Filled}
 use Rattle.no_std_io2.proofs.Words.{Consumed, LendCallLaw, lender_tells, newline, IsSuffix, reader_held, reader_behind, reader_inner}
-use Rattle.no_std_io2.proofs.Words.{FillsBelow, lent_held, lent_read}
+use Rattle.no_std_io2.proofs.{Words.{FillsBelow, lent_held, lent_read}, CallsLemmas.{made_split}, BufReaderCalls.{buf_lender}}
 use Rattle.std.proofs.Common.{take_all, String, string_bytes}
-use Rattle.no_std_io2.specs.{declared.io.Error.{Error}, BufRead.{ReadUntilLaw, ReadLineLaw, line_room}}
-use Rattle.no_std_io2.specs.Pieces.{AnswersLine, Lacks, EndsPiece, FindsPiece, PartCalls, no_part, and_part, and_waited}
-use Rattle.no_std_io2.specs.Write.{ByCalls}
-use Rattle.no_std_io2.specs.Pieces.{PieceEnds, PieceCalls}
-use Rattle.no_std_io2.specs.{declared.buffered.buf_reader.BufReader.{BufReader}, BufReader.{HasBuffer, TakesHeld, TakesHeldLine}}
-use Rattle.no_std_io2.proofs.{CallsLemmas.{made_split}, BufReaderCalls.{buf_lender}}
+use Rattle.no_std_io2.specs.{declared.io.Error.{Error}, BufRead.{ReadUntilLaw, ReadLineLaw, line_room}, Pieces.{AnswersLine, Lacks}}
+use Rattle.no_std_io2.specs.Pieces.{EndsPiece, FindsPiece, PartCalls, no_part, and_part, and_waited, PieceEnds, PieceCalls}
+use Rattle.no_std_io2.specs.{Write.{ByCalls}, declared.buffered.buf_reader.BufReader.{BufReader}, BufReader.{HasBuffer, TakesHeld}}
+use Rattle.no_std_io2.specs.BufReader.{TakesHeldLine}
 
 -- if d is among the bytes, they do not lack it
 has_end : (d : ℕ) (front rest : List ℕ) → Lacks d (front ++ d ∷ rest) → ⊥
@@ -161,8 +159,7 @@ filled_behind x old new (lent_read none law buffer) front = (x, sym (append-nil 
 
 -- and after a `consume`
 consumed_behind : (x part : List ℕ) {behind behind' : List ℕ} → IsSuffix x behind → behind' ≡ behind ++ part → IsSuffix (x ++ part) behind'
-consumed_behind x part {behind} (front, is) more =
-    (front, ap (λ l. l ++ part) is ∙ append_assoc front behind part ∙ ap (λ l. front ++ l) (sym more))
+consumed_behind x part suffix more = grind (arith, common_steps, append_assoc)
 
 module _ {R : Type 0} {S : ℕ} (K : Reader R) (old : BufReader R S) (d : ℕ) where
   lent_behind : (x lent : List ℕ) (n : ℕ) (now mid new : BufReader R S) → IsSuffix x (reader_behind now)

@@ -3,7 +3,7 @@ use Rattle.no_std_io2.proofs.Words.{ℕ, List, Vec, Some, length, told_out, Writ
 use Rattle.no_std_io2.proofs.Words.{BufferMay, InnerCalls, line_inner, line_buffer, events_of, Reader, FillsRoom}
 use Rattle.std.specs.Vec.{vec_len, vec_capacity}
 use Rattle.no_std_io2.specs.{Appends.{AppendsMay}, declared.buffered.buf_writer.BufWriter.{BufWriter}}
-use Rattle.no_std_io2.specs.{declared.buffered.line_writer.LineWriter.{LineWriter}, LineWriter.{LineCalls}, declared.io.Cursor.{Cursor}}
+use Rattle.no_std_io2.specs.{declared.{buffered.line_writer.LineWriter.{LineWriter}, io.Cursor.{Cursor}}, LineWriter.{LineCalls}}
 use Rattle.no_std_io2.specs.{Cursor.{cursor_left}, InMemory.{GivesLeft}, Takes.{store_at}}
 
 -- a vector

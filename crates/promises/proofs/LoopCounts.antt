@@ -1,9 +1,9 @@
 -- For `counts`: how many reads a `Tally` counts in the trait's loops.
 use Rattle.no_std_io2.proofs.Words.{common_steps, ◌≡◌, ℕ, ◌+◌, ◌-◌, ◌<◌, ◌≤◌, List, [], ◌∷◌, ◌++◌, Result, Ok, Err, min, length, arith}
 use Rattle.no_std_io2.proofs.Words.{refl, sym, subst, ◌∙◌, inl, inr, Made, Reader, ReadCall, Gave, GaveAll, answered, Gathers, no_read}
-use Rattle.no_std_io2.proofs.Words.{and_gave, and_again, GathersUntil, ExactCalls}
+use Rattle.no_std_io2.proofs.{Words.{and_gave, and_again, GathersUntil, ExactCalls}, CallsLemmas.{made_split}}
+use Rattle.no_std_io2.proofs.EventLemmas.{length-events_of}
 use Rattle.no_std_io2.specs.{declared.io.Error.{Error}, Read.{ended, FillCalls, ToEndCalls}}
-use Rattle.no_std_io2.proofs.{CallsLemmas.{made_split}, EventLemmas.{length-events_of}}
 use Rattle.promises.specs.Loops.{stopped, CountsToEnd}
 use Rattle.io_bench.specs.{declared.tally.Tally.{Tally}, Tally.{tally_inner, tally_reads, tally_writes, ReadCounted, ReadsCounted}}
 

@@ -1,10 +1,10 @@
 -- For `system`: what the reads of a patient give.
-use Rattle.no_std_io2.proofs.Words.{◌≡◌, ℕ, zero, suc, ◌+◌, ◌<◌, ◌≤◌, List, [], ◌∷◌, Option, None, Some, Result, Ok, Err, length, refl, sym}
-use Rattle.no_std_io2.proofs.Words.{ap, subst, ◌∙◌, arith, inl, inr, ◌⊎◌, append-nil, length-append, OnOk, IsFault, ReadCall, Gave}
-use Rattle.no_std_io2.proofs.Words.{bytes_given, answered, GaveLaw, ReadCallLaw, GathersUntil, ExactCalls, Made, IsFront}
-use Rattle.no_std_io2.proofs.{CallsLemmas.{made_split}, EventLemmas.{length-events_of}, ReadsAdd.{EachAdds, gathers_add}}
+use Rattle.std.proofs.{lemmas.Grind.{common_steps}, KnownBytes.{Consumes-nil, Consumes-trans}}
+use Rattle.no_std_io2.proofs.Words.{◌≡◌, ℕ, zero, suc, ◌+◌, ◌<◌, ◌≤◌, List, [], ◌∷◌, Option, Result, Ok, Err, length, refl, sym, ap, subst}
+use Rattle.no_std_io2.proofs.Words.{◌∙◌, arith, inl, inr, ◌⊎◌, append-nil, length-append, OnOk, IsFault, ReadCall, Gave, bytes_given}
+use Rattle.no_std_io2.proofs.{Words.{answered, GaveLaw, ReadCallLaw, GathersUntil, ExactCalls, Made, IsFront}, CallsLemmas.{made_split}}
+use Rattle.no_std_io2.proofs.{EventLemmas.{length-events_of}, ReadsAdd.{EachAdds, gathers_add}}
 use Rattle.std.specs.{Prelude.{min}, Result.{IsErrAnd}, Io.KnownBytes.{Consumes, Keeps}}
-use Rattle.std.proofs.KnownBytes.{Consumes-nil, Consumes-trans}
 use lib.Seq.{take-append_seam}
 use Rattle.no_std_io2.specs.{declared.io.Error.{Error}, Errors.{is_interruption}, Read.{gave}, Write.{ByCalls}}
 use Rattle.system_streams.specs.{declared.{patient.Patient.{Patient}, system.SystemRead.{Ghosts as Source}}, Patient.{patient_device}}
@@ -14,14 +14,11 @@ use Rattle.system_streams.proofs.PatientLemmas.{patient_reader}
 
 -- known bytes that stay lose nothing
 keeps_consumes : (a b : Option (List ℕ)) → Keeps a b → Consumes a b []
-keeps_consumes None b kept = tt
-keeps_consumes (Some x) None kept = absurd kept
-keeps_consumes (Some x) (Some y) kept = sym kept
+keeps_consumes a b kept = grind (arith, common_steps)
 
 -- an error gives no bytes
 no_bytes : (answer : Result (List ℕ) Error) → IsErrAnd answer IsOutOfTurns → bytes_given answer ≡ []
-no_bytes (Ok x) failed = absurd failed
-no_bytes (Err e) failed = refl
+no_bytes answer failed = grind (arith, common_steps)
 
 -- the events of an answer are as many as its bytes, or one error
 given_events : (answer : Result (List ℕ) Error) → length (bytes_given answer) ≤ length (answered answer)
@@ -36,15 +33,12 @@ module _ {D : Type 0} (I : Source D) where
   -- the same device has lost nothing
   lost_none : (old new : Patient D) (answer : Result (List ℕ) Error) → bytes_given answer ≡ [] → patient_device new ≡ patient_device old
       → Lost old (bytes_given answer) new
-  lost_none old new answer none same =
-      subst (λ x. Lost old x new) (sym none)
-      (subst (λ d. Consumes (I.known (patient_device old)) (I.known d) []) (sym same) (Consumes-nil (I.known (patient_device old))))
+  lost_none old new answer none same = grind (arith, common_steps, Consumes-nil)
 
   -- one read of the device
   asked_loses : (old new : Patient D) {answer : Result (List ℕ) Error} (reply : Result ℕ Error) (buf : List ℕ) → answer ≡ gave reply buf
       → AsksDevice I old reply buf new → Lost old (bytes_given answer) new
-  asked_loses old new (Ok n) buf is asks = subst (λ a. Lost old (bytes_given a) new) (sym is) asks.bytes.0
-  asked_loses old new (Err e) buf is asks = subst (λ a. Lost old (bytes_given a) new) (sym is) (keeps_consumes _ _ asks.bytes)
+  asked_loses old new reply buf is asks = grind (arith, common_steps, bytes_given, keeps_consumes)
 
   -- what a read gave is gone from the known bytes of the device, and nothing else
   loses : {old new : Patient D} (room : ℕ) (answer : Result (List ℕ) Error) → AsksOnce I old room answer new

@@ -1,9 +1,8 @@
 -- For `reads`: the store after a call, if it was told before; and the events.
-use Rattle.no_std_io2.proofs.Words.{◌≡◌, ◌+◌, ◌-◌, ◌<◌, ◌++◌, ℕ, zero, suc, List, [], Option, None, Some, Result, Ok, Err, IfOk, length}
-use Rattle.no_std_io2.proofs.Words.{refl, subst, sym, ap, ap₂, ◌∙◌, drop, arith, drop-append_seam, step_back, store_before, store_if, Event}
-use Rattle.no_std_io2.proofs.Words.{answered, KeepsContent, Store}
-use Rattle.std.proofs.Common.{IfSome, drop-drop}
-use Rattle.no_std_io2.proofs.BufferedReads.{before_decides}
+use Rattle.std.proofs.{lemmas.Grind.{common_steps}, Common.{IfSome, drop-drop}}
+use Rattle.no_std_io2.proofs.Words.{◌≡◌, ◌+◌, ◌-◌, ◌<◌, ◌++◌, ℕ, List, [], Option, None, Some, Result, Ok, IfOk, length, refl, subst}
+use Rattle.no_std_io2.proofs.Words.{sym, ap, ap₂, ◌∙◌, drop, arith, drop-append_seam, step_back, store_before, store_if, Event, answered}
+use Rattle.no_std_io2.proofs.{Words.{KeepsContent, Store}, BufferedReads.{before_decides}}
 use Rattle.no_std_io2.specs.{declared.io.Error.{Error}, Read.{gave}}
 
 -- a store that was told still is, with its content
@@ -19,9 +18,7 @@ store_after Goes {was} old new keeps told = by new (subst (λ o. KeepsContent o 
 pub none_left : (buf : List ℕ) (reply : Result ℕ Error) {told : Option (List Event)} {E after : List Event}
     → IfOk reply (λ n. n ≡ 0 → 0 < length buf → IfSome told (λ F. F ≡ [])) → told ≡ Some after
     → E ≡ answered (gave reply buf) ++ after → reply ≡ Ok 0 → 0 < length buf → E ≡ []
-none_left buf (Ok zero) end now is none some = is ∙ subst (λ o. IfSome o (λ F. F ≡ [])) now (end refl some)
-none_left buf (Ok (suc n)) end now is none some = absurd (let no : ⊥ = cc in no)
-none_left buf (Err e) end now is none some = absurd (let no : ⊥ = cc in no)
+none_left buf reply ends told split is_zero some = grind (arith, common_steps, IfSome)
 
 -- The held bytes stand in the content right before the position, with `front` before them: so the store is told, at
 -- their first byte.

@@ -1,7 +1,6 @@
 -- How many reads a loop makes.
 use Rattle.std.specs.Prelude.{ℕ, ◌+◌, ◌<◌, ◌≤◌, ◌⊎◌, min, Result, Ok, Err, IfErr, OnOk}
-use Rattle.no_std_io2.specs.declared.io.Error.{Error}
-use Rattle.no_std_io2.specs.Errors.{IsOutOfMemory}
+use Rattle.no_std_io2.specs.{declared.io.Error.{Error}, Errors.{IsOutOfMemory}}
 
 -- 1 if a fault stopped the loop, and else 0
 abbrev pub stopped : {A : Type 0} → Result A Error → ℕ

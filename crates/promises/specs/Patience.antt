@@ -1,10 +1,7 @@
 -- What a loop of reads of a `Patient` gives.
-use Rattle.std.specs.Prelude.{◌≡◌, ℕ, ◌<◌, ◌≤◌, ◌⊎◌, List, length, take, Option, Ok, Err, Result, OnOk}
-use Rattle.std.specs.Io.KnownBytes.{Consumes}
-use Rattle.no_std_io2.specs.declared.io.Error.{Error}
-use Rattle.no_std_io2.specs.Errors.{IsUnexpectedEnd}
-use Rattle.system_streams.specs.declared.patient.Patient.{Patient}
-use Rattle.system_streams.specs.Patient.{patient_device, patient_turns, patient_taken}
+use Rattle.std.specs.{Prelude.{◌≡◌, ℕ, ◌<◌, ◌≤◌, ◌⊎◌, List, length, take, Option, Ok, Err, Result, OnOk}, Io.KnownBytes.{Consumes}}
+use Rattle.no_std_io2.specs.{declared.io.Error.{Error}, Errors.{IsUnexpectedEnd}}
+use Rattle.system_streams.specs.{declared.patient.Patient.{Patient}, Patient.{patient_device, patient_turns, patient_taken}}
 use Rattle.system_streams.specs.Turns.{IsOutOfTurns, IsDeviceFault}
 
 -- how a loop of reads with some room may end: it spent at least one turn, or no turns were left, or the device failed, or the bytes ended

@@ -1,23 +1,12 @@
 -- The words of the promises.
 use Rattle.std.specs.Prelude.{◌≡◌, ◌+◌, ℕ, List, [], ◌∷◌, ◌++◌, length, ⊤, Ok, Err, None, Some}
-use Rattle.no_std_io2.specs.declared.io.Error.{Error}
-use Rattle.no_std_io2.specs.declared.io.ErrorKind.TheVariants.{WriteZero}
-use Rattle.no_std_io2.specs.Errors.{error_kind}
-use Rattle.no_std_io2.specs.Write.{Told, WriteCall, Wrote, WroteAll, Flushed}
-use Rattle.no_std_io2.specs.declared.buffered.buf_writer.BufWriter.{BufWriter}
-use Rattle.no_std_io2.specs.declared.buffered.line_writer.LineWriter.{LineWriter}
-use Rattle.no_std_io2.specs.declared.buffered.buf_reader.BufReader.{BufReader}
-use Rattle.no_std_io2.specs.declared.io.Chain.{Chain}
-use Rattle.no_std_io2.specs.declared.io.Take.{Take}
-use Rattle.no_std_io2.specs.BufWriter.{writer_inner, writer_buffer, with_buffer}
-use Rattle.no_std_io2.specs.BufReader.{reader_told, reader_held, reader_inner}
-use Rattle.no_std_io2.specs.declared.io.Cursor.{Cursor}
-use Rattle.no_std_io2.specs.Cursor.{cursor_inner, cursor_left, cursor_position}
-use Rattle.no_std_io2.specs.Events.{events_of}
-use Rattle.no_std_io2.specs.Takes.{Tells, store_at}
-use Rattle.no_std_io2.specs.Take.{limit_inner, limit_events}
-use Rattle.no_std_io2.specs.Chain.{chain_first, chain_second, chain_events}
-use Rattle.no_std_io2.specs.LineWriter.{line_inner, line_buffer}
+use Rattle.no_std_io2.specs.{declared.io.{Error.{Error}, ErrorKind.TheVariants.{WriteZero}}, Errors.{error_kind}, Write.{Told, WriteCall}}
+use Rattle.no_std_io2.specs.{Write.{Wrote, WroteAll, Flushed}, declared.buffered.buf_writer.BufWriter.{BufWriter}}
+use Rattle.no_std_io2.specs.declared.{buffered.{line_writer.LineWriter.{LineWriter}, buf_reader.BufReader.{BufReader}}, io.Chain.{Chain}}
+use Rattle.no_std_io2.specs.{declared.io.Take.{Take}, BufWriter.{writer_inner, writer_buffer, with_buffer}, BufReader.{reader_told}}
+use Rattle.no_std_io2.specs.{BufReader.{reader_held, reader_inner}, declared.io.Cursor.{Cursor}, Cursor.{cursor_inner, cursor_left}}
+use Rattle.no_std_io2.specs.{Cursor.{cursor_position}, Events.{events_of}, Takes.{Tells, store_at}, Take.{limit_inner, limit_events}}
+use Rattle.no_std_io2.specs.{Chain.{chain_first, chain_second, chain_events}, LineWriter.{line_inner, line_buffer}}
 
 -- all accepted bytes, in order: those that are out, then those that are held
 abbrev pub bytes_in : Told → List ℕ

@@ -31,7 +31,7 @@ copies_err {K = K} {I} {from} {from'} {old} {mid} err =
   where
     of_side : (side : CopyError) → SidesCopied K I 64 from old (Err side) from' mid
         → IsFaultOf (tells K from) (I.told old) (side_error side)
-    of_side side h1 = grind (arith, first_fault_taken, may_fail)
+    of_side side copied = grind (arith, first_fault_taken, may_fail)
 
 -- and if the flush after it failed, that was a mishap of the writer's too
 pub flush_err : {R W : Type 0} {K : Reader R} {I : Writer W} {from from' : R} {old mid : W} {n : ℕ} {e : Error} {end : Told}
@@ -45,7 +45,7 @@ all_through a b P same all = subst (λ E. IfSome E (λ l. l ≡ P)) same all
 -- and a fault of the two is one of those behind the buffers
 pub fault_through : {E F : Option (List Event)} {old new : Told} {e : Error} → E ≡ F → old.mishaps ≡ new.mishaps → old.turns ≡ new.turns
     → IfSome E (λ l. HasFirstFault l e) ⊎ MayFail old e → IfSome F (λ l. HasFirstFault l e) ⊎ MayFail new e
-fault_through {E = E} {F = F} {old = old} {new = new} {e = e} h5 h6 h7 h8 = grind (arith, IfSome, error_kind)
+fault_through same mishaps turns failed = grind (arith, IfSome, error_kind)
 
 -- a reader without a fault and a writer without a mishap leave none
 pub is_steady : (E : Option (List Event)) {old : Told} {e : Error} (P : Type 0) → IfSome E (λ l. HasFirstFault l e) ⊎ MayFail old e
@@ -81,7 +81,7 @@ comes_apart held buffer none back =
 pub flushed_behind : {R W : Type 0} {K : Reader R} {I : Writer W} {last : List ReadCall} {from from' : R} {old mid new : W}
     → HandsOn K I 64 last from old (Ok tt) from' mid → FlushOf I mid (Ok tt) new
     → HandsAndFlushes I old new
-flushed_behind {R = R} {W = W} {K = K} {I = I} {last = last} {from = from} {from' = from'} {old = old} {mid = mid} {new = new} h10 h11 =
+flushed_behind hands flushed =
     grind (arith, made_more)
 
 -- through a buffer that was empty, is empty, and is taken off again

@@ -9,19 +9,19 @@ use Rattle.std.specs.declared.io.Error as Std
 
 -- the bytes of events that are gone are gone from the bytes
 gone : (E F : Option (List Event)) (P : List Event) → AreTaken E P F → Consumes (option_map bytes E) (option_map bytes F) (bytes P)
-gone E F P h3 = grind (arith, common_steps, bytes-append)
+gone E F P taken = grind (arith, common_steps, bytes-append)
 
 -- an error that is gone leaves the bytes
 kept : (E F : Option (List Event)) (e : Error) → AreTaken E (fails e ∷ []) F → Keeps (option_map bytes E) (option_map bytes F)
-kept E F e h3 = grind (arith, common_steps)
+kept E F e taken = grind (arith, common_steps)
 
 -- at the end no bytes are left
 at_end : (F : Option (List Event)) → IfSome F (λ E. E ≡ []) → IsKnownEnd (option_map bytes F)
-at_end F h1 = grind (arith, common_steps)
+at_end F end = grind (arith, common_steps)
 
 -- a read consumes the bytes that it gives, and keeps all at an error
 pub consumes_bytes : {S : Type 0} {R : Reader S} {old new : S} {buf buf' : List ℕ} (reply : Result ℕ Error) (result : Result ℕ Std.Error)
     → ReadLaw R old buf reply buf' new → SameAnswer reply result
     → ReadConsumes (bytes_to_come (tells R old)) (bytes_to_come (tells R new)) result buf'
-consumes_bytes {S = S} {R = R} {old = old} {new = new} {buf = buf} {buf' = buf'} reply result h8 h9 =
+consumes_bytes reply result read same =
     grind (arith, common_steps, at_end, bytes-events_of, events_of, gone, kept)

@@ -1,5 +1,6 @@
 -- For `Calls::ops`: the calls of a script, one after another.
-use Rattle.no_std_io2.proofs.Words.{ℕ, ◌+◌, ◌<◌, List, [], ◌∷◌, ◌++◌, length, get_or, take, refl, subst, sym, take_more}
+use Rattle.std.proofs.{Common.{arith}, lemmas.Grind.{common_steps}}
+use Rattle.no_std_io2.proofs.Words.{ℕ, ◌+◌, ◌<◌, List, [], ◌∷◌, ◌++◌, length, get_or, take, refl, subst, take_more}
 use Rattle.io_bench.specs.declared.runs.Op.{Op}
 use Rattle.tower_play.specs.{declared.script.Step.{Step}, Calls.{IsNext, AreOps}}
 
@@ -14,6 +15,4 @@ ops_more _ texts _ rest step op next are is = absurd are
 pub ops_go_on : (steps : List Step) (i : ℕ) (d : Step) (texts : List ℕ) (ops : List Op) (rest : List ℕ) (op : Op) (next : List ℕ)
     → i < length steps → AreOps (take i steps) texts ops rest → IsNext (get_or steps i d) rest op next
     → AreOps (take (i + 1) steps) texts (ops ++ op ∷ []) next
-ops_go_on steps i d texts ops rest op next in' are is =
-    subst (λ s. AreOps s texts (ops ++ op ∷ []) next) (sym (take_more steps i d in'))
-    (ops_more (take i steps) texts ops rest (get_or steps i d) op next are is)
+ops_go_on steps i d texts ops rest op next in' are is = grind (arith, common_steps, get_or, ops_more, take_more)

@@ -22,5 +22,4 @@ pub run_ends : (old text text2 text3 run shown bytes : List ℕ) (start i : ℕ)
     → shown ≡ escaped_byte (get_or bytes i 0) → text2 ≡ text ++ run → text3 ≡ text2 ++ shown
     → text ++ drop start (take i bytes) ≡ old ++ escaped (take i bytes)
     → text3 ++ drop (i + 1) (take (i + 1) bytes) ≡ old ++ escaped (take (i + 1) bytes)
-run_ends old text text2 text3 run shown bytes start i le in' is shows e2 e3 so =
-    let more = escaped_more bytes i in' in grind (arith, common_steps)
+run_ends old text text2 text3 run shown bytes start i le in' is shows e2 e3 so = grind (arith, common_steps, escaped_more)

@@ -1,20 +1,17 @@
 -- For `play`: what it writes, and which calls its tower made of the device.
 use Rattle.no_std_io2.proofs.Words.{CallOf, Vec, told_out, arith, common_steps, ◌≡◌, ℕ, List, [], ◌∷◌, ◌++◌, subst, ap, ap₂, refl}
-use Rattle.no_std_io2.proofs.Words.{append_assoc, Ok, Err, Result, IfOk, ◌∙◌}
-use Rattle.no_std_io2.proofs.Words.{error_kind, Told, Moves, MovesFront, Writer, WriteCall, ByCalls, InnerCalls, with_buffer, Through}
+use Rattle.no_std_io2.proofs.Words.{append_assoc, Ok, Err, Result, IfOk, ◌∙◌, error_kind, Told, Moves, MovesFront, Writer, WriteCall}
+use Rattle.no_std_io2.proofs.{Words.{ByCalls, InnerCalls, with_buffer, Through}, MovesLemmas.{Moves-ends}, FaultLemmas.{may_fail}}
 use Rattle.no_std_io2.specs.{declared.io.Error.{Error}, Faults.{MayFail}}
-use Rattle.no_std_io2.proofs.{MovesLemmas.{Moves-ends}, FaultLemmas.{may_fail}}
-use Rattle.io_bench.specs.{declared.faulty.Act.{Act}, declared.faulty.Faulty.{Faulty}}
-use Rattle.io_bench.specs.{declared.runs.Op.{Op}, Faulty.{acts_left, faulty_inner, with_acts}}
-use Rattle.io_bench.specs.{Runs.{Ran, RunBelow}}
+use Rattle.io_bench.specs.{declared.{faulty.{Act.{Act}, Faulty.{Faulty}}, runs.Op.{Op}}, Faulty.{acts_left, faulty_inner, with_acts}}
+use Rattle.io_bench.specs.Runs.{Ran, RunBelow}
 use Rattle.io_bench.proofs.RunLemmas.{below_first, below_map, below_more}
-use Rattle.tower_play.specs.{declared.playing.Shape.{Shape}, Report.{printed_report}}
-use Rattle.tower_play.specs.{Play.{WritesText, Shows, ShowsRun, TowerCalls, TwoLevels, fresh_told}}
+use Rattle.tower_play.specs.{declared.playing.Shape.{Shape}, Report.{printed_report}, Play.{WritesText, Shows, ShowsRun, TowerCalls}}
+use Rattle.tower_play.specs.Play.{TwoLevels, fresh_told}
 
 -- what follows from a fact of the value of an `Ok`
 pub ifok_map : {A E : Type 0} {P Q : A → Type 0} (r : Result A E) → ((a : A) → P a → Q a) → IfOk r P → IfOk r Q
-ifok_map (Ok a) f p = f a p
-ifok_map (Err e) f p = tt
+ifok_map r each holds = grind (arith, common_steps)
 
 -- calls that are the same show the same
 pub shows_at : {W : Type 0} {I : Writer (Faulty W)} {shape : Shape} {acts : List Act} {a b : List Op} {text : List ℕ} → a ≡ b

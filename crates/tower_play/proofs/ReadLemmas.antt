@@ -1,19 +1,15 @@
 -- For `Script::read`: how the lines that were read so far make a script.
 use Rattle.no_std_io2.proofs.Words.{◌≡◌, ℕ, ◌+◌, ◌-◌, ◌^◌, List, [], ◌∷◌, ◌++◌, false, true, Option, None, Some, refl, sym, subst, ap, ◌∙◌}
-use Rattle.no_std_io2.proofs.Words.{arith}
-use Rattle.no_std_io2.proofs.Words.{length, length-append, map, Result, Ok, Err, inl, inr, ◌⊎◌, common_steps, is_some}
-use Rattle.no_std_io2.proofs.Words.{append_assoc, IsFault, IsOutOfMemory, Event, byte, fails, first_fault, HasNoFault, Made, Lender}
-use Rattle.no_std_io2.proofs.Words.{lender_tells}
-use Rattle.no_std_io2.proofs.Words.{split_delim, split_reader, to_come, without}
+use Rattle.no_std_io2.proofs.Words.{arith, length, length-append, map, Result, Ok, Err, inl, ◌⊎◌, common_steps, is_some, append_assoc}
+use Rattle.no_std_io2.proofs.Words.{IsFault, IsOutOfMemory, Event, byte, fails, first_fault, HasNoFault, Made, Lender, lender_tells}
+use Rattle.no_std_io2.proofs.{Words.{split_delim, split_reader, to_come, without, Bool, error_kind, if◌then◌else◌}, CallsLemmas.{made_more}}
 use Rattle.std.specs.{Prelude.{min}, Option.{IfSome}}
-use Rattle.no_std_io2.specs.{declared.io.Error.{Error}, declared.io.Split.{Split}, Pieces.{split_is_ended}, Faults.{HasFirstFault}}
-use Rattle.no_std_io2.proofs.Words.{Bool, error_kind, if◌then◌else◌}
+use Rattle.no_std_io2.specs.{declared.io.{Error.{Error}, Split.{Split}}, Pieces.{split_is_ended}, Faults.{HasFirstFault}}
 use Rattle.no_std_io2.specs.Errors.{is_interruption}
-use Rattle.no_std_io2.proofs.CallsLemmas.{made_more}
 use Rattle.io_bench.specs.PieceRuns.{AllPieces, GathersPieces, RunsNexts}
 use Rattle.io_bench.proofs.PieceRunLemmas.{run_gathers, split_next, split_takes}
 use Rattle.tower_play.specs.{declared.script.Script.{Script}, Reading.{Adds, AddsAll, IsBadAt, IsBadLine, IsFirstBad, IsFreshScript}}
-use Rattle.tower_play.specs.{Reading.{IsRead}}
+use Rattle.tower_play.specs.Reading.{IsRead}
 
 -- so many lines were read, and made the script, unless one of them was bad: then its number is known
 pub record ReadSoFar {S T : Type 0} (next : S → Option (Result T Error) → S → Type 0) (view : T → List ℕ) (old : S) (number : ℕ)
@@ -92,9 +88,7 @@ module _ {S T : Type 0} {next : S → Option (Result T Error) → S → Type 0} 
 
   -- it was good,
   pub read_good : bad ≡ None → bad' ≡ bad → Adds (view item) script script' → ReadSoFar next view old number' bad' script' now
-  read_good none same line = read_more
-      (λ _. adds_more so.lines (view item) so.start script script' (so.adds none) line)
-      (subst (λ b. IfSome b (IsFirstBad (so.lines ++ view item ∷ []))) (sym (same ∙ none)) tt)
+  read_good none same line = grind (arith, common_steps, adds_more, read_more)
 
   -- or the first bad one,
   pub read_bad : bad ≡ None → bad' ≡ Some number' → IsBadLine (view item) script → ReadSoFar next view old number' bad' script' now
@@ -105,14 +99,11 @@ module _ {S T : Type 0} {next : S → Option (Result T Error) → S → Type 0} 
 
   -- or one after a bad one
   pub read_after : is_some bad ≡ true → bad' ≡ bad → ReadSoFar next view old number' bad' script' now
-  read_after some same = read_more
-      (λ none. absurd (cc (ap is_some (sym same ∙ none), some)))
-      (subst (λ b. IfSome b (IsFirstBad (so.lines ++ view item ∷ []))) (sym same) (first_more bad so.lines (view item) so.first))
+  read_after some same = grind (arith, common_steps, first_more, is_some, read_more)
 
 -- what holds if events are told
 if_map : (P Q : List Event → Type 0) (told : Option (List Event)) → ((E : List Event) → P E → Q E) → IfSome told P → IfSome told Q
-if_map P Q None each h = tt
-if_map P Q (Some E) each h = each E h
+if_map P Q told each h = grind (arith, common_steps)
 
 -- e is the first fault of E: this is before it, and this after it
 abbrev FaultAt : List Event → Error → Type 0
@@ -139,10 +130,7 @@ first_is E e is =
 stopped : (d : ℕ) (lines : List (List ℕ)) (e : Error) (told : Option (List Event))
     → IfSome told (λ E. GathersPieces {A = Unit {0}} (without d) (λ _ _. ⊥) ⊥ d E (Err e) lines)
     → IfSome told (λ E. HasFirstFault E e) ⊎ IsOutOfMemory e
-stopped d lines e None h = inl tt
-stopped d lines e (Some E) (inl fault) = inl (first_is E e fault.fault)
-stopped d lines e (Some E) (inr (inl refused)) = absurd refused.refused
-stopped d lines e (Some E) (inr (inr memory)) = inr memory.refused
+stopped d lines e told h = grind (arith, common_steps, first_is)
 
 module _ {X T : Type 0} (R : Lender X) (view : T → List ℕ) {old mid : Split X} (now : Split X) {number : ℕ} {bad : Option ℕ}
     {script : Script} (so : ReadSoFar (split_next R view) view old number bad script mid) (fresh : split_is_ended old ≡ false) where

@@ -1,6 +1,6 @@
 -- For `unescape`: the bytes that an escaped text stands for, byte by byte.
 use Rattle.no_std_io2.proofs.Words.{◌≡◌, ◌≢◌, ℕ, ◌+◌, ◌<◌, Bool, true, false, List, [], ◌∷◌, ◌++◌, length, get_or, drop, Option, Some, None}
-use Rattle.no_std_io2.proofs.Words.{refl, sym, arith, append-nil, common_steps}
+use Rattle.no_std_io2.proofs.Words.{sym, arith, append-nil, common_steps}
 use Rattle.tower_play.specs.Script.{before, unescaped, IsAppended}
 
 -- the text that is left, after a backslash that was read
@@ -20,8 +20,7 @@ before-before x y o = grind (arith, common_steps)
 
 -- nothing before bytes changes nothing
 before-nothing : (o : Option (List ℕ)) → before [] o ≡ o
-before-nothing None = refl
-before-nothing (Some z) = refl
+before-nothing o = grind (arith, common_steps)
 
 -- nothing is appended at first
 pub none_yet : (old text : List ℕ) → Halfway old old text text
@@ -59,8 +58,7 @@ module _ {old new new2 text : List ℕ} (i : ℕ) {was is : Bool} (in' : i < len
   -- any other byte stands for itself
   pub goes_by_itself : get_or text i 0 ≢ 92 → was ≡ false → is ≡ false → new2 ≡ new ++ get_or text i 0 ∷ []
       → Halfway old new text (waiting was (drop i text)) → Halfway old new2 text (waiting is (drop (i + 1) text))
-  goes_by_itself plain was is more so =
-      rw is (goes_on (get_or text i 0 ∷ []) (by_itself _ (drop (i + 1) text) plain) more (rw (was, at_front text i in') at so))
+  goes_by_itself plain was is more so = grind (arith, common_steps, at_front, by_itself, get_or, goes_on)
 
 -- the bytes that a good text stands for follow the old bytes
 pub is_meant : (o : Option (List ℕ)) (old new : List ℕ) → IsAppended o true old new

@@ -1,12 +1,8 @@
 -- The calls of a script, from its steps and its texts.
 use Rattle.std.specs.Prelude.{◌≡◌, ℕ, Bool, List, [], ◌∷◌, ◌++◌, ◌+◌, ◌<◌, ◌⊎◌, length, take, drop, vec_len, vec_capacity, Some}
-use Rattle.io_bench.specs.declared.runs.Op.{Op}
-use Rattle.io_bench.specs.declared.runs.Op.TheVariants.{Write, WriteAll, Flush}
-use Rattle.tower_play.specs.declared.script.Calls.{Calls}
-use Rattle.tower_play.specs.declared.script.Step.{Step}
-use Rattle.tower_play.specs.declared.script.Step.TheVariants.{Write as write_step, WriteAll as write_all_step, Flush as flush_step}
-use Rattle.tower_play.specs.Script.{unescaped}
-use Rattle.tower_play.specs.Lines.{text_step}
+use Rattle.io_bench.specs.declared.runs.Op.{Op, TheVariants.{Write, WriteAll, Flush}}
+use Rattle.tower_play.specs.declared.script.{Calls.{Calls}, Step.{Step, TheVariants.{Write as write_step, WriteAll as write_all_step}}}
+use Rattle.tower_play.specs.{declared.script.Step.TheVariants.{Flush as flush_step}, Script.{unescaped}, Lines.{text_step}}
 
 -- the call of a step whose text is at the front of `texts`, and the texts after it
 abbrev pub IsNext : Step → List ℕ → Op → List ℕ → Type 0

@@ -1,10 +1,7 @@
 -- What a fault prints, and what holds for it.
-use Rattle.std.specs.Prelude.{ℕ, ◌<◌, codes, List, ◌++◌, ⊤}
-use Rattle.std.specs.Fmt.{decimal}
-use Rattle.no_std_io2.specs.declared.io.Error.{Error}
-use Rattle.no_std_io2.specs.Errors.{error_display}
-use Rattle.tower_play.specs.declared.playing.Fault.{Fault}
-use Rattle.tower_play.specs.declared.playing.Fault.TheVariants.{Io, Line}
+use Rattle.std.specs.{Prelude.{ℕ, ◌<◌, codes, List, ◌++◌, ⊤}, Fmt.{decimal}}
+use Rattle.no_std_io2.specs.{declared.io.Error.{Error}, Errors.{error_display}}
+use Rattle.tower_play.specs.declared.playing.Fault.{Fault, TheVariants.{Io, Line}}
 
 -- an error prints its own text
 abbrev pub fault_display : Fault → List ℕ

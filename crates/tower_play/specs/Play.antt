@@ -1,24 +1,11 @@
 -- The calls of a play, and what it prints.
 use Rattle.std.specs.Prelude.{◌≡◌, ℕ, List, [], ◌++◌, Option, IfSome}
-use Rattle.no_std_io2.specs.Writers.{Writer}
-use Rattle.no_std_io2.specs.Write.{Told, Moves, told_out, WriteCall}
-use Rattle.no_std_io2.specs.BufWriter.{with_buffer, InnerCalls}
-use Rattle.no_std_io2.specs.LineWriter.{LineCalls}
-use Rattle.no_std_io2.specs.Towers.{Through}
-use Rattle.io_bench.specs.declared.faulty.Act.{Act}
-use Rattle.io_bench.specs.declared.faulty.Faulty.{Faulty}
-use Rattle.io_bench.specs.declared.runs.Op.{Op}
-use Rattle.io_bench.specs.declared.runs.Reply.{Reply}
-use Rattle.io_bench.specs.Faulty.{with_acts, acts_left}
+use Rattle.no_std_io2.specs.{Writers.{Writer}, Write.{Told, Moves, told_out, WriteCall}, BufWriter.{with_buffer, InnerCalls}}
+use Rattle.no_std_io2.specs.{LineWriter.{LineCalls}, Towers.{Through}, Events.{Event}, Pieces.{newline}}
+use Rattle.io_bench.specs.{declared.{faulty.{Act.{Act}, Faulty.{Faulty}}, runs.{Op.{Op}, Reply.{Reply}}}, Faulty.{with_acts, acts_left}}
 use Rattle.io_bench.specs.Runs.{Ran, RunBelow, RunLaw}
-use Rattle.no_std_io2.specs.Events.{Event}
-use Rattle.no_std_io2.specs.Pieces.{newline}
-use Rattle.tower_play.specs.declared.playing.Shape.{Shape}
-use Rattle.tower_play.specs.declared.playing.Shape.TheVariants.{Buf, Line, BufBuf, LineBuf}
-use Rattle.tower_play.specs.declared.script.Script.{Script}
-use Rattle.tower_play.specs.Calls.{AreCalls}
-use Rattle.tower_play.specs.Reading.{IsRead}
-use Rattle.tower_play.specs.Report.{printed_report}
+use Rattle.tower_play.specs.declared.{playing.Shape.{Shape, TheVariants.{Buf, Line, BufBuf, LineBuf}}, script.Script.{Script}}
+use Rattle.tower_play.specs.{Calls.{AreCalls}, Reading.{IsRead}, Report.{printed_report}}
 
 -- what a tower with empty buffers tells over an empty vector with these acts in front
 abbrev pub fresh_told : List Act → Told

@@ -1,16 +1,10 @@
 -- The script that lines make.
 use Rattle.std.specs.Prelude.{◌≡◌, ℕ, ◌+◌, ◌-◌, ◌^◌, ◌<◌, ◌⊎◌, min, true, false, List, [], ◌∷◌, ◌++◌, length, vec_len, vec_capacity, None}
-use Rattle.no_std_io2.specs.Events.{Event}
-use Rattle.no_std_io2.specs.Pieces.{without}
+use Rattle.no_std_io2.specs.{Events.{Event}, Pieces.{without}}
 use Rattle.io_bench.specs.PieceRuns.{AllPieces}
-use Rattle.tower_play.specs.declared.script.Calls.{Calls}
-use Rattle.tower_play.specs.declared.script.Script.{Script}
-use Rattle.tower_play.specs.declared.script.Line.{Line}
-use Rattle.tower_play.specs.declared.script.Line.TheVariants.{Empty, Act, Write, WriteAll, Flush, Bad}
-use Rattle.tower_play.specs.declared.script.Step.TheVariants.{Flush as flush_step}
-use Rattle.tower_play.specs.Script.{unescaped}
-use Rattle.tower_play.specs.Lines.{Says, IsGood}
-use Rattle.tower_play.specs.Calls.{AddsText, IsFull}
+use Rattle.tower_play.specs.declared.script.{Calls.{Calls}, Script.{Script}, Line.{Line, TheVariants.{Empty, Act, Write, WriteAll, Flush}}}
+use Rattle.tower_play.specs.{declared.script.{Line.TheVariants.{Bad}, Step.TheVariants.{Flush as flush_step}}, Script.{unescaped}}
+use Rattle.tower_play.specs.{Lines.{Says, IsGood}, Calls.{AddsText, IsFull}}
 
 -- one flush was added
 abbrev AddsFlush : Calls → Calls → Type 0

@@ -1,10 +1,7 @@
 -- What `play` prints.
-use Rattle.std.specs.Prelude.{ℕ, codes, List, ◌++◌}
-use Rattle.std.specs.Fmt.{decimal}
-use Rattle.std.specs.List.{flat_map}
+use Rattle.std.specs.{Prelude.{ℕ, codes, List, ◌++◌}, Fmt.{decimal}, List.{flat_map}}
 use Rattle.no_std_io2.specs.Errors.{error_display}
-use Rattle.io_bench.specs.declared.runs.Reply.{Reply}
-use Rattle.io_bench.specs.declared.runs.Reply.TheVariants.{Took, Done, Failed}
+use Rattle.io_bench.specs.declared.runs.Reply.{Reply, TheVariants.{Took, Done, Failed}}
 use Rattle.tower_play.specs.Script.{escaped}
 
 -- the line of a reply

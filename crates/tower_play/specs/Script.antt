@@ -1,8 +1,6 @@
 -- The lines of a script.
-use Rattle.std.specs.Prelude.{◌≡◌, ℕ, ◌==◌, ◌≤◌, ◌<◌, ◌^◌, if◌then◌else◌, codes, List, [], ◌∷◌, ◌++◌, length, ◌⊎◌}
-use Rattle.std.specs.Prelude.{Option, Some, None, Bool, true, false}
-use Rattle.std.specs.List.{flat_map}
-use Rattle.std.specs.Str.Parse.{IsNumeral, digits_value}
+use Rattle.std.specs.Prelude.{◌≡◌, ℕ, ◌==◌, ◌≤◌, ◌<◌, ◌^◌, if◌then◌else◌, codes, List, [], ◌∷◌, ◌++◌, length, ◌⊎◌, Option, Some, None, Bool}
+use Rattle.std.specs.{Prelude.{true, false}, List.{flat_map}, Str.Parse.{IsNumeral, digits_value}}
 use Rattle.no_std_io2.specs.declared.io.ErrorKind.{ErrorKind}
 
 -- the escape of a byte: a newline is a backslash and `n`, a backslash is two backslashes, any other byte is itself

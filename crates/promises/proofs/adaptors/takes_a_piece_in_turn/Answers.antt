@@ -1,9 +1,6 @@
 -- The prover does not go over the calls of a loop.
-use Rattle.no_std_io2.proofs.ReadsAdd.{each_of, piece_adds}
-use Rattle.promises.proofs.ChainTurns.{chain_each}
-use Rattle.promises.proofs.ChainLends.{chain_lender}
-use Rattle.no_std_io2.proofs.TakesLemmas.{lend_law}
-use Rattle.no_std_io2.proofs.Readers.{reader, lends}
+use Rattle.no_std_io2.proofs.{ReadsAdd.{each_of, piece_adds}, TakesLemmas.{lend_law}, Readers.{reader, lends}}
+use Rattle.promises.proofs.{ChainTurns.{chain_each}, ChainLends.{chain_lender}}
 use Rattle.promises.proofs.adaptors.takes_a_piece_in_turn.Goals as goal
 
 pub returns : goal.returns

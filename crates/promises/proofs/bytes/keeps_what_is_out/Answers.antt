@@ -1,6 +1,5 @@
 -- The prover does not join the calls of the `write_all` and the flush.
-use Rattle.no_std_io2.proofs.Words.{common_steps, arith, Flushed}
-use Rattle.no_std_io2.proofs.CallsLemmas.{by_are, by_more}
+use Rattle.no_std_io2.proofs.{Words.{common_steps, arith, Flushed}, CallsLemmas.{by_are, by_more}}
 use Rattle.promises.proofs.CallsEnd.{all_end, flushed_end}
 use Rattle.promises.proofs.bytes.keeps_what_is_out.Goals as goal
 

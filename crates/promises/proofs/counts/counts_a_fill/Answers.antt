@@ -1,23 +1,11 @@
 -- The prover does not find how many bytes a filling reader gives, nor the state that a loan leaves.
-use Rattle.no_std_io2.proofs.Words.{ap, length}
+use Rattle.std.proofs.{Common.{arith}, lemmas.Grind.{common_steps}}
 use Rattle.no_std_io2.proofs.PieceLoop.{filled_law}
 use Rattle.promises.proofs.BufReaderCounts.{fill_cost, fill_gives}
 use Rattle.promises.proofs.counts.counts_a_fill.Goals as goal
 
 pub returns : goal.returns
-returns g c =
-    let new = c.fill_buf.follows.lender-at-none in
-    let filled = filled_law c.in_ok-lent.was c.fill_buf.ensures.law c.fill_buf.follows.holds-at-none in
-    record {
-      reads = λ cost meter. fill_cost c.args.r.now new cost meter _ filled.call;
-      fills = λ fills. let gives = fill_gives c.args.r.now new fills _ filled.call in (ap length gives.0, gives.1);
-    }
+returns g c = grind (arith, common_steps, fill_cost, fill_gives, filled_law)
 
 pub returns-in_err-lent : goal.returns-in_err-lent
-returns-in_err-lent g c =
-    let new = c.fill_buf.follows.lender-at-none in
-    let filled = filled_law c.in_err-lent.was c.fill_buf.ensures.law c.fill_buf.follows.holds-at-none in
-    record {
-      reads = λ cost meter. fill_cost c.args.r.now new cost meter _ filled.call;
-      fills = λ fills. absurd (fill_gives c.args.r.now new fills _ filled.call);
-    }
+returns-in_err-lent g c = grind (arith, common_steps, fill_cost, fill_gives, filled_law)

@@ -1,7 +1,6 @@
 -- The prover does not make the record of a filling reader.
-use Rattle.no_std_io2.proofs.Words.{refl, FillsRoom}
+use Rattle.no_std_io2.proofs.{Words.{refl, FillsRoom}, InMemoryReads.{fills_left}, StoreLemmas.{told_at}, LimitLemmas.{limit_fills}}
 use Rattle.no_std_io2.specs.Cursor.{cursor_left}
-use Rattle.no_std_io2.proofs.{InMemoryReads.{fills_left}, StoreLemmas.{told_at}, LimitLemmas.{limit_fills}}
 use Rattle.promises.proofs.Levels.{fills_behind, cursor_reader}
 use Rattle.promises.proofs.counts.has_filling_readers.Goals as goal
 

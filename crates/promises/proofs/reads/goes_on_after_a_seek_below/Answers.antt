@@ -1,14 +1,11 @@
 -- The prover does not compare the held bytes with those of the content.
-use Rattle.no_std_io2.proofs.Words.{◌≡◌, ℕ, ◌-◌, Ok, Err, ◌∙◌, ap, arith, length, refl, subst, reader_held, store_before}
+use Rattle.no_std_io2.proofs.Words.{◌≡◌, ℕ, ◌-◌, Ok, ◌∙◌, ap, arith, length, subst, reader_held, store_before}
 use Rattle.no_std_io2.specs.{declared.io.SeekFrom.TheVariants.{Start}, Seek.{Seeks}}
 use Rattle.promises.proofs.ToldAfter.{store_after, store_below}
 use Rattle.promises.proofs.reads.goes_on_after_a_seek_below.Goals as goal
 
 pub returns-in_err-seek : goal.returns-in_err-seek
-returns-in_err-seek g c = λ was told front after has at.
-    let goes = λ (len was now : ℕ). Seeks len was (Start c.args.place) (Err c.in_err-seek.field-0.0) now in
-    let kept = (store_after goes _ _ c.in_err-seek.ensures.law.store (ap g.R.Stored.store c.get_mut.ensures.value ∙ told)).2 in
-    absurd (kept.1.0 c.args.place refl)
+returns-in_err-seek g c = grind (arith, store_after)
 
 pub returns : goal.returns
 returns g c = λ was told front after has at.

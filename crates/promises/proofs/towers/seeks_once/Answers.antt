@@ -1,7 +1,6 @@
 -- The prover does not find the one inner seek in the call.
+use Rattle.std.proofs.{Common.{arith}, lemmas.Grind.{common_steps}}
 use Rattle.promises.proofs.towers.seeks_once.Goals as goal
 
 pub returns : goal.returns
-returns g c =
-    let law = c.seek.ensures.law in
-    record { store = law.store; call = law.call.sought; empty = law.call.dropped }
+returns g c = grind (arith, common_steps)

@@ -1,8 +1,8 @@
 -- The prover does not find the bytes up to the next escape, as two branches have them (`run_on`, `run_ends`).
 use Rattle.no_std_io2.proofs.Words.{◌+◌, ◌-◌, ◌++◌, take, drop, sym, ap, ◌∙◌, arith}
 use Rattle.std.proofs.lemmas.List.{drop-take}
-use Rattle.tower_play.proofs.{Escapes.{run_on, run_ends}}
-use Rattle.tower_play.proofs.{report.push_escaped.Goals.{in-Some+in_ok-push-in-Some+in_ok-push-in-Some-2, in-None}}
+use Rattle.tower_play.proofs.{Escapes.{run_on, run_ends}, report.push_escaped.Goals.{in-Some+in_ok-push-in-Some+in_ok-push-in-Some-2}}
+use Rattle.tower_play.proofs.report.push_escaped.Goals.{in-None}
 use Rattle.tower_play.proofs.report.push_escaped.Goals as goal
 
 pub bytes-preserved : goal.bytes-preserved
