@@ -1,6 +1,7 @@
 // What readers give, and where seeks go.
 ghost use Rattle.std.specs.Prelude.{◌≡◌, ◌+◌, ◌<◌, [], ◌++◌, ℕ, List, Ok, Some, IsOk, drop, length, vec_len, vec_capacity, string_bytes};
 ghost use Rattle.no_std_io2.specs.BufReader.{reader_inner, reader_behind, reader_held, reader_store, TakesHeld, TakesHeldLine, TakesOver};
+ghost use Rattle.no_std_io2.specs.BufReader.{ReaderIsSound};
 ghost use Rattle.no_std_io2.specs.BufRead.{lender_tells};
 ghost use Rattle.no_std_io2.specs.Buffer.{IsInBuffer, IsSuffix};
 ghost use Rattle.no_std_io2.specs.Events.{Event, bytes};
@@ -86,6 +87,13 @@ pub fn moves_inside_its_buffer<R: Read + Seek + Drop, const S: usize>(
         (in_reader (tells R.Read) r.old) (in_reader (tells R.Read) r.new) }
 {
     r.seek_relative(offset)
+}
+
+// The calls of a `read_exact` keep a `BufReader` sound, also if it fails half way.
+fn stays_sound<R: Read, const S: usize>(r: &mut BufReader<R, S>, buf: &mut [u8]) -> Result<()>
+    ensures { ReaderIsSound R.store r.old → ReaderIsSound R.store r.new }
+{
+    r.read_exact(buf)
 }
 
 // After a piece, the bytes behind in the buffer are a suffix of those behind before, followed by the piece.
