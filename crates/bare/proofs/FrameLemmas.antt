@@ -1,5 +1,5 @@
 -- What a writer of frames puts into a queue.
-use Rattle.no_std_io2.proofs.Words.{◌≡◌, ℕ, ◌+◌, ◌<◌, List, [], length, Result, Ok, Err, inl, inr, arith, length-append, Moves}
+use Rattle.no_std_io2.proofs.Words.{common_steps, ◌≡◌, ℕ, ◌+◌, ◌<◌, List, [], length, Result, Ok, Err, arith, length-append, Moves}
 use Rattle.std.specs.Int.{w32, to_le_bytes}
 use Rattle.no_std_io2.specs.declared.io.Error.{Error}
 use Rattle.framing.specs.{Frames.{frame}, Sending.{frame_writer, SendsFrame}, declared.writer.FrameWriter.{FrameWriter}}
@@ -11,8 +11,7 @@ module _ {S : ℕ} {w w' : FrameWriter Queue S} (payload : List ℕ) where
   -- all of it was accepted
   pub frame_moved : {r : Result (Unit {0}) Error} {u : Unit {0}} → r ≡ Ok u → SendsFrame queue payload w r w'
       → Moves (buffered.told (frame_writer w)) (frame payload) [] (buffered.told (frame_writer w'))
-  frame_moved ok (inl (short, puts)) = rw ok at puts.moves
-  frame_moved ok (inr (long, failed, same)) = absurd (rw ok at failed)
+  frame_moved ok sends = grind (arith, common_steps)
 
   -- or that failed: if the buffer is longer than all for which a queue has room, it does not fit
   pub frame_full : capacity < S → {r : Result (Unit {0}) Error} {e : Error} → r ≡ Err e → SendsFrame queue payload w r w'

@@ -2,7 +2,7 @@
 use Rattle.no_std_io2.proofs.Words.{◌≡◌, ℕ, ◌+◌, ◌<◌, List, [], ◌++◌, Result, Ok, Err, length, sym, ap, subst, arith, true≢false}
 use Rattle.no_std_io2.proofs.Words.{length-append, inl, inr, refl, ◌∙◌, Told, WriteCall, Made, Moves, Writes, took, again, stuck, fault}
 use Rattle.no_std_io2.proofs.Words.{AllCalls, told_out, Writer, CallOf, writer_inner, writer_buffer, writer_told, BufferMay, InnerCalls}
-use Rattle.no_std_io2.proofs.Words.{Buffered, FlushCalls, SendCalls, Step, TakesStep, stops, goes_on}
+use Rattle.no_std_io2.proofs.Words.{Buffered, FlushCalls, SendCalls, Step, TakesStep, stops, goes_on, common_steps}
 use Rattle.std.specs.Prelude.{MatchResult, OnOk, OnErr}
 use Rattle.std.proofs.lemmas.List.{length-drop}
 use Rattle.no_std_io2.specs.{declared.io.Error.{Error}, declared.io.BufWriter.{BufWriter}, declared.io.ErrorKind.{ErrorKind}}
@@ -104,8 +104,7 @@ module _ {S : ℕ} where
   -- bytes were accepted and flushed: the queue has all of them
   pub flush_done : {a : Told} {b c : BufWriter Queue S} {x : List ℕ} (q : Result (Unit {0}) Error) → Moves a x [] (buffered.told b)
       → FlushOf buffered b q c → OnOk q (waiting (writer_inner c) ≡ a.out ++ a.held ++ x)
-  flush_done {a = a} (Ok u) moved law = out_after a moved law.moves law.empty
-  flush_done (Err e) moved law = tt
+  flush_done q moved law = grind (arith, common_steps, out_after)
 
   -- or they do not fit
   pub flush_full : {a : Told} {b c : BufWriter Queue S} {x : List ℕ} (q : Result (Unit {0}) Error) → Moves a x [] (buffered.told b)

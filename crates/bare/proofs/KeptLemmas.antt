@@ -1,6 +1,6 @@
 -- What a sending leaves.
-use Rattle.no_std_io2.proofs.Words.{common_steps, ◌≡◌, ℕ, ◌+◌, ◌-◌, ◌<◌, ◌⊎◌, List, [], ◌++◌, length, drop, Result, Ok, Err, OnOk, sym, ap}
-use Rattle.no_std_io2.proofs.Words.{◌∙◌, subst, inl, inr, arith, refl, append_assoc, length-append, min, take, ◌∷◌, WriteCall, Made, Writes}
+use Rattle.no_std_io2.proofs.Words.{common_steps, ◌≡◌, ℕ, ◌+◌, ◌-◌, ◌<◌, ◌⊎◌, List, [], ◌++◌, length, drop, Result, OnOk, sym, ap}
+use Rattle.no_std_io2.proofs.Words.{◌∙◌, subst, arith, append_assoc, length-append, min, take, ◌∷◌, WriteCall, Made, Writes}
 use Rattle.no_std_io2.proofs.Words.{CallOf}
 use Rattle.std.proofs.lemmas.List.{length-take}
 use Rattle.no_std_io2.specs.{declared.io.Error.{Error}, Writers.{WriteRestOf}}
@@ -13,8 +13,7 @@ use Rattle.bare.proofs.FullLemmas.{queue, blocked}
 ends : (r : Result (Unit {0}) Error) {text : List ℕ} {C : List WriteCall} {x left : List ℕ} (a b : Queue) → OnOk r (left ≡ [])
     → Made (CallOf queue) a C b → Writes text C x r left
     → ((resume_status r ≡ done) × (left ≡ [])) ⊎ ((resume_status r ≡ kept) × (0 < length left) × (length (waiting b) ≡ capacity))
-ends (Ok u) a b whole made calls = inl (refl, whole)
-ends (Err e) a b whole made calls = inr (refl, writes_left calls, blocked calls a b made)
+ends r a b whole made calls = grind (arith, common_steps, blocked, writes_left)
 
 -- the bytes that the port took are no longer kept
 pub resumed : (r : Result (Unit {0}) Error) {a b : Queue} (before left after : List ℕ) → WriteRestOf queue a before r b left

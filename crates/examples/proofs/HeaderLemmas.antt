@@ -20,9 +20,7 @@ told_of {S = room} K r = told_behind room (reader_held r) (tells K (reader_inner
 -- bytes that were moved into the buffer are still to come
 still_come : (held given : List ℕ) (P : List Event) (E E' : Option (List Event)) → AreTaken E P E' → bytes P ≡ given
     → IfSome (behind_held held E) (λ F. IsSomeAnd (behind_held (held ++ given) E') (λ F'. bytes F ≡ [] ++ bytes F'))
-still_come held given P (Some E) (Some E') are is = grind (arith, append_assoc, bytes-append, bytes-behind)
-still_come held given P None E' are is = tt
-still_come held given P (Some E) None are is = absurd are
+still_come held given P E E' are is = grind (arith, common_steps, append_assoc, bytes-append, bytes-behind)
 
 -- what the look returns, by how the `fill_to` ended
 peeks_at : (how : Result Bool Error) (reply : Result (ℕ × ℕ) Error) (held given : List ℕ) (P E' : List Event) (now : Tells)

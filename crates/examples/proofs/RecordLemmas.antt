@@ -17,8 +17,7 @@ records_none R old = record { xs = []; records = none; took = Took-none _ }
 
 -- some lent bytes begin with their first one
 first_of : (lent : List ℕ) → 0 < length lent → take 1 lent ≡ get_or lent 0 0 ∷ []
-first_of [] some = absurd (omega arith)
-first_of (b ∷ bs) some = refl
+first_of lent some = grind (arith, common_steps)
 
 module _ {X : Type 0} {R : Lender X} {old now after : X} (before : RecordsTaken R old now) where
   -- an interruption is ignored

@@ -1,5 +1,6 @@
 -- Texts that are written through a buffer, and writes that are made again after faults.
 use Rattle.no_std_io2.proofs.Words.{◌≡◌, ℕ, List, [], length, Result, Ok, Err, true, false, refl, ap, subst, arith, length-append}
+use Rattle.no_std_io2.proofs.Words.{common_steps}
 use Rattle.no_std_io2.proofs.Words.{nil_from_length, with_buffer, writer_inner, writer_buffer, writer_told, Told, Moves, MovesFront}
 use Rattle.std.specs.Result.{is_ok}
 use Rattle.no_std_io2.specs.{declared.io.Error.{Error}, declared.buffered.buf_writer.BufWriter.{BufWriter}, Retries.{Tries, last, again}}
@@ -22,8 +23,7 @@ module _ {W : Type 0} {law : W → List ℕ → Result (Unit {0}) Error → W �
   -- one try that succeeded
   pub tried_once : {old new : W} {x left : List ℕ} (reply : Result (Unit {0}) Error) → is_ok reply ≡ true → law old x reply new left
       → Tries law 1 old x (Ok tt) new left
-  tried_once (Ok u) was made = last made tt
-  tried_once (Err e) was made = cc
+  tried_once reply was made = grind (arith, common_steps, last)
 
   -- one that failed, and another one
   pub tried_twice : {old new : W} {x left : List ℕ} (mid : W) (rest : List ℕ) (first reply : Result (Unit {0}) Error)

@@ -1,6 +1,6 @@
 -- A line that was logged, and then sent.
 use Rattle.no_std_io2.proofs.Words.{nil_from_length, ◌≡◌, ◌≤◌, ◌++◌, List, ℕ, [], length, Option, Result, Ok, Err, OnOk, false, nat_lt, ap}
-use Rattle.no_std_io2.proofs.Words.{arith, inl, inr, length-append, nat_tests, call_mishap, Moves, Writer}
+use Rattle.no_std_io2.proofs.Words.{arith, inl, inr, length-append, nat_tests, call_mishap, Moves, Writer, common_steps}
 use Rattle.no_std_io2.specs.declared.io.Error.{Error}
 use Rattle.no_std_io2.proofs.MovesLemmas.{Moves-ends}
 use Rattle.line_log.specs.{declared.LineLog.{LineLog}, Log.{LogsText, IsLogged, line_of, log_held, log_tells}}
@@ -13,9 +13,7 @@ second_holds_nothing xs ys h = nil_from_length ys (omega (arith, ap length h, le
 -- what was accepted, if a line was logged
 logged : {W : Type 0} {I : Writer W} {old mid : LineLog W 16386} (output : Option (List ℕ)) → LogsText I output old (Ok tt) mid
     → (text : List ℕ) × IsLogged (log_tells I.told old) (line_of text) (log_tells I.told mid) (log_held mid)
-logged output (inl (text, is, inl logs)) = (text, logs.1.ok)
-logged output (inl (text, is, inr refused)) = absurd refused.0
-logged output (inr refused) = absurd refused.0
+logged output logs = grind (arith, common_steps)
 
 -- nothing of it is held
 pub line_sent : {W : Type 0} {I : Writer W} {old mid : LineLog W 16386} (output : Option (List ℕ)) → LogsText I output old (Ok tt) mid

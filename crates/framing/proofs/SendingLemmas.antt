@@ -1,6 +1,6 @@
 -- Frames are sent one after another.
 use Rattle.no_std_io2.proofs.Words.{◌==◌, ◌<◌, ◌-◌, Bool, true, false, length, take, drop, get_or, arith, ◌≡◌, ℕ, List, [], ◌∷◌}
-use Rattle.no_std_io2.proofs.Words.{◌++◌, Ok, map, refl, sym, ap, subst, ◌∙◌, append_assoc, append-nil, inl, inr, nil_from_length, Writer}
+use Rattle.no_std_io2.proofs.Words.{◌++◌, Ok, map, refl, sym, ap, subst, ◌∙◌, append_assoc, append-nil, nil_from_length, Writer}
 use Rattle.no_std_io2.proofs.Words.{Moves, common_steps}
 use Rattle.std.proofs.{Common.{take_all, Bor, eqb-true}, lemmas.{List.{map-append}, List.Folds.{concat-append}}}
 use Rattle.no_std_io2.proofs.MovesLemmas.{Moves-refl, Moves-trans}
@@ -15,8 +15,7 @@ module _ {W : Type 0} {S : ℕ} (I : Writer W) where
   -- what the sending of a frame tells
   frame_moves : {old new : FrameWriter W S} {p : List ℕ} → SendsFrame I p old (Ok tt) new
       → Moves (writer_tells I.told old) (frame p) [] (writer_tells I.told new)
-  frame_moves (inl put) = put.1.moves
-  frame_moves (inr refused) = absurd refused.1
+  frame_moves sends = grind (arith, common_steps)
 
   each_more : (old : FrameWriter W S) {now new : FrameWriter W S} (ps : List (List ℕ)) {p : List ℕ} → PutsEach I old ps now
       → SendsFrame I p now (Ok tt) new → PutsEach I old (ps ++ p ∷ []) new
@@ -45,5 +44,4 @@ none_there b xs is h = nil_from_length xs (eqb-true (length xs) 0 (sym is ∙ h)
 -- the first of some borrowed payloads, and the others
 pub first_there : (xs : List (Bor (List ℕ))) (d : Bor (List ℕ)) → 0 < length xs
     → map (λ p. p.now) xs ≡ (get_or xs 0 d).now ∷ map (λ p. p.now) (take (length xs - 1) (drop 1 xs))
-first_there [] d some = absurd (omega (arith, some))
-first_there (x ∷ xs) d some = ap (λ l. x.now ∷ map (λ p. p.now) l) (sym (take_all (length (x ∷ xs) - 1) (drop 1 (x ∷ xs)) (omega arith)))
+first_there xs d some = grind (arith, common_steps, take_all)
