@@ -1,5 +1,5 @@
 -- The prover does not find what holds of the calls before the one that is tested.
-use Rattle.no_std_io2.proofs.Words.{common_steps, arith, refl, sym}
+use Rattle.no_std_io2.proofs.Words.{common_steps, arith, sym}
 use Rattle.std.proofs.lemmas.Slice.Zip.{AllZip-long}
 use Rattle.io_bench.proofs.{RunLemmas.{AllZip-more}, JoinedLemmas.{one_more, all_through, clear_at}}
 use Rattle.io_bench.proofs.accepted.are_clear.Goals as goal
@@ -11,7 +11,7 @@ pub calls-preserved : goal.calls-preserved
 calls-preserved c = grind (arith, common_steps, AllZip-more, one_more)
 
 pub returns-in_default-clause-no : goal.returns-in_default-clause-no
-returns-in_default-clause-no c e clear = absurd (c.in_default.ensures.none refl (clear_at _ _ _ _ _ c.calls-test.true clear))
+returns-in_default-clause-no c e clear = grind (arith, common_steps, clear_at)
 
 pub returns-clause-yes : goal.returns-clause-yes
 returns-clause-yes c e = grind (arith, common_steps, all_through)
