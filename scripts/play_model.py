@@ -5,11 +5,13 @@ ROOM = 8
 
 # The kinds of errors, and what the error of a kind alone prints.
 TEXTS = dict(it.split(" ", 1) for it in (
-    "NotFound entity not found|PermissionDenied permission denied|ConnectionRefused connection refused|ConnectionReset connection reset|"
-    "ConnectionAborted connection aborted|NotConnected not connected|AddrInUse address in use|AddrNotAvailable address not available|"
-    "BrokenPipe broken pipe|AlreadyExists entity already exists|WouldBlock operation would block|InvalidInput invalid input parameter|"
-    "InvalidData invalid data|TimedOut timed out|WriteZero write zero|Interrupted operation interrupted|Other other os error|"
-    "UnexpectedEof unexpected end of file|Unsupported unsupported I/O error|OutOfMemory out of memory|Uncategorized uncategorized"
+    "NotFound entity not found|PermissionDenied permission denied|ConnectionRefused connection refused|"
+    "ConnectionReset connection reset|ConnectionAborted connection aborted|NotConnected not connected|"
+    "AddrInUse address in use|AddrNotAvailable address not available|BrokenPipe broken pipe|"
+    "AlreadyExists entity already exists|WouldBlock operation would block|InvalidInput invalid input parameter|"
+    "InvalidData invalid data|TimedOut timed out|WriteZero write zero|Interrupted operation interrupted|"
+    "Other other os error|UnexpectedEof unexpected end of file|Unsupported unsupported I/O error|"
+    "OutOfMemory out of memory|Uncategorized uncategorized"
 ).split("|"))
 
 class Failed(Exception):
