@@ -45,8 +45,8 @@ pub fn count_below_callgrind(cases: &[Case]) {
     }
 }
 
-/// Runs this program below callgrind on the cases of this word, and gives for each case the instructions a call on each side
-/// that it has.
+/// Runs this program below callgrind on the cases of this word, and gives for each case the instructions a call on each
+/// side that it has.
 pub fn count(cases: &[Case], word: &str) -> Result<Measured, String> {
     let program = std::env::current_exe().map_err(|error| error.to_string())?;
     let folder = program.with_file_name("callgrind");

@@ -1,9 +1,9 @@
-//! The one list of cases. A line: a call's name on all sides, what the source is, its class, the words of the table, of which
-//! `{}` is the size, and the sizes; behind `|` the sides that have no such call.
+//! The one list of cases. A line: a call's name on all sides, what the source is, its class, the words of the table, of
+//! which `{}` is the size, and the sizes; behind `|` the sides that have no such call.
 //!
-//! Classes, with the most instructions that a case may take to the better of std and the original crate: `short` 1.00, and 1.25
-//! where more than 32 bytes move; `long` 1.25; `fields` 1.4; `append` 1.4, and 1.75 where more than 32 bytes move; `whole` has no limit,
-//! for its definition asks for more.
+//! Classes, with the most instructions that a case may take to the better of std and the original crate: `short` 1.00,
+//! and 1.25 if more than 32 bytes move; `long` 1.25; `fields` 1.4; `append` 1.4, and 1.75 if more than 32 bytes move;
+//! `whole` has no limit, since its definition asks for more.
 
 macro_rules! listed {
     ($read:ident) => {

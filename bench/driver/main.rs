@@ -1,6 +1,6 @@
-//! Times this library's streams, Rust's standard ones, those of the original crate and the toolchain's own on the same work, and counts their
-//! instructions: `driver WORD` prints the cases in whose names it stands, and `driver` all. With `count` behind the word it is what it
-//! runs below `callgrind`.
+//! Times this library's streams, Rust's standard ones, those of the original crate and the toolchain's own on the same
+//! work, and counts their instructions: `driver WORD` prints the cases in whose names it stands, and `driver` all. With
+//! `count` behind the word it is what it runs below `callgrind`.
 #![feature(seek_stream_len)]
 
 mod cases;

@@ -46,8 +46,8 @@ fn mark(case: &Case, counts: &[Option<f64>; SIDES]) -> &'static str {
     }
 }
 
-/// Prints a line for each class, and then one for each case, with its mark. A case's line has nanoseconds and instructions a call on
-/// each side, and of both the ratio; a `k` behind a number is a thousand.
+/// Prints a line for each class, and then one for each case, with its mark. A case's line has nanoseconds and
+/// instructions a call on each side, and of both the ratio; a `k` behind a number is a thousand.
 pub fn print(cases: &[Case], times: &Measured, counts: &Measured) {
     println!("| class | limit | cases | above | mean, instr. | most, instr. | mean, ns |\n|---|---|---:|---:|---:|---:|---:|");
     for (class, limit) in CLASSES {

@@ -1,5 +1,5 @@
-//! The same programs over Rust's `std::io`, with its usual buffers; `list` and `extract`, which are `tar_list`'s two; and `cat`. With
-//! `at` behind the word its buffers have the size of ours where that is another.
+//! The same programs over Rust's `std::io`, with its usual buffers; `list` and `extract`, which are `tar_list`'s two;
+//! and `cat`. With `at` behind the word its buffers have the size of ours if that is another.
 use std::fmt::Write as _;
 use std::fs::File;
 use std::io::{self, BufRead, BufReader, BufWriter, Error, ErrorKind, Result, Write};
@@ -106,7 +106,8 @@ fn list(mut input: impl BufRead, mut output: impl Write, name: Option<&str>) -> 
             output.flush()?;
             return Ok(0);
         }
-        let sum: u64 = header.iter().enumerate().map(|(at, byte)| if (148..156).contains(&at) { 32 } else { u64::from(*byte) }).sum();
+        let summed = |(at, byte): (usize, &u8)| if (148..156).contains(&at) { 32 } else { u64::from(*byte) };
+        let sum: u64 = header.iter().enumerate().map(summed).sum();
         let number = |field: &[u8]| {
             let digits = field.iter().filter(|byte| (b'0'..b'8').contains(byte));
             digits.fold(0, |number, digit| number * 8 + u64::from(digit - b'0'))
