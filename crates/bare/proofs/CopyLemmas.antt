@@ -22,10 +22,10 @@ module _ {R : Type 0} {K : Reader R} {a a' : R} {w w' : BufWriter Queue 32} (fro
   copy_full err (Err (Read e), same, law) =
       let left = left_of law.takes is in
       let none = HasNoFault-front law.taken left.0 (subst HasNoFault left.2 (HasNoFault-events_of from)) in
-      absurd (no_fault_at_end law.taken e none law.ends.0)
+      absurd (no_fault_at_end law.taken e none law.ends.fault)
   copy_full err (Err (Write e), same, law) =
-      let refuses = law.ends.1.2 in
+      let refuses = law.ends in
       let full = handed_full (omega arith) law.calls.handed w w' law.calls.made in
-      let front = simp length-append at (ap length refuses.1.0.1) in
+      let front = simp length-append at (ap length refuses.nearly.front.1) in
       let all = simp (bytes-events_of, bytes-append, length-append) at (ap (λ E. length (bytes E)) (left_of law.takes is).2) in
-      omega (arith, full, size-moves refuses.2, front, all)
+      omega (arith, full, size-moves refuses.moves, front, all)

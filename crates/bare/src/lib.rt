@@ -6,6 +6,7 @@
 #![tactic(auto)]
 
 mod copying;
+mod decimal;
 mod frames;
 mod kept;
 mod log;

@@ -2,7 +2,7 @@
 ghost use Rattle.bare.specs.Queue.{waiting};
 ghost use Rattle.bare.specs.Messages.{Receives};
 
-use crate::queue::{CAPACITY, Queue};
+use crate::queue::{CAPACITY, Queue, bare_take};
 use crate::{DONE, FULL, PARTIAL, REFUSED};
 use no_std_io2::io::Read;
 
@@ -28,10 +28,10 @@ pub extern "C" fn bare_message(port: &mut Queue, room: &mut [u8], len: &mut usiz
         *len = n;
         return FULL;
     }
-    if rest.read_exact(&mut room[..n]).is_err() {
+    if rest.len() < n {
         return PARTIAL;
     }
-    *len = n;
-    port.advance(1 + n);
+    port.advance(1);
+    *len = bare_take(port, &mut room[..n]);
     DONE
 }

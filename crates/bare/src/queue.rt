@@ -69,6 +69,13 @@ impl Write for Queue {
     fn flush(&mut self) -> Result<()> {
         Ok(())
     }
+
+    // That of every writer, but not inlined: each buffer in front of a queue calls it.
+    #[inline(never)]
+    fn write_all(&mut self, buf: &[u8]) -> Result<()> {
+        let mut rest = buf;
+        self.write_rest(&mut rest)
+    }
 }
 
 // Copies bytes over as many others. It is not inlined: LLVM does not know that the slices cannot overlap, and compiles

@@ -5,6 +5,7 @@ ghost use Rattle.bare.specs.Report.{report, event_line};
 ghost use Rattle.bare.specs.Kept.{PrintsOrNot};
 
 use crate::REFUSED;
+use crate::decimal::Decimal;
 use crate::kept::append;
 use crate::queue::Queue;
 use no_std_io2::io::{LineWriter, Result, Write};
@@ -16,7 +17,13 @@ fn print<W: Write>(w: &mut W, readings: &[u32]) -> Result<()>
 {
     'readings: for i in 0..readings.len() {
         let reading = readings[i];
-        write!(w, "sensor {i} = {reading}\n")?;
+        let (at, shown) = (
+            Decimal { value: i as u64 },
+            Decimal {
+                value: reading as u64,
+            },
+        );
+        write!(w, "sensor {at} = {shown}\n")?;
     }
     w.flush()
 }
@@ -43,7 +50,10 @@ fn print_event<W: Write>(w: &mut W, number: u32) -> Result<()>
     ensures text { OnOk result (Moves (W.told w.old) (event_line number) [] (W.told w.new)) }
     ensures empty { OnOk result ((W.told w.new).held ≡ []) }
 {
-    write!(w, "event {number}\n")?;
+    let shown = Decimal {
+        value: number as u64,
+    };
+    write!(w, "event {shown}\n")?;
     w.flush()
 }
 

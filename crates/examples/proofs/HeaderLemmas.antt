@@ -10,17 +10,13 @@ use Rattle.no_std_io2.specs.{BufReader.{HasTo}, FillTo.{FillsTo}, Reads.{Gathers
 use Rattle.no_std_io2.proofs.{BufReaderCalls.{buf_reader}, BufferedReads.{told_behind}}
 use Rattle.no_std_io2.proofs.{EventLemmas.{bytes-append, bytes-behind, bytes-events_of, HasNoFault-append, HasNoFault-events_of}}
 use Rattle.no_std_io2.proofs.{GivenPieces.{first_fault-append, bytes_to_fault-append}, ReadsLemmas.{Reads-takes}}
-use Rattle.examples.specs.Headers.{LooksAhead, LosesFirst, SeesHeader, PeeksAt}
+use Rattle.no_std_io2.{specs.Lost.{LosesFirst}, proofs.FillToLemmas.{fills_lose}}
+use Rattle.examples.specs.Headers.{LooksAhead, SeesHeader, PeeksAt}
 
 -- what a buffer in front of a reader tells to come
 told_of : {R : Type 0} {S : ℕ} (K : Reader R) (r : BufReader R S)
     → to_come (tells (buf_reader K) r) ≡ behind_held (reader_held r) (to_come (tells K (reader_inner r)))
 told_of {S = room} K r = told_behind room (reader_held r) (tells K (reader_inner r))
-
--- bytes that were moved into the buffer are still to come
-still_come : (held given : List ℕ) (P : List Event) (E E' : Option (List Event)) → AreTaken E P E' → bytes P ≡ given
-    → IfSome (behind_held held E) (λ F. IsSomeAnd (behind_held (held ++ given) E') (λ F'. bytes F ≡ [] ++ bytes F'))
-still_come held given P E E' are is = grind (arith, common_steps, append_assoc, bytes-append, bytes-behind)
 
 -- what the look returns, by how the `fill_to` ended
 peeks_at : (how : Result Bool Error) (reply : Result (ℕ × ℕ) Error) (held given : List ℕ) (P E' : List Event) (now : Tells)
@@ -86,8 +82,7 @@ module _ {R : Type 0} {S : ℕ} (K : Reader R) {old new : BufReader R S} (small 
 
   -- a look loses no byte
   pub look_stays : LosesFirst (tells (buf_reader K) old) [] (tells (buf_reader K) new)
-  look_stays = rw (told_of K old, told_of K new, fills.holds)
-      (still_come (reader_held old) fills.given took.taken _ _ took.takes.events took.are)
+  look_stays = fills_lose K filled small fills
 
   -- it returned the next two bytes, or there are none
   pub look_told : (reply : Result (ℕ × ℕ) Error) → SeesHeader filled reply (reader_held new)
@@ -101,26 +96,6 @@ module _ {R : Type 0} {S : ℕ} (K : Reader R) {old new : BufReader R S} (small 
       by (Some E) None are told = absurd are
       by (Some E) (Some E') are told = rw are (peeks_at filled reply (reader_held old) fills.given took.taken E' _
           (rw fills.holds at sees) (rw fills.holds at fills.enough) took.are took.ends told)
-
--- the bytes of the events that were taken are gone from the front
-pub takes_loses : {a b : Tells} {P : List Event} (x : List ℕ) → Takes a P b → bytes P ≡ x → LosesFirst a x b
-takes_loses {a} {b} {P} x takes are = by (to_come a) (to_come b) takes.events
-  where
-    by : (E E' : Option (List Event)) → AreTaken E P E' → IfSome E (λ F. IsSomeAnd E' (λ F'. bytes F ≡ x ++ bytes F'))
-    by None E' taken = tt
-    by (Some E) None taken = absurd taken
-    by (Some E) (Some E') taken = rw taken (bytes-append P E' ∙ ap (λ l. l ++ bytes E') are)
-
--- one after the other
-pub loses_then : (a b c : Tells) (x y : List ℕ) → LosesFirst a x b → LosesFirst b y c → LosesFirst a (x ++ y) c
-loses_then a b c x y first next = by (to_come a) (to_come b) (to_come c) first next
-  where
-    by : (E F G : Option (List Event)) → IfSome E (λ l. IsSomeAnd F (λ m. bytes l ≡ x ++ bytes m))
-        → IfSome F (λ l. IsSomeAnd G (λ m. bytes l ≡ y ++ bytes m)) → IfSome E (λ l. IsSomeAnd G (λ m. bytes l ≡ (x ++ y) ++ bytes m))
-    by None F G first next = tt
-    by (Some E) None G first next = absurd first
-    by (Some E) (Some F) None first next = absurd next
-    by (Some E) (Some F) (Some G) first next = grind (arith, append_assoc, first, next)
 
 -- a record that is held whole, after a look at its header
 record_held : (payload rest held : List ℕ) (wanted tag len : ℕ) → held ≡ wanted ∷ length payload ∷ payload ++ rest

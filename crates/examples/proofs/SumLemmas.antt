@@ -17,6 +17,6 @@ reads_sum R sums = record {
   gave = λ a b room answer law. sums a b (Gave room answer) law.call;
   exactly = λ a b room answer law. absurd (sums a b (GaveExactly room answer) law.0);
   all = λ a b x answer law. absurd (sums a b (GaveAll x answer) law.0);
-  lent = λ a b answer law. absurd (sums a b (Filled answer) law.0);
-  took = λ a b c x n law next within. absurd (sums a b (Filled (Ok x)) law.0);
+  lent = λ a b answer law. absurd (sums a b (Filled answer) law.call);
+  took = λ a b c x n law next within. absurd (sums a b (Filled (Ok x)) law.call);
 }

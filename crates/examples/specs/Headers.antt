@@ -1,19 +1,14 @@
 -- A look at a header of two bytes, and what was taken of the bytes to come.
-use Rattle.std.specs.Prelude.{◌≡◌, ◌<◌, ◌⊎◌, ℕ, List, [], ◌∷◌, ◌++◌, length, take, Option, None, Some, IfSome}
-use Rattle.std.specs.Prelude.{Bool, true, false, Result, Ok, Err, IsSomeAnd}
+use Rattle.std.specs.Prelude.{◌≡◌, ◌<◌, ◌⊎◌, ℕ, List, [], ◌∷◌, length, take, Option, None, Some}
+use Rattle.std.specs.Prelude.{Bool, true, false, Result, Ok, Err}
 use Rattle.no_std_io2.specs.BufReader.{reader_held}
 use Rattle.no_std_io2.specs.Errors.{IsUnexpectedEnd}
 use Rattle.no_std_io2.specs.Events.{Event, bytes, bytes_to_fault, first_fault, HasNoFault}
 use Rattle.no_std_io2.specs.FillTo.{FillsTo}
 use Rattle.no_std_io2.specs.Read.{Reader}
-use Rattle.no_std_io2.specs.Takes.{Tells, to_come}
 use Rattle.no_std_io2.specs.Write.{IsFront}
 use Rattle.no_std_io2.specs.declared.buffered.buf_reader.BufReader.{BufReader}
 use Rattle.no_std_io2.specs.declared.io.Error.{Error}
-
--- of the bytes to come, if they are told, these are gone from the front, and no others
-abbrev pub LosesFirst : Tells → List ℕ → Tells → Type 0
-LosesFirst old x new = IfSome (to_come old) (λ E. IsSomeAnd (to_come new) (λ E'. bytes E ≡ x ++ bytes E'))
 
 -- two bytes are held, and are the header; or the end came first, or this fault
 abbrev pub SeesHeader : Result Bool Error → Result (ℕ × ℕ) Error → List ℕ → Type 0

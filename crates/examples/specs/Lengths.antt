@@ -1,7 +1,6 @@
 -- Records with their length in front, and what skipping them takes.
 use Rattle.std.specs.Prelude.{◌≡◌, ◌⊎◌, ℕ, ◌<◌, List, [], ◌∷◌, ◌++◌, length, Result, Ok, Err, false}
-use Rattle.no_std_io2.specs.{Errors.{IsUnexpectedEnd}, Reads.{Took}, Takes.{Tells}, BufRead.{Lender, lender_tells}}
-use Rattle.no_std_io2.specs.declared.io.Error.{Error}
+use Rattle.no_std_io2.specs.{Errors.{IsUnexpectedEnd}, Reads.{Took}, Takes.{Tells}, Read.{Reader, tells}, declared.io.Error.{Error}}
 
 -- these bytes are whole records: each is a length, in one byte, followed by that many bytes
 pub data AreRecords : List ℕ → Type 0 where
@@ -20,5 +19,5 @@ RecordsEnd old new (Err e) = (xs : List ℕ) × (part : List ℕ) × AreRecords 
     ⊎ (Took old (xs ++ part) (Ok false) new × IsUnexpectedEnd e × IsCutOff part))
 
 -- From old to new the records of a reader were skipped.
-abbrev pub SkipsRecords : {X : Type 0} → Lender X → X → Result (Unit {0}) Error → X → Type 0
-SkipsRecords R old reply new = RecordsEnd (lender_tells R old) (lender_tells R new) reply
+abbrev pub SkipsRecords : {X : Type 0} → Reader X → X → Result (Unit {0}) Error → X → Type 0
+SkipsRecords R old reply new = RecordsEnd (tells R old) (tells R new) reply

@@ -8,4 +8,6 @@ pub mod Lengths
 pub mod Messages
 pub mod Readings
 pub mod Serial
+pub mod Settings
 pub mod Summed
+pub mod Tables

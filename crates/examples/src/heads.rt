@@ -1,6 +1,6 @@
 //! [`head`], a loop over lines: the first lines of a reader go to a writer.
 ghost use Rattle.std.specs.Prelude.{IfOk, IfErr};
-ghost use Rattle.no_std_io2.specs.BufRead.{lender_tells};
+ghost use Rattle.no_std_io2.specs.Read.{tells};
 ghost use Rattle.examples.specs.Head.{Heads, HeadStops};
 
 use no_std_io2::io::{BufRead, Result, Write};
@@ -15,9 +15,9 @@ use std::alloc::Global;
 /// byte; the writer has then accepted the lines before and some first bytes of one more, whose other bytes are lost. If
 /// the writer fails at the part of a line before the reader's fault, that fault is lost too.
 pub fn head<B: BufRead, W: Write>(alloc: Global, r: &mut B, w: &mut W, wanted: u64) -> Result<u64>
-    ensures heads { IfOk result (Heads wanted (lender_tells B.BufRead r.old) (lender_tells B.BufRead r.new)
+    ensures heads { IfOk result (Heads wanted (tells B.Read r.old) (tells B.Read r.new)
         (W.told w.old) (W.told w.new)) }
-    ensures stops { IfErr result (λ e. HeadStops e (lender_tells B.BufRead r.old) (lender_tells B.BufRead r.new)
+    ensures stops { IfErr result (λ e. HeadStops e (tells B.Read r.old) (tells B.Read r.new)
         (W.told w.old) (W.told w.new)) }
 {
     let mut line = Vec::<u8>::new(alloc);

@@ -9,7 +9,7 @@ use no_std_io2::io::{BufRead, Result, skip};
 /// Returns the reader's first fault, and `UnexpectedEof` if the bytes end inside a record. Only a part of that record
 /// may be skipped then, so the next byte may be no length.
 pub fn pass_records<B: BufRead>(r: &mut B) -> Result<()>
-    ensures { SkipsRecords B.BufRead r.old result r.new }
+    ensures { SkipsRecords B.Read r.old result r.new }
 {
     'records: loop {
         match r.fill_buf() {

@@ -1,4 +1,5 @@
-//! First proofs and devices to copy, which the gate proves. Only `indexed` uses another crate than `no_std_io2`.
+//! First proofs and devices to copy, which the gate proves. Only `counted` and `indexed` use another crate than
+//! `no_std_io2`.
 //! PROVING and the CALLING pages of `no_std_io2` and `system_streams` show or name all modules except `records`.
 #![tactic(auto)]
 
@@ -8,6 +9,7 @@ ghost use Rattle.no_std_io2.specs.Write.{Moves};
 
 mod broken;
 mod checksum;
+mod counted;
 mod flash;
 mod heads;
 mod hex;
@@ -22,11 +24,14 @@ mod one_retry;
 mod readings;
 mod retries;
 mod serial;
+mod settings;
 mod summed;
+mod tables;
 mod uart;
 
 pub use broken::Broken;
 pub use checksum::checksum_of;
+pub use counted::count_reads;
 pub use flash::{Flash, FlashFile};
 pub use heads::head;
 pub use hex::{Hex, hex_of, write_hex};
@@ -42,7 +47,9 @@ pub use one_retry::send_with_one_retry;
 pub use readings::{send_reading, write_reading, write_readings};
 pub use retries::save_with_retries;
 pub use serial::{Port, Serial};
+pub use settings::find_setting;
 pub use summed::{Summed, flush_summed, write_summed};
+pub use tables::{add_lines, add_table, print_table, table_at, table_of};
 pub use uart::{Registers, Uart};
 
 pub mod records;

@@ -46,6 +46,8 @@ impl<R: Read> Read for Numbered<R> {
 
     ghost may = { PartMay R.may (λ n. n.stream) (λ n s. record n { stream = s }) };
 
+    ghost held = { λ n. R.held n.stream };
+
     fn read(&mut self, buf: &mut [u8]) -> Result<usize> {
         self.stream.read(buf)
     }

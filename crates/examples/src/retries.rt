@@ -1,7 +1,9 @@
 //! [`save_with_retries`], which sends a text again after faults.
-ghost use Rattle.std.specs.Prelude.{◌≡◌, [], IfOk, IsOk};
-ghost use Rattle.no_std_io2.specs.BufWriter.{BufWriterFits};
-ghost use Rattle.no_std_io2.specs.Retries.{HasAtMost};
+ghost use Rattle.std.specs.Prelude.{◌≡◌, [], ℕ, List, Result, IfOk, IsOk};
+ghost use Rattle.no_std_io2.specs.declared.io.BufWriter.{BufWriter as Buffered};
+ghost use Rattle.no_std_io2.specs.declared.io.Error.{Error};
+ghost use Rattle.no_std_io2.specs.BufWriter.{BufWriterFits, writer_inner, writer_buffer};
+ghost use Rattle.no_std_io2.specs.Retries.{HasAtMost, RestFlushLaw, Tries};
 ghost use Rattle.no_std_io2.specs.Write.{Moves};
 
 use no_std_io2::io::{BufWriter, Result, Write, write_with_retries};
@@ -15,6 +17,9 @@ pub fn save_with_retries<W: Write + Drop>(device: W, text: &[u8], retries: u32) 
     requires { BufWriterFits W.row 16 }
     ensures saved { IfOk result (λ d. Moves (W.told device) text.now [] (W.told d)) }
     ensures out { IfOk result (λ d. (W.told d).held ≡ []) }
+    ensures tries { (w w' : Buffered W 16) × (left : List ℕ) × (sent : Result (Unit {0}) Error)
+        × (writer_inner w ≡ device) × (writer_buffer w ≡ [])
+        × Tries (RestFlushLaw ⟦<BufWriter<W, 16> as Write>⟧) retries w text.now sent w' left }
     ensures enough { HasAtMost retries (W.told device).mishaps → IsOk result }
 {
     let mut w = BufWriter::<W, 16>::new(device);

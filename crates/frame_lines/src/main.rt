@@ -2,7 +2,8 @@
 //! printable ASCII. A frame is a length, as a little-endian `u32`, followed by that many bytes.
 //!
 //! The status is 0 if the input ends after a frame, 1 after a fault, whose text is printed to standard error, and 2 if
-//! there is an argument. If a line does not go out whole, its rest is tried once more before the next frame is read.
+//! there is an argument. If a line does not go out whole, its rest is tried once more before the next frame is read. The
+//! only arguments are `--help` and `--version`, of which it prints the first one, and reads nothing.
 #![tactic(auto)]
 
 ghost use Rattle.std.specs.Prelude.{◌≡◌, [], OnOk, replicate};
@@ -17,7 +18,20 @@ use std::alloc::Global;
 use std::process::ExitCode;
 use std::rt::Env;
 use std::{env, io};
-use system_streams::{report, stdin, stdout};
+use system_streams::{about, report, stdin, stdout};
+
+// What `--help` prints.
+const HELP: &str = "\
+Usage: frame_lines
+Reads frames from standard input, and prints a line for each: its payload, with
+each byte escaped that is not printable ASCII.
+
+A frame is a length, as a little-endian u32, followed by that many bytes, of
+which there are at most 4,096.
+
+  --help     prints this text
+  --version  prints the version
+";
 
 // The longest payload, in bytes.
 const LIMIT: usize = 4096;
@@ -25,17 +39,30 @@ const LIMIT: usize = 4096;
 // The buffer of the log: four bytes for each of a payload, a newline, and one more.
 const LINE: usize = 4 * LIMIT + 2;
 
-// Returns whether there is an argument after the program's name.
-fn has_argument<R: Env + Alloc<A = Global>>(rt: &R) -> Result<bool> {
+// What the arguments ask for.
+#[derive(Drop)]
+enum Command {
+    Print,
+    // The first argument after the program's name.
+    Word(String),
+    // An argument is not UTF-8.
+    Unknown,
+}
+
+// Returns what the arguments ask for.
+fn command_of<R: Env + Alloc<A = Global>>(rt: &R) -> Result<Command> {
     match env::args(rt) {
         Ok(mut words) => {
             let _program = words.next();
-            Ok(words.next().is_some())
+            match words.next() {
+                Some(word) => Ok(Command::Word(word)),
+                None => Ok(Command::Print),
+            }
         }
         Err(e) if e.kind() == io::ErrorKind::OutOfMemory => {
             Err(Error::from(ErrorKind::OutOfMemory))
         }
-        Err(_) => Ok(true),
+        Err(_) => Ok(Command::Unknown),
     }
 }
 
@@ -77,13 +104,20 @@ fn run(rt: &HostRuntime) -> Result<()> {
     print_frames(&mut frames, &mut lines)
 }
 
+// Prints how the program is called, and returns the status of a wrong call.
+fn usage<R: Eprint>(rt: &R) -> ExitCode {
+    let _ = eprintln!(rt; "usage: frame_lines");
+    ExitCode::from(2)
+}
+
 fn main(rt: HostRuntime) -> ExitCode {
-    match has_argument(&rt) {
-        Ok(false) => report(&rt, "frame_lines", run(&rt)),
-        Ok(true) => {
-            let _ = eprintln!(rt; "usage: frame_lines");
-            ExitCode::from(2)
-        }
+    match command_of(&rt) {
+        Ok(Command::Print) => report(&rt, "frame_lines", run(&rt)),
+        Ok(Command::Word(word)) => match about(&rt, "frame_lines", HELP, word.as_str()) {
+            Some(told) => told,
+            None => usage(&rt),
+        },
+        Ok(Command::Unknown) => usage(&rt),
         Err(error) => report(&rt, "frame_lines", Err(error)),
     }
 }

@@ -1,7 +1,7 @@
 -- For `run_reads`: asks in a row, and what they take.
 use Rattle.std.proofs.lemmas.Grind.{common_steps}
-use Rattle.no_std_io2.proofs.Words.{ℕ, zero, suc, ◌<◌, Bool, List, [], ◌∷◌, ◌++◌, length, get_or, Result, arith, Event, Takes, Lender}
-use Rattle.no_std_io2.proofs.{Words.{as_reader, lender_tells}, TakesLemmas.{takes_none, takes_then, made_takes, made_lend}}
+use Rattle.no_std_io2.proofs.Words.{ℕ, zero, suc, ◌<◌, Bool, List, [], ◌∷◌, ◌++◌, length, get_or, Result, arith, Event, Takes, Reader}
+use Rattle.no_std_io2.proofs.{Words.{tells}, TakesLemmas.{takes_none, takes_then, made_takes}}
 use Rattle.no_std_io2.specs.declared.io.Error.{Error}
 use Rattle.io_bench.specs.{declared.asks.Ask.{Ask}, Asks.{Fits, AllFit, Answered, CameTo, no_ask, next_ask}}
 
@@ -11,16 +11,16 @@ fits_at room [] i d h f = absurd (omega arith)
 fits_at room (ask ∷ asks) zero d h f = f.0
 fits_at room (ask ∷ asks) (suc i) d h f = fits_at room asks i d (omega arith) f.1
 
-module _ {B : Type 0} (L : Lender B) where
+module _ {B : Type 0} (L : Reader B) where
   -- what one ask takes
   answered_takes : (ask : Ask) (a b : B) (answer : Result Bool Error) → Answered L ask a answer b
-      → (P : List Event) × Takes (lender_tells L a) P (lender_tells L b)
-  answered_takes ask a b answer answered = grind (arith, common_steps, as_reader, made_lend, made_takes)
+      → (P : List Event) × Takes (tells L a) P (tells L b)
+  answered_takes ask a b answer answered = grind (arith, common_steps, made_takes)
 
   -- what asks in a row take
   pub came_takes : {asks : List Ask} {a b : B} {at_end failed : ℕ} → CameTo L asks a at_end failed b
-      → (P : List Event) × Takes (lender_tells L a) P (lender_tells L b)
-  came_takes (no_ask {r = r}) = ([], takes_none (lender_tells L r))
+      → (P : List Event) × Takes (tells L a) P (tells L b)
+  came_takes (no_ask {r = r}) = ([], takes_none (tells L r))
   came_takes (next_ask {mid = mid} {new = new} ask answer before now _ _) =
       let first = came_takes before in
       let last = answered_takes ask mid new answer now in (first.0 ++ last.0, takes_then first.1 last.1)

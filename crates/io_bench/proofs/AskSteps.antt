@@ -2,17 +2,18 @@
 use Rattle.no_std_io2.proofs.Words.{◌≡◌, ℕ, ◌+◌, ◌-◌, ◌/◌, ◌<◌, ◌≤◌, min, nat_eq, nat_lt, Bool, true, false, if◌then◌else◌, List, [], ◌∷◌}
 use Rattle.no_std_io2.proofs.Words.{◌++◌, length, take, drop, Some, Result, Ok, Err, refl, sym, ap, ap₂, subst, ◌∙◌, arith, ⊎_elim, inl}
 use Rattle.no_std_io2.proofs.Words.{inr, length-append, length-drop, length-take-le, le_refl, drop-append_seam, common_steps}
-use Rattle.no_std_io2.proofs.Words.{nil_from_length, cases_lt, nat_tests, Event, fails, events_of, bytes, Takes, to_come, IsAtEnd, Reader}
+use Rattle.no_std_io2.proofs.Words.{nil_from_length, cases_lt, nat_tests, Event, fails, events_of, bytes, AreTaken, Takes, to_come, IsAtEnd}
 use Rattle.no_std_io2.proofs.Words.{tells, ReadCall, bytes_given, GaveLaw, ReadCallLaw, Gathers, no_read, and_gave, and_again, ExactCalls}
-use Rattle.no_std_io2.proofs.Words.{FillsRoom, IsReadMeter, Made, Lender, as_reader, lender_tells, LendCallLaw, reader_held, reader_behind}
-use Rattle.no_std_io2.proofs.Words.{reader_inner, behind_held, PassesOn, ReadsBelow, of_held, went_past, was_filled, FillsBelow, lent_held}
-use Rattle.no_std_io2.proofs.{Words.{lent_read}, TakesLemmas.{stays_at_end}, EventLemmas.{bytes-append, bytes-events_of, events_of-append}}
+use Rattle.no_std_io2.proofs.Words.{FillsRoom, IsReadMeter, bytes_left, Made, reader_held, reader_behind, reader_inner, behind_held}
+use Rattle.no_std_io2.proofs.Words.{PassesOn, Reader, ReadsBelow, of_held, went_past, was_filled, FillsBelow, lent_held, lent_read}
+use Rattle.no_std_io2.proofs.{TakesLemmas.{stays_at_end, left_of}, EventLemmas.{bytes-append, bytes-events_of, events_of-append}}
 use Rattle.no_std_io2.proofs.{CallsLemmas.{made_split}, BufReaderRoom.{some_room, held-le}, BufferedReads.{told_behind}}
-use Rattle.no_std_io2.proofs.BufReaderCalls.{buf_lender}
-use Rattle.std.proofs.Common.{◌&&◌, IfSome, is_err, add-zero, drop_of_length-le}
-use Rattle.no_std_io2.specs.{declared.{io.Error.{Error}, buffered.buf_reader.BufReader.{BufReader}}, BufRead.{FilledLaw, ConsumeLaw}}
+use Rattle.no_std_io2.proofs.BufReaderCalls.{buf_reader}
+use Rattle.no_std_io2.specs.{declared.{io.Error.{Error}, buffered.buf_reader.BufReader.{BufReader}}, Read.{FilledLaw, ConsumeLaw}}
 use Rattle.no_std_io2.specs.Read.{ReadExactLaw}
-use Rattle.io_bench.proofs.{FillsRoomLemmas.{drawn}, RunLemmas.{made_one}, ReadsPaid.{ReadsPaid, OneCall, no_read as no_inner_read}}
+use Rattle.std.proofs.Common.{◌&&◌, IfSome, is_err, add-zero, drop_of_length-le}
+use Rattle.no_std_io2.proofs.FillsRoomLemmas.{drawn, fills_told}
+use Rattle.io_bench.proofs.{RunLemmas.{made_one}, ReadsPaid.{ReadsPaid, OneCall, no_read as no_inner_read}}
 use Rattle.io_bench.proofs.ReadsPaid.{one_read, paid_none, paid_held, paid_call, paid_bound}
 use Rattle.io_bench.specs.{declared.asks.Ask.{Ask, TheVariants.{Read, Exact, Fill}}, Asks.{read_answer, end_or_error, exact_answer}}
 use Rattle.io_bench.specs.Asks.{fill_answer, fill_calls, Answered, CameTo, left_behind, DropsFront, AskStep, meets_end, Steps, no_step}
@@ -51,101 +52,119 @@ made_last : {X A : Type 0} (may : X → A → X → Type 0) (C : List A) {call :
     → (mid : X) × Made may a C mid × may mid call b
 made_last may C {call} a b made = grind (arith, common_steps, made_split)
 
-module _ {R : Type 0} {S : ℕ} (I : Reader R) (fills : FillsRoom I) where
+module _ {R : Type 0} {S : ℕ} (I : Reader R) where
+  -- the inner reader fills its room
+  abbrev Filling : BufReader R S → Type 0
+  Filling r = FillsRoom I (reader_inner r)
+
   -- how many bytes are to come from the inner reader
   abbrev behind : BufReader R S → ℕ
-  behind r = length (fills.left (reader_inner r))
+  behind r = length (bytes_left I (reader_inner r))
 
-  -- one call of the buffer, which may make an inner read
+  -- one call of the buffer, which may make an inner read; the inner reader goes on filling its room
   abbrev Once : BufReader R S → BufReader R S → Type 0
   Once a b = (r : ℕ) × ((cost : R → ℕ) → IsReadMeter I.may cost → cost (reader_inner b) ≡ cost (reader_inner a) + r)
-      × OneCall S (length (reader_held a)) (behind a) (length (reader_held b)) (behind b) r
+      × OneCall S (length (reader_held a)) (behind a) (length (reader_held b)) (behind b) r × Filling b
 
   -- it makes none,
-  once_none : (a b : BufReader R S) → 0 < length (reader_held a) → length (reader_held b) ≤ length (reader_held a)
+  once_none : (a b : BufReader R S) → Filling a → 0 < length (reader_held a) → length (reader_held b) ≤ length (reader_held a)
       → reader_inner b ≡ reader_inner a → Once a b
-  once_none a b some fits same = grind (arith, common_steps, no_inner_read)
+  once_none a b fills some fits same = (
+    0,
+    λ cost meter. omega (arith, ap cost same),
+    no_inner_read some fits (ap (λ r. length (bytes_left I r)) same),
+    subst (λ r. FillsRoom I r) (sym same) fills,
+  )
 
   -- or one, of which some bytes are held
-  once_reads : (a b : BufReader R S) (room : ℕ) (answer : Result (List ℕ) Error) → length (reader_held a) ≡ 0 → S ≤ room
+  once_reads : (a b : BufReader R S) (room : ℕ) (answer : Result (List ℕ) Error) → Filling a → length (reader_held a) ≡ 0 → S ≤ room
       → GaveLaw I (reader_inner a) room answer (reader_inner b)
       → ((x : List ℕ) → answer ≡ Ok x → length (reader_held b) ≤ length x) → Once a b
-  once_reads a b room answer none wide law kept =
-      let one = drawn fills answer law in
-      let read =
+  once_reads a b room answer fills none wide law kept =
+      let one = drawn answer fills law in
+      let read : OneCall S (length (reader_held a)) (behind a) (length (reader_held b)) (behind b) 1 =
       one_read (length one.gave) none (omega (arith, one.rest)) (kept one.gave one.is) (λ few. omega (arith, one.count, one.rest)) in
-      (1, λ cost meter. omega (arith, meter _ _ room answer law.call, some_room a), read)
+      (1, λ cost meter. omega (arith, meter _ _ room answer law.call, some_room a), read, one.fills)
 
-  once_read : (a b : BufReader R S) (room : ℕ) (answer : Result (List ℕ) Error) → ReadsBelow I a room answer b → Once a b
-  once_read a b room answer read =
+  once_read : (a b : BufReader R S) (room : ℕ) (answer : Result (List ℕ) Error) → Filling a → ReadsBelow I a room answer b → Once a b
+  once_read a b room answer fills read =
       grind (arith, common_steps, le_refl, of_held, once_none, once_reads, passes_fits, reader_behind, reader_held, was_filled, went_past)
 
-  once_fill : (a b : BufReader R S) (answer : Result (List ℕ) Error) → FillsBelow I a answer b → Once a b
-  once_fill a b answer fill = grind (arith, bytes_given, le_refl, lent_held, lent_read, once_none, once_reads, reader_held, reader_inner)
+  once_fill : (a b : BufReader R S) (answer : Result (List ℕ) Error) → Filling a → FillsBelow I a answer b → Once a b
+  once_fill a b answer fills fill =
+      grind (arith, bytes_given, le_refl, lent_held, lent_read, once_none, once_reads, reader_held, reader_inner)
 
-module _ {R : Type 0} {S : ℕ} (I : Reader R) (fills : FillsRoom I) (start : BufReader R S) where
-  abbrev L : Lender (BufReader R S)
-  L = buf_lender I
+module _ {R : Type 0} {S : ℕ} (I : Reader R) (start : BufReader R S) where
+  abbrev L : Reader (BufReader R S)
+  L = buf_reader I
 
   -- the bytes to come
   abbrev all : BufReader R S → List ℕ
-  all r = left_behind fills.left r
+  all r = left_behind I r
 
-  told : (r : BufReader R S) → to_come (lender_tells L r) ≡ Some (events_of (all r))
-  told r = told_behind S (reader_held r) (tells I (reader_inner r))
-      ∙ ap (behind_held (reader_held r)) (fills.told (reader_inner r))
-      ∙ ap Some (sym (events_of-append (reader_held r) (fills.left (reader_inner r))))
+  told : (r : BufReader R S) → Filling I r → to_come (tells L r) ≡ Some (events_of (all r))
+  told r fills = told_behind S (reader_held r) (tells I (reader_inner r))
+      ∙ ap (behind_held (reader_held r)) (fills_told fills)
+      ∙ ap Some (sym (events_of-append (reader_held r) (bytes_left I (reader_inner r))))
 
   -- what was taken of that
-  taken : (a b : BufReader R S) (P : List Event) → Takes (lender_tells L a) P (lender_tells L b)
+  taken : (a b : BufReader R S) (P : List Event) → Filling I a → Filling I b → Takes (tells L a) P (tells L b)
       → events_of (all a) ≡ P ++ events_of (all b)
-  taken a b P takes = grind (arith, common_steps, told)
+  taken a b P fills after takes =
+      subst (λ E. AreTaken E P (Some (events_of (all b)))) (told a fills)
+      (subst (λ E. AreTaken (to_come (tells L a)) P E) (told b after) takes.events)
 
-  drew : (a b : BufReader R S) (P : List Event) → Takes (lender_tells L a) P (lender_tells L b) → all a ≡ bytes P ++ all b
-  drew a b P takes = simp (bytes-append, bytes-events_of) at (ap bytes (taken a b P takes))
+  drew : (a b : BufReader R S) (P : List Event) → Filling I a → Filling I b → Takes (tells L a) P (tells L b) → all a ≡ bytes P ++ all b
+  drew a b P fills after takes = simp (bytes-append, bytes-events_of) at (ap bytes (taken a b P fills after takes))
 
-  took : (a b : BufReader R S) (x : List ℕ) → Takes (lender_tells L a) (events_of x) (lender_tells L b) → all a ≡ x ++ all b
-  took a b x takes = drew a b (events_of x) takes ∙ ap (λ l. l ++ all b) (bytes-events_of x)
+  took : (a b : BufReader R S) (x : List ℕ) → Filling I a → Filling I b → Takes (tells L a) (events_of x) (tells L b) → all a ≡ x ++ all b
+  took a b x fills after takes = drew a b (events_of x) fills after takes ∙ ap (λ l. l ++ all b) (bytes-events_of x)
 
   -- no call fails
-  no_error : {T : Type 0} (a b : BufReader R S) (e : Error) → Takes (lender_tells L a) (fails e ∷ []) (lender_tells L b) → T
-  no_error a b e takes = absurd (none_fails (all a) e (events_of (all b)) (taken a b (fails e ∷ []) takes))
+  no_error : {T : Type 0} (a b : BufReader R S) (e : Error) → Filling I a → Takes (tells L a) (fails e ∷ []) (tells L b) → T
+  no_error a b e fills takes = let left = left_of takes (told a fills) in absurd (none_fails (all a) e left.0 left.2)
 
   -- at the end no byte is to come
-  ended : (b : BufReader R S) → IsAtEnd (lender_tells L b) → all b ≡ []
-  ended b end = simp bytes-events_of at (ap bytes (subst (λ E. IfSome E (λ l. l ≡ [])) (told b) end))
+  ended : (b : BufReader R S) → Filling I b → IsAtEnd (tells L b) → all b ≡ []
+  ended b fills end = simp bytes-events_of at (ap bytes (subst (λ E. IfSome E (λ l. l ≡ [])) (told b fills) end))
 
-  -- the calls so far are paid for, if z asks met the end
-  abbrev pub Paid : ℕ → BufReader R S → Type 0
-  Paid z r = (c : ℕ) × ((cost : R → ℕ) → IsReadMeter I.may cost → cost (reader_inner r) ≡ cost (reader_inner start) + c)
-      × ReadsPaid S (length (all start)) c z (length (reader_held r)) (behind I fills r)
+  -- the calls so far are paid for, if z asks met the end, and the inner reader fills its room
+  pub record Paid (z : ℕ) (r : BufReader R S) : Type 0 where
+    pub reads : ℕ
+    pub cost : (cost : R → ℕ) → IsReadMeter I.may cost → cost (reader_inner r) ≡ cost (reader_inner start) + reads
+    pub paid : ReadsPaid S (length (all start)) reads z (length (reader_held r)) (behind I r)
+    pub fills : FillsRoom I (reader_inner r)
 
-  once_paid : (z z' : ℕ) (a b : BufReader R S) → z ≤ z' → (length (all a) ≡ 0 → z < z') → Once I fills a b → Paid z a → Paid z' b
-  once_paid z z' a b more end once paid = (
-    paid.0 + once.0,
-    λ cost meter. omega (arith, paid.1 cost meter, once.1 cost meter),
-    paid_call more (λ none. end (length-append (reader_held a) (fills.left (reader_inner a)) ∙ none)) once.2 paid.2,
-  )
+  once_paid : (z z' : ℕ) (a b : BufReader R S) → z ≤ z' → (length (all a) ≡ 0 → z < z') → Once I a b → Paid z a → Paid z' b
+  once_paid z z' a b more end once before = record {
+    reads = before.reads + once.0;
+    cost = λ cost meter. omega (arith, before.cost cost meter, once.1 cost meter);
+    paid = paid_call more (λ none. end (length-append (reader_held a) (bytes_left I (reader_inner a)) ∙ none)) once.2 before.paid;
+    fills = once.3;
+  }
 
   kept_paid : (z : ℕ) (a b : BufReader R S) → length (reader_held b) ≤ length (reader_held a) → reader_inner b ≡ reader_inner a → Paid z a
       → Paid z b
-  kept_paid z a b fits same paid = (
-    paid.0,
-    λ cost meter. omega (arith, paid.1 cost meter, ap cost same),
-    paid_held fits (ap (λ r. length (fills.left r)) same) paid.2,
-  )
+  kept_paid z a b fits same before = record {
+    reads = before.reads;
+    cost = λ cost meter. omega (arith, before.cost cost meter, ap cost same);
+    paid = paid_held fits (ap (λ r. length (bytes_left I r)) same) before.paid;
+    fills = subst (λ r. FillsRoom I r) (sym same) before.fills;
+  }
 
   -- reads that gave some bytes each
   gathers_paid : {asks : ℕ → ℕ → Type 0} {C : List ReadCall} {x : List ℕ} → Gathers asks C x → (z : ℕ) (a b : BufReader R S)
-      → Made (ReadCallLaw (as_reader L)) a C b → Paid z a → Paid z b
+      → Made (ReadCallLaw L) a C b → Paid z a → Paid z b
   gathers_paid no_read z a b made paid = subst (Paid z) (sym made) paid
   gathers_paid (and_gave C x y room before asked some) z a b made paid =
-      let (mid, first, last) = made_last (ReadCallLaw (as_reader L)) C a b made in
-      let gave = took mid b y last.takes in
-      once_paid z z mid b (le_refl z) (λ none. absurd (omega (arith, none, some, ap length gave, length-append y (all b))))
-      (once_read I fills mid b room (Ok y) last.call) (gathers_paid before z a mid first paid)
+      let (mid, first, last) = made_last (ReadCallLaw L) C a b made in
+      let now = gathers_paid before z a mid first paid in
+      let once = once_read I mid b room (Ok y) now.fills last.call in
+      let gave = took mid b y now.fills once.3 last.takes in
+      once_paid z z mid b (le_refl z) (λ none. absurd (omega (arith, none, some, ap length gave, length-append y (all b)))) once now
   gathers_paid (and_again C x room e before asked interrupted) z a b made paid =
-      let (mid, first, last) = made_last (ReadCallLaw (as_reader L)) C a b made in no_error mid b e last.takes
+      let (mid, first, last) = made_last (ReadCallLaw L) C a b made in
+      no_error mid b e (gathers_paid before z a mid first paid).fills last.takes
 
   -- what one ask does: it does not fail, and meets the end where it has to
   abbrev Went : Ask → ℕ → BufReader R S → Result Bool Error → BufReader R S → Type 0
@@ -158,70 +177,74 @@ module _ {R : Type 0} {S : ℕ} (I : Reader R) (fills : FillsRoom I) (start : Bu
 
   -- a `read`
   read_went : (len z : ℕ) (a b : BufReader R S) (reply : Result (List ℕ) Error) (answer : Result Bool Error)
-      → answer ≡ read_answer reply (reader_held b) → GaveLaw (as_reader L) a len reply b → Paid z a → Went (Read len) z a answer b
-  read_went len z a b (Err e) answer is law paid = no_error a b e law.takes
+      → answer ≡ read_answer reply (reader_held b) → GaveLaw L a len reply b → Paid z a → Went (Read len) z a answer b
+  read_went len z a b (Err e) answer is law paid = no_error a b e paid.fills law.takes
   read_went len z a b (Ok x) answer is law paid =
-      let gave = took a b x law.takes in
-      let once = once_read I fills a b len (Ok x) law.call in
-      let whole = length-append (reader_held a) (fills.left (reader_inner a)) in
-      let rest = length-append (reader_held b) (fills.left (reader_inner b)) in
+      let once = once_read I a b len (Ok x) paid.fills law.call in
+      let gave = took a b x paid.fills once.3 law.takes in
+      let whole = length-append (reader_held a) (bytes_left I (reader_inner a)) in
+      let rest = length-append (reader_held b) (bytes_left I (reader_inner b)) in
       let met : (nat_eq (length x) 0 && nat_eq (length (reader_held b)) 0) ≡ nat_lt (length (all a)) 1 =
       read_ends (length x) (length (all a)) (some_room a) once.2 (omega (arith, ap length gave, length-append x (all b), whole, rest))
       whole in (
         is ∙ ap Ok met,
-        drops len x (all a) (all b) gave law.bound (λ none some. ended b (law.end (ap Ok none) some)),
+        drops len x (all a) (all b) gave law.bound (λ none some. ended b once.3 (law.end (ap Ok none) some)),
         once_paid z _ a b (omega arith) (λ none. grind (arith, nat_tests, none)) once paid,
       )
 
   -- a `read_exact` that gave all bytes
-  exact_paid : (z : ℕ) (a b : BufReader R S) (buf : List ℕ) (C : List ReadCall) → Made (ReadCallLaw (as_reader L)) a C b
+  exact_paid : (z : ℕ) (a b : BufReader R S) (buf : List ℕ) (C : List ReadCall) → Made (ReadCallLaw L) a C b
       → ExactCalls C (Ok tt) buf → Paid z a → Paid z b
   exact_paid z a b buf C made (inl own) paid =
-      let call = (made_one (ReadCallLaw (as_reader L)) a b own made).0 in
+      let call = (made_one (ReadCallLaw L) a b own made).0 in
       kept_paid z a b (omega (arith, ap length call.1.1.1.1, length-drop (length buf) (reader_held a))) call.1.0 paid
   exact_paid z a b buf C made (inr reads) paid = gathers_paid reads z a b made paid
 
   -- any `read_exact`
   exact_went : (len z : ℕ) (a b : BufReader R S) (reply : Result (Unit {0}) Error) (answer : Result Bool Error) (buf buf' : List ℕ)
-      → length buf' ≡ len → answer ≡ exact_answer reply → (law : ReadExactLaw (as_reader L) a buf reply buf' b)
+      → length buf' ≡ len → answer ≡ exact_answer reply → (law : ReadExactLaw L a buf reply buf' b)
       → ExactCalls law.calls.calls reply buf' → Paid z a → Went (Exact len) z a answer b
   exact_went len z a b (Ok u) answer buf buf' long is law calls paid =
-      let gave : all a ≡ buf' ++ all b = drew a b law.taken law.takes ∙ ap (λ l. l ++ all b) law.ends.0.given in
-      let met : false ≡ nat_lt (length (all a)) len = grind (arith, nat_tests, long, ap length gave, length-append buf' (all b)) in
       let kept = exact_paid z a b buf' law.calls.calls law.calls.made calls paid in
+      let gave : all a ≡ buf' ++ all b =
+      drew a b law.taken paid.fills kept.fills law.takes ∙ ap (λ l. l ++ all b) law.ends.0.given in
+      let met : false ≡ nat_lt (length (all a)) len = grind (arith, nat_tests, long, ap length gave, length-append buf' (all b)) in
       (is ∙ ap Ok met, rest_is buf' (all a) (all b) gave long, paid_as z b met (rw add-zero kept))
   exact_went len z a b (Err e) answer buf buf' long is law (inl own) paid =
-      let call = (made_one (ReadCallLaw (as_reader L)) a b own law.calls.made).0 in absurd (let no : ⊥ = cc call.1.1.0 in no)
+      let call = (made_one (ReadCallLaw L) a b own law.calls.made).0 in absurd (let no : ⊥ = cc call.1.1.0 in no)
   exact_went len z a b (Err e) answer buf buf' long is law (inr (x, front, inl (end, (D, room, before, asked, are)))) paid =
       let (mid, first, last) =
-      made_last (ReadCallLaw (as_reader L)) D a b (subst (λ K. Made (ReadCallLaw (as_reader L)) a K b) are law.calls.made) in
-      let over = ended b (last.end refl asked.1) in
-      let whole = ap length (drew a b law.taken law.takes) ∙ length-append (bytes law.taken) (all b) in
+      made_last (ReadCallLaw L) D a b (subst (λ K. Made (ReadCallLaw L) a K b) are law.calls.made) in
+      let now = gathers_paid before z a mid first paid in
+      let once = once_read I mid b room (Ok []) now.fills last.call in
+      let over = ended b once.3 (last.end refl asked.1) in
+      let whole = ap length (drew a b law.taken paid.fills once.3 law.takes) ∙ length-append (bytes law.taken) (all b) in
       let short : length (all a) < len = omega (arith, whole, ap length over, law.ends.0, long) in
       let met : true ≡ nat_lt (length (all a)) len = grind (arith, nat_tests, short) in (
         is ∙ ap (λ k. end_or_error k e) end.0 ∙ ap Ok met,
         over ∙ sym (drop_of_length-le (all a) (omega (arith, short))),
-        paid_as z b met (once_paid z (z + 1) mid b (omega arith) (λ none. omega arith) (once_read I fills mid b room (Ok []) last.call)
-            (gathers_paid before z a mid first paid)),
+        paid_as z b met (once_paid z (z + 1) mid b (omega arith) (λ none. omega arith) once now),
       )
   exact_went len z a b (Err e) answer buf buf' long is law (inr (x, front, inr (fault, (D, room, before, asked, are)))) paid =
       let (mid, first, last) =
-      made_last (ReadCallLaw (as_reader L)) D a b (subst (λ K. Made (ReadCallLaw (as_reader L)) a K b) are law.calls.made) in
-      no_error mid b e last.takes
+      made_last (ReadCallLaw L) D a b (subst (λ K. Made (ReadCallLaw L) a K b) are law.calls.made) in
+      no_error mid b e (gathers_paid before z a mid first paid).fills last.takes
 
   -- a `fill_buf` and a `consume`
   fill_went : (most z : ℕ) (a b : BufReader R S) (reply : Result (List ℕ) Error) (answer : Result Bool Error) → answer ≡ fill_answer reply
-      → Made (LendCallLaw L) a (fill_calls most reply) b → Paid z a → Went (Fill most) z a answer b
+      → Made (ReadCallLaw L) a (fill_calls most reply) b → Paid z a → Went (Fill most) z a answer b
   fill_went most z a b (Err e) answer is made paid =
-      let law = subst (λ r. FilledLaw L a (Err e) r) (sym made.2) made.1 in no_error a b e law.takes
+      let law = subst (λ r. FilledLaw L a (Err e) r) (sym made.2) made.1 in no_error a b e paid.fills law.takes
   fill_went most z a b (Ok lent) answer is (mid, filled, (last, (within, dropped), same)) paid =
       let n = min most (length lent) in
-      let still = took a mid [] filled.takes in
+      let once = once_fill I a mid (Ok lent) paid.fills filled.call in
       let law = subst (λ r. ConsumeLaw L mid n r) (sym same) dropped in
+      let after : Filling I b = subst (λ r. FillsRoom I r) (sym law.call.0) once.3 in
+      let still = took a mid [] paid.fills once.3 filled.takes in
       let gave : all a ≡ take n lent ++ all b =
-      still ∙ took mid b (take n (reader_held mid)) law.takes ∙ ap (λ l. take n l ++ all b) filled.lends in
-      let long = ap length still ∙ length-append (reader_held mid) (fills.left (reader_inner mid)) in
-      let over : lent ≡ [] → all a ≡ [] = λ none. ended a (stays_at_end filled.takes (filled.end (ap Ok none))) in
+      still ∙ took mid b (take n (reader_held mid)) once.3 after law.takes ∙ ap (λ l. take n l ++ all b) filled.lends in
+      let long = ap length still ∙ length-append (reader_held mid) (bytes_left I (reader_inner mid)) in
+      let over : lent ≡ [] → all a ≡ [] = λ none. ended a paid.fills (stays_at_end filled.takes (filled.end (ap Ok none))) in
       let met : nat_eq (length lent) 0 ≡ nat_lt (length (all a)) 1 = ⊎_elim
       (λ few. grind (arith, nat_tests, ap length (over (nil_from_length lent (omega arith)))))
       (λ some. grind (arith, nat_tests, long, ap length filled.lends))
@@ -232,8 +255,7 @@ module _ {R : Type 0} {S : ℕ} (I : Reader R) (fills : FillsRoom I) (start : Bu
             let empty = over (nil_from_length lent (omega (arith, many, ap length none))) in
             nil_from_length (all b) (omega (arith, ap length gave, length-append (take n lent) (all b), ap length empty))),
         kept_paid _ mid b (omega (arith, ap length law.held, length-drop n (reader_held mid))) law.call.0
-            (once_paid z _ a mid (omega arith) (λ none. grind (arith, nat_tests, none))
-            (once_fill I fills a mid (Ok lent) filled.call) paid),
+            (once_paid z _ a mid (omega arith) (λ none. grind (arith, nat_tests, none)) once paid),
       )
 
   -- any ask
@@ -245,20 +267,21 @@ module _ {R : Type 0} {S : ℕ} (I : Reader R) (fills : FillsRoom I) (start : Bu
   answered_went (Fill most) z a b answer (reply, is, made) paid = fill_went most z a b reply answer is made paid
 
   -- before the first ask
-  none_paid : Paid 0 start
-  none_paid = (
-    0,
-    λ cost meter. omega arith,
-    subst (λ n. ReadsPaid S n 0 0 (length (reader_held start)) (behind I fills start))
-        (sym (length-append (reader_held start) (fills.left (reader_inner start)))) (paid_none S _ _),
-  )
+  none_paid : Filling I start → Paid 0 start
+  none_paid fills = record {
+    reads = 0;
+    cost = λ cost meter. omega arith;
+    paid = subst (λ n. ReadsPaid S n 0 0 (length (reader_held start)) (behind I start))
+        (sym (length-append (reader_held start) (bytes_left I (reader_inner start)))) (paid_none S _ _);
+    fills = fills;
+  }
 
   -- asks in a row
-  pub came_went : {asks : List Ask} {b : BufReader R S} {at_end failed : ℕ} → CameTo L asks start at_end failed b
-      → (failed ≡ 0) × Steps asks (all start) (all b) at_end × Paid at_end b
-  came_went no_ask = (refl, no_step, none_paid)
-  came_went (next_ask {mid = mid} {new = b} {at_end = at_end} ask answer before now counted failures) =
-      let (none, steps, paid) = came_went before in
+  pub came_went : {asks : List Ask} {b : BufReader R S} {at_end failed : ℕ} → FillsRoom I (reader_inner start)
+      → CameTo L asks start at_end failed b → (failed ≡ 0) × Steps asks (all start) (all b) at_end × Paid at_end b
+  came_went fills no_ask = (refl, no_step, none_paid fills)
+  came_went fills (next_ask {mid = mid} {new = b} {at_end = at_end} ask answer before now counted failures) =
+      let (none, steps, paid) = came_went fills before in
       let (is, step, kept) = answered_went ask at_end mid b answer now paid in
       let fine : is_err answer ≡ false = ap is_err is in
       rw (counted, is) (omega (arith, none, rw fine at failures), next_step ask steps step, kept)
@@ -267,6 +290,6 @@ module _ {R : Type 0} {S : ℕ} (I : Reader R) (fills : FillsRoom I) (start : Bu
   pub few_reads : (z : ℕ) (b : BufReader R S) → Paid z b → (cost : R → ℕ) → IsReadMeter I.may cost
       → cost (reader_inner b) ≤ cost (reader_inner start) + ((length (all start) - length (all b)) / S + 1 + z)
   few_reads z b paid cost meter =
-      let bound = paid_bound S (length (all start)) (some_room start) (held-le b) paid.2 in
-      let long = length-append (reader_held b) (fills.left (reader_inner b)) in
-      omega (arith, paid.1 cost meter, subst (λ n. paid.0 ≤ (length (all start) - n) / S + 1 + z) (sym long) bound)
+      let bound = paid_bound S (length (all start)) (some_room start) (held-le b) paid.paid in
+      let long = length-append (reader_held b) (bytes_left I (reader_inner b)) in
+      omega (arith, paid.cost cost meter, subst (λ n. paid.reads ≤ (length (all start) - n) / S + 1 + z) (sym long) bound)

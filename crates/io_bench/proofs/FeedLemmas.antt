@@ -59,6 +59,7 @@ feeds = record {
   turns = λ f. length (feed_left f);
   events = λ f. Some (all_to_come (feed_left f));
   may = FeedMay;
+  held = λ _. [];
 }
 
 -- a read that gives bytes

@@ -2,7 +2,7 @@
 use Rattle.no_std_io2.proofs.Words.{◌≡◌, ℕ, true, false, Bool, Option, Some, None, Result, Ok, Err, List, [], ◌∷◌, ◌++◌, map, refl, ap, ap₂}
 use Rattle.no_std_io2.proofs.Words.{◌∙◌, subst, sym, inl, inr, ◌<◌, ◌⊎◌, length, arith, length-append, append-nil, append_assoc, IfErr}
 use Rattle.no_std_io2.proofs.Words.{concat, common_steps, IsFault, IsOutOfMemory, Event, byte, fails, bytes, HasNoFault, bytes_to_fault}
-use Rattle.no_std_io2.proofs.Words.{first_fault, to_come, Lender, lender_tells, Made, newline, without, split_reader, split_delim}
+use Rattle.no_std_io2.proofs.Words.{first_fault, to_come, Reader, tells, Made, newline, without, split_reader, split_delim}
 use Rattle.no_std_io2.proofs.{GivenPieces.{GivesNext, GivesNone, next_error, next_fault, next_item, next_none}, CallsLemmas.{made_more}}
 use Rattle.std.proofs.Common.{IfSome}
 use Rattle.no_std_io2.specs.{declared.io.Error.{Error}, Errors.{is_interruption}, Pieces.{pieces_given, RefusesLine, line_text, ends_at}}
@@ -42,7 +42,7 @@ refused_fault : (piece : List ℕ) (e : Error) → RefusesLine piece e → IsFau
 refused_fault piece e refused = ap is_interruption refused.1.0
 
 -- the law of a `next`, by an equal delimiter and an equal result
-law_at : {X T : Type 0} {R : Lender X} {old new : X} {view : T → List ℕ} (trim : ℕ → List ℕ → List ℕ)
+law_at : {X T : Type 0} {R : Reader X} {old new : X} {view : T → List ℕ} (trim : ℕ → List ℕ → List ℕ)
     {refuses : List ℕ → Error → Type 0} {d' d : ℕ} {result r : Option (Result T Error)} → d' ≡ d → result ≡ r
     → NextPieceLaw R old view (trim d') refuses d' result new → NextPieceLaw R old view (trim d) refuses d r new
 law_at trim same is law = rw (same, is) at law
@@ -92,12 +92,12 @@ gathered_to A trim refuses full d {mid = mid} t (inr (inr memory)) =
 
 -- What one `next` of an iterator over a lender does, if it has not ended: it takes the next piece, and after an item it
 -- has not ended.
-pub record TakesPieces {S X T : Type 0} (R : Lender X) (reader : S → X) (view : T → List ℕ) (trim : List ℕ → List ℕ)
+pub record TakesPieces {S X T : Type 0} (R : Reader X) (reader : S → X) (view : T → List ℕ) (trim : List ℕ → List ℕ)
     (refuses : List ℕ → Error → Type 0) (d : ℕ) (next : S → Option (Result T Error) → S → Type 0) (live : S → Type 0) : Type 0 where
   pub law : (s t : S) (r : Option (Result T Error)) → live s → next s r t → NextPieceLaw R (reader s) view trim refuses d r (reader t)
   pub lives : (s t : S) (x : T) → live s → next s (Some (Ok x)) t → live t
 
-module _ {S X T : Type 0} (R : Lender X) (reader : S → X) (view : T → List ℕ) (trim : List ℕ → List ℕ)
+module _ {S X T : Type 0} (R : Reader X) (reader : S → X) (view : T → List ℕ) (trim : List ℕ → List ℕ)
     (refuses : List ℕ → Error → Type 0) (d : ℕ) (next : S → Option (Result T Error) → S → Type 0) (live : S → Type 0)
     (takes : TakesPieces R reader view trim refuses d next live) where
   -- it has not ended after items
@@ -107,11 +107,11 @@ module _ {S X T : Type 0} (R : Lender X) (reader : S → X) (view : T → List �
 
   -- and they are the first pieces
   first_pieces : (xs : List T) (s now : S) (E : List Event) → live s → Made (λ s x t. next s (Some (Ok x)) t) s xs now
-      → to_come (lender_tells R (reader s)) ≡ Some E
-      → (after : List Event) × (to_come (lender_tells R (reader now)) ≡ Some after) × GatheredSoFar trim d E (map view xs) after
+      → to_come (tells R (reader s)) ≡ Some E
+      → (after : List Event) × (to_come (tells R (reader now)) ≡ Some after) × GatheredSoFar trim d E (map view xs) after
   first_pieces [] s now E lives made told = (
     E,
-    ap (λ s. to_come (lender_tells R (reader s))) made ∙ told,
+    ap (λ s. to_come (tells R (reader s))) made ∙ told,
     record { before = []; given = refl; fault = refl; bytes = refl; are = refl },
   )
   first_pieces (x ∷ xs) s now E lives made told =
@@ -131,7 +131,7 @@ module _ {S X T : Type 0} (R : Lender X) (reader : S → X) (view : T → List �
 
   -- so a whole run gives all pieces, or those before its error
   pub run_gathers : (A full : Type 0) (xs : List T) (s now : S) (reply : Result A Error) → live s → RunsNexts next full s xs reply now
-      → IfSome (to_come (lender_tells R (reader s))) (λ E. GathersPieces {A = A} trim refuses full d E reply (map view xs))
+      → IfSome (to_come (tells R (reader s))) (λ E. GathersPieces {A = A} trim refuses full d E reply (map view xs))
   run_gathers A full xs s now (Ok u) lives (mid, made, last) = if_told _ (λ E told.
       let (after, left, all) = first_pieces xs s mid E lives made told in
       all_gathered trim d all (next_none left (takes.law mid now None (still_lives xs s mid lives made) last)))
@@ -157,14 +157,14 @@ pub run_faults : {S T A : Type 0} (next : S → Option (Result T Error) → S �
 run_faults next full xs s now reply faults run = grind (arith, common_steps)
 
 -- what one `next` of a `split` does, as its iterator says it
-abbrev pub split_next : {X T : Type 0} → Lender X → (T → List ℕ) → Split X → Option (Result T Error) → Split X → Type 0
+abbrev pub split_next : {X T : Type 0} → Reader X → (T → List ℕ) → Split X → Option (Result T Error) → Split X → Type 0
 split_next R view s r t = (split_is_ended s ≡ true → (r ≡ None) × (t ≡ s))
     × (split_is_ended s ≡ false → (split_is_ended t ≡ ends_at r)
     × NextPieceLaw R (split_reader s) view (without (split_delim s)) (λ _ _. ⊥) (split_delim s) r (split_reader t))
     × (split_delim t ≡ split_delim s)
 
 -- and one of a `lines`
-abbrev pub lines_next : {X T : Type 0} → Lender X → (T → List ℕ) → Lines X → Option (Result T Error) → Lines X → Type 0
+abbrev pub lines_next : {X T : Type 0} → Reader X → (T → List ℕ) → Lines X → Option (Result T Error) → Lines X → Type 0
 lines_next R view s r t = (lines_is_ended s ≡ true → (r ≡ None) × (t ≡ s))
     × (lines_is_ended s ≡ false → (lines_is_ended t ≡ ends_at r)
     × NextPieceLaw R (lines_reader s) view line_text RefusesLine newline r (lines_reader t))
@@ -174,16 +174,16 @@ not_ended : {A X : Type 0} (was : Bool) {item : A} → (was ≡ true → (Some i
 not_ended was ended = grind (arith, common_steps)
 
 -- so each of their errors is a fault
-pub split_faults : {X T : Type 0} (R : Lender X) (view : T → List ℕ) (s t : Split X) (e : Error) → split_next R view s (Some (Err e)) t
+pub split_faults : {X T : Type 0} (R : Reader X) (view : T → List ℕ) (s t : Split X) (e : Error) → split_next R view s (Some (Err e)) t
     → IsFault e
 split_faults R view s t e does = grind (arith, common_steps, next_fault, not_ended)
 
-pub lines_faults : {X T : Type 0} (R : Lender X) (view : T → List ℕ) (s t : Lines X) (e : Error) → lines_next R view s (Some (Err e)) t
+pub lines_faults : {X T : Type 0} (R : Reader X) (view : T → List ℕ) (s t : Lines X) (e : Error) → lines_next R view s (Some (Err e)) t
     → IsFault e
 lines_faults R view s t e does = next_fault (Some (Err e)) refused_fault (does.1 (not_ended (lines_is_ended s) does.0)).1
 
 -- a `split` takes pieces without their delimiter,
-pub split_takes : {X T : Type 0} (R : Lender X) (view : T → List ℕ) (d : ℕ)
+pub split_takes : {X T : Type 0} (R : Reader X) (view : T → List ℕ) (d : ℕ)
     → TakesPieces R split_reader view (without d) (λ _ _. ⊥) d (split_next R view)
     (λ s. (split_is_ended s ≡ false) × (split_delim s ≡ d))
 split_takes R view d = record {
@@ -192,7 +192,7 @@ split_takes R view d = record {
 }
 
 -- and a `lines` their text
-pub lines_takes : {X T : Type 0} (R : Lender X) (view : T → List ℕ)
+pub lines_takes : {X T : Type 0} (R : Reader X) (view : T → List ℕ)
     → TakesPieces R lines_reader view line_text RefusesLine newline (lines_next R view) (λ s. lines_is_ended s ≡ false)
 lines_takes R view = record {
   law = λ s t r lives does. (does.1 lives).1;

@@ -2,8 +2,9 @@
 use Rattle.std.specs.Prelude.{◌≡◌, ℕ, ◌+◌, ◌≤◌, ◌&&◌, min, nat_eq, nat_lt, Bool, true, false, if◌then◌else◌, List, [], ◌∷◌, ◌++◌, length}
 use Rattle.std.specs.Prelude.{drop, ⊤, Result, Ok, Err, is_err}
 use Rattle.no_std_io2.specs.{declared.io.{Error.{Error}, ErrorKind.{ErrorKind, TheVariants.{UnexpectedEof}}}, Errors.{error_kind}}
-use Rattle.no_std_io2.specs.{Read.{ReadCall, Gave, Filled, Consumed, ReadExactLaw}, Write.{Made}, BufRead.{Lender, as_reader, LendCallLaw}}
+use Rattle.no_std_io2.specs.{Read.{ReadCall, Gave, Filled, Consumed, ReadExactLaw, Reader, ReadCallLaw}, Write.{Made}}
 use Rattle.no_std_io2.specs.{declared.buffered.buf_reader.BufReader.{BufReader}, BufReader.{reader_held, reader_inner}}
+use Rattle.no_std_io2.specs.ReadMeter.{bytes_left}
 use Rattle.io_bench.specs.declared.asks.Ask.{Ask, TheVariants.{Read, Exact, Fill}}
 
 -- whether a read met the end, by its result: it gave no byte, and nothing is held
@@ -32,13 +33,13 @@ fill_calls most (Ok x) = Filled (Ok x) ∷ Consumed (min most (length x)) ∷ []
 fill_calls most (Err e) = Filled (Err e) ∷ []
 
 -- one ask and its answer, from old to new, by the laws of its calls
-abbrev pub Answered : {B : Type 0} → Lender B → Ask → B → Result Bool Error → B → Type 0
+abbrev pub Answered : {B : Type 0} → Reader B → Ask → B → Result Bool Error → B → Type 0
 Answered R (Read len) old answer new = (reply : Result (List ℕ) Error) × (answer ≡ read_answer reply (R.held new))
-    × LendCallLaw R old (Gave len reply) new
+    × ReadCallLaw R old (Gave len reply) new
 Answered R (Exact len) old answer new = (reply : Result (Unit {0}) Error) × (answer ≡ exact_answer reply)
-    × ((buf : List ℕ) × (buf' : List ℕ) × (length buf' ≡ len) × ReadExactLaw (as_reader R) old buf reply buf' new)
+    × ((buf : List ℕ) × (buf' : List ℕ) × (length buf' ≡ len) × ReadExactLaw R old buf reply buf' new)
 Answered R (Fill most) old answer new = (reply : Result (List ℕ) Error) × (answer ≡ fill_answer reply)
-    × Made (LendCallLaw R) old (fill_calls most reply) new
+    × Made (ReadCallLaw R) old (fill_calls most reply) new
 
 -- an ask that met the end
 abbrev pub met_end : Result Bool Error → Bool
@@ -46,7 +47,7 @@ met_end (Ok is_end) = is_end
 met_end (Err e) = false
 
 -- The asks were made one after another; `at_end` of them met the end, and `failed` of them failed.
-pub data CameTo {B : Type 0} (R : Lender B) : List Ask → B → ℕ → ℕ → B → Type 0 where
+pub data CameTo {B : Type 0} (R : Reader B) : List Ask → B → ℕ → ℕ → B → Type 0 where
   no_ask : {r : B} → CameTo R [] r 0 0 r
   next_ask : {asks : List Ask} {old mid new : B} {at_end failed ends failures : ℕ} (ask : Ask) (answer : Result Bool Error)
       → CameTo R asks old at_end failed mid → Answered R ask mid answer new → ends ≡ at_end + (if met_end answer then 1 else 0)
@@ -65,8 +66,8 @@ AllFit room (ask ∷ asks) = Fits room ask × AllFit room asks
 
 -- the bytes to come from a buffer in front of a filling reader: the held ones, and then those that are left
 -- in the reader
-abbrev pub left_behind : {R : Type 0} {S : ℕ} → (R → List ℕ) → BufReader R S → List ℕ
-left_behind left r = reader_held r ++ left (reader_inner r)
+abbrev pub left_behind : {R : Type 0} {S : ℕ} → Reader R → BufReader R S → List ℕ
+left_behind I r = reader_held r ++ bytes_left I (reader_inner r)
 
 -- at most `most` bytes are gone from the front, and at least one if `most` is above 0 and there are any
 abbrev pub DropsFront : ℕ → List ℕ → List ℕ → Type 0

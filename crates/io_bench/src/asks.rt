@@ -32,7 +32,7 @@ pub struct ReadTotals {
 
 // Makes a `read`, and returns whether it met the end.
 fn ask_read<R: Read, const S: usize>(r: &mut BufReader<R, S>, buf: &mut [u8]) -> Result<bool>
-    ensures { Answered ⟦<BufReader<R, S> as BufRead>⟧ (Ask.Read (length buf.old)) r.old result r.new }
+    ensures { Answered ⟦<BufReader<R, S> as Read>⟧ (Ask.Read (length buf.old)) r.old result r.new }
 {
     let n = r.read(buf)?;
     Ok(n == 0 && r.buffer().is_empty())
@@ -40,7 +40,7 @@ fn ask_read<R: Read, const S: usize>(r: &mut BufReader<R, S>, buf: &mut [u8]) ->
 
 // Makes a `read_exact`, and returns whether it met the end.
 fn ask_exact<R: Read, const S: usize>(r: &mut BufReader<R, S>, buf: &mut [u8]) -> Result<bool>
-    ensures { Answered ⟦<BufReader<R, S> as BufRead>⟧ (Ask.Exact (length buf.old)) r.old result r.new }
+    ensures { Answered ⟦<BufReader<R, S> as Read>⟧ (Ask.Exact (length buf.old)) r.old result r.new }
 {
     match r.read_exact(buf) {
         Ok(()) => Ok(false),
@@ -53,7 +53,7 @@ fn ask_exact<R: Read, const S: usize>(r: &mut BufReader<R, S>, buf: &mut [u8]) -
 
 // Makes a `fill_buf` and a `consume`, and returns whether they met the end.
 fn ask_fill<R: Read, const S: usize>(r: &mut BufReader<R, S>, most: usize) -> Result<bool>
-    ensures { Answered ⟦<BufReader<R, S> as BufRead>⟧ (Ask.Fill most) r.old result r.new }
+    ensures { Answered ⟦<BufReader<R, S> as Read>⟧ (Ask.Fill most) r.old result r.new }
 {
     let lent = r.fill_buf()?.len();
     r.consume(most.min(lent));
@@ -68,7 +68,7 @@ fn make_ask<R: Read, const S: usize>(
 ) -> Result<bool>
     requires { Fits (length buf.old) ask }
     ensures len { length buf.new ≡ length buf.old }
-    ensures answered { Answered ⟦<BufReader<R, S> as BufRead>⟧ ask r.old result r.new }
+    ensures answered { Answered ⟦<BufReader<R, S> as Read>⟧ ask r.old result r.new }
 {
     match ask {
         Ask::Read(len) => ask_read(r, &mut buf[..len]),
@@ -83,8 +83,8 @@ fn make_ask<R: Read, const S: usize>(
 /// It makes exactly the calls of the asks, in order, and no others. The totals count the results of
 /// all asks. Each ask takes what its call takes.
 ///
-/// If the inner reader is filling, as slices and cursors are, no ask fails and the number of inner
-/// reads is bounded: if N bytes are taken, each number that counts the reads of the inner reader, as
+/// If the inner reader is filling, as slices and cursors are, it stays so, no ask fails and the number of
+/// inner reads is bounded: if N bytes are taken, each number that counts the reads of the inner reader, as
 /// a [`Tally`](crate::Tally) does, rises by at most `N / S + 1 + at_end`.
 pub fn run_reads<R: Read, const S: usize>(
     r: &mut BufReader<R, S>,
@@ -92,14 +92,15 @@ pub fn run_reads<R: Read, const S: usize>(
     buf: &mut [u8],
 ) -> ReadTotals
     requires { AllFit (length buf.old) asks.now }
-    ensures came_to { CameTo ⟦<BufReader<R, S> as BufRead>⟧ asks.now r.old result.at_end result.failed r.new }
+    ensures came_to { CameTo ⟦<BufReader<R, S> as Read>⟧ asks.now r.old result.at_end result.failed r.new }
     ensures takes { (taken : List Event)
         × Takes (tells ⟦<BufReader<R, S> as Read>⟧ r.old) taken (tells ⟦<BufReader<R, S> as Read>⟧ r.new) }
-    ensures steps { (fills : FillsRoom R.Read) → (result.failed ≡ 0)
-        × Steps asks.now (left_behind fills.left r.old) (left_behind fills.left r.new) result.at_end }
-    ensures bound { (fills : FillsRoom R.Read) → (cost : R → ℕ) → IsReadMeter R.may cost
+    ensures fills { FillsRoom R.Read (reader_inner r.old) → FillsRoom R.Read (reader_inner r.new) }
+    ensures steps { FillsRoom R.Read (reader_inner r.old) → (result.failed ≡ 0)
+        × Steps asks.now (left_behind R.Read r.old) (left_behind R.Read r.new) result.at_end }
+    ensures bound { FillsRoom R.Read (reader_inner r.old) → (cost : R → ℕ) → IsReadMeter R.may cost
         → cost (reader_inner r.new) ≤ cost (reader_inner r.old)
-        + ((length (left_behind fills.left r.old) - length (left_behind fills.left r.new)) / S + 1 + result.at_end) }
+        + ((length (left_behind R.Read r.old) - length (left_behind R.Read r.new)) / S + 1 + result.at_end) }
 {
     let mut totals = ReadTotals {
         at_end: 0,

@@ -2,7 +2,7 @@
 use no_std_io2::ghost_bytes::GhostBytes;
 use no_std_io2::io::{
     AsSlice, BufRead, BufWriter, Cursor, Error, ErrorKind, Read, Seek, SeekFrom, Write, copy,
-    empty, repeat, sink,
+    empty, print_to_object, repeat, sink,
 };
 use std::process::Abort;
 use std::test::Fail;
@@ -84,6 +84,14 @@ fn write(rt: &(impl Abort + AllocGlobal)) -> Result<(), Fail> {
     let mut device = Vec::<u8>::new(rt.alloc());
     let n = 3;
     write!(device, "n is {n}\n")?;
+    assert!(rt; device.as_slice() == b"n is 3\n".as_slice());
+    Ok(())
+}
+
+fn object_text(rt: &(impl Abort + AllocGlobal)) -> Result<(), Fail> {
+    let mut device = Vec::<u8>::new(rt.alloc());
+    let n = 3;
+    print_to_object::<_, _, 64>(&mut device, format_args!("n is {n}\n"))?;
     assert!(rt; device.as_slice() == b"n is 3\n".as_slice());
     Ok(())
 }
@@ -275,6 +283,7 @@ fn each_example(rt: HostRuntime) -> Result<(), Fail> {
     error(rt)?;
     cursor(rt)?;
     write(rt)?;
+    object_text(rt)?;
     read(rt)?;
     bytes(rt)?;
     chain(rt)?;

@@ -86,6 +86,11 @@ fn buf_reader(rt: &impl Abort) -> Result<(), Fail> {
     let inner = r.into_inner(); // `cd`, which was held, is lost
     assert!(rt; inner.position() == 4);
 
+    let mut r = BufReader::<_, 4>::new(Cursor::new(*b"abcdefgh"));
+    r.read_exact(&mut [0u8; 3])?;
+    assert!(rt; r.position()? == 3);
+    assert!(rt; r.buffer() == b"d".as_slice());
+
     let mut r = BufReader::<_, 4>::new(Cursor::new(*b"abcde"));
     assert!(rt; r.fill_to(2)?);
     assert!(rt; r.buffer() == b"abcd".as_slice()); // one inner read, of four bytes

@@ -90,6 +90,12 @@ fn patient(rt: &impl Abort) -> Result<(), Fail> {
 
     let mut p = Patient::new(&b"abcdef"[..], 3);
     p.read(&mut [0u8; 4])?;
+    assert!(rt; *p.get_ref() == b"ef".as_slice());
+    *p.get_mut() = &b"xyz"[..];
+    assert!(rt; p.read(&mut [0u8; 4])? == 3);
+
+    let mut p = Patient::new(&b"abcdef"[..], 3);
+    p.read(&mut [0u8; 4])?;
     assert!(rt; p.into_inner() == b"ef".as_slice());
     Ok(())
 }

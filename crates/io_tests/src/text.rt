@@ -91,12 +91,33 @@ fn a_text_is_printed_to_each_writer(rt: HostRuntime) -> Result<(), Fail> {
     assert!(rt; bytes.as_slice() == b"10\n".as_slice());
 
     // A text that fits to the last byte is printed whole, and a longer one not at all.
-    print_to_object::<_, 4>(&mut bytes, format_args!("{}", 1234))?;
-    match print_to_object::<_, 4>(&mut bytes, format_args!("{}", 12345)) {
+    print_to_object::<_, _, 4>(&mut bytes, format_args!("{}", 1234))?;
+    match print_to_object::<_, _, 4>(&mut bytes, format_args!("{}", 12345)) {
         Ok(()) => return Err(Fail::new("printed")),
         Err(e) => assert!(rt; e.kind() == ErrorKind::WriteZero),
     }
     assert!(rt; bytes.as_slice() == b"10\n1234".as_slice());
+    Ok(())
+}
+
+// A piece between two values that is left out, and a text that is cut where it no longer fits.
+#[test]
+fn a_text_is_printed_to_an_object(rt: HostRuntime) -> Result<(), Fail> {
+    let (id, value, point) = (7, -21, Point { x: 1, y: -2 });
+    let mut bytes = Vec::<u8>::new(rt.alloc());
+    print_to_object::<_, _, 16>(&mut bytes, format_args!("{id}\n"))?;
+    print_to_object::<_, _, 16>(&mut bytes, format_args!("{id}={value}\n"))?;
+    assert!(rt;
+        print_to_object::<_, _, 16>(&mut bytes, format_args!("t: {id:>4}, {point}\n")).is_err()
+    );
+    print_to_object::<_, _, 17>(&mut bytes, format_args!("t: {id:>4}, {point}\n"))?;
+    assert!(rt; bytes.as_slice() == b"7\n7=-21\nt:    7, (1, -2)\n".as_slice());
+    let mut lent: &mut dyn Write = &mut bytes;
+    match print_to_object::<_, _, 16>(lent, format_args!("[{}]", Broken)) {
+        Ok(()) => return Err(Fail::new("printed")),
+        Err(e) => assert!(rt; e.get_ref().copied() == Some("formatter error")),
+    }
+    assert!(rt; bytes.len() == 25);
     Ok(())
 }
 

@@ -10,8 +10,8 @@ abbrev pub printed_bytes : {S : ℕ} → Printed S → List ℕ
 printed_bytes p = take p.len p.bytes
 
 -- this text was printed into the array; or it is longer
-abbrev pub IsPrinted : {S : ℕ} → ℕ → List ℕ → Printed S → Type 0
-IsPrinted {S} old text p = ((p.fits ≡ true) × (printed_bytes p ≡ text)) ⊎ ((p.fits ≡ false) × (S < length text))
+abbrev pub IsPrinted : {S : ℕ} → List ℕ → Printed S → Type 0
+IsPrinted {S} text p = ((p.fits ≡ true) × (printed_bytes p ≡ text)) ⊎ ((p.fits ≡ false) × (S < length text))
 
 -- e is the error of a line that is not shorter than the buffer
 abbrev pub SaysLong : Error → Type 0
@@ -23,4 +23,4 @@ IsPrintRefusal S output e = SaysError Other (codes "formatter error") e ⊎ (Say
 
 -- a text with this output was printed into an array of S bytes, or its own `fmt` failed
 abbrev pub PrintsText : {S : ℕ} → Option (List ℕ) → Printed S → Type 0
-PrintsText output p = (p.failed ≡ true) ⊎ IfSome output (λ bs. IsPrinted 0 bs p)
+PrintsText output p = (p.failed ≡ true) ⊎ IfSome output (λ bs. IsPrinted bs p)

@@ -5,11 +5,11 @@ ghost use Rattle.line_log.specs.Text.{IsPrinted, PrintsText, SaysLong};
 use crate::printed::Printed;
 use no_std_io2::io::{Error, ErrorKind};
 use std::fmt;
-use std::fmt::{Display, Formatter};
+use std::fmt::Display;
 
 impl<const S: usize> fmt::Write for Printed<S> {
     // The bytes are appended to what was printed before, unless something did not fit.
-    ghost write_str_gives = { λ s bs t. (old : ℕ) (text : List ℕ) → IsPrinted old text s → IsPrinted old (text ++ bs) t };
+    ghost write_str_gives = { λ s bs t. (text : List ℕ) → IsPrinted text s → IsPrinted (text ++ bs) t };
 
     fn write_str(&mut self, s: &str) -> fmt::Result {
         if self.fits {
@@ -32,9 +32,8 @@ pub(crate) fn print_text<D: Display + Drop, const S: usize>(text: D) -> Printed<
     requires { S < 2 ^ 63 }
     ensures { PrintsText (D.output text) result }
 {
-    let mut f = Formatter::new(Printed::<S>::new());
-    let formatted = f.write(text);
-    let mut printed = f.into_inner();
+    let mut printed = Printed::<S>::new();
+    let formatted = fmt::Write::write(&mut printed, text);
     printed.failed = formatted.is_err();
     printed
 }

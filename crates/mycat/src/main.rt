@@ -4,6 +4,8 @@
 //! If a file cannot be opened or read, its name and the system's reason go to standard error, and the next file
 //! follows. If standard output fails, the reason goes to standard error, and no file follows; if it is a pipe that
 //! nobody reads any more, the program stops without a message. The status is 0 if nothing failed, and else 1.
+//!
+//! If the first argument is `--help` or `--version`, it prints that, and reads no file.
 #![tactic(auto)]
 
 ghost use Rattle.std.specs.Prelude.{◌≢◌, [], ◌∷◌, IfOk, drop, map, codes, string_bytes};
@@ -18,7 +20,18 @@ use std::io::Input;
 use std::process::ExitCode;
 use std::rt::{Env, Files};
 use std::{env, io};
-use system_streams::{Patient, SystemRead, SystemWrite, open, report, stdin, stdout};
+use system_streams::{Patient, SystemRead, SystemWrite, about, open, report, stdin, stdout};
+
+// What `--help` prints.
+const HELP: &str = "\
+Usage: mycat [FILE]...
+Writes files to standard output, one after the other.
+
+With no FILE, or if FILE is -, it writes standard input.
+
+  --help     prints this text, if it is the first argument
+  --version  prints the version, if it is the first argument
+";
 
 // The size of the buffer, in bytes.
 const ROOM: usize = 131_072;
@@ -109,9 +122,17 @@ fn names<R: Env + Alloc<A = Global>>(rt: &R) -> io::Result<Vec<String>> {
     named(rt.alloc(), env::args(rt)?)
 }
 
+// Answers the first argument, if it asks for the help or the version.
+fn told<R: Print + Eprint>(rt: &R, names: &[String]) -> Option<ExitCode> {
+    about(rt, "mycat", HELP, names.first()?.as_str())
+}
+
 fn main(rt: HostRuntime) -> ExitCode {
     match names(&rt) {
-        Ok(names) => status(print_files(&rt, names.as_slice())),
+        Ok(names) => match told(&rt, names.as_slice()) {
+            Some(told) => told,
+            None => status(print_files(&rt, names.as_slice())),
+        },
         Err(e) => report(&rt, "mycat", Err(e)),
     }
 }

@@ -27,8 +27,8 @@ took_told {b = b} {P} takes told end = grind (arith, common_steps, append-nil, l
 pub copies_steadily : (room : ℕ) {a b : Tells} {P E : List Event} (side : CopyError) (old new : Told) → Takes a P b → to_come a ≡ Some E
     → HasNoFault E → CopyEnds room (Err side) P b old new → old.mishaps ≡ Some [] → ⊥
 copies_steadily room {P = P} (Read e) old new takes told none ends steady =
-    let left = left_of takes told in no_fault_at_end P e (HasNoFault-front P left.0 (subst HasNoFault left.2 none)) ends.0
-copies_steadily room (Write e) old new takes told none ends steady = Moves-steady steady ends.1.2.2
+    let left = left_of takes told in no_fault_at_end P e (HasNoFault-front P left.0 (subst HasNoFault left.2 none)) ends.fault
+copies_steadily room (Write e) old new takes told none ends steady = Moves-steady steady ends.moves
 
 module _ {R W : Type 0} {K : Reader R} {I : Writer W} {S : ℕ} {from from' : R} {old new : W} where
   -- a `copy` that returned `Ok` is a `copy_sided` that did

@@ -1,21 +1,21 @@
 -- The loop of `copy_lent`: it passes on what a reader lends, piece by piece.
 use Rattle.no_std_io2.proofs.Words.{common_steps, ◌≡◌, ℕ, ◌+◌, ◌-◌, ◌^◌, ◌<◌, ◌≤◌, min, List, [], ◌∷◌, ◌++◌, Result, Ok, Err, true, length}
 use Rattle.no_std_io2.proofs.Words.{take, refl, ap, ◌∙◌, arith, append_assoc, length-append, IsInterruption, IsFault, ReadCall, Filled}
-use Rattle.no_std_io2.proofs.Words.{Consumed, Lender, LendCallLaw, lender_tells, WriteCall, Made, Moves, Writer, CallOf, TakesAll}
+use Rattle.no_std_io2.proofs.Words.{Consumed, Reader, ReadCallLaw, tells, WriteCall, Made, Moves, Writer, CallOf, TakesAll}
 use Rattle.no_std_io2.proofs.CopyLoop.{Took-last}
+use Rattle.no_std_io2_base.specs.{declared.error.Error.{Error}, Read.{FilledLaw, ConsumeLaw}, Reads.{Took}, Writers.{WriteAllOf}}
 use Rattle.std.proofs.Common.{take_all}
-use Rattle.no_std_io2_base.specs.{declared.error.Error.{Error}, BufRead.{FilledLaw, ConsumeLaw}, Reads.{Took}, Writers.{WriteAllOf}}
 use Rattle.no_std_io2_base.proofs.{CallsLemmas.{made_then}, MovesLemmas.{Moves-refl, Moves-then}, TookLemmas.{Took-none, Took-then}}
 use Rattle.no_std_io2_base.proofs.TookLemmas.{Took-bytes, Took-again, Took-end, Took-fault}
 use Rattle.no_std_io2.specs.{Copy.{counted}, CopyLent.{HandsLent, LentCopied, lends_none, lends_fault, again_lent, piece_lent}}
 use Rattle.no_std_io2.specs.{CopyLent.{piece_refused}, declared.util.sides.CopyError.{CopyError, TheVariants.{Read, Write}}}
 
-module _ {R W : Type 0} (K : Lender R) (I : Writer W) (from : R) (old : W) where
+module _ {R W : Type 0} (K : Reader R) (I : Writer W) (from : R) (old : W) where
   -- These calls were made. Whatever calls follow, they follow these.
   pub record LentCalls (mid : R) (now : W) : Type 0 where
     pub lends : List ReadCall
     pub writes : List WriteCall
-    pub asked : Made (LendCallLaw K) from lends mid
+    pub asked : Made (ReadCallLaw K) from lends mid
     pub made : Made (CallOf I) old writes now
     pub goes_on : (C : List ReadCall) (D : List WriteCall) (reply : Result ℕ CopyError) → HandsLent C D reply
         → HandsLent (lends ++ C) (writes ++ D) reply
@@ -23,18 +23,18 @@ module _ {R W : Type 0} (K : Lender R) (I : Writer W) (from : R) (old : W) where
   -- So far these bytes were taken, and passed on; `copied` counts them.
   pub record LentSoFar (copied : ℕ) (mid : R) (now : W) : Type 0 where
     pub x : List ℕ
-    pub took : Took (lender_tells K from) x (Ok true) (lender_tells K mid)
+    pub took : Took (tells K from) x (Ok true) (tells K mid)
     pub moves : Moves (I.told old) x [] (I.told now)
     pub count : copied ≡ counted x
     pub all : TakesAll I old → TakesAll I now
     pub calls : LentCalls mid now
 
-module _ {R W : Type 0} {K : Lender R} {I : Writer W} {from : R} {old : W} where
+module _ {R W : Type 0} {K : Reader R} {I : Writer W} {from : R} {old : W} where
   -- before the first call
   pub lent_nothing : LentSoFar K I from old 0 from old
   lent_nothing = record {
     x = [];
-    took = Took-none (lender_tells K from);
+    took = Took-none (tells K from);
     moves = Moves-refl (I.told old);
     count = refl;
     all = λ t. t;
@@ -43,16 +43,16 @@ module _ {R W : Type 0} {K : Lender R} {I : Writer W} {from : R} {old : W} where
 
   module _ {mid after : R} {now new : W} (before : LentCalls K I from old mid now) (asks : List ReadCall) (calls : List WriteCall) where
     -- some calls more
-    calls_more : Made (LendCallLaw K) mid asks after → Made (CallOf I) now calls new
+    calls_more : Made (ReadCallLaw K) mid asks after → Made (CallOf I) now calls new
         → ((C : List ReadCall) (D : List WriteCall) (reply : Result ℕ CopyError) → HandsLent C D reply
         → HandsLent (asks ++ C) (calls ++ D) reply)
         → LentCalls K I from old after new
     calls_more asked made on = grind (arith, common_steps, made_then, append_assoc)
 
     -- the last calls
-    calls_end : {reply : Result ℕ CopyError} → Made (LendCallLaw K) mid asks after → Made (CallOf I) now calls new
+    calls_end : {reply : Result ℕ CopyError} → Made (ReadCallLaw K) mid asks after → Made (CallOf I) now calls new
         → HandsLent asks calls reply
-        → (C : List ReadCall) × (D : List WriteCall) × Made (LendCallLaw K) from C after × Made (CallOf I) old D new × HandsLent C D reply
+        → (C : List ReadCall) × (D : List WriteCall) × Made (ReadCallLaw K) from C after × Made (CallOf I) old D new × HandsLent C D reply
     calls_end {reply} asked made last = grind (arith, common_steps, made_then)
 
   module _ {copied : ℕ} {mid : R} {now : W} (before : LentSoFar K I from old copied mid now) {after : R} where
@@ -93,7 +93,7 @@ module _ {R W : Type 0} {K : Lender R} {I : Writer W} {from : R} {old : W} where
 
     module _ {x : List ℕ} (filled : FilledLaw K mid (Ok x) after) (some : 0 < length x) where
       -- up to the loan
-      lent : Took (lender_tells K from) before.x (Ok true) (lender_tells K after)
+      lent : Took (tells K from) before.x (Ok true) (tells K after)
       lent = Took-last before.took (Took-bytes [] filled.takes)
 
       -- the writer's fault ends the loop; the piece stays with the reader

@@ -124,7 +124,7 @@ module _ {R W : Type 0} {K : Reader R} {I : Writer W} {S : ℕ} {from : R} {old 
         record {
           taken = took.taken;
           takes = took.takes;
-          ends = (took.ends, rw took.are before.moves);
+          ends = record { fault = took.ends; moves = rw took.are before.moves };
           all = before.all;
           calls = hands_last before.hands (Err e) (law long (Err e) read);
         }
@@ -138,7 +138,12 @@ module _ {R W : Type 0} {K : Reader R} {I : Writer W} {S : ℕ} {from : R} {old 
         record {
           taken = took.taken;
           takes = took.takes;
-          ends = (took.ends, λ room. last.end refl room, rw took.are before.count, rw took.are before.moves);
+          ends = record {
+            no_fault = took.ends;
+            at_end = λ room. last.end refl room;
+            count = rw took.are before.count;
+            moves = rw took.are before.moves;
+          };
           all = before.all;
           calls = hands_last before.hands (Ok []) last;
         }
@@ -184,18 +189,14 @@ module _ {R W : Type 0} {K : Reader R} {I : Writer W} {S : ℕ} {from : R} {old 
           record {
             taken = took.taken;
             takes = took.takes;
-            ends = (
-              took.ends,
-              (
-                omega (arith, some_bytes n some, read.bound, long),
-                wrote.never_interrupted,
-                (
-                  start ++ accepted,
-                  ((lost, whole), omega (arith, fits, rest, size, read.bound, long)),
-                  Moves-then before.moves wrote.moves.moves,
-                ),
-              ),
-            );
+            ends = record {
+              no_fault = took.ends;
+              some_room = omega (arith, some_bytes n some, read.bound, long);
+              fault = wrote.never_interrupted;
+              accepted = start ++ accepted;
+              nearly = record { front = (lost, whole); lost = omega (arith, fits, rest, size, read.bound, long) };
+              moves = Moves-then before.moves wrote.moves.moves;
+            };
             all = λ t. wrote.all (before.all t);
             calls = hands (Err e) wrote;
           }

@@ -1,8 +1,11 @@
--- For `using` on a caller that lends a vector, a queue, or a cursor over a vector or over a boxed slice, as a `&mut dyn`.
-use Rattle.no_std_io2.proofs.Words.{append-nil}
+-- For `using` on a caller that lends a vector, a queue, or a cursor over a vector or over a boxed slice, as a `&mut dyn`; and the rows of
+-- buffers, for lemmas of one's own.
+use Rattle.no_std_io2.proofs.Words.{append-nil, ℕ}
 use Rattle.no_std_io2_base.proofs.{ObjectLemmas.{object_given, vec_back, queue_back, cursor_back, position_back}}
 use Rattle.no_std_io2_base.proofs.{ObjectLemmas.{boxed_back, boxed_position}, StoreLemmas.{told_at}}
 use Rattle.no_std_io2_base.proofs.{TakesLemmas.{front_taken, front_gone}}
+use Rattle.no_std_io2.specs.contracts.buffered.{buf_writer.BufWriter.{the_row as writer-row}, line_writer.LineWriter.{the_row as lines-row}}
+use denote.{Param.{param, number}, RattleType.{RattleType}}
 
 -- for a vector, a queue, or a cursor over a vector or a boxed slice that is lent as a writer
 pub ruleset lent_writer = (append-nil, object_given, vec_back, queue_back, cursor_back, position_back, boxed_back, boxed_position)
@@ -19,3 +22,11 @@ pub ruleset lent_reader = (
   boxed_back,
   boxed_position,
 )
+
+-- the row of a `BufWriter` of S bytes in front of a stream of this row
+abbrev pub buffered : RattleType → ℕ → RattleType
+buffered W S = writer-row W (param 0 (number S))
+
+-- the row of such a `LineWriter`
+abbrev pub by_lines : RattleType → ℕ → RattleType
+by_lines W S = lines-row W (param 0 (number S))

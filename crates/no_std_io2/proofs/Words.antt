@@ -25,7 +25,6 @@ pub use Rattle.no_std_io2.specs.Buffer.{IsCutOn, IsSuffix}
 pub use Rattle.no_std_io2.specs.Copy.{Copied}
 pub use Rattle.no_std_io2.specs.LineWriter.{LineWriteAllCalls, LineWriteCalls, SendLinesCalls, line_buffer, line_inner}
 pub use Rattle.no_std_io2.specs.Towers.{Through}
-pub use Rattle.no_std_io2_base.specs.BufRead.{LendCallLaw, Lender, as_reader, lender_tells}
 pub use Rattle.no_std_io2_base.specs.Errors.{IsFault, IsInterruption, IsOutOfMemory, error_kind}
 pub use Rattle.no_std_io2_base.specs.Events.{Event, HasNoFault, byte, bytes, bytes_to_fault, events_of, fails, first_fault}
 pub use Rattle.no_std_io2_base.specs.Lines.{IsLineState, lines_len, lines_of, unfinished_line}
@@ -33,7 +32,7 @@ pub use Rattle.no_std_io2_base.specs.Meter.{IsMeter, charges}
 pub use Rattle.no_std_io2_base.specs.Pieces.{newline, split_delim, split_reader, without}
 pub use Rattle.no_std_io2_base.specs.Read.{Consumed, ExactCalls, Filled, Gathers, GathersUntil, Gave, GaveAll, GaveLaw, IsRest, ReadCall}
 pub use Rattle.no_std_io2_base.specs.Read.{ReadCallLaw, ReadLaw, Reader, and_again, and_gave, answered, bytes_given, no_read, tells}
-pub use Rattle.no_std_io2_base.specs.ReadMeter.{FillsRoom, IsReadMeter}
+pub use Rattle.no_std_io2_base.specs.ReadMeter.{FillsRoom, IsReadMeter, bytes_left}
 pub use Rattle.no_std_io2_base.specs.Reads.{Fetches}
 pub use Rattle.no_std_io2_base.specs.Takes.{AreTaken, IsAtEnd, KeepsContent, Store, Takes, Tells, to_come}
 pub use Rattle.no_std_io2_base.specs.Write.{AllCalls, ByCalls, Flushed, IsFront, Made, Moves, MovesFront, Told, WriteCall, Writes, Wrote}

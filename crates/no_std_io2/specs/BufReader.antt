@@ -8,6 +8,7 @@ use denote.{Param.{param, number}, RattleType.{RattleType}}
 use Rattle.no_std_io2_base.specs.{declared.{error.Error.{Error}, traits.seek.SeekFrom.{SeekFrom, TheVariants.{Current}}}}
 use Rattle.no_std_io2_base.specs.{Errors.{IsUnexpectedEnd, IsOutOfMemory}, Events.{Event, events_of}, Takes.{Store, Tells, Takes, to_come}}
 use Rattle.no_std_io2_base.specs.{Write.{IsFront}, Seek.{Seeker, SeekCall, Sought, Measured, Moved, SeekLaw, StreamLenLaw}}
+use Rattle.no_std_io2_base.specs.{Seek.{StreamPositionLaw}, Errors.{IsInvalidSeek}}
 use Rattle.no_std_io2_base.specs.{Seek.{WithoutPosition}, Read.{Reader, ReadCall, Gave, GaveExactly, GaveAll, Filled, Consumed}}
 use Rattle.no_std_io2_base.specs.{Read.{ReadCallLaw, bytes_given, gave_whole, ToEndCalls}, Reads.{Reads}, Write.{ByCalls}}
 use Rattle.no_std_io2.specs.contracts.buffered.buf_reader.BufReader.{the_row as reader-row}
@@ -25,6 +26,10 @@ reader_behind r = buffer_behind r.buffer
 -- `r.get_ref()`
 abbrev pub reader_inner : {R : Type 0} {S : ℕ} → BufReader R S → R
 reader_inner r = r.inner
+
+-- r after `*r.get_mut() = x`
+abbrev pub reader_with_inner : {R : Type 0} {S : ℕ} → BufReader R S → R → BufReader R S
+reader_with_inner r x = record r { inner = x }
 
 -- the held bytes, and then the events to come, if these are told
 abbrev pub behind_held : List ℕ → Option (List Event) → Option (List Event)
@@ -233,6 +238,20 @@ pub record SeeksTwice {R : Type 0} {S : ℕ} (inner : Seeker R) (old : BufReader
   pub back : SeekLaw inner (reader_inner old) (back_by (length (reader_held old))) (Ok at) between
   pub on : SeekLaw inner between (Current offset) reply (reader_inner new)
   pub dropped : HasNoBuffer new
+
+-- A position less the held bytes, by the result of the inner `stream_position`. If more are held, there is no such place.
+abbrev pub LessHeld : ℕ → Result ℕ Error → Result ℕ Error → Type 0
+LessHeld held (Ok at) (Ok n) = n + held ≡ at
+LessHeld held (Ok at) (Err e) = (at < held) × IsInvalidSeek e
+LessHeld held (Err e) reply = reply ≡ Err e
+
+-- `position()`: one inner `stream_position`, with its result less the held bytes. The buffer stays.
+pub record PositionLaw {R : Type 0} {S : ℕ} (inner : Seeker R) (old : BufReader R S) (reply : Result ℕ Error) (new : BufReader R S)
+    : Type 0 where
+  pub answer : Result ℕ Error
+  pub asked : StreamPositionLaw inner (reader_inner old) answer (reader_inner new)
+  pub place : LessHeld (length (reader_held old)) answer reply
+  pub kept : KeepsBuffer old new
 
 -- A seek of a `BufReader` is one inner seek. If it counts from the current position, the inner seek is by `held` less. If that is too far
 -- back for one seek, there are two; if the first fails, only that.

@@ -23,6 +23,10 @@ sender_buffer w = buffer_held w.buffer
 abbrev pub writer_inner : {W : Type 0} {S : ℕ} → BufWriter W S → W
 writer_inner w = sender_inner w.core
 
+-- w after `*w.get_mut() = x`
+abbrev pub writer_with_inner : {W : Type 0} {S : ℕ} → BufWriter W S → W → BufWriter W S
+writer_with_inner w x = record w { core = record w.core { inner = x } }
+
 -- `w.buffer()`
 abbrev pub writer_buffer : {W : Type 0} {S : ℕ} → BufWriter W S → List ℕ
 writer_buffer w = sender_buffer w.core

@@ -10,21 +10,38 @@ use Rattle.no_std_io2.specs.declared.util.sides.CopyError.{CopyError, TheVariant
 abbrev pub counted : List ℕ → ℕ
 counted b = min (length b) (2 ^ 64 - 1)
 
--- b is a prefix of x, and x has at most `room` more bytes
-abbrev IsNearlyAll : ℕ → List ℕ → List ℕ → Type 0
-IsNearlyAll room b x = IsFront b x × (length x ≤ length b + room)
+-- A copy that took P from the reader, n bytes, ended at the reader's end, after which the reader tells `end`.
+pub record CopiedWhole (room n : ℕ) (P : List Event) (end : Tells) (old new : Told) : Type 0 where
+  pub no_fault : HasNoFault P
+  pub at_end : 0 < room → IsAtEnd end
+  pub count : n ≡ counted (bytes P)
+  pub moves : Moves old (bytes P) [] new
 
--- the writer failed with a fault: of the bytes that were taken from the reader, it accepted all except at most the last `room`
-abbrev WriterRefuses : ℕ → List ℕ → Error → Told → Told → Type 0
-WriterRefuses room taken e old new =
-    (0 < room) × IsFault e × ((b : List ℕ) × IsNearlyAll room b taken × Moves old b (error_kind e ∷ []) new)
+-- It ended at the reader's fault, when the writer had accepted all bytes before it.
+pub record ReaderStops (e : Error) (P : List Event) (old new : Told) : Type 0 where
+  pub fault : EndsInFault P e
+  pub moves : Moves old (bytes P) [] new
 
--- A copy that took P from the reader ended: at the reader's end, after which the reader tells `end`; or at the reader's fault, when the
--- writer had accepted all bytes before it; or at the writer's fault, when the reader had none.
+-- Of these bytes some first ones were accepted, all except at most the last `room`.
+pub record IsNearlyAll (room : ℕ) (accepted x : List ℕ) : Type 0 where
+  pub front : IsFront accepted x
+  pub lost : length x ≤ length accepted + room
+
+-- It ended at the writer's fault, when the reader had none: of the bytes that were taken, the writer accepted all except at most the last
+-- `room`.
+pub record WriterRefuses (room : ℕ) (e : Error) (P : List Event) (old new : Told) : Type 0 where
+  pub no_fault : HasNoFault P
+  pub some_room : 0 < room
+  pub fault : IsFault e
+  pub accepted : List ℕ
+  pub nearly : IsNearlyAll room accepted (bytes P)
+  pub moves : Moves old accepted (error_kind e ∷ []) new
+
+-- how a copy that took P from the reader ended: at the reader's end, at its fault, or at the writer's fault
 abbrev pub CopyEnds : ℕ → Result ℕ CopyError → List Event → Tells → Told → Told → Type 0
-CopyEnds room (Ok n) P end old new = HasNoFault P × (0 < room → IsAtEnd end) × (n ≡ counted (bytes P)) × Moves old (bytes P) [] new
-CopyEnds room (Err (Read e)) P end old new = EndsInFault P e × Moves old (bytes P) [] new
-CopyEnds room (Err (Write e)) P end old new = HasNoFault P × WriterRefuses room (bytes P) e old new
+CopyEnds room (Ok n) P end old new = CopiedWhole room n P end old new
+CopyEnds room (Err (Read e)) P end old new = ReaderStops e P old new
+CopyEnds room (Err (Write e)) P end old new = WriterRefuses room e P old new
 
 -- These calls pass the pieces on, one `write_all` for each, and none after an error. A piece has at least one byte, and at most S.
 pub data Handed (S : ℕ) : List (List ℕ) → List WriteCall → Result (Unit {0}) Error → Type 0 where
@@ -77,7 +94,7 @@ side_error (Read e) = e
 side_error (Write e) = e
 
 -- the same result, whichever side failed
-abbrev without_side : Result ℕ CopyError → Result ℕ Error
+abbrev pub without_side : Result ℕ CopyError → Result ℕ Error
 without_side (Ok n) = Ok n
 without_side (Err side) = Err (side_error side)
 

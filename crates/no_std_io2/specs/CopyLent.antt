@@ -2,7 +2,7 @@
 use Rattle.std.specs.Prelude.{◌≡◌, ℕ, ◌<◌, List, [], ◌∷◌, ◌++◌, length, Ok, Err, Result}
 use Rattle.no_std_io2_base.specs.{declared.error.Error.{Error}, Errors.{error_kind, IsFault, IsInterruption}, Events.{Event, bytes}}
 use Rattle.no_std_io2_base.specs.{Events.{HasNoFault, EndsInFault}, Takes.{Tells, Takes, IsAtEnd}, Read.{ReadCall, Filled, Consumed}}
-use Rattle.no_std_io2_base.specs.{BufRead.{Lender, LendCallLaw, lender_tells}, Write.{Told, Moves, IsFront, WriteCall, Made, AllCalls}}
+use Rattle.no_std_io2_base.specs.{Read.{Reader, ReadCallLaw, tells}, Write.{Told, Moves, IsFront, WriteCall, Made, AllCalls}}
 use Rattle.no_std_io2_base.specs.Writers.{Writer, CallOf, TakesAll}
 use Rattle.no_std_io2.specs.{Copy.{counted}, declared.util.sides.CopyError.{CopyError, TheVariants.{Read, Write}}}
 
@@ -27,15 +27,15 @@ LentEnds (Err (Write e)) P held end old new = HasNoFault P × IsFault e
     × ((b : List ℕ) × IsFront b held × Moves old (bytes P ++ b) (error_kind e ∷ []) new)
 
 -- `copy_lent`
-pub record LentCopied {R W : Type 0} (K : Lender R) (I : Writer W) (from : R) (old : W) (reply : Result ℕ CopyError) (from' : R) (new : W)
+pub record LentCopied {R W : Type 0} (K : Reader R) (I : Writer W) (from : R) (old : W) (reply : Result ℕ CopyError) (from' : R) (new : W)
     : Type 0 where
   -- what it takes from the reader
   pub taken : List Event
-  pub takes : Takes (lender_tells K from) taken (lender_tells K from')
+  pub takes : Takes (tells K from) taken (tells K from')
   -- how it ended, and what the writer accepted
-  pub ends : LentEnds reply taken (K.held from') (lender_tells K from') (I.told old) (I.told new)
+  pub ends : LentEnds reply taken (K.held from') (tells K from') (I.told old) (I.told new)
   -- a writer that takes all still takes all
   pub all : TakesAll I old → TakesAll I new
   -- which calls it made
-  pub calls : (C : List ReadCall) × (D : List WriteCall) × Made (LendCallLaw K) from C from' × Made (CallOf I) old D new
+  pub calls : (C : List ReadCall) × (D : List WriteCall) × Made (ReadCallLaw K) from C from' × Made (CallOf I) old D new
       × HandsLent C D reply

@@ -12,6 +12,10 @@ use denote.{Param.{param, number}, RattleType.{RattleType}}
 abbrev pub line_inner : {W : Type 0} {S : ℕ} → LineWriter W S → W
 line_inner w = sender_inner w.core.buffered
 
+-- w after `*w.get_mut() = x`
+abbrev pub line_with_inner : {W : Type 0} {S : ℕ} → LineWriter W S → W → LineWriter W S
+line_with_inner w x = record w { core = record w.core { buffered = record w.core.buffered { inner = x } } }
+
 -- `w.buffer()`
 abbrev pub line_buffer : {W : Type 0} {S : ℕ} → LineWriter W S → List ℕ
 line_buffer w = sender_buffer w.core.buffered

@@ -27,6 +27,9 @@ pub use sides::{CopyError, copy_sided, copy_with};
 /// number, or `u64::MAX` if there are more. It ignores the reader's interruptions, passes on what each read gives by
 /// one `write_all`, and does not flush `writer`. Follows `std::io::copy`.
 ///
+/// From a slice, a cursor or a `BufReader`, take [`copy_lent`], which passes on the bytes that the reader lends, and
+/// copies none of them twice. To copy many streams through one buffer of your own, take [`copy_with`].
+///
 /// If `S` is above 0 and each read gives as many bytes as fit, `copy` makes one read for each `S`
 /// bytes, rounded up, and one more, which finds the end.
 ///
@@ -71,7 +74,7 @@ pub fn copy<R: Read, W: Write, const S: usize>(reader: &mut R, writer: &mut W) -
 /// ```
 #[tactic(auto, using(no_std_io2_base::proofs::PortionLemmas::portions_none))]
 pub fn skip<B: BufRead>(reader: &mut B, left: &mut u64) -> Result<()>
-    ensures { Skipped B.BufRead reader.old left.old result left.new reader.new }
+    ensures { Skipped B.Read reader.old left.old result left.new reader.new }
 {
     'pieces: while *left > 0 {
         match reader.fill_buf() {

@@ -1,10 +1,11 @@
 -- A boxed object after a call on the value in it.
 use Rattle.std.proofs.{lemmas.Grind.{common_steps}, Common.{arith, ◌≡◌, ℕ, List, Result, sym, subst, refl}}
 use Rattle.std.specs.{declared.dyn_box.DynBox.{DynBox}, Borrow.{Bor}}
-use Rattle.no_std_io2_base.specs.{declared.error.Error.{Error}, Read.{Reader, ReadLaw, ReadExactLaw}, BufRead.{Lender, ConsumeLaw}}
-use Rattle.no_std_io2_base.specs.{BufRead.{FillBufLaw, AfterLoan}, Write.{WriteCall, BoxMay}, Writers.{Writer, CallOf, WriteAllOf}}
-use Rattle.no_std_io2_base.proofs.Forwards.{PassesReads, read_through, exact_through, PassesLends, consume_through, loan_through}
-use Rattle.no_std_io2_base.proofs.Forwards.{wrote_through, write_all_through}
+use Rattle.no_std_io2_base.specs.{declared.error.Error.{Error}, Read.{Reader, ReadLaw, ReadExactLaw, ReadFullLaw, ConsumeLaw}}
+use Rattle.no_std_io2_base.specs.{BufRead.{FillBufLaw, AfterLoan}, Write.{WriteCall, BoxMay}}
+use Rattle.no_std_io2_base.specs.Writers.{Writer, CallOf, WriteAllOf, WriteRestOf}
+use Rattle.no_std_io2_base.proofs.Forwards.{PassesReads, read_through, exact_through, read_full_through, consume_through, loan_through}
+use Rattle.no_std_io2_base.proofs.Forwards.{wrote_through, write_all_through, write_rest_through}
 
 module _ {I A : Type 0} {V : I → Type 0} (box : DynBox I A V) where
   -- the box with another value
@@ -24,19 +25,21 @@ value_reader o i = record {
   turns = λ v. (o (i, v)).turns v;
   events = λ v. (o (i, v)).events v;
   may = λ v. (o (i, v)).may v;
+  held = λ v. (o (i, v)).held v;
 }
 
-abbrev box_reader : {I A : Type 0} {V : I → Type 0} → ((p : (x : I) × V x) → Reader (V p.0)) → Reader (DynBox I A V)
+abbrev pub box_reader : {I A : Type 0} {V : I → Type 0} → ((p : (x : I) × V x) → Reader (V p.0)) → Reader (DynBox I A V)
 box_reader o = record {
   store = λ b. (value_reader o b.vtable).store b.value;
   turns = λ b. (value_reader o b.vtable).turns b.value;
   events = λ b. (value_reader o b.vtable).events b.value;
   may = λ b. BoxMay b (value_reader o b.vtable).may;
+  held = λ b. (value_reader o b.vtable).held b.value;
 }
 
 module _ {I A : Type 0} {V : I → Type 0} (o : (p : (x : I) × V x) → Reader (V p.0)) (box : DynBox I A V) where
   of_reader : PassesReads (value_reader o box.vtable) (box_reader o) (holding box box.vtable)
-  of_reader = record { told = λ x. refl; may = λ x y call may. (y, refl, may) }
+  of_reader = record { told = λ x. refl; may = λ x y call may. (y, refl, may); held = λ x. refl }
 
   -- what a call did to the value that was lent, it did to the box
   pub read_box : {buf buf' : List ℕ} {reply : Result ℕ Error} (lent : (x : I) × V x) → lent ≡ (box.vtable, box.value)
@@ -52,42 +55,25 @@ module _ {I A : Type 0} {V : I → Type 0} (o : (p : (x : I) × V x) → Reader 
   exact_box {buf} {buf'} {reply} = in_box box (λ i a b. ReadExactLaw (value_reader o i) a buf reply buf' b)
       (ReadExactLaw (box_reader o) box buf reply buf') (λ new. exact_through (holding box box.vtable) of_reader)
 
--- a value that lends, and its box
-abbrev value_lender : {I : Type 0} {V : I → Type 0} → ((p : (x : I) × V x) → Lender (V p.0)) → (i : I) → Lender (V i)
-value_lender o i = record {
-  store = λ v. (o (i, v)).store v;
-  turns = λ v. (o (i, v)).turns v;
-  events = λ v. (o (i, v)).events v;
-  may = λ v. (o (i, v)).may v;
-  held = λ v. (o (i, v)).held v;
-}
-
-abbrev pub box_lender : {I A : Type 0} {V : I → Type 0} → ((p : (x : I) × V x) → Lender (V p.0)) → Lender (DynBox I A V)
-box_lender o = record {
-  store = λ b. (value_lender o b.vtable).store b.value;
-  turns = λ b. (value_lender o b.vtable).turns b.value;
-  events = λ b. (value_lender o b.vtable).events b.value;
-  may = λ b. BoxMay b (value_lender o b.vtable).may;
-  held = λ b. (value_lender o b.vtable).held b.value;
-}
-
-module _ {I A : Type 0} {V : I → Type 0} (o : (p : (x : I) × V x) → Lender (V p.0)) (box : DynBox I A V) where
-  of_lender : PassesLends (value_lender o box.vtable) (box_lender o) (holding box box.vtable)
-  of_lender = record { reads = record { told = λ x. refl; may = λ x y call may. (y, refl, may) }; held = λ x. refl }
+  pub full_box : {buf buf' : List ℕ} {n n' : ℕ} {reply : Result (Unit {0}) Error} (lent : (x : I) × V x)
+      → lent ≡ (box.vtable, box.value) → (new : V lent.0) → ReadFullLaw (value_reader o lent.0) lent.1 buf n reply buf' n' new
+      → ReadFullLaw (box_reader o) box buf n reply buf' n' (holding box lent.0 new)
+  full_box {buf} {buf'} {n} {n'} {reply} = in_box box (λ i a b. ReadFullLaw (value_reader o i) a buf n reply buf' n' b)
+      (ReadFullLaw (box_reader o) box buf n reply buf' n') (λ new. read_full_through (holding box box.vtable) of_reader)
 
   pub consume_box : {n : ℕ} (lent : (x : I) × V x) → lent ≡ (box.vtable, box.value)
-      → (new : V lent.0) → ConsumeLaw (value_lender o lent.0) lent.1 n new → ConsumeLaw (box_lender o) box n (holding box lent.0 new)
-  consume_box {n} = in_box box (λ i a b. ConsumeLaw (value_lender o i) a n b) (ConsumeLaw (box_lender o) box n)
-      (λ new. consume_through (holding box box.vtable) of_lender)
+      → (new : V lent.0) → ConsumeLaw (value_reader o lent.0) lent.1 n new → ConsumeLaw (box_reader o) box n (holding box lent.0 new)
+  consume_box {n} = in_box box (λ i a b. ConsumeLaw (value_reader o i) a n b) (ConsumeLaw (box_reader o) box n)
+      (λ new. consume_through (holding box box.vtable) of_reader)
 
   pub fill_box : {reply : Result (Bor (List ℕ)) Error} (lent : (x : I) × V x) → lent ≡ (box.vtable, box.value)
-      → FillBufLaw (value_lender o lent.0) lent.1 reply → FillBufLaw (box_lender o) box reply
+      → FillBufLaw (value_reader o lent.0) lent.1 reply → FillBufLaw (box_reader o) box reply
   fill_box {reply} lent back = grind (arith, common_steps)
 
   pub loan_box : (reply : Result (Bor (List ℕ)) Error) (lent : (x : I) × V x) → lent ≡ (box.vtable, box.value)
-      → (new : V lent.0) → AfterLoan (value_lender o lent.0) lent.1 reply new → AfterLoan (box_lender o) box reply (holding box lent.0 new)
-  loan_box reply = in_box box (λ i a b. AfterLoan (value_lender o i) a reply b) (AfterLoan (box_lender o) box reply)
-      (λ new. loan_through {R' = box_lender o} (holding box box.vtable) of_lender reply)
+      → (new : V lent.0) → AfterLoan (value_reader o lent.0) lent.1 reply new → AfterLoan (box_reader o) box reply (holding box lent.0 new)
+  loan_box reply = in_box box (λ i a b. AfterLoan (value_reader o i) a reply b) (AfterLoan (box_reader o) box reply)
+      (λ new. loan_through {R' = box_reader o} (holding box box.vtable) of_reader reply)
 
 module _ {I A : Type 0} {V : I → Type 0} (o : (p : (x : I) × V x) → Writer (V p.0)) (box : DynBox I A V) where
   -- a value in a box, as a writer,
@@ -117,3 +103,10 @@ module _ {I A : Type 0} {V : I → Type 0} (o : (p : (x : I) × V x) → Writer 
       → (new : V lent.0) → WriteAllOf (value_writer lent.0) lent.1 x reply new → WriteAllOf box_writer box x reply (holding box lent.0 new)
   write_all_box x reply = in_box box (λ i a b. WriteAllOf (value_writer i) a x reply b) (WriteAllOf box_writer box x reply)
       (λ new law. write_all_through (holding box box.vtable) (λ a b call did. (b, refl, did)) law)
+
+  pub write_rest_box : (x left : List ℕ) (reply : Result (Unit {0}) Error) (lent : (i : I) × V i) → lent ≡ (box.vtable, box.value)
+      → (new : V lent.0) → WriteRestOf (value_writer lent.0) lent.1 x reply new left
+      → WriteRestOf box_writer box x reply (holding box lent.0 new) left
+  write_rest_box x left reply = in_box box (λ i a b. WriteRestOf (value_writer i) a x reply b left)
+      (λ b. WriteRestOf box_writer box x reply b left)
+      (λ new law. write_rest_through (holding box box.vtable) (λ a b call did. (b, refl, did)) law)

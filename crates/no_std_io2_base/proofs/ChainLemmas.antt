@@ -3,9 +3,14 @@ use Rattle.std.proofs.{lemmas.Grind.{common_steps}, Common.{◌≡◌, ℕ, ◌+
 use Rattle.std.proofs.Common.{None, ◌-◌, IfOk, OnOk, Vec, vec_len, vec_capacity, le_trans, length, refl, sym, ap, ◌∙◌, arith}
 use Rattle.no_std_io2_base.specs.{declared.{error.Error.{Error}, traits.chain.Chain.{Chain}}, Events.{Event, bytes}, Takes.{Tells, Takes}}
 use Rattle.no_std_io2_base.specs.{Takes.{IsAtEnd}, Read.{Reader, tells, GaveAll, ToEndLaw, ReadToEndLaw, DrainsOrStops, ended}}
-use Rattle.no_std_io2_base.specs.Chain.{chain_first, chain_second, chain_is_done, chain_events, by_first, by_both, by_second, ChainMay}
+use Rattle.no_std_io2_base.specs.Chain.{chain_first, chain_second, chain_is_done, chain_events, chain_held, by_first, by_both}
+use Rattle.no_std_io2_base.specs.Chain.{by_second, ChainMay}
 use Rattle.no_std_io2_base.proofs.{EventLemmas.{bytes-append}, ReadCalls.{to_end_own}, TakesLemmas.{drains_ended}, ReadToEndLoop.{recount}}
-use Rattle.no_std_io2_base.proofs.ReadToEndLoop.{ended_recount, both_appended, both_counted, both_ended}
+use Rattle.no_std_io2_base.proofs.{ReadToEndLoop.{ended_recount, both_appended, both_counted, both_ended}, PieceLoop.{filled_law}}
+use Rattle.no_std_io2_base.proofs.TakesLemmas.{stays_at_end}
+use Rattle.no_std_io2_base.specs.{Read.{FilledLaw}, BufRead.{FillBufLaw, AfterLoan}}
+use Rattle.std.specs.Borrow.{Bor}
+use Rattle.std.proofs.Common.{◌<◌}
 
 -- a chain, as the laws of its calls see it
 abbrev pub chain_reader : {T U : Type 0} → Reader T → Reader U → Reader (Chain T U)
@@ -14,6 +19,7 @@ chain_reader R S = record {
   turns = λ c. R.turns (chain_first c) + S.turns (chain_second c);
   events = chain_events (tells R) (tells S);
   may = ChainMay R S;
+  held = chain_held R.held S.held;
 }
 
 module _ {T U : Type 0} (R : Reader T) (S : Reader U) where
@@ -93,3 +99,28 @@ module _ {T U A : Type 0} (R : Reader T) (S : Reader U) {old new : Chain T U} {b
       (by_both_takes R S going done first.takes first.ends.1 second.takes) (both_appended buf mid P Q gave buf' second.appends.0)
       (both_counted buf mid P Q gave buf' second.appends.0 reply k is) (both_ended buf mid P Q gave reply k _ first.ends.0 first.capacity
       (end_of_both _ Q _ _ reply (done_ends R S new done) second.ends)) (le_trans first.capacity second.capacity)
+
+-- the first reader was at its end, and then the second lent
+module _ {T U : Type 0} (R : Reader T) (S : Reader U) {old new : Chain T U} where
+  pub lends_second : (reply : Result (Bor (List ℕ)) Error) → chain_is_done old ≡ false → chain_is_done new ≡ true
+      → FilledLaw R (chain_first old) (Ok []) (chain_first new) → FillBufLaw S (chain_second old) reply
+      → AfterLoan S (chain_second old) reply (chain_second new)
+      → FillBufLaw (chain_reader R S) old reply × AfterLoan (chain_reader R S) old reply new
+  lends_second reply going done first second loan =
+      let over = stays_at_end first.takes (first.end refl) in (
+        record {
+          held = λ some. absurd (no_bytes (grind (arith, common_steps)));
+          front = grind (arith, common_steps);
+          end = grind (arith, common_steps);
+        },
+        record {
+          lends = grind (arith, common_steps);
+          takes = by_both_takes R S going done first.takes (first.end refl) loan.takes;
+          unchanged = λ some. absurd (no_bytes (grind (arith, common_steps)));
+          end = λ none. done_ends R S new done (loan.end none);
+          call = by_both going done (first, over) (filled_law refl second loan);
+        },
+      )
+    where
+      no_bytes : 0 < length (R.held (chain_first old)) → ⊥
+      no_bytes some = omega (arith, some, let is = (first.held some).0 in let none : [] ≡ R.held (chain_first old) = cc in ap length none)

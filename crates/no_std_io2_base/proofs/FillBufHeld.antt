@@ -1,7 +1,10 @@
 -- The events begin with the held bytes.
-use Rattle.std.proofs.{lemmas.Grind.{common_steps}, Common.{ℕ, zero, suc, ◌≤◌, List, [], ◌∷◌, ◌++◌, take, refl, sym, ap, arith, append-nil}}
-use Rattle.std.proofs.Common.{Option, IfSome}
-use Rattle.no_std_io2_base.specs.Events.{Event, byte, events_of, cut, BeginsWith}
+use Rattle.std.proofs.{lemmas.Grind.{common_steps}, Common.{ℕ, zero, suc, ◌≤◌, List, [], ◌∷◌, ◌++◌, take, refl, sym, ap, arith}}
+use Rattle.std.proofs.Common.{append-nil, Option, IfSome, Result}
+use Rattle.std.proofs.lemmas.{List.{nil_from_length}}
+use Rattle.std.specs.Borrow.{Bor}
+use Rattle.no_std_io2_base.specs.{declared.error.Error.{Error}, Events.{Event, byte, events_of, cut, BeginsWith}, Takes.{to_come}}
+use Rattle.no_std_io2_base.specs.{Read.{Reader, tells, FilledLaw}, BufRead.{FillBufLaw}}
 
 -- the events that are these bytes begin with all of them
 pub begins_whole : (bs : List ℕ) → BeginsWith (events_of bs) bs
@@ -22,3 +25,15 @@ begins_cut-bytes (suc n) (suc k) (b ∷ bs) R h =
 -- events that begin with bs, cut at k, begin with the first n of bs, if n is at most k
 pub begins_cut : {E : List Event} {bs : List ℕ} (n k : ℕ) → n ≤ k → BeginsWith E bs → BeginsWith (cut k E) (take n bs)
 begins_cut {E} {bs} n k h b = grind (arith, common_steps, begins_cut-bytes)
+
+-- The held bytes of any lender come next: in each state in which a `fill_buf` returns, told events begin with them.
+module _ {X : Type 0} {R : Reader X} {old : X} where
+  -- by the law of the call,
+  pub held_next : (reply : Result (Bor (List ℕ)) Error) → FillBufLaw R old reply
+      → IfSome (to_come (tells R old)) (λ E. BeginsWith E (R.held old))
+  held_next reply law = grind (arith, common_steps, begins_nothing, nil_from_length)
+
+  -- and by that of a call in a list
+  pub filled_next : {new : X} (answer : Result (List ℕ) Error) → FilledLaw R old answer new
+      → IfSome (to_come (tells R old)) (λ E. BeginsWith E (R.held old))
+  filled_next answer law = grind (arith, common_steps, begins_nothing, nil_from_length)

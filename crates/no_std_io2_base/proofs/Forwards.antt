@@ -2,15 +2,16 @@
 use Rattle.std.proofs.{Common.{rules, arith, ◌≡◌, ℕ, List, Result, refl, sym, subst, Vec, String, Option}, lemmas.Grind.{common_steps}}
 use Rattle.std.specs.Borrow.{Bor}
 use Rattle.no_std_io2_base.specs.{declared.error.Error.{Error}, Events.{Event}, Takes.{Store, Tells}, Read.{Reader, tells, ReadCall}}
-use Rattle.no_std_io2_base.specs.{Read.{ReadCallLaw, ReadLaw, ReadExactLaw, ToEndLaw}, BufRead.{Lender, as_reader, AfterLoan, ConsumeLaw}}
-use Rattle.no_std_io2_base.specs.{BufRead.{LendCallLaw, ReadUntilLaw, ReadLineLaw}, Write.{Told, WriteCall, ByCalls, CallLaw, WriteAllLaw}}
-use Rattle.no_std_io2_base.specs.Write.{AllCalls, PartMay}
+use Rattle.no_std_io2_base.specs.{Read.{ReadCallLaw, ReadLaw, ReadExactLaw, ReadFullLaw, ToEndLaw, ConsumeLaw}, BufRead.{AfterLoan}}
+use Rattle.no_std_io2_base.specs.{BufRead.{ReadUntilLaw, ReadLineLaw}, Write.{Told, WriteCall, ByCalls, CallLaw, WriteAllLaw}}
+use Rattle.no_std_io2_base.specs.Write.{WriteRestLaw, AllCalls, PartMay}
 use Rattle.no_std_io2_base.proofs.CallsLemmas.{made_map}
 
--- R' tells what R tells, whose values are put into its own, and may make its calls
+-- R' tells and holds what R does, whose values are put into its own, and may make its calls
 pub record PassesReads {X Y : Type 0} (R : Reader X) (R' : Reader Y) (put : X → Y) : Type 0 where
   pub told : (x : X) → tells R' (put x) ≡ tells R x
   pub may : (x y : X) (call : ReadCall) → R.may x call y → R'.may (put x) call (put y)
+  pub held : (x : X) → R'.held (put x) ≡ R.held x
 
 module _ {X Y : Type 0} {R : Reader X} {R' : Reader Y} {put : X → Y} (through : PassesReads R R' put) (a b : X) where
   -- what holds of that which was told before and after
@@ -30,25 +31,15 @@ module _ {X Y : Type 0} {R : Reader X} {R' : Reader Y} (put : X → Y) (through 
       → ReadExactLaw R' (put a) buf reply buf' (put b)
   exact_through {buf' = buf'} {reply} law = grind (arith, common_steps, between, made_map, call_through)
 
+  pub read_full_through : {buf buf' : List ℕ} {n n' : ℕ} {reply : Result (Unit {0}) Error} → ReadFullLaw R a buf n reply buf' n' b
+      → ReadFullLaw R' (put a) buf n reply buf' n' (put b)
+  read_full_through {buf} {buf'} {n} {n'} {reply} law = grind (arith, common_steps, between, made_map, call_through)
+
   pub drained_through : {A : Type 0} {lacks : ℕ → Type 0} {buf buf' : Vec ℕ A} {reply : Result ℕ Error}
       → ToEndLaw lacks R a buf reply buf' b
       → ToEndLaw lacks R' (put a) buf reply buf' (put b)
   drained_through {lacks = lacks} {reply = reply} law = grind (arith, common_steps, between, made_map, call_through)
 
--- and R' holds what R holds
-pub record PassesLends {X Y : Type 0} (R : Lender X) (R' : Lender Y) (put : X → Y) : Type 0 where
-  pub reads : PassesReads (as_reader R) (as_reader R') put
-  pub held : (x : X) → R'.held (put x) ≡ R.held x
-
-module _ {X Y : Type 0} {R : Lender X} {R' : Lender Y} {put : X → Y} (through : PassesLends R R' put) (a b : X) where
-  lend_between : (P : Tells → Tells → Type 0) → P (tells (as_reader R) a) (tells (as_reader R) b)
-      → P (tells (as_reader R') (put a)) (tells (as_reader R') (put b))
-  lend_between P holds = between through.reads a b P holds
-
-  lend_through : (call : ReadCall) → LendCallLaw R a call b → LendCallLaw R' (put a) call (put b)
-  lend_through x1 law = grind (arith, common_steps)
-
-module _ {X Y : Type 0} {R : Lender X} {R' : Lender Y} (put : X → Y) (through : PassesLends R R' put) {a b : X} where
   pub consume_through : {n : ℕ} → ConsumeLaw R a n b → ConsumeLaw R' (put a) n (put b)
   consume_through {n} law = grind (arith, common_steps)
 
@@ -57,11 +48,11 @@ module _ {X Y : Type 0} {R : Lender X} {R' : Lender Y} (put : X → Y) (through 
 
   pub until_through : {A : Type 0} {d : ℕ} {buf buf' : Vec ℕ A} {reply : Result ℕ Error} → ReadUntilLaw R a d buf reply buf' b
       → ReadUntilLaw R' (put a) d buf reply buf' (put b)
-  until_through {d = d} {buf} {reply = reply} law = grind (arith, common_steps, lend_between, made_map, lend_through)
+  until_through {d = d} {buf} {reply = reply} law = grind (arith, common_steps, between, made_map, call_through)
 
   pub line_through : {A : Type 0} {buf buf' : String A} {reply : Result ℕ Error} → ReadLineLaw R a buf reply buf' b
       → ReadLineLaw R' (put a) buf reply buf' (put b)
-  line_through {buf = buf} law = grind (arith, common_steps, lend_between, made_map, lend_through)
+  line_through {buf = buf} law = grind (arith, common_steps, between, made_map, call_through)
 
 -- a writer that a part is put into: what a call did to the part, it did to the whole
 pub wrote_through : {W V : Type 0} (told : V → Told) (takes_all : V → Type 0) (may : W → WriteCall → W → Type 0)
@@ -75,6 +66,13 @@ pub write_all_through : {W V : Type 0} {told : V → Told} {takes_all : V → Ty
     → {a b : W} {x : List ℕ} {reply : Result (Unit {0}) Error} → WriteAllLaw (λ w. told (put w)) (λ w. takes_all (put w)) may a x reply b
     → WriteAllLaw told takes_all may' (put a) x reply (put b)
 write_all_through put each {a} {b} law = search (arith, rules, made_map, wrote_through)
+
+pub write_rest_through : {W V : Type 0} {told : V → Told} {takes_all : V → Type 0} {may : W → WriteCall → W → Type 0}
+    {may' : V → WriteCall → V → Type 0} (put : W → V) → ((a b : W) (call : WriteCall) → may a call b → may' (put a) call (put b))
+    → {a b : W} {x left : List ℕ} {reply : Result (Unit {0}) Error}
+    → WriteRestLaw (λ w. told (put w)) (λ w. takes_all (put w)) may a x reply b left
+    → WriteRestLaw told takes_all may' (put a) x reply (put b) left
+write_rest_through put each {a} {b} law = search (arith, rules, made_map, wrote_through)
 
 -- a wrapper that passes each call on to a part of it, and leaves the rest as it is
 passed_on : {W V A : Type 0} {may : W → A → W → Type 0} {get : V → W} {put : V → W → V} (old : V) → ((w : W) → get (put old w) ≡ w)
@@ -96,36 +94,62 @@ module _ {W V : Type 0} {told : V → Told} {takes_all : V → Type 0} {may : W 
       all.calls
 
 -- its `read_exact` and its `read_to_end`
-module _ {W V : Type 0} {store : V → Option Store} {turns : V → ℕ} {events : V → Option (List Event)} where
+module _ {W V : Type 0} {store : V → Option Store} {turns : V → ℕ} {events : V → Option (List Event)} {held : V → List ℕ} where
   module _ {may : W → ReadCall → W → Type 0} {get : V → W} {put : V → W → V} where
     pub passes_read_exact : {old new : V} {buf buf' : List ℕ} {reply : Result (Unit {0}) Error}
         → ReadExactLaw
-        (record { store = λ w. store (put old w); turns = λ w. turns (put old w); events = λ w. events (put old w); may = may })
+        (record {
+          store = λ w. store (put old w);
+          turns = λ w. turns (put old w);
+          events = λ w. events (put old w);
+          may = may;
+          held = λ w. held (put old w);
+        })
         (get old) buf reply buf' (get new)
         → put old (get old) ≡ old → put old (get new) ≡ new → ((w : W) → get (put old w) ≡ w)
         → ((w u : W) → put (put old w) u ≡ put old u)
-        → ReadExactLaw (record { store = store; turns = turns; events = events; may = PartMay may get put }) old buf reply buf' new
+        → ReadExactLaw (record { store = store; turns = turns; events = events; may = PartMay may get put; held = held })
+        old buf reply buf' new
     passes_read_exact {old} {new} {buf} {buf'} {reply} law was is back twice =
-        let whole : Reader V = record { store = store; turns = turns; events = events; may = PartMay may get put } in
+        let whole : Reader V = record { store = store; turns = turns; events = events; may = PartMay may get put; held = held } in
         let part : Reader W =
-        record { store = λ w. store (put old w); turns = λ w. turns (put old w); events = λ w. events (put old w); may = may } in
-        let through : PassesReads part whole (put old) = record { told = λ w. refl; may = passed_on old back twice } in
+        record {
+          store = λ w. store (put old w);
+          turns = λ w. turns (put old w);
+          events = λ w. events (put old w);
+          may = may;
+          held = λ w. held (put old w);
+        } in
+        let through : PassesReads part whole (put old) = record { told = λ w. refl; may = passed_on old back twice; held = λ w. refl } in
         subst (λ v. ReadExactLaw whole v buf reply buf' new) was
         (subst (λ v. ReadExactLaw whole (put old (get old)) buf reply buf' v) is (exact_through {R = part} {R' = whole}
         (put old) through law))
 
     pub passes_read_to_end : {A : Type 0} {lacks : ℕ → Type 0} {old new : V} {buf buf' : Vec ℕ A} {reply : Result ℕ Error}
         → ToEndLaw lacks
-        (record { store = λ w. store (put old w); turns = λ w. turns (put old w); events = λ w. events (put old w); may = may })
+        (record {
+          store = λ w. store (put old w);
+          turns = λ w. turns (put old w);
+          events = λ w. events (put old w);
+          may = may;
+          held = λ w. held (put old w);
+        })
         (get old) buf reply buf' (get new)
         → put old (get old) ≡ old → put old (get new) ≡ new → ((w : W) → get (put old w) ≡ w)
         → ((w u : W) → put (put old w) u ≡ put old u)
-        → ToEndLaw lacks (record { store = store; turns = turns; events = events; may = PartMay may get put }) old buf reply buf' new
+        → ToEndLaw lacks (record { store = store; turns = turns; events = events; may = PartMay may get put; held = held })
+        old buf reply buf' new
     passes_read_to_end {lacks = lacks} {old} {new} {buf} {buf'} {reply} law was is back twice =
-        let whole : Reader V = record { store = store; turns = turns; events = events; may = PartMay may get put } in
+        let whole : Reader V = record { store = store; turns = turns; events = events; may = PartMay may get put; held = held } in
         let part : Reader W =
-        record { store = λ w. store (put old w); turns = λ w. turns (put old w); events = λ w. events (put old w); may = may } in
-        let through : PassesReads part whole (put old) = record { told = λ w. refl; may = passed_on old back twice } in
+        record {
+          store = λ w. store (put old w);
+          turns = λ w. turns (put old w);
+          events = λ w. events (put old w);
+          may = may;
+          held = λ w. held (put old w);
+        } in
+        let through : PassesReads part whole (put old) = record { told = λ w. refl; may = passed_on old back twice; held = λ w. refl } in
         subst (λ v. ToEndLaw lacks whole v buf reply buf' new) was
         (subst (λ v. ToEndLaw lacks whole (put old (get old)) buf reply buf' v) is (drained_through {R = part} {R' = whole}
         (put old) through law))

@@ -7,7 +7,7 @@ use Rattle.std.proofs.Common.{⊎_elim, length-append, IfSome, OnSome, IfErr, Ve
 use Rattle.std.proofs.lemmas.{Grind.{common_steps}, List.{append_cancel_left, nil_from_length}}
 use Rattle.no_std_io2_base.specs.{declared.error.Error.{Error}, Errors.{IsFault, IsOutOfMemory}, Events.{Event, byte, fails, events_of}}
 use Rattle.no_std_io2_base.specs.{Events.{bytes, HasNoFault, EndsInFault, bytes_to_fault, first_fault}, Takes.{Tells, Takes, to_come}}
-use Rattle.no_std_io2_base.specs.{BufRead.{Lender, lender_tells, NextPieceLaw, ReadUntilLaw, ReadLineLaw, line_room}, Pieces.{Lacks}}
+use Rattle.no_std_io2_base.specs.{Read.{Reader, tells}, BufRead.{NextPieceLaw, ReadUntilLaw, ReadLineLaw, line_room}, Pieces.{Lacks}}
 use Rattle.no_std_io2_base.specs.Pieces.{EndsAt, PieceEnds, ends_in, pieces, pieces_before, pieces_given, ends_at, items_left, newline}
 
 -- the first fault of events without a fault, followed by others, is that of the others
@@ -117,17 +117,17 @@ pub piece_given : (lacks : ℕ → Type 0) (d : ℕ) (t t' : Tells) (E P : List 
 piece_given lacks d t t' E P read takes ends told = grind (arith, common_steps, left_of, given_read)
 
 -- A `read_until` from a reader that tells the events E: those after the piece are told, and the piece says this of all pieces of E.
-pub until_given : {X A : Type 0} {R : Lender X} {old new : X} {d : ℕ} {buf buf' : Vec ℕ A} {reply : Result ℕ Error} {E : List Event}
-    → (law : ReadUntilLaw R old d buf reply buf' new) → to_come (lender_tells R old) ≡ Some E
-    → (after : List Event) × (to_come (lender_tells R new) ≡ Some after) × (E ≡ law.taken ++ after)
+pub until_given : {X A : Type 0} {R : Reader X} {old new : X} {d : ℕ} {buf buf' : Vec ℕ A} {reply : Result ℕ Error} {E : List Event}
+    → (law : ReadUntilLaw R old d buf reply buf' new) → to_come (tells R old) ≡ Some E
+    → (after : List Event) × (to_come (tells R new) ≡ Some after) × (E ≡ law.taken ++ after)
     × GivenRead d E (bytes law.taken) reply after
 until_given {buf = buf} {reply = reply} {E} law told =
     piece_given (λ n. vec_capacity buf < vec_len buf + n) _ _ _ E law.taken reply law.takes law.ends told
 
 -- The same of a `read_line`; its `read` is the result before the bytes become a text.
-pub line_given : {X A : Type 0} {R : Lender X} {old new : X} {buf buf' : String A} {reply : Result ℕ Error} {E : List Event}
-    → (law : ReadLineLaw R old buf reply buf' new) → to_come (lender_tells R old) ≡ Some E
-    → (after : List Event) × (to_come (lender_tells R new) ≡ Some after) × (E ≡ law.taken ++ after)
+pub line_given : {X A : Type 0} {R : Reader X} {old new : X} {buf buf' : String A} {reply : Result ℕ Error} {E : List Event}
+    → (law : ReadLineLaw R old buf reply buf' new) → to_come (tells R old) ≡ Some E
+    → (after : List Event) × (to_come (tells R new) ≡ Some after) × (E ≡ law.taken ++ after)
     × GivenRead newline E (bytes law.taken) law.read after
 line_given {buf = buf} {E = E} law told =
     piece_given (λ n. line_room buf < n) _ _ _ E law.taken law.read law.takes law.ends told
@@ -142,7 +142,7 @@ few_bytes (fails e ∷ P) = omega (arith, few_bytes P)
 pub piece_spends : {t t' : Tells} {P : List Event} → Takes t P t' → 0 < length (bytes P) → t'.turns < t.turns
 piece_spends {P = P} takes some = spends takes (omega (arith, some, few_bytes P))
 
-module _ {X T : Type 0} {R : Lender X} {old new : X} {view : T → List ℕ} {trim : List ℕ → List ℕ} where
+module _ {X T : Type 0} {R : Reader X} {old new : X} {view : T → List ℕ} {trim : List ℕ → List ℕ} where
   module _ {refuses : List ℕ → Error → Type 0} {d : ℕ} where
     -- each item of `Split` and `Lines` spends a turn
     pub next_turns : (result : Option (Result T Error)) → NextPieceLaw R old view trim refuses d result new
@@ -154,19 +154,19 @@ module _ {X T : Type 0} {R : Lender X} {old new : X} {view : T → List ℕ} {tr
         → NextPieceLaw R old view trim refuses d result new → IfSome result (λ item. IfErr item IsFault)
     next_fault x1 refused law = grind (arith, common_steps)
 
-    module _ {E : List Event} (told : to_come (lender_tells R old) ≡ Some E) where
+    module _ {E : List Event} (told : to_come (tells R old) ≡ Some E) where
       -- an item is the next piece, trimmed
       pub next_item : {item : T} → NextPieceLaw R old view trim refuses d (Some (Ok item)) new
-          → (after : List Event) × (to_come (lender_tells R new) ≡ Some after)
+          → (after : List Event) × (to_come (tells R new) ≡ Some after)
           × ((piece : List ℕ) × (view item ≡ trim piece) × GivesNext d E piece after)
       next_item {item} law =
-          let all = piece_given (λ _. Unit {0}) d (lender_tells R old) (lender_tells R new) E law.taken law.read law.takes law.ends told in
+          let all = piece_given (λ _. Unit {0}) d (tells R old) (tells R new) E law.taken law.read law.takes law.ends told in
           grind (arith, common_steps)
 
       -- after the last item there is no piece, and no fault
       pub next_none : NextPieceLaw R old view trim refuses d None new → GivesNone d E
       next_none law =
-          let all = piece_given (λ _. Unit {0}) d (lender_tells R old) (lender_tells R new) E law.taken law.read law.takes law.ends told in
+          let all = piece_given (λ _. Unit {0}) d (tells R old) (tells R new) E law.taken law.read law.takes law.ends told in
           grind (arith, common_steps)
 
       -- an error is the first fault, before which there is no piece; or it refuses the next piece;
@@ -176,5 +176,5 @@ module _ {X T : Type 0} {R : Lender X} {old new : X} {view : T → List ℕ} {tr
           ⊎ (((piece : List ℕ) × (after : List Event) × GivesNext d E piece after × refuses piece e)
           ⊎ (IsOutOfMemory e × (0 < length (bytes_to_fault E))))
       next_error {e} law =
-          let all = piece_given (λ _. Unit {0}) d (lender_tells R old) (lender_tells R new) E law.taken law.read law.takes law.ends told in
+          let all = piece_given (λ _. Unit {0}) d (tells R old) (tells R new) E law.taken law.read law.takes law.ends told in
           grind (arith, common_steps)

@@ -5,9 +5,11 @@ use Rattle.std.proofs.Common.{length-append, take-append-drop, length-take, IsOk
 use Rattle.no_std_io2_base.specs.{declared.error.Error.{Error}, Errors.{IsUnexpectedEnd, IsOutOfMemory}, Events.{events_of, bytes}}
 use Rattle.no_std_io2_base.specs.{Takes.{Tells, Takes, to_come, IsAtEnd}, Read.{Reader, tells, ReadCall, Gave, GaveExactly, GaveAll, ended}}
 use Rattle.no_std_io2_base.specs.{Read.{ReadLaw, ReadExactLaw, ReadToEndLaw, DrainsOrStops, least_room, FillsOrEnds}, InMemory.{GivesLeft}}
-use Rattle.no_std_io2_base.specs.ReadMeter.{FillsRoom}
+use Rattle.std.specs.Borrow.{Bor}
+use Rattle.no_std_io2_base.specs.{declared.cursor.Cursor.{Cursor}, Cursor.{cursor_left}, Takes.{store_at}, ReadMeter.{FillsRoom}}
+use Rattle.no_std_io2_base.proofs.StoreLemmas.{told_at}
 use Rattle.no_std_io2_base.proofs.EventLemmas.{events_of-append, length-events_of, bytes-events_of, HasNoFault-events_of}
-use Rattle.no_std_io2_base.proofs.{ReadCalls.{exact_own, to_end_own}, TakesLemmas.{gives_whole, drains_ended}}
+use Rattle.no_std_io2_base.proofs.{ReadCalls.{exact_own, to_end_own}, TakesLemmas.{gives_whole, drains_ended}, FillsRoomLemmas.{fills_by}}
 
 -- what a reader tells that has these bytes left, and no store
 abbrev tells_left : List ℕ → Tells
@@ -94,11 +96,38 @@ module _ {S : Type 0} {R : Reader S} {left : S → List ℕ} where
 
 -- a reader that gives what is left is filling
 pub fills_left : {S : Type 0} {R : Reader S} (left : S → List ℕ) → ((x : S) → to_come (tells R x) ≡ Some (events_of (left x)))
-    → ((old new : S) (call : ReadCall) → R.may old call new → GivesLeft left old call new) → FillsRoom R
-fills_left left told gives = record {
-  left = left;
-  told = told;
-  gives = λ old new room answer made.
-      subst (λ a. IsOkAnd a (λ x. length x ≡ min room (length (left old)))) (sym (gives old new (Gave room answer) made).0)
-      (length-take room (left old));
+    → ((old new : S) (call : ReadCall) → R.may old call new → GivesLeft left old call new) → (x : S) → FillsRoom R x
+fills_left left told gives x = fills_by (λ _. Unit {0}) left (λ x now. told x)
+    (λ old room answer new now law. (
+      subst (λ a. IsOkAnd a (λ g. length g ≡ min room (length (left old)))) (sym (gives old new (Gave room answer) law.call).0)
+          (length-take room (left old)),
+      tt,
+    ))
+    x tt
+
+-- a slice, as the laws take it, and that it is filling
+abbrev pub slice_reader : Reader (Bor (List ℕ))
+slice_reader = record {
+  store = λ s. None;
+  turns = λ s. length s.now;
+  events = λ s. Some (events_of s.now);
+  may = GivesLeft (λ s. s.now);
+  held = λ s. s.now;
 }
+
+pub slice_fills : (s : Bor (List ℕ)) → FillsRoom slice_reader s
+slice_fills s = fills_left {R = slice_reader} (λ s. s.now) (λ s. refl) (λ old new call given. given) s
+
+-- a cursor, as the laws take it, and that it is filling
+abbrev pub cursor_reader : {T : Type 0} → (T → List ℕ) → Reader (Cursor T)
+cursor_reader slice = record {
+  store = λ c. store_at (slice c.inner) c.pos;
+  turns = λ c. length (cursor_left slice c);
+  events = λ c. Some (events_of (cursor_left slice c));
+  may = GivesLeft (cursor_left slice);
+  held = cursor_left slice;
+}
+
+pub cursor_fills : {T : Type 0} (slice : T → List ℕ) (c : Cursor T) → FillsRoom (cursor_reader slice) c
+cursor_fills slice c = fills_left {R = cursor_reader slice} (cursor_left slice) (λ c. told_at (slice c.inner) c.pos)
+    (λ old new call given. given) c

@@ -3,11 +3,12 @@ use Rattle.no_std_io2_base.proofs.EventLemmas.{events_of-append, bytes-events_of
 use Rattle.no_std_io2_base.proofs.{EventLemmas.{HasNoFault-behind, HasNoFault-events_of, bytes-cut}, LimitLemmas.{cut-within}}
 use Rattle.no_std_io2_base.proofs.TakesLemmas.{all_taken, left_of, front_taken, TakesBytes-then}
 use Rattle.std.proofs.Common.{◌≤◌, take, drop, take-append-drop, length-take-le, append_assoc, ◌≡◌, ◌+◌, ◌-◌, ◌<◌, ℕ, List, ◌∷◌, ◌++◌, []}
+use Rattle.std.proofs.Common.{Vec, IfOk, IfErr}
 use Rattle.std.proofs.Common.{length, Result, Ok, Err, IfSome, IsOk, Some, inl, inr, ap, sym, ◌∙◌, subst, arith, append-nil, length-append}
 use Rattle.std.proofs.{Common.{length-take, refl}, lemmas.{Grind.{common_steps}, List.{append_cancel_left}}, Math.Seq.{take-append_seam}}
 use Rattle.no_std_io2_base.specs.{declared.error.Error.{Error}, Events.{Event, bytes, cut, events_of, fails, HasNoFault, EndsInFault}}
 use Rattle.no_std_io2_base.specs.{Takes.{Tells, Takes, to_come, TakesBytes}, Read.{Reader, tells, ReadExactLaw, AllOrNone, FillsOrEnds}}
-use Rattle.no_std_io2_base.specs.Read.{gave_whole, ReadFullLaw}
+use Rattle.no_std_io2_base.specs.{Read.{gave_whole, ReadFullLaw, ReadToEndLaw}, Errors.{IsOutOfMemory}}
 
 -- cut right after the bytes x, only these are left
 cut_behind : (x : List ℕ) (rest : List Event) → cut (length x) (events_of x ++ rest) ≡ events_of x
@@ -100,3 +101,25 @@ in_parts {x = x} {y} ps qs rest first next told long longer =
     let same = is ∙ append_assoc x y more in
     let one = same_front ps x _ _ same long in
     (one, same_front qs y rest more (append_cancel_left x _ _ (ap (λ l. l ++ (qs ++ rest)) one ∙ same)) longer)
+
+-- A `read_to_end` of bytes that are all that is known to come appends them, and nothing is left; or an allocation failed.
+pub to_end_known : {S A : Type 0} {R : Reader S} {old new : S} {buf buf' : Vec ℕ A} (reply : Result ℕ Error) (x : List ℕ)
+    → ReadToEndLaw R old buf reply buf' new → to_come (tells R old) ≡ Some (events_of x)
+    → IfOk reply (λ n. (n ≡ length x) × (buf'.items ≡ buf.items ++ x) × (to_come (tells R new) ≡ Some []))
+    × IfErr reply IsOutOfMemory
+to_end_known {buf = buf} (Ok n) x law told =
+    let (after, still, split) = left_of law.takes told in
+    let none : after ≡ [] = subst (λ o. IfSome o (λ l. l ≡ [])) still law.ends.1 in
+    let all : bytes law.taken ≡ x =
+    ap bytes (sym (append-nil law.taken) ∙ ap (λ l. law.taken ++ l) (sym none) ∙ sym split) ∙ bytes-events_of x in (
+      (law.appends.1 ∙ ap length all, law.appends.0 ∙ ap (λ l. buf.items ++ l) all, still ∙ ap Some none),
+      tt,
+    )
+to_end_known (Err e) x law told = elim law.ends [
+  | inl fault ↦
+      let (after, still, split) = left_of law.takes told in
+      let clean = HasNoFault-front law.taken after (subst HasNoFault split (HasNoFault-events_of x)) in
+      let last = HasNoFault-behind fault.0 (fails e ∷ []) (subst HasNoFault fault.1 clean) in
+      let no : ⊥ = cc (last.0, fault.3) in absurd no
+  | inr refused ↦ (tt, refused.1)
+]

@@ -1,14 +1,16 @@
 -- What a `Take` takes, its inner reader takes.
 use Rattle.std.proofs.{lemmas.Grind.{common_steps}, Common.{◌≡◌, ℕ, zero, suc, ◌+◌, ◌-◌, ◌<◌, ◌≤◌, min, List, [], ◌∷◌, ◌++◌, Result, Ok}}
-use Rattle.std.proofs.Common.{IsOkAnd, IfSome, length, take, drop, refl, sym, ap, subst, ◌∙◌, arith, Option, None, inl, inr, length-append}
-use Rattle.std.proofs.{Common.{length-take, length-take-le, length-drop}, lemmas.{Bool.{cases_lt}, List.{drop-take}}}
+use Rattle.std.proofs.Common.{IsOkAnd, IfSome, length, take, drop, refl, sym, ap, subst, ◌∙◌, arith, Option, None, Some, inl, inr}
+use Rattle.std.proofs.{Common.{length-append, length-take, length-take-le, length-drop}, lemmas.{Bool.{cases_lt}, List.{drop-take}}}
 use Rattle.no_std_io2_base.specs.{declared.{error.Error.{Error}, traits.take.Take.{Take}}, Events.{Event, byte, fails, events_of, bytes}}
 use Rattle.no_std_io2_base.specs.{Events.{cut, BeginsWith}, Takes.{Takes, AreTaken}, Read.{Reader, tells, ReadCall, Gave, Filled, Consumed}}
-use Rattle.no_std_io2_base.specs.{Read.{ReadCallLaw, GaveLaw, ReadLaw, gave, bytes_given, answered, fault_of}, ReadMeter.{FillsRoom}}
-use Rattle.no_std_io2_base.specs.{BufRead.{Lender, as_reader, lender_tells, ConsumeLaw}, Take.{limit_held, limit_inner, limit_left}}
-use Rattle.no_std_io2_base.specs.Take.{limit_set, limit_events, cut_to_come, lent_within, LimitTakes, LimitAsks, LimitMay}
+use Rattle.no_std_io2_base.specs.Read.{ReadCallLaw, GaveLaw, ReadLaw, gave, bytes_given, answered, fault_of, ConsumeLaw}
+use Rattle.no_std_io2_base.specs.ReadMeter.{FillsRoom, bytes_left}
+use Rattle.no_std_io2_base.specs.Take.{limit_held, limit_inner, limit_left, limit_set, limit_events, cut_to_come}
+use Rattle.no_std_io2_base.specs.Take.{lent_within, LimitTakes, LimitAsks, LimitMay}
 use Rattle.no_std_io2_base.proofs.{EventLemmas.{bytes-append, bytes-events_of}, FillBufHeld.{begins_cut}, TakesLemmas.{takes_then}}
 use Rattle.no_std_io2_base.proofs.TakesLemmas.{cut-none, cut-fitting, cut-error, read_law, read_by}
+use Rattle.no_std_io2_base.proofs.FillsRoomLemmas.{drawn, fills_by, fills_told}
 use lib.Seq.{take-take}
 
 -- a `Take`, as the laws of its calls see it
@@ -18,6 +20,7 @@ limit_reader inner = record {
   turns = λ t. inner.turns (limit_inner t);
   events = limit_events (tells inner);
   may = LimitMay inner;
+  held = limit_held inner.held;
 }
 
 -- events within a limit are the first of those that are cut there
@@ -138,47 +141,44 @@ module _ {T : Type 0} {inner : Reader T} where
   )
 
   -- it is filling if its inner reader is
-  pub limit_fills : FillsRoom inner → FillsRoom (limit_reader inner)
-  limit_fills fills = record {
-    left = λ t. take (limit_left t) (fills.left (limit_inner t));
-    told = λ t. grind (arith, common_steps, cut-events_of, fills.told (limit_inner t));
-    gives = λ old new room answer call. elim (cases_lt 0 (limit_left old)) [
-      | inl some ↦
-          gave_most room (limit_left old) _ _ answer (length-take (limit_left old) (fills.left (limit_inner old)))
-          (fills.gives (limit_inner old) (limit_inner new) (min room (limit_left old)) answer (call.1.asks some).call)
-      | inr low ↦
-          let none : limit_left old ≡ 0 = omega (arith, low) in
-          subst (λ a. IsOkAnd a (λ x. length x ≡ min room (length (take (limit_left old) (fills.left (limit_inner old))))))
-          (sym (call.0 none)) (omega (arith, none, length-take (limit_left old) (fills.left (limit_inner old))))
-    ];
-  }
+  pub limit_fills : (t : Take T) → FillsRoom inner (limit_inner t) → FillsRoom (limit_reader inner) t
+  limit_fills t fills = fills_by {R = limit_reader inner} (λ t. FillsRoom inner (limit_inner t))
+      (λ t. take (limit_left t) (bytes_left inner (limit_inner t)))
+      (λ t now. ap (cut_to_come (limit_left t)) (fills_told now)
+      ∙ ap Some (cut-events_of (limit_left t) (bytes_left inner (limit_inner t))))
+      (λ old room answer new now law. elim (cases_lt 0 (limit_left old)) [
+        | inl some ↦
+            let one = drawn answer now (law.call.1.asks some) in (
+              gave_most room (limit_left old) _ _ answer (length-take (limit_left old) (bytes_left inner (limit_inner old)))
+                  (subst (λ a. IsOkAnd a (λ x. length x ≡ min (min room (limit_left old)) (length (bytes_left inner (limit_inner old)))))
+                  (sym one.is) one.count),
+              one.fills,
+            )
+        | inr low ↦
+            let none : limit_left old ≡ 0 = omega (arith, low) in (
+              subst (λ a. IsOkAnd a (λ x. length x ≡ min room (length (take (limit_left old) (bytes_left inner (limit_inner old))))))
+                  (sym (law.call.0 none)) (omega (arith, none, length-take (limit_left old) (bytes_left inner (limit_inner old)))),
+              subst (λ t. FillsRoom inner (limit_inner t)) (sym (law.call.1.at_limit none)) now,
+            )
+      ])
+      t fills
 
--- a `Take` that lends
-abbrev pub limit_lender : {T : Type 0} → Lender T → Lender (Take T)
-limit_lender inner = record {
-  store = λ t. None;
-  turns = λ t. inner.turns (limit_inner t);
-  events = limit_events (lender_tells inner);
-  may = LimitMay (as_reader inner);
-  held = limit_held inner.held;
-}
-
-module _ {T : Type 0} (inner : Lender T) where
+module _ {T : Type 0} (inner : Reader T) where
   -- above 0 the inner reader's first bytes are consumed
   pub consumed_inner : {old new : Take T} {n : ℕ} → 0 < limit_left old → n ≤ length (limit_held inner.held old)
       → ConsumeLaw inner (limit_inner old) n (limit_inner new) → limit_left new + n ≡ limit_left old → limit_set new ≡ limit_set old
-      → ConsumeLaw (limit_lender inner) old n new
+      → ConsumeLaw (limit_reader inner) old n new
   consumed_inner {old} {new} {n} some fits law falls same =
       let held = inner.held (limit_inner old) in
       let within : (n ≤ length held) × (n ≤ limit_left old) = omega (arith, fits, length-take (limit_left old) held) in
       let part : take n (take (limit_left old) held) ≡ take n held = take-take n (limit_left old) held within.1 in
-      let call : LimitMay (as_reader inner) old (Consumed n) new = grind (arith, common_steps) in
-      let took : LimitTakes (as_reader inner) old (events_of (take n held)) new =
+      let call : LimitMay inner old (Consumed n) new = grind (arith, common_steps) in
+      let took : LimitTakes inner old (events_of (take n held)) new =
       grind (arith, common_steps, cut-fitting, length-take-le, bytes-events_of) in
       record {
         held = ap (take (limit_left new)) law.held ∙ sym (subst (λ k. drop n (take k held) ≡ take (limit_left new) (drop n held)) falls'
             (drop-take n (limit_left new) held));
-        takes = subst (λ l. Takes (lender_tells (limit_lender inner) old) (events_of l) (lender_tells (limit_lender inner) new)) (sym part)
+        takes = subst (λ l. Takes (tells (limit_reader inner) old) (events_of l) (tells (limit_reader inner) new)) (sym part)
             (limit_takes (events_of (take n held)) took);
         call = call;
       }

@@ -4,13 +4,12 @@ use Rattle.std.proofs.Common.{sym, ap, subst, ◌∙◌, arith, Option, None, So
 use Rattle.std.proofs.{Common.{string_bytes}, lemmas.List.{append_cancel_right}}
 use Rattle.no_std_io2_base.specs.{declared.{error.Error.{Error}, traits.take.Take.{Take}}, Events.{Event, events_of, bytes, cut}}
 use Rattle.no_std_io2_base.specs.{Takes.{Tells, Takes, to_come, AreTaken}, Read.{Reader, tells, ReadCallLaw, ReadExactLaw, ToEndLaw}}
-use Rattle.no_std_io2_base.specs.{Read.{answered, fault_of, ended}, BufRead.{Lender, as_reader, ReadUntilLaw, ReadLineLaw}}
-use Rattle.no_std_io2_base.specs.Take.{limit_inner, limit_left, cut_to_come, LimitTakes}
+use Rattle.no_std_io2_base.specs.{Read.{answered, fault_of, ended}, BufRead.{ReadUntilLaw, ReadLineLaw}, Take.{limit_inner, limit_left}}
+use Rattle.no_std_io2_base.specs.Take.{cut_to_come, LimitTakes}
 use Rattle.no_std_io2_base.proofs.{EventLemmas.{bytes-append, bytes-events_of, length-events_of}, GivenPieces.{few_bytes}}
-use Rattle.no_std_io2_base.proofs.{ReadLoop.{ReadsSoFar}, ReadsAdd.{EachAdds, each_of, gathers_add, exact_adds, to_end_adds, piece_adds}}
-use Rattle.no_std_io2_base.proofs.{ReadsAdd.{line_appended}, TakesLemmas.{cut-fitting, lend_law}, LimitLemmas.{limit_reader, limit_lender}}
-use Rattle.no_std_io2_base.proofs.LimitLemmas.{limit_none, limit_then, gave_took, filled_took, consumed_took, bytes-answered, fault-bytes}
-use Rattle.no_std_io2_base.proofs.LimitLemmas.{cut-within}
+use Rattle.no_std_io2_base.proofs.{ReadLoop.{ReadsSoFar}, ReadsAdd.{EachAdds, gathers_add, exact_adds, to_end_adds, piece_adds}}
+use Rattle.no_std_io2_base.proofs.{ReadsAdd.{line_appended}, TakesLemmas.{cut-fitting}, LimitLemmas.{limit_reader, limit_none, limit_then}}
+use Rattle.no_std_io2_base.proofs.LimitLemmas.{gave_took, filled_took, consumed_took, bytes-answered, fault-bytes, cut-within}
 
 -- Each call of a `Take` takes as many bytes of its inner reader as it gives.
 pub limit_each : {T : Type 0} {inner : Reader T}
@@ -36,10 +35,10 @@ limit_each = record {
   gave = λ a b room answer law. (answered answer, ap length (bytes-answered answer), gave_took room answer law.call);
   exactly = λ a b room answer law. absurd law.0;
   all = λ a b x answer law. absurd law.0;
-  lent = λ a b answer law. (fault_of answer, ap length (fault-bytes answer), filled_took answer law.0);
+  lent = λ a b answer law. (fault_of answer, ap length (fault-bytes answer), filled_took answer law.call);
   took = λ a b c x n lent took within.
-      let first = filled_took (Ok x) lent.0 in
-      let next = consumed_took took.0 in
+      let first = filled_took (Ok x) lent.call in
+      let next = consumed_took took.1.call in
       (next.0, next.1 ∙ sym (length-take-le n x within), limit_then first next.2);
 }
 
@@ -106,19 +105,19 @@ limit_to_end {old = old} {new} {buf} {buf'} {reply} law =
     let took = limit_taken law.taken calls.0 law.takes calls.2 calls.1 in
     (took.0, law.appends.0 ∙ ap (λ l. buf.items ++ l) (sym took.1), took.2)
 
-pub limit_until : {T A : Type 0} (inner : Lender T) {old new : Take T} {d : ℕ} {buf buf' : Vec ℕ A} {reply : Result ℕ Error}
-    → ReadUntilLaw (limit_lender inner) old d buf reply buf' new
-    → (P : List Event) × (buf'.items ≡ buf.items ++ bytes P) × LimitTakes (as_reader inner) old P new
+pub limit_until : {T A : Type 0} (inner : Reader T) {old new : Take T} {d : ℕ} {buf buf' : Vec ℕ A} {reply : Result ℕ Error}
+    → ReadUntilLaw (limit_reader inner) old d buf reply buf' new
+    → (P : List Event) × (buf'.items ≡ buf.items ++ bytes P) × LimitTakes inner old P new
 limit_until inner {old} {new} {buf = buf} {reply = reply} law =
-    let calls = piece_adds (each_of (lend_law (limit_lender inner)) limit_each) _ _ reply old new law.calls in
+    let calls = piece_adds limit_each _ _ reply old new law.calls in
     let took = limit_taken law.taken calls.0 law.takes calls.2 calls.1 in
     (took.0, law.appends ∙ ap (λ l. buf.items ++ l) (sym took.1), took.2)
 
-pub limit_line : {T A : Type 0} (inner : Lender T) {old new : Take T} {buf buf' : String A} {reply : Result ℕ Error}
-    → ReadLineLaw (limit_lender inner) old buf reply buf' new
-    → (P : List Event) × OnOk reply (string_bytes buf' ≡ string_bytes buf ++ bytes P) × LimitTakes (as_reader inner) old P new
+pub limit_line : {T A : Type 0} (inner : Reader T) {old new : Take T} {buf buf' : String A} {reply : Result ℕ Error}
+    → ReadLineLaw (limit_reader inner) old buf reply buf' new
+    → (P : List Event) × OnOk reply (string_bytes buf' ≡ string_bytes buf ++ bytes P) × LimitTakes inner old P new
 limit_line inner {old} {new} {buf} {buf'} {reply} law =
-    let calls = piece_adds (each_of (lend_law (limit_lender inner)) limit_each) _ _ law.read old new law.calls in
+    let calls = piece_adds limit_each _ _ law.read old new law.calls in
     let took = limit_taken law.taken calls.0 law.takes calls.2 calls.1 in
     let appended = line_appended _ _ (bytes law.taken) _ _ reply law.read law.answers in
     (took.0, subst (λ l. OnOk reply (string_bytes buf' ≡ string_bytes buf ++ l)) (sym took.1) appended, took.2)

@@ -68,6 +68,10 @@ zero_write-whole xs = grind (arith, nat_tests)
 pub MovesFront-whole : {a b : Told} (x : List ℕ) (u : Unit {0}) → MovesFront a x (Ok u) b → Moves a x [] b
 MovesFront-whole {a} {b} x u f = subst (λ l. Moves a l [] b) f.whole f.moves
 
+-- and the other way round: what was accepted whole is a `write_all` of it that returned `Ok`
+pub MovesFront-all : {a b : Told} {x : List ℕ} → Moves a x [] b → MovesFront a x (Ok tt) b
+MovesFront-all {x = x} moves = record { accepted = x; front = IsFront-refl x; whole = refl; moves = moves }
+
 -- `write_all(x)?; write_all(y)`, if the first returned `Ok`: some front of both was accepted, all of it after `Ok`
 pub MovesFront-join : {a b c : Told} (x y : List ℕ) (r : Result (Unit {0}) Error) → MovesFront a x (Ok tt) b
     → MovesFront b y r c → MovesFront a (x ++ y) r c

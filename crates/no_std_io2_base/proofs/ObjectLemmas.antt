@@ -1,7 +1,7 @@
 -- For callers that lend a value as a `&mut dyn`: the object refers to what was lent, and what is behind it is given back.
-use Rattle.std.proofs.Common.{◌≡◌, sym, ap, ℕ, Vec, Global}
+use Rattle.std.proofs.Common.{◌≡◌, sym, ap, ℕ, List, Vec, Global}
 use base.Stored.{Gv}
-use denote.{Builtin.{u8}, RattleType.{RattleType}, Ref.{MutBor}, Param.Table.{Entry}}
+use denote.{Builtin.{u8, Array}, RattleType.{RattleType}, Ref.{MutBor}, Param.Table.{Entry}}
 use borrow.Pointer.Hide.{carry_nowᵐ, carried_sameᵐ}
 use Rattle.std.specs.contracts.{vec.Vec.{the_row as vec-row}, collections.VecDeque.{the_row as deque-row}}
 use Rattle.std.specs.contracts.{boxed.BoxedSlice.{the_row as boxed-row}, alloc.Global.{the_row as global-row}}
@@ -18,7 +18,7 @@ pub row_back : {X : Type 0} (R : RattleType) (F : R.Denot → X) (w y : R.Denot)
 row_back R F w y codes = ap F (sym (R.coded.inj w y codes))
 
 -- a vector of bytes
-abbrev vec : RattleType
+abbrev pub vec : RattleType
 vec = vec-row u8 global-row ghosts
 
 -- its bytes
@@ -26,7 +26,7 @@ pub vec_back : (w y : Vec ℕ Global) → vec.coded.code w ≡ vec.coded.code y 
 vec_back w y codes = row_back vec (λ (v : Vec ℕ Global). v.items) w y codes
 
 -- a queue of bytes
-abbrev queue : RattleType
+abbrev pub queue : RattleType
 queue = deque-row u8 global-row ghosts
 
 -- its bytes
@@ -43,7 +43,7 @@ pub position_back : (w y : Cursor (Vec ℕ Global)) → (cursor-row vec).coded.c
 position_back w y codes = row_back (cursor-row vec) (λ (c : Cursor (Vec ℕ Global)). c.pos) w y codes
 
 -- a boxed slice of bytes
-abbrev boxed : RattleType
+abbrev pub boxed : RattleType
 boxed = boxed-row u8 global-row ghosts
 
 -- the bytes of a cursor over a boxed slice
@@ -55,3 +55,17 @@ boxed_back w y codes = row_back (cursor-row boxed) (λ (c : Cursor (BoxedSlice �
 pub boxed_position : (w y : Cursor (BoxedSlice ℕ Global)) → (cursor-row boxed).coded.code w ≡ (cursor-row boxed).coded.code y
     → y.pos ≡ w.pos
 boxed_position w y codes = row_back (cursor-row boxed) (λ (c : Cursor (BoxedSlice ℕ Global)). c.pos) w y codes
+
+-- an array of n bytes
+abbrev pub array : ℕ → RattleType
+array n = Array u8 tt n
+
+-- the bytes of a cursor over an array
+pub array_back : (n : ℕ) (w y : Cursor (List ℕ)) → (cursor-row (array n)).coded.code w ≡ (cursor-row (array n)).coded.code y
+    → y.inner ≡ w.inner
+array_back n w y codes = row_back (cursor-row (array n)) (λ (c : Cursor (List ℕ)). c.inner) w y codes
+
+-- and its position
+pub array_position : (n : ℕ) (w y : Cursor (List ℕ)) → (cursor-row (array n)).coded.code w ≡ (cursor-row (array n)).coded.code y
+    → y.pos ≡ w.pos
+array_position n w y codes = row_back (cursor-row (array n)) (λ (c : Cursor (List ℕ)). c.pos) w y codes

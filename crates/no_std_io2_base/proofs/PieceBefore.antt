@@ -2,7 +2,7 @@
 use Rattle.std.proofs.Common.{rules, arith, ◌≡◌, ℕ, ◌+◌, ◌<◌, List, [], ◌∷◌, ◌++◌, Result, Ok, Err, Vec, length, vec_len, vec_capacity}
 use Rattle.std.proofs.{Common.{refl, sym, ap, subst, ◌∙◌, append_assoc, ⊎_elim, inl, inr}, lemmas.Grind.{common_steps}}
 use Rattle.no_std_io2_base.specs.{declared.error.Error.{Error}, Errors.{IsInterruption}, Events.{Event, byte, fails, bytes, HasNoFault}}
-use Rattle.no_std_io2_base.specs.{Takes.{Tells, Takes}, Read.{ReadCall, Filled, Consumed}, BufRead.{Lender, FilledLaw, ReadUntilLaw}}
+use Rattle.no_std_io2_base.specs.{Takes.{Tells, Takes}, Read.{ReadCall, Filled, Consumed, Reader, FilledLaw}, BufRead.{ReadUntilLaw}}
 use Rattle.no_std_io2_base.specs.Pieces.{Lacks, ComesBehind, PieceEnds, PartCalls, no_part, and_part, and_waited, PieceCalls}
 use Rattle.no_std_io2_base.proofs.{EventLemmas.{bytes-append, HasNoFault-append}, TakesLemmas.{takes_then, IsAll-behind}}
 use Rattle.no_std_io2_base.proofs.TakesLemmas.{EndsInFault-behind}
@@ -70,7 +70,7 @@ piece_ends_behind lacks d P Q (Err e) takes free none ends =
     grind (arith, common_steps, bytes-append, ⊎_elim, EndsInFault-behind, HasNoFault-append, behind_both)
 
 -- A `fill_buf` of which nothing was consumed came before such a loop.
-module _ {X A : Type 0} {R : Lender X} {d : ℕ} {old now new : X} {buf buf' : Vec ℕ A} {reply : Result ℕ Error} where
+module _ {X A : Type 0} {R : Reader X} {d : ℕ} {old now new : X} {buf buf' : Vec ℕ A} {reply : Result ℕ Error} where
   module _ (until : ReadUntilLaw R now d buf reply buf' new) where
     -- if it lent some bytes, the loop's first one lends the same and changes nothing, so both are as one
     pub until_lent : {lent : List ℕ} → FilledLaw R old (Ok lent) now → 0 < length lent → ReadUntilLaw R old d buf reply buf' new

@@ -4,8 +4,8 @@ use Rattle.std.proofs.Common.{Result, Ok, Err, Vec, vec_len, vec_capacity, lengt
 use Rattle.std.proofs.Common.{append-nil, le_refl, le_trans, inl, inr, length-append, length-take-le, take_all}
 use Rattle.std.specs.Borrow.{Bor}
 use Rattle.no_std_io2_base.specs.{declared.error.Error.{Error}, Errors.{IsInterruption, IsFault, IsOutOfMemory}, Events.{Event, fails}}
-use Rattle.no_std_io2_base.specs.{Events.{events_of, bytes, HasNoFault}, Takes.{Tells, Takes, IsAll}, Read.{Filled, Consumed}}
-use Rattle.no_std_io2_base.specs.BufRead.{Lender, lender_tells, FillBufLaw, AfterLoan, ConsumeLaw, FilledLaw, LendCallLaw, ReadUntilLaw}
+use Rattle.no_std_io2_base.specs.{Events.{events_of, bytes, HasNoFault}, Takes.{Tells, Takes, IsAll}, Read.{Filled, Consumed, Reader}}
+use Rattle.no_std_io2_base.specs.{Read.{tells, ConsumeLaw, FilledLaw, ReadCallLaw}, BufRead.{FillBufLaw, AfterLoan, ReadUntilLaw}}
 use Rattle.no_std_io2_base.specs.{BufRead.{lent_bytes}, Pieces.{Lacks, EndsPiece, EndsAt, FindsPiece, PieceEnds, PartCalls, no_part}}
 use Rattle.no_std_io2_base.specs.{Pieces.{and_part, and_waited, PieceCalls}, Write.{ByCalls}}
 use Rattle.no_std_io2_base.proofs.{CallsLemmas.{by_more, by_then}, EventLemmas.{events_of-append, HasNoFault-append, HasNoFault-events_of}}
@@ -14,24 +14,24 @@ use Rattle.no_std_io2_base.proofs.{PieceLemmas.{comes_behind}, TakesLemmas.{take
 use Rattle.no_std_io2_base.proofs.TakesLemmas.{spends, stays_at_end}
 
 -- a `fill_buf` and its loan are a call
-fill_law : {X : Type 0} {R : Lender X} {old new : X} (reply : Result (Bor (List ℕ)) Error) → FillBufLaw R old reply
+fill_law : {X : Type 0} {R : Reader X} {old new : X} (reply : Result (Bor (List ℕ)) Error) → FillBufLaw R old reply
     → AfterLoan R old reply new → FilledLaw R old (lent_bytes reply) new
 fill_law x1 law loan = grind (arith, common_steps)
 
 -- a `fill_buf` and its loan are a call, with the result as a `match` names it
-pub filled_law : {X : Type 0} {R : Lender X} {old new : X} {reply answer : Result (Bor (List ℕ)) Error} → reply ≡ answer
+pub filled_law : {X : Type 0} {R : Reader X} {old new : X} {reply answer : Result (Bor (List ℕ)) Error} → reply ≡ answer
     → FillBufLaw R old reply → AfterLoan R old reply new → FilledLaw R old (lent_bytes answer) new
 filled_law {R = R} {old} {new} {reply} is law loan = subst (λ r. FilledLaw R old (lent_bytes r) new) is (fill_law reply law loan)
 
 -- a `fill_buf` lent some bytes, and a `consume` dropped the first n of them
-module _ {X : Type 0} {R : Lender X} {now after new : X} {lent : List ℕ} {n : ℕ} (filled : FilledLaw R now (Ok lent) after) where
+module _ {X : Type 0} {R : Reader X} {now after new : X} {lent : List ℕ} {n : ℕ} (filled : FilledLaw R now (Ok lent) after) where
   module _ (within : n ≤ length lent) (dropped : ConsumeLaw R after n new) where
     -- these were taken,
-    pub lent_taken : Takes (lender_tells R after) (events_of (take n lent)) (lender_tells R new)
-    lent_taken = subst (λ l. Takes (lender_tells R after) (events_of (take n l)) (lender_tells R new)) filled.lends dropped.takes
+    pub lent_taken : Takes (tells R after) (events_of (take n lent)) (tells R new)
+    lent_taken = subst (λ l. Takes (tells R after) (events_of (take n l)) (tells R new)) filled.lends dropped.takes
 
     -- by two calls,
-    pub lent_calls : ByCalls (LendCallLaw R) now (λ C. C ≡ Filled (Ok lent) ∷ Consumed n ∷ []) new
+    pub lent_calls : ByCalls (ReadCallLaw R) now (λ C. C ≡ Filled (Ok lent) ∷ Consumed n ∷ []) new
     lent_calls = record {
       calls = _;
       made = (after, filled, (new, (subst (λ l. n ≤ length l) (sym filled.lends) within, dropped), refl));
@@ -50,29 +50,29 @@ pub piece_since : {lacks lacks' : ℕ → Type 0} (d : ℕ) (old : Tells) (P : L
 piece_since d old x3 x4 since ends = grind (arith, common_steps)
 
 -- Such a loop took the events P so far, of one piece, and no d.
-pub record PartTaken {X : Type 0} (R : Lender X) (d : ℕ) (old : X) (P : List Event) (now : X) : Type 0 where
-  pub takes : Takes (lender_tells R old) P (lender_tells R now)
+pub record PartTaken {X : Type 0} (R : Reader X) (d : ℕ) (old : X) (P : List Event) (now : X) : Type 0 where
+  pub takes : Takes (tells R old) P (tells R now)
   pub no_fault : HasNoFault P
   pub lacks : Lacks d (bytes P)
-  pub calls : ByCalls (LendCallLaw R) old (λ C. PartCalls d C (bytes P)) now
+  pub calls : ByCalls (ReadCallLaw R) old (λ C. PartCalls d C (bytes P)) now
 
 -- It took P, and ended with this result.
-pub record PieceTaken {X : Type 0} (R : Lender X) (lacks : ℕ → Type 0) (may_refuse : Type 0) (d : ℕ) (old : X) (P : List Event)
+pub record PieceTaken {X : Type 0} (R : Reader X) (lacks : ℕ → Type 0) (may_refuse : Type 0) (d : ℕ) (old : X) (P : List Event)
     (read : Result ℕ Error) (new : X) : Type 0 where
-  pub takes : Takes (lender_tells R old) P (lender_tells R new)
-  pub ends : PieceEnds lacks d (lender_tells R old) P read
-  pub calls : ByCalls (LendCallLaw R) old (λ C. PieceCalls may_refuse d C (bytes P) read) new
+  pub takes : Takes (tells R old) P (tells R new)
+  pub ends : PieceEnds lacks d (tells R old) P read
+  pub calls : ByCalls (ReadCallLaw R) old (λ C. PieceCalls may_refuse d C (bytes P) read) new
 
 -- at the start nothing is taken
-pub part_none : {X : Type 0} (R : Lender X) (d : ℕ) (old : X) → PartTaken R d old [] old
+pub part_none : {X : Type 0} (R : Reader X) (d : ℕ) (old : X) → PartTaken R d old [] old
 part_none R d old = record {
-  takes = takes_none (lender_tells R old);
+  takes = takes_none (tells R old);
   no_fault = tt;
   lacks = tt;
   calls = record { calls = []; made = refl; are = no_part };
 }
 
-module _ {X : Type 0} {R : Lender X} {d : ℕ} {old now after : X} {P : List Event} (before : PartTaken R d old P now) where
+module _ {X : Type 0} {R : Reader X} {d : ℕ} {old now after : X} {P : List Event} (before : PartTaken R d old P now) where
   module _ {e : Error} (filled : FilledLaw R now (Err e) after) where
     -- after an interruption the loop continues
     pub part_waited : IsInterruption e → PartTaken R d old (P ++ fails e ∷ []) after
@@ -113,7 +113,7 @@ module _ {X : Type 0} {R : Lender X} {d : ℕ} {old now after : X} {P : List Eve
 
     module _ {new : X} (dropped : ConsumeLaw R after n new) where
       -- the lent bytes that belong to the piece
-      takes : Takes (lender_tells R old) (P ++ events_of (take n lent)) (lender_tells R new)
+      takes : Takes (tells R old) (P ++ events_of (take n lent)) (tells R new)
       takes = takes_then (takes_still before.takes filled.takes) (lent_taken filled found.within dropped)
 
       no_fault : HasNoFault (P ++ events_of (take n lent))
@@ -137,7 +137,7 @@ module _ {X : Type 0} {R : Lender X} {d : ℕ} {old now after : X} {P : List Eve
 
       -- the bytes with the d end the piece; or there are none, at the end
       ended : EndsPiece d (take n lent) ⊎ (lent ≡ []) → EndsAt d (P ++ events_of (take n lent))
-          ⊎ (Lacks d (bytes (P ++ events_of (take n lent))) × IsAll (lender_tells R old) (P ++ events_of (take n lent)))
+          ⊎ (Lacks d (bytes (P ++ events_of (take n lent))) × IsAll (tells R old) (P ++ events_of (take n lent)))
       ended (inl end) = inl (
         P ++ events_of end.0,
         grind (arith, common_steps, events_of-append, append_assoc),
@@ -146,7 +146,7 @@ module _ {X : Type 0} {R : Lender X} {d : ℕ} {old now after : X} {P : List Eve
       ended (inr none) =
           let same : P ≡ P ++ events_of (take n lent) = grind (arith, common_steps) in
           let all = takes_all P before.takes (stays_at_end filled.takes (filled.end (ap Ok none))) in
-          inr (subst (λ l. Lacks d (bytes l)) same before.lacks, subst (IsAll (lender_tells R old)) same all)
+          inr (subst (λ l. Lacks d (bytes l)) same before.lacks, subst (IsAll (tells R old)) same all)
 
       -- then the loop ends
       pub piece_whole : {lacks : ℕ → Type 0} {may_refuse : Type 0} {count : ℕ} → is_whole ≡ true
@@ -160,14 +160,14 @@ module _ {X : Type 0} {R : Lender X} {d : ℕ} {old now after : X} {P : List Eve
       }
 
 -- What a loop took so far was appended.
-pub record UntilSoFar {X A : Type 0} (R : Lender X) (d : ℕ) (old : X) (buf buf' : Vec ℕ A) (now : X) : Type 0 where
+pub record UntilSoFar {X A : Type 0} (R : Reader X) (d : ℕ) (old : X) (buf buf' : Vec ℕ A) (now : X) : Type 0 where
   pub taken : List Event
   pub part : PartTaken R d old taken now
   pub capacity : vec_capacity buf ≤ vec_capacity buf'
   pub gave : buf'.items ≡ buf.items ++ bytes taken
 
 -- at the start nothing was
-pub until_none : {X A : Type 0} {R : Lender X} {d : ℕ} {old : X} {buf : Vec ℕ A} → UntilSoFar R d old buf buf old
+pub until_none : {X A : Type 0} {R : Reader X} {d : ℕ} {old : X} {buf : Vec ℕ A} → UntilSoFar R d old buf buf old
 until_none {R = R} {d} {old} = record { taken = []; part = part_none R d old; capacity = le_refl _; gave = sym (append-nil _) }
 
 -- some bytes more were appended
@@ -176,13 +176,13 @@ gave_more : (buf : List ℕ) {xs ys : List ℕ} (P : List Event) (x : List ℕ) 
 gave_more buf P x gave more = grind (arith, common_steps, append_assoc, bytes-more)
 
 -- a piece that was taken and appended
-until_law : {X A : Type 0} {R : Lender X} {d : ℕ} {old new : X} {buf buf' : Vec ℕ A} {P : List Event} {reply : Result ℕ Error}
+until_law : {X A : Type 0} {R : Reader X} {d : ℕ} {old new : X} {buf buf' : Vec ℕ A} {P : List Event} {reply : Result ℕ Error}
     → PieceTaken R (λ n. vec_capacity buf < vec_len buf + n) (Unit {0}) d old P reply new → vec_capacity buf ≤ vec_capacity buf'
     → buf'.items ≡ buf.items ++ bytes P → ReadUntilLaw R old d buf reply buf' new
 until_law {P = P} piece grown gave =
     record { taken = P; takes = piece.takes; appends = gave; ends = piece.ends; capacity = grown; calls = piece.calls }
 
-module _ {X A : Type 0} {R : Lender X} {d : ℕ} {old now after : X} {buf xs : Vec ℕ A} (before : UntilSoFar R d old buf xs now) where
+module _ {X A : Type 0} {R : Reader X} {d : ℕ} {old now after : X} {buf xs : Vec ℕ A} (before : UntilSoFar R d old buf xs now) where
   module _ {e : Error} (filled : FilledLaw R now (Err e) after) where
     -- an interruption is ignored
     pub until_interruption : IsInterruption e → UntilSoFar R d old buf xs after

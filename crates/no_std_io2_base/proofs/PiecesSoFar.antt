@@ -1,11 +1,13 @@
 -- A loop that takes pieces by `read_until`, over any reader that lends: the pieces so far, and what its end or an error says of all pieces.
 use Rattle.std.proofs.Common.{◌≡◌, ℕ, ◌<◌, List, [], ◌∷◌, ◌++◌, Vec, Option, None, Some, Result, Ok, Err, IfSome, IsSomeAnd, refl, sym, ◌∙◌}
-use Rattle.std.proofs.{Common.{arith, append_assoc, append-nil, ◌⊎◌}, lemmas.Grind.{common_steps}, lemmas.List.Folds.{concat-append}}
+use Rattle.std.proofs.{Common.{arith, append_assoc, append-nil, ◌⊎◌, ap, inl, inr, true}, lemmas.Grind.{common_steps}}
+use Rattle.std.proofs.lemmas.List.Folds.{concat-append}
 use Rattle.std.proofs.lemmas.List.{nil_from_length}
 use Rattle.std.specs.List.{concat}
 use Rattle.no_std_io2_base.specs.{declared.error.Error.{Error}, Errors.{IsOutOfMemory}, Events.{Event, bytes, HasNoFault, bytes_to_fault}}
-use Rattle.no_std_io2_base.specs.{Events.{first_fault}, Takes.{Tells, to_come}, BufRead.{Lender, lender_tells, ReadUntilLaw}}
+use Rattle.no_std_io2_base.specs.{Events.{first_fault}, Takes.{Tells, to_come}, Read.{Reader, tells}, BufRead.{ReadUntilLaw}}
 use Rattle.no_std_io2_base.specs.{Pieces.{pieces_given, GivesFirst, GivesPieces, AreAllPieces, ComeFirst}, Write.{IsFront}}
+use Rattle.no_std_io2_base.specs.PieceStops.{StopsAfter}
 use Rattle.no_std_io2_base.proofs.GivenPieces.{until_given, GivesNext, GivesNone, bytes_to_fault-append, first_fault-append}
 
 -- before the first piece no pieces were given
@@ -21,13 +23,13 @@ abbrev Says : ℕ → List Event → List ℕ → Result ℕ Error → List Even
 Says d E x (Ok n) after = ((0 < n) × GivesNext d E x after) ⊎ ((n ≡ 0) × (x ≡ []) × GivesFirst d E [] after × GivesNone d E)
 Says d E x (Err e) after = ((pieces_given d E ≡ []) × (first_fault E ≡ Some e)) ⊎ IsOutOfMemory e
 
-until_says : {X A : Type 0} {R : Lender X} {d : ℕ} {reply : Result ℕ Error} {old new : X} {buf buf' : Vec ℕ A}
+until_says : {X A : Type 0} {R : Reader X} {d : ℕ} {reply : Result ℕ Error} {old new : X} {buf buf' : Vec ℕ A}
     (law : ReadUntilLaw R old d buf reply buf' new)
-    → IfSome (to_come (lender_tells R old)) (λ E. IsSomeAnd (to_come (lender_tells R new)) (Says d E (bytes law.taken) reply))
-until_says {R = R} {d} {reply} {old} {new} law = by (to_come (lender_tells R old)) refl
+    → IfSome (to_come (tells R old)) (λ E. IsSomeAnd (to_come (tells R new)) (Says d E (bytes law.taken) reply))
+until_says {R = R} {d} {reply} {old} {new} law = by (to_come (tells R old)) refl
   where
-    by : (t : Option (List Event)) → to_come (lender_tells R old) ≡ t
-        → IfSome t (λ E. IsSomeAnd (to_come (lender_tells R new)) (Says d E (bytes law.taken) reply))
+    by : (t : Option (List Event)) → to_come (tells R old) ≡ t
+        → IfSome t (λ E. IsSomeAnd (to_come (tells R new)) (Says d E (bytes law.taken) reply))
     by None is = tt
     by (Some E) is = let given = until_given law is in grind (arith, common_steps, nil_from_length, same_pieces, given)
 
@@ -42,16 +44,16 @@ parted : (d n : ℕ) (E F after : List Event) (ps : List (List ℕ)) (x part res
     → Says d F x (Ok n) after → bytes_to_fault E ≡ (concat ps ++ part) ++ (rest ++ bytes_to_fault after)
 parted d n E F after ps x part rest is first next = grind (arith, common_steps)
 
-module _ {X A : Type 0} {R : Lender X} {d : ℕ} {a : Tells} {ps : List (List ℕ)} {mid new : X} {buf buf' : Vec ℕ A} where
-  module _ (gives : GivesPieces d a ps (lender_tells R mid)) where
+module _ {X A : Type 0} {R : Reader X} {d : ℕ} {a : Tells} {ps : List (List ℕ)} {mid new : X} {buf buf' : Vec ℕ A} where
+  module _ (gives : GivesPieces d a ps (tells R mid)) where
     -- a `read_until` gave one piece more
     pub pieces_more : {n : ℕ} (law : ReadUntilLaw R mid d buf (Ok n) buf' new) → (n ≡ 0 → ⊥)
-        → GivesPieces d a (ps ++ bytes law.taken ∷ []) (lender_tells R new)
+        → GivesPieces d a (ps ++ bytes law.taken ∷ []) (tells R new)
     pieces_more law some = grind (arith, common_steps, until_says law, concat-append, append_assoc, append-nil)
 
     -- a `read_until` gave no byte: these were all pieces, and no fault comes
     pub pieces_end : {n : ℕ} (law : ReadUntilLaw R mid d buf (Ok n) buf' new) → n ≡ 0
-        → GivesPieces d a ps (lender_tells R new) × AreAllPieces d a ps None
+        → GivesPieces d a ps (tells R new) × AreAllPieces d a ps None
     pieces_end law none = grind (arith, common_steps, until_says law, append-nil)
 
     -- a `read_until` failed: these were all pieces before this fault, or an allocation failed
@@ -62,7 +64,7 @@ module _ {X A : Type 0} {R : Lender X} {d : ℕ} {a : Tells} {ps : List (List �
     pub pieces_part : {n : ℕ} (law : ReadUntilLaw R mid d buf (Ok n) buf' new) (part line : List ℕ) → IsFront part line
         → line ≡ bytes law.taken → ComeFirst a (concat ps ++ part)
     pieces_part {n} law part line (rest, is) same =
-        by (to_come a) (to_come (lender_tells R mid)) (to_come (lender_tells R new)) gives.told (until_says law)
+        by (to_come a) (to_come (tells R mid)) (to_come (tells R new)) gives.told (until_says law)
       where
         by : (t m u : Option (List Event)) → IfSome t (λ E. IsSomeAnd m (GivesFirst d E ps))
             → IfSome m (λ E. IsSomeAnd u (Says d E (bytes law.taken) (Ok n)))
@@ -71,3 +73,40 @@ module _ {X A : Type 0} {R : Lender X} {d : ℕ} {a : Tells} {ps : List (List �
         by (Some E) (Some F) (Some after) first next =
             (rest ++ bytes_to_fault after, parted d n E F after ps _ part rest (sym same ∙ is) first next)
         by (Some E) m u first next = grind (arith, common_steps)
+
+    -- a `read_until` failed: behind the pieces so far a part was taken
+    pub stops_reading : {e : Error} → ReadUntilLaw R mid d buf (Err e) buf' new → StopsAfter d e a ps (tells R new)
+    stops_reading {e} law = elim law.ends.1 [
+      | inl fault ↦ record {
+        mid = tells R mid;
+        gives = gives;
+        part = bytes law.taken;
+        how = Err e;
+        took = record { taken = law.taken; takes = law.takes; are = refl; ends = fault };
+        whose = inl refl;
+      }
+      | inr refused ↦ record {
+        mid = tells R mid;
+        gives = gives;
+        part = bytes law.taken;
+        how = Ok true;
+        took = record { taken = law.taken; takes = law.takes; are = refl; ends = refused.0 };
+        whose = inr (refl, refused.1);
+      }
+    ]
+
+    -- an allocation failed for what is made of a piece
+    pub stops_copying : {n : ℕ} {e : Error} → ReadUntilLaw R mid d buf (Ok n) buf' new → IsOutOfMemory e → StopsAfter d e a ps (tells R new)
+    stops_copying law refused = record {
+      mid = tells R mid;
+      gives = gives;
+      part = bytes law.taken;
+      how = Ok true;
+      took = record { taken = law.taken; takes = law.takes; are = refl; ends = law.ends.0 };
+      whose = inr (refl, refused);
+    }
+
+-- an empty vector has the piece that a `read_until` took
+pub piece_alone : {X A : Type 0} {R : Reader X} {d : ℕ} {mid new : X} {buf buf' : Vec ℕ A} {reply : Result ℕ Error}
+    (law : ReadUntilLaw R mid d buf reply buf' new) {line : List ℕ} → buf.items ≡ [] → line ≡ buf'.items → line ≡ bytes law.taken
+piece_alone law empty same = same ∙ law.appends ∙ ap (λ l. l ++ bytes law.taken) empty

@@ -2,32 +2,32 @@
 use Rattle.std.proofs.Common.{◌≡◌, ℕ, ◌+◌, ◌-◌, ◌<◌, ◌≤◌, List, [], ◌∷◌, ◌++◌, Ok, Err, min, length, take, refl, sym, ap, subst, ◌∙◌, arith}
 use Rattle.std.proofs.Common.{inl, inr, length-append, length-take-le}
 use Rattle.no_std_io2_base.specs.{declared.error.Error.{Error}, Errors.{IsFault, IsInterruption, IsUnexpectedEnd}, Events.{Event, fails}}
-use Rattle.no_std_io2_base.specs.{Events.{events_of, bytes, HasNoFault}, Takes.{Takes}, Read.{Filled, Consumed}, BufRead.{Lender}}
-use Rattle.no_std_io2_base.specs.{BufRead.{lender_tells, ConsumeLaw, FilledLaw, LendCallLaw}, Write.{ByCalls}, Passing.{PortionCalls}}
-use Rattle.no_std_io2_base.specs.Passing.{no_portion, and_portion, and_waited, Skipped}
+use Rattle.no_std_io2_base.specs.{Events.{events_of, bytes, HasNoFault}, Takes.{Takes}, Read.{Filled, Consumed, Reader, tells, ConsumeLaw}}
+use Rattle.no_std_io2_base.specs.{Read.{FilledLaw, ReadCallLaw}, Write.{ByCalls}, Passing.{PortionCalls, no_portion, and_portion}}
+use Rattle.no_std_io2_base.specs.Passing.{and_waited, Skipped}
 use Rattle.no_std_io2_base.proofs.{CallsLemmas.{by_more, by_then}, EventLemmas.{HasNoFault-append, HasNoFault-events_of}}
 use Rattle.no_std_io2_base.proofs.{PieceLemmas.{bytes-more, bytes-fails}, TakesLemmas.{takes_none, takes_then, takes_still}}
 use Rattle.no_std_io2_base.proofs.PieceLoop.{lent_taken, lent_calls, lent_spends}
 
 -- Of n bytes, `left` are still wanted; the others were taken, by these calls.
-pub record PortionsTaken {X : Type 0} (R : Lender X) (old : X) (n left : ℕ) (now : X) : Type 0 where
+pub record PortionsTaken {X : Type 0} (R : Reader X) (old : X) (n left : ℕ) (now : X) : Type 0 where
   pub taken : List Event
-  pub takes : Takes (lender_tells R old) taken (lender_tells R now)
+  pub takes : Takes (tells R old) taken (tells R now)
   pub no_fault : HasNoFault taken
   pub count : length (bytes taken) + left ≡ n
-  pub calls : ByCalls (LendCallLaw R) old (λ C. PortionCalls n C (bytes taken)) now
+  pub calls : ByCalls (ReadCallLaw R) old (λ C. PortionCalls n C (bytes taken)) now
 
 -- at the start all are wanted
-pub portions_none : {X : Type 0} {R : Lender X} {old : X} {n : ℕ} → PortionsTaken R old n n old
+pub portions_none : {X : Type 0} {R : Reader X} {old : X} {n : ℕ} → PortionsTaken R old n n old
 portions_none {R = R} {old} = record {
   taken = [];
-  takes = takes_none (lender_tells R old);
+  takes = takes_none (tells R old);
   no_fault = tt;
   count = omega arith;
   calls = record { calls = []; made = refl; are = no_portion };
 }
 
-module _ {X : Type 0} {R : Lender X} {old now : X} {n left : ℕ} (before : PortionsTaken R old n left now) (more : 0 < left) where
+module _ {X : Type 0} {R : Reader X} {old now : X} {n left : ℕ} (before : PortionsTaken R old n left now) (more : 0 < left) where
   -- some bytes are still wanted
   wanted : length (bytes before.taken) < n
   wanted = omega (arith, before.count, more)

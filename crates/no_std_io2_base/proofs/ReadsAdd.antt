@@ -17,11 +17,6 @@ pub record EachAdds {R : Type 0} (may : R → ReadCall → R → Type 0) (Adds :
   pub lent : (a b : R) (answer : Result (List ℕ) Error) → may a (Filled answer) b → Adds a [] b
   pub took : (a b c : R) (x : List ℕ) (n : ℕ) → may a (Filled (Ok x)) b → may b (Consumed n) c → n ≤ length x → Adds a (take n x) c
 
--- so do calls that are among these
-pub each_of : {R : Type 0} {may may' : R → ReadCall → R → Type 0} {Adds : R → List ℕ → R → Type 0}
-    → ((a b : R) (call : ReadCall) → may' a call b → may a call b) → EachAdds may Adds → EachAdds may' Adds
-each_of among each = grind (arith, common_steps)
-
 -- after `Ok` a line was appended
 pub line_appended : (old old' line : List ℕ) (len capacity : ℕ) (reply read : Result ℕ Error)
     → AnswersLine line read len capacity reply old old' → OnOk reply (old' ≡ old ++ line)

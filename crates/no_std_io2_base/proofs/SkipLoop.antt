@@ -2,27 +2,27 @@
 use Rattle.std.proofs.{lemmas.Grind.{common_steps}, Common.{◌≡◌, ℕ, ◌+◌, ◌-◌, ◌^◌, Bool, true, false, List, [], ◌∷◌, ◌++◌, Result, Ok, Err}}
 use Rattle.std.proofs.Common.{min, length, take, refl, sym, ap, ◌∙◌, arith, length-append, length-take-le}
 use Rattle.no_std_io2_base.specs.{declared.error.Error.{Error}, Errors.{IsInterruption, IsFault}, Events.{Event, fails, events_of, bytes}}
-use Rattle.no_std_io2_base.specs.{BufRead.{Lender, ConsumeLaw, FilledLaw, SkipUntilLaw, at_most_max}, Pieces.{FindsPiece}}
+use Rattle.no_std_io2_base.specs.{Read.{Reader, ConsumeLaw, FilledLaw}, BufRead.{SkipUntilLaw, at_most_max}, Pieces.{FindsPiece}}
 use Rattle.no_std_io2_base.proofs.{PieceLemmas.{bytes-more, bytes-fails}, PieceLoop.{PartTaken, PieceTaken, part_none, part_waited}}
 use Rattle.no_std_io2_base.proofs.PieceLoop.{part_more, piece_faulted, piece_whole}
 
 -- A part of a piece was skipped so far. The count is its length, at most `usize::MAX`.
-pub record SkipSoFar {X : Type 0} (R : Lender X) (d : ℕ) (old : X) (skipped : ℕ) (now : X) : Type 0 where
+pub record SkipSoFar {X : Type 0} (R : Reader X) (d : ℕ) (old : X) (skipped : ℕ) (now : X) : Type 0 where
   pub taken : List Event
   pub part : PartTaken R d old taken now
   pub count : skipped ≡ min (length (bytes taken)) (2 ^ 64 - 1)
 
 -- at the start nothing was skipped
-pub skip_none : {X : Type 0} {R : Lender X} {d : ℕ} {old : X} → SkipSoFar R d old 0 old
+pub skip_none : {X : Type 0} {R : Reader X} {d : ℕ} {old : X} → SkipSoFar R d old 0 old
 skip_none {R = R} {d} {old} = record { taken = []; part = part_none R d old; count = omega arith }
 
 -- a piece that was skipped
-skip_law : {X : Type 0} {R : Lender X} {d : ℕ} {old new : X} {P : List Event} (read : Result ℕ Error) {reply : Result ℕ Error}
+skip_law : {X : Type 0} {R : Reader X} {d : ℕ} {old new : X} {P : List Event} (read : Result ℕ Error) {reply : Result ℕ Error}
     → reply ≡ at_most_max read → PieceTaken R (λ _. ⊥) ⊥ d old P read new → SkipUntilLaw R old d reply new
 skip_law {P = P} read is piece =
     record { taken = P; takes = piece.takes; read = read; is = is; ends = piece.ends; calls = piece.calls }
 
-module _ {X : Type 0} {R : Lender X} {d : ℕ} {old now after : X} {skipped : ℕ} (before : SkipSoFar R d old skipped now) where
+module _ {X : Type 0} {R : Reader X} {d : ℕ} {old now after : X} {skipped : ℕ} (before : SkipSoFar R d old skipped now) where
   module _ {e : Error} (filled : FilledLaw R now (Err e) after) where
     -- an interruption is ignored
     pub skip_interruption : IsInterruption e → SkipSoFar R d old skipped after

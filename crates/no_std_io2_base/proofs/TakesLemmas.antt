@@ -5,7 +5,7 @@ use Rattle.std.proofs.Common.{length-take-le, IfOk, IfSome, OnOk}
 use Rattle.no_std_io2_base.specs.{declared.error.Error.{Error}, Errors.{IsInterruption}, Events.{Event, byte, fails, events_of, bytes}}
 use Rattle.no_std_io2_base.specs.{Events.{HasNoFault, cut, EndsInFault}, Takes.{Tells, Takes, TakesBytes, to_come, IsAtEnd, IsAll}}
 use Rattle.no_std_io2_base.specs.Read.{Reader, tells, ReadCall, gave, ended, bytes_given, ReadCallLaw, GaveLaw, ReadLaw, ReadExactLaw}
-use Rattle.no_std_io2_base.specs.{Read.{Gives, AllOrNone, DrainsOrStops}, BufRead.{Lender, as_reader, LendCallLaw}, Write.{Made}}
+use Rattle.no_std_io2_base.specs.{Read.{Gives, AllOrNone, DrainsOrStops}, Write.{Made}}
 use Rattle.no_std_io2_base.proofs.{CallsLemmas.{made_map}, EventLemmas.{bytes-append, bytes-events_of, HasNoFault-append}}
 use Rattle.no_std_io2_base.proofs.EventLemmas.{HasNoFault-events_of, cut-append}
 
@@ -140,15 +140,6 @@ module _ {S : Type 0} (R : Reader S) where
       let first = law_takes a made.0 call made.1 in
       let rest = made_takes C made.0 b made.2 in
       (first.0 ++ rest.0, takes_then first.1 rest.1)
-
--- a call of a reader that lends is one of a reader
-pub lend_law : {S : Type 0} (R : Lender S) (a b : S) (call : ReadCall) → LendCallLaw R a call b → ReadCallLaw (as_reader R) a call b
-lend_law x1 a b x4 law = grind (arith, common_steps)
-
--- and so are many
-pub made_lend : {S : Type 0} (R : Lender S) (C : List ReadCall) (a b : S) → Made (LendCallLaw R) a C b
-    → Made (ReadCallLaw (as_reader R)) a C b
-made_lend R C a b made = made_map (LendCallLaw R) (ReadCallLaw (as_reader R)) (λ x. x) (lend_law R) C a b made
 
 -- a `read` is a call
 pub read_law : {S : Type 0} {R : Reader S} {old new : S} {buf buf' : List ℕ} (reply : Result ℕ Error)

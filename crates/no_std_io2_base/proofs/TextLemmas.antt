@@ -3,7 +3,7 @@ use Rattle.std.proofs.{lemmas.Grind.{common_steps}, Common.{arith, ◌≡◌, �
 use Rattle.std.proofs.Common.{OnErr, IsOk, is_ok, IfSome, ◌⊎◌, Bool, true, false, true≢false, IsErrAnd, refl, sym, ap, subst, ◌∙◌}
 use Rattle.std.proofs.{Common.{append-nil, length, drop, inl, inr, ⊎_elim}, Math.{Seq.{drop-append_seam}, Logic.{∥∥₁_elim, ∥∥₁_map}}}
 use Rattle.std.proofs.{Props.{props}, lemmas.{List.Folds.{concat-append}, Fn.{chained_keeps}}}
-use Rattle.std.specs.{Coded.{le_prop, Π_prop, Unit-prop}, List.{concat}, Fmt.{WritesInCalls, DisplaysOnOk, IsPlainFormatter}}
+use Rattle.std.specs.{Coded.{le_prop, Π_prop, Unit-prop}, List.{concat}, Fmt.{WritesInCalls, WritesText, DisplaysOnOk, IsPlainFormatter}}
 use Rattle.std.specs.{Fmt.{formatter_writer}, declared.fmt.{Formatter.{Formatter}, Error.{Error as FormatError}}}
 use mathlib.Core.HLevel.{⊥_prop}
 use Rattle.no_std_io2_base.specs.{declared.error.{Error.{Error}, ErrorKind.{ErrorKind}}, Write.{Told, Moves, MovesFront, HasSpent}}
@@ -49,23 +49,21 @@ module _ {W S : Type 0} (prints : S → List ℕ → W → Type 0) where
   prints_calls s t old w start = rw (← w.whole) (chained_keeps PrintsNext (λ xs q. prints old (concat xs) q)
       (λ xs q x v so_far next. rw (concat-append, append-nil) (next old (concat xs) so_far)) w.parts s t start w.calls)
 
+  -- a text was printed by a writer for formatters: whatever its `fmt` did, and its output if that is specified
+  pub prints_through : {s t : W} {old : S} (output : Option (List ℕ)) (formatted : Result (Unit {0}) FormatError)
+      → OnOk formatted (WritesText PrintsNext s output t) → prints old [] s
+      → ∥ ((old : S) × (text : List ℕ) × prints old text t) ∥₁
+      → ∥ ((old : S) × (text : List ℕ) × prints old text t × (IsOk formatted → IfSome output (λ bs. text ≡ bs))) ∥₁
+  prints_through None formatted writes start had = ∥∥₁_map had (λ p. (p.0, p.1, p.2, λ ok. tt))
+  prints_through (Some bs) (Err e) writes start had = ∥∥₁_map had (λ p. (p.0, p.1, p.2, λ ok. absurd (true≢false (sym ok))))
+  prints_through {s = s} {t = t} {old = old} (Some bs) (Ok u) writes start had =
+      ∣ (old, bs, prints_calls s t old writes start, λ ok. refl) ∣₁
+
   -- a specified output was printed through a formatter, after `Ok`
   pub prints_output : (f g : Formatter W) {s t : W} (old : S) (output : Option (List ℕ)) (formatted : Result (Unit {0}) FormatError)
       → formatter_writer f ≡ s → IsPlainFormatter f → t ≡ formatter_writer g → DisplaysOnOk PrintsNext f formatted output g → IsOk formatted
       → prints old [] s → IfSome output (λ bs. prints old bs t)
   prints_output f g old x4 formatted over plain back shows ok start = grind (arith, common_steps, prints_calls)
-
-  -- a text was printed through a formatter: whatever its `fmt` did, and its output if that is specified
-  pub prints_shown : (f g : Formatter W) {s t : W} {old : S} (output : Option (List ℕ)) (formatted : Result (Unit {0}) FormatError)
-      → formatter_writer f ≡ s → IsPlainFormatter f → t ≡ formatter_writer g → DisplaysOnOk PrintsNext f formatted output g
-      → prints old [] s
-      → ∥ ((old : S) × (text : List ℕ) × prints old text t) ∥₁
-      → ∥ ((old : S) × (text : List ℕ) × prints old text t × (IsOk formatted → IfSome output (λ bs. text ≡ bs))) ∥₁
-  prints_shown f g None formatted over plain back shows start had = ∥∥₁_map had (λ p. (p.0, p.1, p.2, λ ok. tt))
-  prints_shown f g (Some bs) (Err e) over plain back shows start had =
-      ∥∥₁_map had (λ p. (p.0, p.1, p.2, λ ok. absurd (true≢false (sym ok))))
-  prints_shown f g {old = old} (Some bs) (Ok u) over plain back shows start had =
-      ∣ (old, bs, prints_output f g old (Some bs) (Ok u) over plain back shows refl start, λ ok. refl) ∣₁
 
 -- ---- what is known behind any formatter
 

@@ -1,105 +1,54 @@
 -- The bytes that `fill_buf` lends, the state after the borrow, and the law of each call of `BufRead`.
-use Rattle.std.specs.Prelude.{◌≡◌, ℕ, ◌-◌, ◌<◌, List, [], ◌++◌, length, ⊤, Ok, Err, Result, ◌+◌, ◌≤◌, take, drop, Vec, String, ◌^◌, ◌==◌}
+use Rattle.std.specs.Prelude.{◌≡◌, ℕ, ◌-◌, ◌<◌, List, [], ◌++◌, length, Ok, Err, Result, ◌+◌, ◌≤◌, take, drop, Vec, String, ◌^◌, ◌==◌}
 use Rattle.std.specs.Prelude.{min, if◌then◌else◌, vec_len, vec_capacity, string_bytes, string_len, string_capacity, IfOk, IfSome, IsOkAnd}
-use Rattle.std.specs.{Prelude.{Option}, Borrow.{follows_so, Fml, RattleType, MutBor, Bor}}
-use mathlib.Core.Option.{none}
+use Rattle.std.specs.{Prelude.{Option}, Borrow.{Bor}}
 use Rattle.no_std_io2_base.specs.{declared.error.Error.{Error}, Events.{Event, events_of, bytes, BeginsWith}, Takes.{Store, Tells, Takes}}
 use Rattle.no_std_io2_base.specs.{Takes.{to_come, IsAtEnd}, Read.{Reader, tells, ReadCall, Filled, Consumed, ReadCallLaw, bytes_given}}
 use Rattle.no_std_io2_base.specs.{Read.{fault_of}, Pieces.{newline, PieceEnds, AnswersLine, PieceCalls, YieldsRead}, Write.{ByCalls}}
-
--- P holds for the value behind the `&mut` s after the borrow of it by the result has ended
-abbrev pub Rests : (R : RattleType) → MutBor R.Denot → (R.Denot → Type 0) → Fml
-Rests R s P = follows_so R R s.ghost_name none (λ _ _. ⊤) P
 
 -- the bytes that were lent, or the error
 abbrev pub lent_bytes : Result (Bor (List ℕ)) Error → Result (List ℕ) Error
 lent_bytes (Ok s) = Ok s.now
 lent_bytes (Err e) = Err e
 
--- the ghost members of a `BufRead`, as `⟦<R as BufRead>⟧` names them: that of its store, those of `Read`, and its own
-abbrev pub Lender : Type 0 → Type 1
-Lender X = record {
-  store : X → Option Store;
-  turns : X → ℕ;
-  events : X → Option (List Event);
-  may : X → ReadCall → X → Type 0;
-  held : X → List ℕ;
-}
-
--- a reader that lends, without the bytes that it holds
-abbrev pub as_reader : {X : Type 0} → Lender X → Reader X
-as_reader R = record { store = R.store; turns = R.turns; events = R.events; may = R.may }
-
--- what a reader that lends tells
-abbrev pub lender_tells : {X : Type 0} → Lender X → X → Tells
-lender_tells R = tells (as_reader R)
-
 -- `fill_buf()`: its result
-pub record FillBufLaw {X : Type 0} (R : Lender X) (old : X) (reply : Result (Bor (List ℕ)) Error) : Type 0 where
+pub record FillBufLaw {X : Type 0} (R : Reader X) (old : X) (reply : Result (Bor (List ℕ)) Error) : Type 0 where
   -- held bytes are lent, all of them
   pub held : 0 < length (R.held old) → IsOkAnd reply (λ s. s.now ≡ R.held old)
   -- the lent bytes come next
-  pub front : IfOk reply (λ s. IfSome (to_come (lender_tells R old)) (λ E. BeginsWith E s.now))
+  pub front : IfOk reply (λ s. IfSome (to_come (tells R old)) (λ E. BeginsWith E s.now))
   -- an empty slice is lent only at the end
-  pub end : IfOk reply (λ s. s.now ≡ [] → IsAtEnd (lender_tells R old))
+  pub end : IfOk reply (λ s. s.now ≡ [] → IsAtEnd (tells R old))
 
 -- `fill_buf()`: the state once the borrow has ended
-abbrev pub AfterLoan : {X : Type 0} → Lender X → X → Result (Bor (List ℕ)) Error → X → Type 0
+abbrev pub AfterLoan : {X : Type 0} → Reader X → X → Result (Bor (List ℕ)) Error → X → Type 0
 AfterLoan R old reply new = record {
   -- the lent bytes are held, and none after an error
   lends : R.held new ≡ bytes_given (lent_bytes reply);
   -- nothing is taken, except the error that was returned
-  takes : Takes (lender_tells R old) (fault_of (lent_bytes reply)) (lender_tells R new);
+  takes : Takes (tells R old) (fault_of (lent_bytes reply)) (tells R new);
   -- if bytes were held, nothing has changed
   unchanged : 0 < length (R.held old) → new ≡ old;
   -- an empty slice is lent only at the end
-  end : lent_bytes reply ≡ Ok [] → IsAtEnd (lender_tells R new);
+  end : lent_bytes reply ≡ Ok [] → IsAtEnd (tells R new);
   -- it is one call
   call : R.may old (Filled (lent_bytes reply)) new;
 }
 
--- `consume(amount)`
-pub record ConsumeLaw {X : Type 0} (R : Lender X) (old : X) (amount : ℕ) (new : X) : Type 0 where
-  -- the first of the held bytes are dropped, and taken
-  pub held : R.held new ≡ drop amount (R.held old)
-  pub takes : Takes (lender_tells R old) (events_of (take amount (R.held old))) (lender_tells R new)
-  -- it is one call
-  pub call : R.may old (Consumed amount) new
-
--- a `fill_buf`, by its answer
-pub record FilledLaw {X : Type 0} (R : Lender X) (old : X) (answer : Result (List ℕ) Error) (new : X) : Type 0 where
-  -- if bytes were held, they are lent, all of them, and nothing has changed
-  pub held : 0 < length (R.held old) → (answer ≡ Ok (R.held old)) × (new ≡ old)
-  -- the lent bytes come next, and are held
-  pub front : IfOk answer (λ x. IfSome (to_come (lender_tells R old)) (λ E. BeginsWith E x))
-  pub lends : R.held new ≡ bytes_given answer
-  -- none are lent only at the end
-  pub end : answer ≡ Ok [] → IsAtEnd (lender_tells R new)
-  -- nothing is taken, except the error that was returned
-  pub takes : Takes (lender_tells R old) (fault_of answer) (lender_tells R new)
-  -- it is one call
-  pub call : R.may old (Filled answer) new
-
--- a call of a `BufRead`, by its law
-abbrev pub LendCallLaw : {X : Type 0} → Lender X → X → ReadCall → X → Type 0
-LendCallLaw R old (Filled answer) new = FilledLaw R old answer new
-LendCallLaw R old (Consumed n) new = (n ≤ length (R.held old)) × ConsumeLaw R old n new
-LendCallLaw R old call new = ReadCallLaw (as_reader R) old call new
-
 -- `read_until(delim, buf)`
-pub record ReadUntilLaw {X A : Type 0} (R : Lender X) (old : X) (delim : ℕ) (buf : Vec ℕ A) (reply : Result ℕ Error) (buf' : Vec ℕ A)
+pub record ReadUntilLaw {X A : Type 0} (R : Reader X) (old : X) (delim : ℕ) (buf : Vec ℕ A) (reply : Result ℕ Error) (buf' : Vec ℕ A)
     (new : X) : Type 0 where
   -- what it takes
   pub taken : List Event
-  pub takes : Takes (lender_tells R old) taken (lender_tells R new)
+  pub takes : Takes (tells R old) taken (tells R new)
   -- its bytes are appended
   pub appends : buf'.items ≡ buf.items ++ bytes taken
   -- they are one piece; or a fault came first, or bytes for which the vector had no room, and it could not grow
-  pub ends : PieceEnds (λ n. vec_capacity buf < vec_len buf + n) delim (lender_tells R old) taken reply
+  pub ends : PieceEnds (λ n. vec_capacity buf < vec_len buf + n) delim (tells R old) taken reply
   -- the capacity never shrinks
   pub capacity : vec_capacity buf ≤ vec_capacity buf'
   -- which calls it made
-  pub calls : ByCalls (LendCallLaw R) old (λ C. PieceCalls (Unit {0}) delim C (bytes taken) reply) new
+  pub calls : ByCalls (ReadCallLaw R) old (λ C. PieceCalls (Unit {0}) delim C (bytes taken) reply) new
 
 -- the result of a call that counts at most `usize::MAX` bytes
 abbrev pub at_most_max : Result ℕ Error → Result ℕ Error
@@ -107,16 +56,16 @@ at_most_max (Ok n) = Ok (min n (2 ^ 64 - 1))
 at_most_max (Err e) = Err e
 
 -- `skip_until(delim)`
-pub record SkipUntilLaw {X : Type 0} (R : Lender X) (old : X) (delim : ℕ) (reply : Result ℕ Error) (new : X) : Type 0 where
+pub record SkipUntilLaw {X : Type 0} (R : Reader X) (old : X) (delim : ℕ) (reply : Result ℕ Error) (new : X) : Type 0 where
   -- what it takes
   pub taken : List Event
-  pub takes : Takes (lender_tells R old) taken (lender_tells R new)
+  pub takes : Takes (tells R old) taken (tells R new)
   -- that is one piece, and the result is its length; or a fault came first
   pub read : Result ℕ Error
   pub is : reply ≡ at_most_max read
-  pub ends : PieceEnds (λ _. ⊥) delim (lender_tells R old) taken read
+  pub ends : PieceEnds (λ _. ⊥) delim (tells R old) taken read
   -- which calls it made
-  pub calls : ByCalls (LendCallLaw R) old (λ C. PieceCalls ⊥ delim C (bytes taken) read) new
+  pub calls : ByCalls (ReadCallLaw R) old (λ C. PieceCalls ⊥ delim C (bytes taken) read) new
 
 -- the room for a line that is read for a text: an empty text lends its own memory
 abbrev pub line_room : {A : Type 0} → String A → ℕ
@@ -127,31 +76,31 @@ abbrev pub text_room : {A : Type 0} → String A → Vec ℕ A → ℕ
 text_room buf line = if string_len buf == 0 then vec_capacity line else string_capacity buf
 
 -- `read_line(alloc, buf)`
-pub record ReadLineLaw {X A : Type 0} (R : Lender X) (old : X) (buf : String A) (reply : Result ℕ Error) (buf' : String A) (new : X)
+pub record ReadLineLaw {X A : Type 0} (R : Reader X) (old : X) (buf : String A) (reply : Result ℕ Error) (buf' : String A) (new : X)
     : Type 0 where
   -- what it takes
   pub taken : List Event
-  pub takes : Takes (lender_tells R old) taken (lender_tells R new)
+  pub takes : Takes (tells R old) taken (tells R new)
   -- that is a line, as `read_until` takes it with a newline as delimiter, by this result
   pub read : Result ℕ Error
-  pub ends : PieceEnds (λ n. line_room buf < n) newline (lender_tells R old) taken read
+  pub ends : PieceEnds (λ n. line_room buf < n) newline (tells R old) taken read
   -- it is appended if it is UTF-8 and there is room for it
   pub answers : AnswersLine (bytes taken) read (string_len buf) (string_capacity buf) reply (string_bytes buf) (string_bytes buf')
   -- the capacity never shrinks
   pub capacity : string_capacity buf ≤ string_capacity buf'
   -- which calls it made
-  pub calls : ByCalls (LendCallLaw R) old (λ C. PieceCalls (Unit {0}) newline C (bytes taken) read) new
+  pub calls : ByCalls (ReadCallLaw R) old (λ C. PieceCalls (Unit {0}) newline C (bytes taken) read) new
 
 -- A `next` of `Split` or `Lines` took one piece, as `read_until` takes it into a new vector, and yields it, trimmed, or an error. `view`
 -- gives the bytes of an item. A new vector has no room, so memory can be refused for the first byte of an item.
-pub record NextPieceLaw {X T : Type 0} (R : Lender X) (old : X) (view : T → List ℕ) (trim : List ℕ → List ℕ)
+pub record NextPieceLaw {X T : Type 0} (R : Reader X) (old : X) (view : T → List ℕ) (trim : List ℕ → List ℕ)
     (refuses : List ℕ → Error → Type 0) (d : ℕ) (result : Option (Result T Error)) (new : X) : Type 0 where
   pub taken : List Event
-  pub takes : Takes (lender_tells R old) taken (lender_tells R new)
+  pub takes : Takes (tells R old) taken (tells R new)
   -- it is one piece, taken with this result
   pub read : Result ℕ Error
-  pub ends : PieceEnds (λ _. Unit {0}) d (lender_tells R old) taken read
+  pub ends : PieceEnds (λ _. Unit {0}) d (tells R old) taken read
   -- that is what it yields
   pub yields : YieldsRead view trim refuses (bytes taken) read result
   -- which calls it made
-  pub calls : ByCalls (LendCallLaw R) old (λ C. PieceCalls (Unit {0}) d C (bytes taken) read) new
+  pub calls : ByCalls (ReadCallLaw R) old (λ C. PieceCalls (Unit {0}) d C (bytes taken) read) new

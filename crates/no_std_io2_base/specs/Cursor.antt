@@ -13,6 +13,10 @@ cursor_position c = c.pos
 abbrev pub cursor_inner : {T : Type 0} → Cursor T → T
 cursor_inner c = c.inner
 
+-- c after `*c.get_mut() = x`
+abbrev pub cursor_with_inner : {T : Type 0} → Cursor T → T → Cursor T
+cursor_with_inner c x = record c { inner = x }
+
 -- the content's bytes from the position on
 abbrev pub cursor_left : {T : Type 0} → (T → List ℕ) → Cursor T → List ℕ
 cursor_left slice c = drop c.pos (slice c.inner)

@@ -112,7 +112,7 @@ abbrev pub is_interruption : ErrorKind → Bool
 is_interruption Interrupted = true
 is_interruption _ = false
 
--- e is an interruption: the call did nothing, and may be made again
+-- e is an interruption: the call accepted and gave no byte, and may be made again
 abbrev pub IsInterruption : Error → Type 0
 IsInterruption e = is_interruption (error_kind e) ≡ true
 

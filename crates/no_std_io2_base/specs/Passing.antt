@@ -2,7 +2,7 @@
 use Rattle.std.specs.Prelude.{◌≡◌, ◌⊎◌, ℕ, ◌+◌, ◌-◌, ◌<◌, min, List, [], ◌∷◌, ◌++◌, length, take, Result, Ok, Err}
 use Rattle.no_std_io2_base.specs.{declared.error.Error.{Error}, Errors.{IsFault, IsInterruption, IsUnexpectedEnd}, Events.{Event, bytes}}
 use Rattle.no_std_io2_base.specs.{Events.{HasNoFault, EndsInFault}, Takes.{Tells, Takes, IsAtEnd}, Read.{ReadCall, Filled, Consumed}}
-use Rattle.no_std_io2_base.specs.{BufRead.{Lender, lender_tells, LendCallLaw}, Write.{ByCalls}}
+use Rattle.no_std_io2_base.specs.{Read.{Reader, tells, ReadCallLaw}, Write.{ByCalls}}
 
 -- C are the calls of a loop that takes `want` bytes and has taken x: each `fill_buf` lent some bytes, and as many of them as were still
 -- wanted were consumed; or it was interrupted
@@ -28,13 +28,13 @@ SkipEnds P (Ok u) left new = HasNoFault P × (left ≡ 0)
 SkipEnds P (Err e) left new = (0 < left) × (EndsInFault P e ⊎ (IsUnexpectedEnd e × HasNoFault P × IsAtEnd new))
 
 -- `skip(&mut left)`: of n bytes, `left` are still to be skipped
-pub record Skipped {X : Type 0} (R : Lender X) (old : X) (n : ℕ) (reply : Result (Unit {0}) Error) (left : ℕ) (new : X) : Type 0 where
+pub record Skipped {X : Type 0} (R : Reader X) (old : X) (n : ℕ) (reply : Result (Unit {0}) Error) (left : ℕ) (new : X) : Type 0 where
   -- what it takes
   pub taken : List Event
-  pub takes : Takes (lender_tells R old) taken (lender_tells R new)
+  pub takes : Takes (tells R old) taken (tells R new)
   -- its bytes are the skipped ones
   pub count : length (bytes taken) + left ≡ n
   -- how it ended
-  pub ends : SkipEnds taken reply left (lender_tells R new)
+  pub ends : SkipEnds taken reply left (tells R new)
   -- which calls it made
-  pub calls : ByCalls (LendCallLaw R) old (λ C. SkipCalls n C (bytes taken) reply) new
+  pub calls : ByCalls (ReadCallLaw R) old (λ C. SkipCalls n C (bytes taken) reply) new

@@ -1,6 +1,6 @@
 -- What a call needs to know of a reader, the calls of `Read` with the law of each, and what `Bytes` yields.
 use Rattle.std.specs.Prelude.{◌≡◌, ℕ, ◌<◌, List, [], ◌∷◌, ◌++◌, length, take, Ok, Err, Result, ◌⊎◌, ◌+◌, ◌-◌, ◌≤◌, Vec, vec_len}
-use Rattle.std.specs.Prelude.{vec_capacity, Some, IfOk, IsOk, Option, None, IfSome}
+use Rattle.std.specs.Prelude.{vec_capacity, Some, IfOk, IsOk, Option, None, IfSome, drop}
 use Rattle.no_std_io2_base.specs.{declared.error.Error.{Error}, Errors.{IsInterruption, IsFault, IsUnexpectedEnd, IsOutOfMemory}}
 use Rattle.no_std_io2_base.specs.{declared.traits.bytes.Bytes.{Bytes}, Events.{Event, byte, fails, events_of, bytes, HasNoFault, cut}}
 use Rattle.no_std_io2_base.specs.{Events.{EndsInFault, BeginsWith}, Takes.{Store, Tells, Takes, to_come, IsAtEnd}, Write.{ByCalls, IsFront}}
@@ -85,13 +85,14 @@ abbrev pub ToEndCalls : List ReadCall → List ℕ → Result (Unit {0}) Error �
 ToEndCalls C x answer = ((D : List ReadCall) × (y : List ℕ) × (z : List ℕ) × Gathers IsRoom D y × (x ≡ y ++ z)
     × (C ≡ D ++ GaveAll z answer ∷ [])) ⊎ DrainCalls C x answer
 
--- the ghost members of a reader, as `⟦<R as Read>⟧` names them: that of its store, and its own
+-- the ghost members of a reader, as `⟦<R as Read>⟧` names them: that of its store, and its own. `held` are the bytes that it can lend
 abbrev pub Reader : Type 0 → Type 1
 Reader S = record {
   store : S → Option Store;
   turns : S → ℕ;
   events : S → Option (List Event);
   may : S → ReadCall → S → Type 0;
+  held : S → List ℕ;
 }
 
 -- what a reader tells
@@ -145,6 +146,28 @@ pub record GaveLaw {S : Type 0} (R : Reader S) (old : S) (room : ℕ) (answer : 
   -- it is one call
   pub call : R.may old (Gave room answer) new
 
+-- a `fill_buf`, by its answer
+pub record FilledLaw {S : Type 0} (R : Reader S) (old : S) (answer : Result (List ℕ) Error) (new : S) : Type 0 where
+  -- if bytes were held, they are lent, all of them, and nothing has changed
+  pub held : 0 < length (R.held old) → (answer ≡ Ok (R.held old)) × (new ≡ old)
+  -- the lent bytes come next, and are held
+  pub front : IfOk answer (λ x. IfSome (to_come (tells R old)) (λ E. BeginsWith E x))
+  pub lends : R.held new ≡ bytes_given answer
+  -- none are lent only at the end
+  pub end : answer ≡ Ok [] → IsAtEnd (tells R new)
+  -- nothing is taken, except the error that was returned
+  pub takes : Takes (tells R old) (fault_of answer) (tells R new)
+  -- it is one call
+  pub call : R.may old (Filled answer) new
+
+-- `consume(amount)`
+pub record ConsumeLaw {S : Type 0} (R : Reader S) (old : S) (amount : ℕ) (new : S) : Type 0 where
+  -- the first of the held bytes are dropped, and taken
+  pub held : R.held new ≡ drop amount (R.held old)
+  pub takes : Takes (tells R old) (events_of (take amount (R.held old))) (tells R new)
+  -- it is one call
+  pub call : R.may old (Consumed amount) new
+
 -- a call, by its law
 abbrev pub ReadCallLaw : {S : Type 0} → Reader S → S → ReadCall → S → Type 0
 ReadCallLaw R old (Gave room answer) new = GaveLaw R old room answer new
@@ -152,10 +175,8 @@ ReadCallLaw R old (GaveExactly room answer) new = R.may old (GaveExactly room an
     × ((P : List Event) × Takes (tells R old) P (tells R new) × FillsOrEnds room P answer (tells R new))
 ReadCallLaw R old (GaveAll x answer) new = R.may old (GaveAll x answer) new
     × ((P : List Event) × Takes (tells R old) P (tells R new) × (bytes P ≡ x) × DrainsOrStops (Unit {0}) P answer (tells R new))
-ReadCallLaw R old (Filled answer) new = R.may old (Filled answer) new × Takes (tells R old) (fault_of answer) (tells R new)
-    × IfOk answer (λ x. IfSome (to_come (tells R old)) (λ E. BeginsWith E x))
-ReadCallLaw R old (Consumed n) new = R.may old (Consumed n) new
-    × ((x : List ℕ) × (length x ≡ n) × Takes (tells R old) (events_of x) (tells R new))
+ReadCallLaw R old (Filled answer) new = FilledLaw R old answer new
+ReadCallLaw R old (Consumed n) new = (n ≤ length (R.held old)) × ConsumeLaw R old n new
 
 -- `read(buf)`
 pub record ReadLaw {S : Type 0} (R : Reader S) (old : S) (buf : List ℕ) (reply : Result ℕ Error) (buf' : List ℕ) (new : S) : Type 0 where

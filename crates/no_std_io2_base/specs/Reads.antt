@@ -2,9 +2,8 @@
 -- `Ok(false)` if it met the end, and an error if it met that fault.
 use Rattle.std.specs.Prelude.{◌≡◌, ◌⊎◌, ◌<◌, ℕ, List, [], ◌∷◌, ◌++◌, length, ⊤, Bool, true, false, Result, Ok, Err, IfErr}
 use Rattle.no_std_io2_base.specs.{declared.error.Error.{Error}, Errors.{IsFault, IsInterruption}, Events.{Event, bytes, HasNoFault}}
-use Rattle.no_std_io2_base.specs.{Events.{EndsInFault}, Takes.{Tells, Takes, IsAtEnd}, Write.{Made, ByCalls}, BufRead.{Lender}}
-use Rattle.no_std_io2_base.specs.{BufRead.{lender_tells, LendCallLaw}, Read.{Reader, ReadCall, Gave, GaveExactly, GaveAll, Filled}}
-use Rattle.no_std_io2_base.specs.Read.{Consumed, ReadCallLaw, Gathers, GathersUntil}
+use Rattle.no_std_io2_base.specs.{Events.{EndsInFault}, Takes.{Tells, Takes, IsAtEnd}, Write.{Made, ByCalls}, Read.{Reader, tells}}
+use Rattle.no_std_io2_base.specs.Read.{ReadCallLaw, ReadCall, Gave, GaveExactly, GaveAll, Filled, Consumed, Gathers, GathersUntil}
 
 -- how a reader that took P ended, and tells this now
 abbrev pub GathersTo : List Event → Result Bool Error → Tells → Type 0
@@ -59,10 +58,10 @@ Asked C (Err e) = (D : List ReadCall) × (call : ReadCall) × AllGoOn D × (C �
 
 -- From old to new a reader that lends got calls of `read` and `fill_buf`. It gave x, and may go on; or it met the end or
 -- a fault, after which it got no more calls.
-pub record Fetches {X : Type 0} (R : Lender X) (old : X) (x : List ℕ) (how : Result Bool Error) (new : X) : Type 0 where
-  pub took : Took (lender_tells R old) x how (lender_tells R new)
-  pub calls : ByCalls (LendCallLaw R) old (λ C. Asked C how) new
+pub record Fetches {X : Type 0} (R : Reader X) (old : X) (x : List ℕ) (how : Result Bool Error) (new : X) : Type 0 where
+  pub took : Took (tells R old) x how (tells R new)
+  pub calls : ByCalls (ReadCallLaw R) old (λ C. Asked C how) new
 
 -- bytes were fetched, and this holds for them and for how that ended
-abbrev pub Fetched : {X : Type 0} → Lender X → X → (List ℕ → Result Bool Error → Type 0) → X → Type 0
+abbrev pub Fetched : {X : Type 0} → Reader X → X → (List ℕ → Result Bool Error → Type 0) → X → Type 0
 Fetched R old Ends new = (x : List ℕ) × (how : Result Bool Error) × Fetches R old x how new × Ends x how

@@ -1,10 +1,15 @@
 -- What a `Sink` tells; an `Empty` tells what its sink tells.
 use Rattle.std.specs.Prelude.{◌≡◌, ℕ, List, [], ◌++◌, length, Some, Ok}
 use Rattle.no_std_io2_base.specs.{Seek.{SeekCall, Sought}, Write.{Told, WriteCall, Wrote, WroteAll, Flushed}, declared.sinks.Sink.{Sink}}
+use Rattle.no_std_io2_base.specs.declared.empties.Empty.{Empty}
 
 -- the bytes that a sink took
 abbrev pub sink_taken : Sink → List ℕ
 sink_taken s = s.taken.bytes
+
+-- the bytes that an `Empty` took
+abbrev pub empty_taken : Empty → List ℕ
+empty_taken e = sink_taken e.sink
 
 -- what a sink tells: the bytes that it took are out, and no mishap is to come
 abbrev pub sink_told : Sink → Told

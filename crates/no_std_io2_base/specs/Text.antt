@@ -64,7 +64,7 @@ pub record PrintsShort (N : ℕ) (old : Told) (output : Option (List ℕ)) (repl
   pub moves : MovesFront old text reply new
 
 -- e says that a text is longer than N bytes, or that its own `fmt` failed
-abbrev RefusesText : ℕ → Option (List ℕ) → Error → Type 0
+abbrev pub RefusesText : ℕ → Option (List ℕ) → Error → Type 0
 RefusesText N output e = (IsUnwritten e × IfSome output (λ bs. N < length bs)) ⊎ ((error_kind e ≡ Other) × IsTextError e)
 
 -- A text of at most N bytes was printed. After an error it was not, or some front of it was; then the writer got no call.

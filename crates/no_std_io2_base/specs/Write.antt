@@ -151,8 +151,8 @@ pub data Writes (text : List ℕ) : List WriteCall → List ℕ → Result (Unit
 abbrev pub AllCalls : List WriteCall → List ℕ → Result (Unit {0}) Error → Type 0
 AllCalls C x reply = (C ≡ WroteAll x reply ∷ []) ⊎ ((left : List ℕ) × Writes (codes "failed to write whole buffer") C x reply left)
 
--- The writer takes all: it says so, and no mishap is to come.
-abbrev AcceptsAll : {W : Type 0} → (W → Told) → (W → Type 0) → W → Type 0
+-- The writer takes all: it accepts every write whole from now on, and no mishap is to come.
+abbrev pub AcceptsAll : {W : Type 0} → (W → Told) → (W → Type 0) → W → Type 0
 AcceptsAll told takes_all w = takes_all w × ((told w).mishaps ≡ Some [])
 
 -- `write(x)`

@@ -1,15 +1,15 @@
 -- The ghost members of one writer, I, as one value; and the laws of its calls.
-use Rattle.std.specs.Prelude.{◌≡◌, ℕ, List, [], Option, Some, Result}
+use Rattle.std.specs.Prelude.{◌≡◌, ◌≤◌, ◌⊎◌, ℕ, List, length, Option, Result, IfSome, IsErrAnd}
 use Rattle.no_std_io2_base.specs.{declared.error.Error.{Error}, declared.traits.write.Write.{Ghosts}, Text.{Prints, WriteFmtLaw}}
-use Rattle.no_std_io2_base.specs.Write.{WriteCall, CallLaw, WriteLaw, FlushLaw, WriteAllLaw, WriteRestLaw}
+use Rattle.no_std_io2_base.specs.{Text.{RefusesText}, Write.{AcceptsAll, WriteCall, CallLaw, WriteLaw, FlushLaw, WriteAllLaw, WriteRestLaw}}
 
 -- a writer, as `⟦<W as Write>⟧` and `W.Write` name it
 abbrev pub Writer : Type 0 → Type 1
 Writer W = Ghosts W
 
--- it takes all: it accepts every write whole from now on, and no mishap is to come
+-- this writer takes all
 abbrev pub TakesAll : {W : Type 0} → Writer W → W → Type 0
-TakesAll I w = I.takes_all w × ((I.told w).mishaps ≡ Some [])
+TakesAll I = AcceptsAll I.told I.takes_all
 
 -- `write(x)` of this writer
 abbrev pub WriteOf : {W : Type 0} → Writer W → W → List ℕ → Result ℕ Error → W → Type 0
@@ -38,3 +38,14 @@ PrintsOf I = Prints I.told I.takes_all I.may
 -- `write_fmt(text)` of this writer
 abbrev pub WriteFmtOf : {W : Type 0} → Writer W → W → Option (List ℕ) → Result (Unit {0}) Error → W → Type 0
 WriteFmtOf I = WriteFmtLaw I.told I.takes_all I.may
+
+-- `print_to_object` of a text with this output: one `write_all` of a text of at most N bytes, with its result; or the text was refused, and
+-- no call was made
+abbrev pub PrintsByOne : {W : Type 0} → Writer W → ℕ → Option (List ℕ) → W → Result (Unit {0}) Error → W → Type 0
+PrintsByOne I N output old reply new =
+    ((text : List ℕ) × (length text ≤ N) × IfSome output (λ bs. text ≡ bs) × WriteAllOf I old text reply new)
+    ⊎ (IsErrAnd reply (RefusesText N output) × (new ≡ old))
+
+-- `Did` was done to the value of an object, which is afterwards a value of the same type
+abbrev pub OfObject : {X : Type 0} {V : X → Type 0} → (old : (x : X) × V x) → (V old.0 → V old.0 → Type 0) → (x : X) × V x → Type 0
+OfObject {X} {V} old Did new = (value : V old.0) × (new ≡ (old.0, value)) × Did old.1 value

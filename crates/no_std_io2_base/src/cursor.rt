@@ -6,7 +6,7 @@ ghost use Rattle.std.specs.Borrow.{Lends};
 ghost use Rattle.std.specs.Box.{boxed_slice_items};
 ghost use Rattle.no_std_io2_base.specs.contracts.cursor.Cursor.{the_row as cursor-row};
 ghost use Rattle.no_std_io2_base.specs.Errors.{IsOutOfMemory};
-ghost use Rattle.no_std_io2_base.specs.Cursor.{cursor_position, cursor_inner};
+ghost use Rattle.no_std_io2_base.specs.Cursor.{cursor_position, cursor_inner, cursor_with_inner};
 
 mod reading;
 mod seeking;
@@ -58,6 +58,22 @@ impl<const N: usize> AsSlice<u8> for [u8; N] {
     }
 }
 
+impl<const N: usize> AsSlice<u8> for &[u8; N] {
+    ghost slice = { λ s. s.now };
+
+    fn as_slice(&self) -> &[u8] {
+        *self
+    }
+}
+
+impl AsSlice<u8> for &str {
+    ghost slice = { λ s. s.now };
+
+    fn as_slice(&self) -> &[u8] {
+        self.as_bytes()
+    }
+}
+
 impl<A: Allocator> AsSlice<u8> for Vec<u8, A> {
     ghost slice = { λ v. v.items };
 
@@ -71,6 +87,14 @@ impl<A: Allocator> AsSlice<u8> for BoxedSlice<u8, A> {
 
     fn as_slice(&self) -> &[u8] {
         DerefSlice::deref(self)
+    }
+}
+
+impl<A: Allocator> AsSlice<u8> for &Vec<u8, A> {
+    ghost slice = { λ v. v.now.items };
+
+    fn as_slice(&self) -> &[u8] {
+        Vec::as_slice(self)
     }
 }
 
@@ -134,7 +158,7 @@ impl<T> Cursor<T> {
     /// Gets a mutable reference to the content. The position stays. Follows `std::io::Cursor::get_mut`.
     pub fn get_mut(&mut self) -> &mut T
         ensures value { result.now ≡ cursor_inner self.old }
-        ensures* writes_back { sem 𝓛 (Lends (cursor-row T.row) T.row self.entry result (λ x. record self.old { inner = x })) }
+        ensures* writes_back { sem 𝓛 (Lends (cursor-row T.row) T.row self.entry result (cursor_with_inner self.old)) }
     {
         &mut self.inner
     }

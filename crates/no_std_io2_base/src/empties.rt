@@ -38,8 +38,6 @@ impl Read for Empty {
 
 /// Holds nothing.
 impl BufRead for Empty {
-    ghost held = { λ _. [] };
-
     fn fill_buf(&mut self) -> Result<&[u8]> {
         Ok(&[])
     }

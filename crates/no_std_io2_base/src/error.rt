@@ -47,7 +47,7 @@ pub enum ErrorKind {
     TimedOut,
     /// A write of some bytes took none of them: nothing more can be written.
     WriteZero,
-    /// The call was interrupted, did nothing, and may be made again.
+    /// The call was interrupted. It accepted and gave no byte, and may be made again.
     Interrupted,
     /// A fault that is of no other kind.
     Other,
@@ -199,7 +199,7 @@ impl Error {
         }
     }
 
-    /// Returns whether this is an interruption: the call did nothing, and may be made again.
+    /// Returns whether this is an interruption: the call accepted and gave no byte, and may be made again.
     /// Follows the test of the same name inside Rust's `std::io`.
     ///
     /// ```rust

@@ -11,7 +11,7 @@ mod queues;
 mod slices;
 mod vectors;
 
-pub use copying::copy_bytes;
 pub(crate) use copying::copy_prefix;
+pub use copying::{copy_apart, copy_bytes};
 pub use slices::append_rest;
 pub(crate) use vectors::append;

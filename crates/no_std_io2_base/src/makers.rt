@@ -1,7 +1,7 @@
 //! [`empty`], [`repeat`] and [`sink`]. A module cannot have these names beside those of their types.
 ghost use Rattle.std.specs.Prelude.{◌≡◌, [], replicate};
 ghost use Rattle.no_std_io2_base.specs.Repeat.{repeat_left};
-ghost use Rattle.no_std_io2_base.specs.Sink.{sink_taken};
+ghost use Rattle.no_std_io2_base.specs.Sink.{empty_taken, sink_taken};
 
 use crate::empties::Empty;
 use crate::repeats::Repeat;
@@ -14,7 +14,7 @@ use crate::sinks::Sink;
 /// assert!(rt; nothing.read(&mut [0u8; 4])? == 0);
 /// ```
 pub fn empty() -> Empty
-    ensures { sink_taken result.sink ≡ [] }
+    ensures { empty_taken result ≡ [] }
 {
     Empty::default()
 }

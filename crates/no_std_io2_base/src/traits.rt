@@ -24,7 +24,7 @@ pub use lines::Lines;
 pub use object_text::print_to_object;
 pub(crate) use pieces::find_piece;
 pub use read::Read;
-pub(crate) use room::{LEAST_ROOM, open_room, reserve_room};
+pub(crate) use room::{LEAST_ROOM, open_room, reserve_first, reserve_room};
 pub use seek::{Seek, SeekFrom};
 pub use split::Split;
 pub use stored::Stored;

@@ -1,9 +1,8 @@
 -- For `adaptors`: at limit 0 a `Take` gives nothing, over every reader.
 use Rattle.std.proofs.{lemmas.{Grind.{common_steps}, Str.{IsUtf8-nil}}, Common.{IsUtf8, String, string_bytes, string_len, string_capacity}}
 use Rattle.no_std_io2.proofs.Words.{◌≡◌, ℕ, ◌<◌, ◌⊎◌, List, [], ◌∷◌, ◌++◌, Result, Ok, Err, OnOk, IfOk, IfErr, length, refl, sym, ap, subst}
-use Rattle.no_std_io2.proofs.Words.{◌∙◌, arith, inl, inr, append-nil, Vec, Event, bytes, Reader, ReadCall, Filled, ReadCallLaw, Lender}
-use Rattle.no_std_io2.proofs.{Words.{as_reader, lender_tells, LendCallLaw, newline, Made}, CallsLemmas.{made_split}, ReadsAdd.{each_of}}
-use Rattle.no_std_io2.proofs.{ReadsAdd.{piece_adds}, TakesLemmas.{lend_law, made_lend}, LimitLemmas.{limit_reader, limit_lender}}
+use Rattle.no_std_io2.proofs.Words.{◌∙◌, arith, inl, inr, append-nil, Vec, Event, bytes, Reader, ReadCall, Filled, ReadCallLaw, tells}
+use Rattle.no_std_io2.proofs.{Words.{newline, Made}, CallsLemmas.{made_split}, ReadsAdd.{piece_adds}, LimitLemmas.{limit_reader}}
 use Rattle.no_std_io2.proofs.LimitLoops.{limit_each, limit_exact}
 use Rattle.no_std_io2.specs.{declared.io.{Error.{Error}, Take.{Take}}, Errors.{IsUnexpectedEnd}, Events.{cut}, Read.{GaveExactly}}
 use Rattle.no_std_io2.specs.{Read.{ReadExactLaw, FillCalls, gave_whole}, BufRead.{ReadUntilLaw, ReadLineLaw, line_room}}
@@ -47,21 +46,21 @@ module _ {T : Type 0} (inner : Reader T) where
       by C made (inl is) = absurd (subst (λ K. Made (ReadCallLaw (limit_reader inner)) old K new) is made).1.0
       by C made (inr calls) = fill_at_limit C buf' old new e made calls low
 
-module _ {T : Type 0} (inner : Lender T) where
+module _ {T : Type 0} (inner : Reader T) where
   -- a `fill_buf` at limit 0 lends nothing
   lends_nothing : (C : List ReadCall) (old new : Take T) (answer : Result (List ℕ) Error)
-      → Made (LendCallLaw (limit_lender inner)) old (C ++ Filled answer ∷ []) new → limit_left old ≡ 0 → answer ≡ Ok []
+      → Made (ReadCallLaw (limit_reader inner)) old (C ++ Filled answer ∷ []) new → limit_left old ≡ 0 → answer ≡ Ok []
   lends_nothing C old new answer made low =
-      let last = last_call (as_reader inner) C (Filled answer) old new
-      (made_lend (limit_lender inner) (C ++ Filled answer ∷ []) old new made) low in
-      last.3.0.1 last.2
+      let last = last_call inner C (Filled answer) old new
+      made low in
+      last.3.call.1 last.2
 
   -- so no piece is taken
   pub piece_at_limit : {old new : Take T} (d : ℕ) {x : List ℕ} (read : Result ℕ Error)
-      → ByCalls (LendCallLaw (limit_lender inner)) old (λ C. PieceCalls (Unit {0}) d C x read) new → limit_left old ≡ 0
+      → ByCalls (ReadCallLaw (limit_reader inner)) old (λ C. PieceCalls (Unit {0}) d C x read) new → limit_left old ≡ 0
       → IfErr read (λ _. ⊥) × (x ≡ [])
   piece_at_limit {old} {new} d {x} (Ok n) m low =
-      let took = piece_adds (each_of (lend_law (limit_lender inner)) (limit_each {inner = as_reader inner})) (Unit {0}) d
+      let took = piece_adds (limit_each {inner = inner}) (Unit {0}) d
       (Ok n) old new m in
       (tt, nothing x (sym took.1 ∙ ap (λ P. length (bytes P)) (took_nothing took.2 low)))
     where
@@ -70,31 +69,31 @@ module _ {T : Type 0} (inner : Lender T) where
       nothing (b ∷ x) none = absurd (omega (arith, none))
   piece_at_limit {old} {new} d (Err e) m low = absurd (elim m.are.2 [
     | inl fault ↦
-        let is = lends_nothing m.are.0 old new (Err e) (subst (λ K. Made (LendCallLaw (limit_lender inner)) old K new) fault.1
+        let is = lends_nothing m.are.0 old new (Err e) (subst (λ K. Made (ReadCallLaw (limit_reader inner)) old K new) fault.1
         m.made) low in
         let no : ⊥ = cc in no
     | inr refused ↦
         let lent = refused.2 in
         let is = lends_nothing m.are.0 old new (Ok lent)
-        (subst (λ K. Made (LendCallLaw (limit_lender inner)) old K new) refused.4 m.made) low in
+        (subst (λ K. Made (ReadCallLaw (limit_reader inner)) old K new) refused.4 m.made) low in
         let none : lent ≡ [] = cc in
         let no : ⊥ = omega (arith, refused.3, ap length none) in no
   ])
 
   pub until_at_limit : {A : Type 0} {old new : Take T} {d : ℕ} {buf buf' : Vec ℕ A} (reply : Result ℕ Error)
-      → ReadUntilLaw (limit_lender inner) old d buf reply buf' new → limit_left old ≡ 0 → reply ≡ Ok 0
+      → ReadUntilLaw (limit_reader inner) old d buf reply buf' new → limit_left old ≡ 0 → reply ≡ Ok 0
   until_at_limit (Ok n) law low = ap Ok (law.ends.1 ∙ ap length (piece_at_limit _ (Ok n) law.calls low).1)
   until_at_limit (Err e) law low = absurd (piece_at_limit _ (Err e) law.calls low).0
 
   -- an empty line is appended, which needs no room
   pub line_at_limit : {A : Type 0} {old new : Take T} {buf buf' : String A} (reply : Result ℕ Error)
-      → ReadLineLaw (limit_lender inner) old buf reply buf' new → limit_left old ≡ 0 → (reply ≡ Ok 0)
+      → ReadLineLaw (limit_reader inner) old buf reply buf' new → limit_left old ≡ 0 → (reply ≡ Ok 0)
       × (string_bytes buf' ≡ string_bytes buf)
   line_at_limit {old = old} {buf = buf} {buf'} reply law low =
       let (ok, none) = piece_at_limit _ law.read law.calls low in
       by reply law.read (bytes law.taken) none ok (counts law.read law.ends) law.answers
     where
-      counts : (read : Result ℕ Error) → PieceEnds (λ n. line_room buf < n) newline (lender_tells (limit_lender inner) old) law.taken read
+      counts : (read : Result ℕ Error) → PieceEnds (λ n. line_room buf < n) newline (tells (limit_reader inner) old) law.taken read
           → IfOk read (λ n. n ≡ length (bytes law.taken))
       counts (Ok n) ends = ends.1
       counts (Err e) ends = tt

@@ -2,8 +2,8 @@
 use Rattle.no_std_io2.proofs.Words.{common_steps, ◌≡◌, ℕ, ◌<◌, Bool, true, List, [], ◌∷◌, ◌++◌, length, take, drop, refl, sym, ap, ap₂}
 use Rattle.no_std_io2.proofs.Words.{subst, ◌∙◌, arith, Result, Ok, Err, ⊎_elim, inl, inr, append_assoc, append-nil, length-append}
 use Rattle.no_std_io2.proofs.Words.{length-take-le, take-append-drop, Vec, IfOk, IsOutOfMemory, Made, bytes, Reader, ReadCall, Filled}
-use Rattle.no_std_io2.proofs.Words.{Consumed, LendCallLaw, lender_tells, newline, IsSuffix, reader_held, reader_behind, reader_inner}
-use Rattle.no_std_io2.proofs.{Words.{FillsBelow, lent_held, lent_read}, CallsLemmas.{made_split}, BufReaderCalls.{buf_lender}}
+use Rattle.no_std_io2.proofs.Words.{Consumed, ReadCallLaw, tells, newline, IsSuffix, reader_held, reader_behind, reader_inner, FillsBelow}
+use Rattle.no_std_io2.proofs.{Words.{lent_held, lent_read}, CallsLemmas.{made_split}, BufReaderCalls.{buf_reader}}
 use Rattle.std.proofs.Common.{take_all, String, string_bytes}
 use Rattle.no_std_io2.specs.{declared.io.Error.{Error}, BufRead.{ReadUntilLaw, ReadLineLaw, line_room}, Pieces.{AnswersLine, Lacks}}
 use Rattle.no_std_io2.specs.Pieces.{EndsPiece, FindsPiece, PartCalls, no_part, and_part, and_waited, PieceEnds, PieceCalls}
@@ -51,7 +51,7 @@ piece_found {d} {n} piece rest lent is ends found ended = ⊎_elim
 module _ {R : Type 0} {S : ℕ} (K : Reader R) (old : BufReader R S) (d : ℕ) where
   -- a call, by its law
   abbrev law : BufReader R S → ReadCall → BufReader R S → Type 0
-  law = LendCallLaw (buf_lender K)
+  law = ReadCallLaw (buf_reader K)
 
   -- with a piece held, the first `fill_buf` lends it, so no part is taken before it
   module _ (piece rest : List ℕ) (is : reader_held old ≡ piece ++ rest) (ends : EndsPiece d piece) where
@@ -114,7 +114,7 @@ module _ {R : Type 0} {S : ℕ} (K : Reader R) (old : BufReader R S) (d : ℕ) w
 
     -- by `read_until`
     pub until_held : {A : Type 0} {buf buf' : Vec ℕ A} {new : BufReader R S} (reply : Result ℕ Error)
-        → ReadUntilLaw (buf_lender K) old d buf reply buf' new → TakesHeld piece rest old buf.items reply buf'.items new
+        → ReadUntilLaw (buf_reader K) old d buf reply buf' new → TakesHeld piece rest old buf.items reply buf'.items new
     until_held {buf = buf} (Ok n) until =
         let taken = piece_held (bytes until.taken) (Ok n) until.calls in
         (until.ends.1 ∙ ap length taken.0, until.appends ∙ ap (λ l. buf.items ++ l) taken.0, taken.1, taken.2)
@@ -140,13 +140,13 @@ module _ {R : Type 0} {S : ℕ} (K : Reader R) (old : BufReader R S) (line rest 
   answered x new len capacity text text' (Err f) (Err e) count taken (inr other) = absurd (other.0 taken.0.0)
 
   pub line_held : {A : Type 0} {text text' : String A} {new : BufReader R S} (reply : Result ℕ Error)
-      → ReadLineLaw (buf_lender K) old text reply text' new
+      → ReadLineLaw (buf_reader K) old text reply text' new
       → TakesHeldLine line rest old (string_bytes text) reply (string_bytes text') new
   line_held {text = text} reply law =
       answered (bytes law.taken) _ _ _ _ _ law.read reply (counts law.read law.ends)
       (piece_held K old newline line rest is ends (bytes law.taken) law.read law.calls) law.answers
     where
-      counts : (read : Result ℕ Error) → PieceEnds (λ n. line_room text < n) newline (lender_tells (buf_lender K) old) law.taken read
+      counts : (read : Result ℕ Error) → PieceEnds (λ n. line_room text < n) newline (tells (buf_reader K) old) law.taken read
           → IfOk read (λ n. n ≡ length (bytes law.taken))
       counts (Ok n) ends = ends.1
       counts (Err e) ends = tt
@@ -163,38 +163,38 @@ consumed_behind x part suffix more = grind (arith, common_steps, append_assoc)
 
 module _ {R : Type 0} {S : ℕ} (K : Reader R) (old : BufReader R S) (d : ℕ) where
   lent_behind : (x lent : List ℕ) (n : ℕ) (now mid new : BufReader R S) → IsSuffix x (reader_behind now)
-      → LendCallLaw (buf_lender K) now (Filled (Ok lent)) mid → LendCallLaw (buf_lender K) mid (Consumed n) new
+      → ReadCallLaw (buf_reader K) now (Filled (Ok lent)) mid → ReadCallLaw (buf_reader K) mid (Consumed n) new
       → IsSuffix (x ++ take n lent) (reader_behind new)
   lent_behind x lent n now mid new front filled dropped = grind (arith, common_steps, consumed_behind, filled_behind)
 
-  parts_behind : {C : List ReadCall} {x : List ℕ} → PartCalls d C x → (now : BufReader R S) → Made (LendCallLaw (buf_lender K)) old C now
+  parts_behind : {C : List ReadCall} {x : List ℕ} → PartCalls d C x → (now : BufReader R S) → Made (ReadCallLaw (buf_reader K)) old C now
       → IsSuffix (reader_behind old ++ x) (reader_behind now)
   parts_behind no_part now made = ([], append-nil (reader_behind old) ∙ ap reader_behind (sym made))
   parts_behind (and_part C x lent parts _ lacks) now made =
-      let split = made_split (LendCallLaw (buf_lender K)) C old (Filled (Ok lent) ∷ Consumed (length lent) ∷ []) now made in
+      let split = made_split (ReadCallLaw (buf_reader K)) C old (Filled (Ok lent) ∷ Consumed (length lent) ∷ []) now made in
       let before = parts_behind parts split.0 split.1 in
       let after = lent_behind (reader_behind old ++ x) lent (length lent) split.0 split.2.0 split.2.2.0 before split.2.1 split.2.2.1 in
       subst (IsSuffix (reader_behind old ++ (x ++ lent))) (ap reader_behind (sym split.2.2.2))
       (subst (λ l. IsSuffix l (reader_behind split.2.2.0))
       (ap (λ l. (reader_behind old ++ x) ++ l) (take_all (length lent) lent (omega arith)) ∙ append_assoc (reader_behind old) x lent) after)
   parts_behind (and_waited C x e parts again) now made =
-      let split = made_split (LendCallLaw (buf_lender K)) C old (Filled (Err e) ∷ []) now made in
+      let split = made_split (ReadCallLaw (buf_reader K)) C old (Filled (Err e) ∷ []) now made in
       let before = parts_behind parts split.0 split.1 in
       subst (IsSuffix (reader_behind old ++ x)) (ap reader_behind (sym split.2.2))
       (filled_behind (reader_behind old ++ x) split.0 split.2.0 split.2.1.call before)
 
   -- The bytes behind after a piece was taken are a suffix of those behind before, followed by the piece.
   pub piece_behind : (x : List ℕ) {new : BufReader R S} (may_refuse : Type 0) (reply : Result ℕ Error)
-      → ByCalls (LendCallLaw (buf_lender K)) old (λ C. PieceCalls may_refuse d C x reply) new
+      → ByCalls (ReadCallLaw (buf_reader K)) old (λ C. PieceCalls may_refuse d C x reply) new
       → IsSuffix (reader_behind old ++ x) (reader_behind new)
   piece_behind x {new} may_refuse reply m = by reply m.are
     where
-      made : (C : List ReadCall) → m.calls ≡ C → Made (LendCallLaw (buf_lender K)) old C new
-      made C is = subst (λ C. Made (LendCallLaw (buf_lender K)) old C new) is m.made
+      made : (C : List ReadCall) → m.calls ≡ C → Made (ReadCallLaw (buf_reader K)) old C new
+      made C is = subst (λ C. Made (ReadCallLaw (buf_reader K)) old C new) is m.made
 
       by : (reply : Result ℕ Error) → PieceCalls may_refuse d m.calls x reply → IsSuffix (reader_behind old ++ x) (reader_behind new)
       by (Ok k) (D, y, lent, n, parts, found, is, calls) =
-          let split = made_split (LendCallLaw (buf_lender K)) D old (Filled (Ok lent) ∷ Consumed n ∷ []) new (made _ calls) in
+          let split = made_split (ReadCallLaw (buf_reader K)) D old (Filled (Ok lent) ∷ Consumed n ∷ []) new (made _ calls) in
           let after = lent_behind (reader_behind old ++ y) lent n split.0 split.2.0 split.2.2.0
           (parts_behind parts split.0 split.1) split.2.1
           split.2.2.1 in
@@ -204,6 +204,6 @@ module _ {R : Type 0} {S : ℕ} (K : Reader R) (old : BufReader R S) (d : ℕ) w
       by (Err e) (D, parts, stopped) =
           let last : (answer : Result (List ℕ) Error) × (m.calls ≡ D ++ Filled answer ∷ []) =
           elim stopped [ inl fault ↦ (Err e, fault.1) | inr refused ↦ (Ok refused.2, refused.4) ] in
-          let split = made_split (LendCallLaw (buf_lender K)) D old (Filled last.0 ∷ []) new (made _ last.1) in
+          let split = made_split (ReadCallLaw (buf_reader K)) D old (Filled last.0 ∷ []) new (made _ last.1) in
           subst (IsSuffix (reader_behind old ++ x)) (ap reader_behind (sym split.2.2))
           (filled_behind (reader_behind old ++ x) split.0 split.2.0 split.2.1.call (parts_behind parts split.0 split.1))

@@ -5,13 +5,11 @@ mod Levels
 mod InMemory
 mod LoopCounts
 mod AtLimit
-mod ChainLends
 mod ChainTurns
 mod FailsLemmas
 mod BufferFails
 mod CopyReads
 mod HeldPieces
-mod Meters
 mod ExactCounts
 mod PatientReads
 mod BufReaderCounts

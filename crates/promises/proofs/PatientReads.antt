@@ -79,8 +79,8 @@ module _ {D : Type 0} (I : Source D) where
     gave = read_gave;
     exactly = λ a b room answer law. absurd law.0;
     all = λ a b x answer law. absurd law.0;
-    lent = λ a b answer law. absurd law.0;
-    took = λ a b c x n law next within. absurd law.0;
+    lent = λ a b answer law. absurd law.call;
+    took = λ a b c x n law next within. absurd law.call;
   }
 
   -- reads gave x, and then a last one this

@@ -13,21 +13,22 @@ ghost use Rattle.promises.specs.Promises.{in_lines};
 use io_bench::{Ask, ReadTotals, Tally, run_reads};
 use no_std_io2::io::{BufRead, BufReader, LineWriter, Read, Result, Write};
 
-/// If a list of reads through a buffer of S bytes takes N bytes of a reader that fills its room, and meets the end Z
-/// times, it makes at most `N / S + 1 + Z` inner reads. Each read of the list is made, once and in order; it gives at
-/// least one byte, except at the end; and none fails.
+/// If a list of `read`, `read_exact` and `fill_buf` with `consume` through a buffer of S bytes takes N bytes of a reader
+/// that fills its room, and meets the end Z times, it makes at most `N / S + 1 + Z` inner reads. Each call of the list is
+/// made, once and in order; it gives at least one byte, except at the end; none fails; and the reader stays filling.
 pub fn bounds_the_reads_of_a_run<R: Read, const S: usize>(
     r: &mut BufReader<Tally<R>, S>,
     asks: &[Ask],
     buf: &mut [u8],
 ) -> ReadTotals
     requires { AllFit (length buf.old) asks.now }
-    ensures made { CameTo ⟦<BufReader<Tally<R>, S> as BufRead>⟧ asks.now r.old result.at_end result.failed r.new }
-    ensures steps { (fills : FillsRoom R.Read) → (result.failed ≡ 0)
-        × Steps asks.now (left_behind (λ t. fills.left (tally_inner t)) r.old)
-        (left_behind (λ t. fills.left (tally_inner t)) r.new) result.at_end }
-    ensures bound { (fills : FillsRoom R.Read) → tally_reads (reader_inner r.new) ≤ tally_reads (reader_inner r.old)
-        + ((length (left_behind (λ t. fills.left (tally_inner t)) r.old) - length (left_behind (λ t. fills.left (tally_inner t)) r.new)) / S
+    ensures made { CameTo ⟦<BufReader<Tally<R>, S> as Read>⟧ asks.now r.old result.at_end result.failed r.new }
+    ensures fills { FillsRoom R.Read (tally_inner (reader_inner r.old)) → FillsRoom ⟦<Tally<R> as Read>⟧ (reader_inner r.new) }
+    ensures steps { FillsRoom R.Read (tally_inner (reader_inner r.old)) → (result.failed ≡ 0)
+        × Steps asks.now (left_behind ⟦<Tally<R> as Read>⟧ r.old) (left_behind ⟦<Tally<R> as Read>⟧ r.new) result.at_end }
+    ensures bound { FillsRoom R.Read (tally_inner (reader_inner r.old))
+        → tally_reads (reader_inner r.new) ≤ tally_reads (reader_inner r.old)
+        + ((length (left_behind ⟦<Tally<R> as Read>⟧ r.old) - length (left_behind ⟦<Tally<R> as Read>⟧ r.new)) / S
         + 1 + result.at_end) }
 {
     run_reads(r, asks, buf)

@@ -6,7 +6,8 @@ ghost use Rattle.no_std_io2.specs.BufReader.{reader_held, reader_inner};
 ghost use Rattle.no_std_io2.specs.BufWriter.{writer_buffer, writer_inner, writing_calls};
 ghost use Rattle.no_std_io2.specs.Meter.{Costs, IsMeter};
 ghost use Rattle.no_std_io2.specs.Read.{answered, gave, tells};
-ghost use Rattle.no_std_io2.specs.ReadMeter.{FillsRoom, IsReadMeter};
+ghost use Rattle.no_std_io2.specs.ReadMeter.{FillsRoom, IsReadMeter, bytes_left};
+ghost use Rattle.no_std_io2.specs.Take.{limit_inner};
 ghost use Rattle.no_std_io2.specs.Takes.{Takes};
 ghost use Rattle.no_std_io2.specs.Write.{calls_for};
 ghost use Rattle.no_std_io2.specs.Writers.{TakesAll};
@@ -70,9 +71,10 @@ fn counts_a_read<R: Read, const S: usize>(
         (in_reader (λ t. tells R.Read (tally_inner t)) r.new.value) }
     ensures reads { tally_reads (reader_inner r.new.value) ≡ tally_reads (reader_inner r.old.value)
         + (if nat_lt 0 (length (reader_held r.old.value)) then 0 else 1) }
-    ensures fills { (fills : FillsRoom R.Read)
-        → IsOkAnd result (λ n. n ≡ min (length buf.old) (if nat_lt 0 (length (reader_held r.old.value))
-        then length (reader_held r.old.value) else length (fills.left (tally_inner (reader_inner r.old.value))))) }
+    ensures fills { FillsRoom R.Read (tally_inner (reader_inner r.old.value))
+        → FillsRoom ⟦<Tally<R> as Read>⟧ (reader_inner r.new.value)
+        × IsOkAnd result (λ n. n ≡ min (length buf.old) (if nat_lt 0 (length (reader_held r.old.value))
+        then length (reader_held r.old.value) else length (bytes_left R.Read (tally_inner (reader_inner r.old.value))))) }
 {
     r.read(buf)
 }
@@ -81,9 +83,10 @@ fn counts_a_read<R: Read, const S: usize>(
 fn counts_a_fill<R: Read, const S: usize>(r: &mut BufReader<R, S>) -> Result<usize>
     ensures reads { (cost : R → ℕ) → IsReadMeter R.may cost → cost (reader_inner r.new) ≡ cost (reader_inner r.old)
         + (if nat_lt 0 (length (reader_held r.old)) then 0 else 1) }
-    ensures fills { (fills : FillsRoom R.Read) → IsOkAnd result (λ n. (n ≡ length (reader_held r.new))
-        × (n ≡ (if nat_lt 0 (length (reader_held r.old)) then length (reader_held r.old) else min S (length (fills.left
-        (reader_inner r.old)))))) }
+    ensures fills { FillsRoom R.Read (reader_inner r.old) → FillsRoom R.Read (reader_inner r.new)
+        × IsOkAnd result (λ n. (n ≡ length (reader_held r.new))
+        × (n ≡ (if nat_lt 0 (length (reader_held r.old)) then length (reader_held r.old)
+        else min S (length (bytes_left R.Read (reader_inner r.old)))))) }
 {
     let lent = r.fill_buf()?;
     Ok(lent.len())
@@ -94,11 +97,12 @@ fn counts_an_exact_read<R: Read, const S: usize>(
     r: &mut BufReader<R, S>,
     buf: &mut [u8],
 ) -> Result<()>
-    ensures reads { (cost : R → ℕ) → IsReadMeter R.may cost → (fills : FillsRoom R.Read)
+    ensures reads { (cost : R → ℕ) → IsReadMeter R.may cost → FillsRoom R.Read (reader_inner r.old)
         → cost (reader_inner r.new) ≡ cost (reader_inner r.old) + exact_reads (length buf.old) (length (reader_held r.old))
-        (length (reader_held r.old) + length (fills.left (reader_inner r.old))) }
-    ensures left { (fills : FillsRoom R.Read) → length (reader_held r.new) ≡ exact_left S (length buf.old) (length (reader_held r.old))
-        (length (reader_held r.old) + length (fills.left (reader_inner r.old))) }
+        (length (reader_held r.old) + length (bytes_left R.Read (reader_inner r.old))) }
+    ensures left { FillsRoom R.Read (reader_inner r.old) → FillsRoom R.Read (reader_inner r.new)
+        × (length (reader_held r.new) ≡ exact_left S (length buf.old) (length (reader_held r.old))
+        (length (reader_held r.old) + length (bytes_left R.Read (reader_inner r.old)))) }
 {
     r.read_exact(buf)
 }
@@ -128,20 +132,44 @@ fn counts_a_read_to_end<R: Read, A: Allocator>(
 // A `copy` through S bytes of a filling reader makes one read for each S bytes, rounded up, and one more.
 fn counts_a_copy<R: Read, W: Write, const S: usize>(reader: &mut R, writer: &mut W) -> Result<u64>
     requires { S < 2 ^ 63 }
-    ensures { (cost : R → ℕ) → IsReadMeter R.may cost → 0 < S → (fills : FillsRoom R.Read) → OnOk result
-        (cost reader.new ≡ cost reader.old + (div_ceil (length (fills.left reader.old)) S + 1)) }
+    ensures { (cost : R → ℕ) → IsReadMeter R.may cost → 0 < S → FillsRoom R.Read reader.old → OnOk result
+        (cost reader.new ≡ cost reader.old + (div_ceil (length (bytes_left R.Read reader.old)) S + 1)) }
 {
     copy::<R, W, S>(reader, writer)
 }
 
-// Slices and cursors are filling, and so is a box or a `Take` of a filling reader.
-fn has_filling_readers<'a, T: AsSlice<u8>>(_t: &Take<Box<Cursor<T>>>, _s: &&'a [u8])
-    ensures cursor { FillsRoom ⟦<Take<Box<Cursor<T>>> as Read>⟧ }
-    ensures slice { FillsRoom ⟦<&'a [u8] as Read>⟧ }
-{}
+// Slices and cursors are filling.
+fn has_filling_readers<'a, T: AsSlice<u8>>(t: &Take<Box<Cursor<T>>>, s: &&'a [u8]) -> (u64, usize)
+    ensures cursor { FillsRoom ⟦<Take<Box<Cursor<T>>> as Read>⟧ t.now }
+    ensures slice { FillsRoom ⟦<&'a [u8] as Read>⟧ s.now }
+{
+    (t.limit(), s.len())
+}
+
+// A reference to a reader, its box, a `Take` and a `Tally` of it are filling where it is.
+fn has_filling_levels<'a, R: Read>(
+    lent: &&'a mut R,
+    boxed: &Box<R>,
+    limited: &Take<R>,
+    counted: &Tally<R>,
+) -> (u64, u64)
+    ensures lent { FillsRoom R.Read lent.now.now → FillsRoom ⟦<&'a mut R as Read>⟧ lent.now }
+    ensures boxed { FillsRoom R.Read boxed.now.value → FillsRoom ⟦<Box<R> as Read>⟧ boxed.now }
+    ensures limited { FillsRoom R.Read (limit_inner limited.now) → FillsRoom ⟦<Take<R> as Read>⟧ limited.now }
+    ensures counted { FillsRoom R.Read (tally_inner counted.now) → FillsRoom ⟦<Tally<R> as Read>⟧ counted.now }
+{
+    (limited.limit(), counted.reads())
+}
 
 // A number that counts the calls of a writer counts those of a reference to it and of its box.
 fn has_meters<'a, W: Write>(_lent: &&'a mut W, _boxed: &Box<W>)
     ensures lent { (cost : W → ℕ) → IsMeter W.may cost → IsMeter ⟦<&'a mut W as Write>⟧.may (λ v. cost v.now) }
     ensures boxed { (cost : W → ℕ) → IsMeter W.may cost → IsMeter ⟦<Box<W> as Write>⟧.may (λ v. cost v.value) }
+{}
+
+// So it is with the reads of a reader; and the count of a `Tally` counts them.
+fn has_read_meters<'a, R: Read>(_lent: &&'a mut R, _boxed: &Box<R>, _counted: &Tally<R>)
+    ensures lent { (cost : R → ℕ) → IsReadMeter R.may cost → IsReadMeter ⟦<&'a mut R as Read>⟧.may (λ v. cost v.now) }
+    ensures boxed { (cost : R → ℕ) → IsReadMeter R.may cost → IsReadMeter ⟦<Box<R> as Read>⟧.may (λ v. cost v.value) }
+    ensures counted { IsReadMeter ⟦<Tally<R> as Read>⟧.may tally_reads }
 {}

@@ -1,17 +1,19 @@
 // What the devices for tests and the streams that keep nothing do.
-ghost use Rattle.std.specs.Prelude.{[], ◌≡◌, ◌≤◌, ◌++◌, None, Ok, OnOk, Some, drop, length};
+ghost use Rattle.std.specs.Prelude.{ℕ, List, [], ◌∷◌, ◌≡◌, ◌<◌, ◌≤◌, ◌++◌, None, IsErr, Ok, OnOk, Some, drop, length, map};
 ghost use Rattle.io_bench.specs.Appended.{appended};
 ghost use Rattle.no_std_io2.specs.BufWriter.{writer_inner};
 ghost use Rattle.no_std_io2.specs.Read.{answered, gave, tells};
+ghost use Rattle.no_std_io2.specs.ReadMeter.{FillsRoom};
 ghost use Rattle.no_std_io2.specs.Sink.{sink_taken};
 ghost use Rattle.no_std_io2.specs.Takes.{Takes, to_come};
 ghost use Rattle.io_bench.specs.Faulty.{WritesBehind, act_mishaps, acts_left, faulty_inner, next_act};
-ghost use Rattle.io_bench.specs.Feed.{all_to_come, feed_answer, feed_left};
+ghost use Rattle.io_bench.specs.Feed.{all_to_come, feed_answer, feed_left, feed_piece};
+ghost use Rattle.io_bench.specs.declared.feed.Event.TheVariants.{Byte, Fail};
 ghost use Rattle.io_bench.specs.Runs.{AreWhole, failures};
 ghost use Rattle.io_bench.specs.Tally.{tally_inner};
 
 use io_bench::{Faulty, Feed, Op, Reply, Tally, run_writes};
-use no_std_io2::io::{BufWriter, Empty, Read, Result, Sink, Write};
+use no_std_io2::io::{BufWriter, Empty, ErrorKind, Read, Result, Sink, Write};
 
 // Over a sink behind a `Faulty`, at most as many calls of a run fail as acts do. If no act is left, each call accepts
 // all its bytes.
@@ -47,6 +49,14 @@ fn feeds_its_script(f: &mut Box<Feed>, buf: &mut [u8]) -> Result<usize>
         (answered (gave result buf.new))
         (record { events = Some (all_to_come (feed_left f.new.value)); store = None; turns = length (feed_left f.new.value) }) }
     ensures answer { gave result buf.new ≡ feed_answer f.old.value (length buf.new) }
+{
+    f.read(buf)
+}
+
+// A `Feed` of a failure and then bytes, which one read may give, is filling once the failure has come.
+fn fills_after_its_failure(f: &mut Feed, buf: &mut [u8]) -> Result<usize>
+    ensures { (kind : ErrorKind) → (x : List ℕ) → feed_left f.old ≡ Fail kind ∷ map Byte x → length x ≤ feed_piece f.old
+        → 0 < length buf.old → IsErr result × FillsRoom ⟦<Feed as Read>⟧ f.new }
 {
     f.read(buf)
 }

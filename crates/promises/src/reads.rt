@@ -1,14 +1,15 @@
 // What readers give, and where seeks go.
-ghost use Rattle.std.specs.Prelude.{◌≡◌, ◌+◌, ◌<◌, [], ◌++◌, ℕ, List, Ok, Some, IsOk, drop, length, vec_len, vec_capacity, string_bytes};
+ghost use Rattle.std.specs.Prelude.{◌≡◌, ◌+◌, ◌<◌, [], ◌++◌, ℕ, List, Ok, Some, IfSome, IsOk, drop, length, vec_len, vec_capacity};
+ghost use Rattle.std.specs.Prelude.{string_bytes};
 ghost use Rattle.no_std_io2.specs.BufReader.{reader_inner, reader_behind, reader_held, reader_store, TakesHeld, TakesHeldLine, TakesOver};
-ghost use Rattle.no_std_io2.specs.BufReader.{ReaderIsSound};
-ghost use Rattle.no_std_io2.specs.BufRead.{lender_tells};
+ghost use Rattle.no_std_io2.specs.BufReader.{KeepsBuffer, ReaderIsSound};
+ghost use Rattle.no_std_io2.specs.Read.{tells};
 ghost use Rattle.no_std_io2.specs.Buffer.{IsInBuffer, IsSuffix};
-ghost use Rattle.no_std_io2.specs.Events.{Event, bytes};
+ghost use Rattle.no_std_io2.specs.Events.{BeginsWith, Event, bytes};
 ghost use Rattle.no_std_io2.specs.Pieces.{EndsPiece, PieceEnds, newline};
 ghost use Rattle.no_std_io2.specs.Read.{tells, answered, gave};
 ghost use Rattle.no_std_io2.specs.Seek.{Seeks};
-ghost use Rattle.no_std_io2.specs.Takes.{IsAtEnd, Store, Takes, to_come};
+ghost use Rattle.no_std_io2.specs.Takes.{IsAtEnd, KeepsContent, Store, Takes, to_come};
 ghost use Rattle.io_bench.specs.Tally.{tally_inner};
 ghost use Rattle.promises.specs.Promises.{in_chain, in_reader, in_take};
 
@@ -45,11 +46,19 @@ pub fn gives_what_comes_next_in_a_tower<R: Read, U: Read, const S: usize>(
 /// `read_until` appends one piece: the bytes up to and including the next delimiter, or all if there is none. After an
 /// error it has appended what it took, and the delimiter is not among these bytes.
 pub fn gives_the_next_piece<R: BufRead>(r: &mut R, delim: u8, buf: &mut Vec<u8>) -> Result<usize>
-    ensures { (taken : List Event) × Takes (lender_tells ⟦<R as BufRead>⟧ r.old) taken (lender_tells ⟦<R as BufRead>⟧ r.new)
+    ensures { (taken : List Event) × Takes (tells ⟦<R as Read>⟧ r.old) taken (tells ⟦<R as Read>⟧ r.new)
         × (buf.new.items ≡ buf.old.items ++ bytes taken)
-        × PieceEnds (λ n. vec_capacity buf.old < vec_len buf.old + n) delim (lender_tells ⟦<R as BufRead>⟧ r.old) taken result }
+        × PieceEnds (λ n. vec_capacity buf.old < vec_len buf.old + n) delim (tells ⟦<R as Read>⟧ r.old) taken result }
 {
     r.read_until(delim, buf)
+}
+
+// What any reader holds comes next, in each state.
+fn holds_what_comes_next<R: BufRead>(r: &mut R) -> Result<usize>
+    ensures { IfSome (to_come (tells ⟦<R as Read>⟧ r.old)) (λ E. BeginsWith E (⟦<R as Read>⟧.held r.old)) }
+{
+    let lent = r.fill_buf()?;
+    Ok(lent.len())
 }
 
 /// A seek over a known content keeps it, and goes to its target, or is refused if there is none.
@@ -74,6 +83,15 @@ fn goes_on_after_a_seek_below<R: Read + Seek + Drop, const S: usize>(
 {
     r.get_mut().seek(SeekFrom::Start(place))?;
     r.seek(target)
+}
+
+// A `BufReader` over a known content is asked for its position without a loss: its buffer and its store stay.
+fn knows_its_position<R: Read + Seek + Drop, const S: usize>(r: &mut BufReader<R, S>) -> Result<u64>
+    ensures kept { KeepsBuffer r.old r.new }
+    ensures store { KeepsContent (reader_store R.store r.old) (λ len was now. (now ≡ was) × (result ≡ Ok was))
+        (reader_store R.store r.new) }
+{
+    r.position()
 }
 
 /// A `seek_relative` inside the buffer of a `BufReader` succeeds and makes no inner call, and the events to

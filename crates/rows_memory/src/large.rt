@@ -2,6 +2,7 @@
 use crate::outcome::Outcome;
 use crate::texts::front;
 use crate::torn::Torn;
+use examples::read_message;
 use no_std_io2::io::{BufRead, BufReader, Cursor, Read, Write};
 use std::alloc::Global;
 use std::collections::VecDeque;
@@ -85,4 +86,16 @@ pub fn by_queue(alloc: Global, text: &[u8], len: usize) -> Outcome {
     first
         .if_right(to.is_empty())
         .and(Outcome::of(&to.write(front(text, len))))
+}
+
+/// Reads a message of `len` bytes.
+pub fn by_read_message(alloc: Global, text: &[u8], len: usize) -> Outcome {
+    let Ok(count) = u16::try_from(len) else {
+        return Outcome::NoCall;
+    };
+    let mut r = Cursor::new(count.to_be_bytes()).chain(front(text, len));
+    match read_message(alloc, &mut r) {
+        Ok(payload) => Outcome::Whole.if_right(payload.as_slice() == front(text, len)),
+        Err(e) => Outcome::of_error(&e),
+    }
 }

@@ -32,6 +32,7 @@ fn play_long(alloc: Global, text: &[u8], word: &str, len: usize) -> Outcome {
         "read_line" => large::by_read_line(alloc, text, len),
         "split" => large::by_split(alloc, text, len),
         "lines" => large::by_lines(alloc, text, len),
+        "read_message" => large::by_read_message(alloc, text, len),
         _ => Outcome::NoCall,
     }
 }

@@ -87,6 +87,8 @@ impl<T: Read> Read for Noted<T> {
 
     ghost may = { PartMay T.may (λ n. n.inner) (λ n s. record n { inner = s }) };
 
+    ghost held = { λ n. T.held n.inner };
+
     fn read(&mut self, buf: &mut [u8]) -> Result<usize> {
         self.inner.read(buf)
     }
@@ -111,8 +113,6 @@ impl<T: Read> Read for Noted<T> {
 }
 
 impl<T: BufRead> BufRead for Noted<T> {
-    ghost held = { λ n. T.held n.inner };
-
     fn fill_buf(&mut self) -> Result<&[u8]> {
         note(&self.journal, "fill_buf");
         self.inner.fill_buf()

@@ -133,6 +133,8 @@ impl Stored for Recorder {}
 impl Read for Recorder {
     ghost turns = { λ r. r.turns + length (drop r.lent.at r.lent.bytes.items) };
 
+    ghost held = { λ r. drop r.lent.at r.lent.bytes.items };
+
     fn read(&mut self, buf: &mut [u8]) -> Result<usize> {
         let held = self.lent.rest();
         if !held.is_empty() {
@@ -153,8 +155,6 @@ impl Read for Recorder {
 }
 
 impl BufRead for Recorder {
-    ghost held = { λ r. drop r.lent.at r.lent.bytes.items };
-
     fn fill_buf(&mut self) -> Result<&[u8]> {
         if self.lent.rest().is_empty() && self.turns > 0 {
             self.turns -= 1;

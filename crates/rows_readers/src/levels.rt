@@ -1,6 +1,7 @@
 // The state of each level of a reader, the outer one first, in a column for each level that
 // has one.
 use crate::devices::Columns;
+use examples::Numbered;
 use io_bench::Tally;
 use no_std_io2::io::{BufRead, BufReader, Chain, Cursor, Read, Repeat, Take};
 use rows_play::line::Line;
@@ -21,6 +22,8 @@ impl Levels for Recorder {}
 impl Levels for Noted<Recorder> {}
 
 impl Levels for Tally<Noted<Recorder>> {}
+
+impl Levels for Numbered<Noted<Recorder>> {}
 
 impl Levels for Repeat {}
 

@@ -2,6 +2,7 @@
 // each call.
 use crate::devices::Devices;
 use crate::streams::{play_chain, play_lending, play_reading, play_seeking};
+use examples::Numbered;
 use io_bench::Tally;
 use no_std_io2::io::{BufRead, BufReader, Read};
 use rows_play::calls::Call;
@@ -32,6 +33,13 @@ pub fn lend(name: &str, devices: &Devices<'_>, player: &mut Player<'_, '_>) -> M
             play_chain(device, second, devices, player)
         }
         "Tally" => play_reading(Tally::new(device), devices, player),
+        "Numbered" => {
+            let numbered = Numbered {
+                number: 1,
+                stream: device,
+            };
+            play_reading(numbered, devices, player)
+        }
         _ => lend_box(name, device, devices, player),
     }
 }

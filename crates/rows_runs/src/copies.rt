@@ -6,11 +6,12 @@
 ghost use Rattle.no_std_io2.specs.BufReader.{BufReaderFits};
 
 use io_bench::{Event, Feed};
-use no_std_io2::io::Read;
+use no_std_io2::io::{Read, copy as copy_in_chunks};
 use rows_play::calls::{Call, new_journal, show_calls};
 use rows_play::fault::{Fault, Made};
 use rows_play::journal::Journal;
 use rows_play::line::Line;
+use rows_play::noted::Noted;
 use rows_play::player::{Player, Stream};
 use rows_play::recorder::{Name, Recorder};
 use std::alloc::Global;
@@ -77,4 +78,32 @@ impl Stream for Ends {
 
 pub fn lend(words: &str, player: &mut Player<'_, '_>) -> Made<()> {
     player.play(&mut Ends::new(player.alloc, words)?)
+}
+
+// An output that also notes the name of each call, for copies without a buffer.
+#[derive(Drop)]
+struct Noting {
+    output: Noted<Recorder>,
+    journal: Rc<RefCell<Journal>>,
+}
+
+impl Stream for Noting {
+    fn play(&mut self, _alloc: Global, call: &Call<'_>, line: &mut Line) {
+        match call.word {
+            "copy" => {
+                let mut input = call.bytes.as_slice();
+                line.position(&copy_in_chunks::<_, _, 4>(&mut input, &mut self.output));
+            }
+            _ => line.tell(Fault::NoCall),
+        }
+        show_calls(&self.journal, line);
+    }
+}
+
+/// Lends copies by chunks of 4 bytes.
+pub fn lend_plain(words: &str, player: &mut Player<'_, '_>) -> Made<()> {
+    let journal = new_journal(player.alloc, words)?;
+    let recorder = Recorder::new(player.alloc, journal.clone()?, Name::Only);
+    let output = Noted::new(recorder, journal.clone()?);
+    player.play(&mut Noting { output, journal })
 }

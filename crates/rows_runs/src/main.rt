@@ -1,11 +1,14 @@
-//! Plays the rows of what no clause says of the clients: the calls of a `Patient` and of `copy_through`, what a drop
-//! sends, and two runs of frames, of lines of a log and of `joined`.
+//! Plays the rows of what no clause says of the clients: the calls of a `Patient`, of `copy` and of `copy_through`, what
+//! a drop sends, printed readings, runs of base64 and of numbers, and two runs of frames, of lines of a log and of
+//! `joined`.
 #![tactic(auto)]
 
 mod copies;
+mod encoding;
 mod frames;
 mod joined;
 mod patience;
+mod readings;
 
 use rows_play::fault::Made;
 use rows_play::files::play_files;
@@ -21,6 +24,11 @@ impl Streams for RunTables {
             "Patient" => patience::lend(words, player),
             "copy_through" => copies::lend(words, player),
             "joined" => joined::lend(player),
+            "write_readings" => readings::lend(words, player),
+            "copy" => copies::lend_plain(words, player),
+            "EncoderWriter" | "WriteBytesExt" | "ReadBytesExt" => {
+                encoding::lend(name, words, player)
+            }
             _ => frames::lend(name, words, player),
         }
     }

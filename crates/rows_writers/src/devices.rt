@@ -2,6 +2,7 @@
 use crate::levels::{NOTED, RECORDER, lend, play_level};
 use crate::tower::{Device, Object};
 use crate::writing::{Columns, make_any_call, play, play_seeking};
+use examples::Numbered;
 use io_bench::Tally;
 use no_std_io2::io::{BufWriter, Seek, Write};
 use rows_play::calls::{Call, make_call, make_seek, new_journal, show_calls};
@@ -112,6 +113,13 @@ pub fn lend_device(name: &str, words: &str, player: &mut Player<'_, '_>) -> Made
             play_seeking(boxed, Columns::Calls(journal), player)
         }
         "Tally" => play(Tally::new(device), Columns::Calls(journal), player),
+        "Numbered" => {
+            let numbered = Numbered {
+                number: 1,
+                stream: device,
+            };
+            play(numbered, Columns::Calls(journal), player)
+        }
         _ => lend::<NOTED>(name, words, player),
     }
 }

@@ -1,4 +1,5 @@
 // Towers of writers over a device, level by level.
+use examples::Numbered;
 use io_bench::Tally;
 use no_std_io2::io::{BufWriter, Error, IntoInnerError, LineWriter, Write};
 use rows_play::calls::Call;
@@ -44,6 +45,8 @@ impl Tower for Recorder {}
 impl Tower for Device {}
 
 impl Tower for Tally<Device> {}
+
+impl Tower for Numbered<Device> {}
 
 impl Tower for Object {}
 

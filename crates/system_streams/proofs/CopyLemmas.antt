@@ -17,10 +17,10 @@ copies_all ok flushed =
     let copied = copied_ok ok in
     record {
       taken = copied.taken;
-      all = takes_all copied.taken copied.takes (copied.ends.1 (omega arith));
-      no_fault = copied.ends.0;
-      moves = Moves-ends copied.ends.3 flushed;
-      count = copied.ends.2;
+      all = takes_all copied.taken copied.takes (copied.ends.at_end (omega arith));
+      no_fault = copied.ends.no_fault;
+      moves = Moves-ends copied.ends.moves flushed;
+      count = copied.ends.count;
     }
 
 -- a copy that failed met the reader's first fault, or a mishap of the writer's
@@ -36,7 +36,7 @@ copies_err {K = K} {I} {from} {from'} {old} {mid} err =
 -- and if the flush after it failed, that was a mishap of the writer's too
 pub flush_err : {R W : Type 0} {K : Reader R} {I : Writer W} {from from' : R} {old mid : W} {n : ℕ} {e : Error} {end : Told}
     → Copied K I 64 from old (Ok n) from' mid → Moves (I.told mid) [] (error_kind e ∷ []) end → IsFaultOf (tells K from) (I.told old) e
-flush_err ok flushed = inr (may_fail (Moves-then (copied_ok ok).ends.3 flushed))
+flush_err ok flushed = inr (may_fail (Moves-then (copied_ok ok).ends.moves flushed))
 
 -- what was to come of a reader is to come of a buffer in front of it
 all_through : (a b : Tells) (P : List Event) → to_come a ≡ to_come b → IsAll a P → IsAll b P

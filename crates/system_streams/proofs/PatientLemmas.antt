@@ -1,7 +1,7 @@
 -- One read of a patient.
 use Rattle.std.proofs.lemmas.Grind.{common_steps}
 use Rattle.no_std_io2.proofs.Words.{◌≡◌, ℕ, zero, suc, ◌+◌, ◌<◌, ◌≤◌, List, None, Result, Ok, Err, length, refl, arith, IfOk, ⊤, Reader}
-use Rattle.no_std_io2.proofs.Words.{ReadLaw, answered}
+use Rattle.no_std_io2.proofs.Words.{ReadLaw, answered, []}
 use Rattle.std.specs.{Prelude.{min}, Io.KnownBytes.{ReadConsumes}}
 use Rattle.no_std_io2.specs.{declared.io.Error.{Error}, Read.{gave}}
 use Rattle.system_streams.specs.{declared.{patient.Patient.{Patient}, system.SystemRead.{Ghosts as Source}}, Patient.{patient_device}}
@@ -11,7 +11,8 @@ use Rattle.std.specs.declared.io.Error as Std
 
 -- what a patient reader tells
 abbrev pub patient_reader : {D : Type 0} → Source D → Reader (Patient D)
-patient_reader device = record { store = λ _. None; turns = patient_turns; events = λ _. None; may = PatientReads device }
+patient_reader device =
+    record { store = λ _. None; turns = patient_turns; events = λ _. None; may = PatientReads device; held = λ _. [] }
 
 -- a result that came from the device spent a turn, unless it gave nothing
 spent : {old : ℕ} (new : ℕ) (reply : Result ℕ Error) (buf : List ℕ) → AnswersRead reply old new

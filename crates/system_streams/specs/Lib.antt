@@ -2,3 +2,4 @@ pub mod Turns
 pub mod Patient
 pub mod ToStd
 pub mod Copies
+pub mod About

@@ -4,19 +4,21 @@
 //! A real device does not tell what it will give or take, and may be interrupted for ever. [`Patient`] makes a reader,
 //! writer or seeker of Rust's `std::io` one of this library's, with a number of turns that bounds every loop over it.
 //! [`stdin`], [`stdout`], [`open`] and [`create`] return standard input, standard output and files as such streams.
-//! [`report`] prints a program's fault, and returns its status.
+//! [`report`] prints a program's fault, and returns its status; [`about`] answers `--help` and `--version`.
 //! [`copy_through`] copies one stream to another with a buffer at each. [`ToStd`] makes a stream of this library one of
 //! `std::io`, for crates that need those.
 #![tactic(auto)]
 
 mod copy;
 mod patient;
+mod program;
 mod streams;
 mod system;
 mod to_std;
 
 pub use copy::copy_through;
 pub use patient::Patient;
+pub use program::{VERSION, about};
 pub use streams::{create, open, report, stdin, stdout};
 pub use system::{SystemRead, SystemSeek, SystemWrite};
 pub use to_std::ToStd;

@@ -45,7 +45,9 @@ pub struct Patient<D> {
 }
 
 impl<D> Patient<D> {
+    ghost use Rattle.std.specs.Borrow.{Lends, sem};
     ghost use Rattle.system_streams.specs.Patient.{patient_device, patient_turns, patient_taken, patient_error};
+    ghost use Rattle.system_streams.specs.contracts.patient.Patient.{the_row as patient-row};
 
     /// Wraps a device, with this number of turns, which may be 0. At its last turn a reader returns
     /// the error that no turns are left.
@@ -61,6 +63,30 @@ impl<D> Patient<D> {
             last_error: None,
             taken: GhostBytes::new(),
         }
+    }
+
+    /// Gets a reference to the device, such as to ask for the size of a file.
+    pub fn get_ref(&self) -> &D
+        ensures { result.now ≡ patient_device self.now }
+    {
+        &self.device
+    }
+
+    /// Gets a mutable reference to the device, such as to lock, sync or cut a file. The turns, the bytes that were taken
+    /// and the last error stay.
+    ///
+    /// ```rust
+    /// let mut p = Patient::new(&b"abcdef"[..], 3);
+    /// p.read(&mut [0u8; 4])?;
+    /// assert!(rt; *p.get_ref() == b"ef".as_slice());
+    /// *p.get_mut() = &b"xyz"[..];
+    /// assert!(rt; p.read(&mut [0u8; 4])? == 3);
+    /// ```
+    pub fn get_mut(&mut self) -> &mut D
+        ensures value { result.now ≡ patient_device self.old }
+        ensures* writes_back { sem 𝓛 (Lends (patient-row D.row) D.row self.entry result (λ d. record self.old { device = d })) }
+    {
+        &mut self.device
     }
 
     /// Returns the device as it is now.
@@ -86,7 +112,7 @@ impl<D> Patient<D> {
 
     /// Returns the reason for an error of this stream, to print it. For a `device fault` it is the last error that the
     /// device returned, unless that was an interruption, which then came later. For any other error, such as one of a
-    /// formatter, it is an error with the kind and the text of `fault`.
+    /// formatter, it is an error with the kind of `fault` and at most the first 80 bytes of its text.
     ///
     /// ```rust
     /// let mut folder = open(rt, ".")?;

@@ -62,7 +62,7 @@ pub fn create<R: Files, P: AsPath>(rt: &R, path: P) -> io::Result<Patient<R::Fil
 /// program's name; if that fails, nothing more is done. Rust's std has no such call.
 ///
 /// ```rust
-/// Ok(Some(command)) => report(&rt, "tar_list", run(&rt, command)),
+/// Ok(Some(command)) => report(&rt, "iotower", run(&rt, command)),
 /// ```
 pub fn report<R: Eprint, E: Display + Drop>(
     rt: &R,

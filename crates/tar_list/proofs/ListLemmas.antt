@@ -1,9 +1,8 @@
 -- The lines of members, one after another.
-use Rattle.no_std_io2.proofs.Words.{◌≡◌, ◌⊎◌, List, ℕ, [], ◌∷◌, ◌++◌, Result, Ok, append-nil, inl, inr, Told}
-use Rattle.no_std_io2.proofs.Words.{Moves, MovesFront, Err, Option, Some, None, refl, ⊤, IfOk, Lender, Reader, Writer}
+use Rattle.no_std_io2.proofs.Words.{◌≡◌, ◌⊎◌, List, ℕ, [], ◌∷◌, ◌++◌, Result, Ok, append-nil, inl, inr, Told, Moves, MovesFront, Err}
+use Rattle.no_std_io2.proofs.{Words.{Option, Some, None, refl, ⊤, IfOk, Reader, Writer}, MovesLemmas.{Moves-then, MovesFront-whole}}
 use Rattle.std.proofs.{Common.{IsErrAnd, IfSome}, lemmas.{List.{map-append}, List.Folds.{concat-append}}}
 use Rattle.no_std_io2.specs.{declared.io.{Error.{Error}, Take.{Take}}, Text.{IsTextError}}
-use Rattle.no_std_io2.proofs.MovesLemmas.{Moves-then, MovesFront-whole}
 use Rattle.tar_reader.specs.{declared.archive.Archive.{Archive}, declared.header.Header.{Header}, Members.{NextHeaderLaw, FindHeaderLaw}}
 use Rattle.tar_reader.proofs.MemberLemmas.{Skipping, comes_to}
 use Rattle.tar_list.specs.Listing.{member_line, member_lines, PrintsMember, ListEnds, Lists, MemberEnds, CopiesMember}
@@ -25,7 +24,7 @@ prints_more headers h is so_far line =
     rw (lines_more headers h) (Moves-then so_far (MovesFront-whole (member_line h) tt (printed_whole (member_line h) is line)))
 
 -- members were passed over, and the next call ended the list
-pub lists : {X : Type 0} {R : Lender X} {old mid new : Archive X} {was told : Told} {last : Result (Option Header) Error}
+pub lists : {X : Type 0} {R : Reader X} {old mid new : Archive X} {was told : Told} {last : Result (Option Header) Error}
     {reply : Result (Unit {0}) Error} (before : Skipping R old mid) → NextHeaderLaw R mid last new
     → ListEnds (member_lines before.headers) last was reply told → Lists R old was reply new told
 lists {last = last} before law ends =
@@ -37,7 +36,7 @@ lists {last = last} before law ends =
     trivial (Err e) = tt
 
 -- a `find` returned this, and then the copy ended like this
-pub copy_ended : {X W : Type 0} {R : Lender X} {K : Reader (Take X)} {I : Writer W} {name : List ℕ} {old mid new : Archive X} {was now : W}
+pub copy_ended : {X W : Type 0} {R : Reader X} {K : Reader (Take X)} {I : Writer W} {name : List ℕ} {old mid new : Archive X} {was now : W}
     {reply : Result (Unit {0}) Error} (found : Result (Option Header) Error) → FindHeaderLaw R old name found mid
     → MemberEnds K I found mid was reply new now → CopiesMember R K I name old was reply new now
 copy_ended found finds ends = record { found = found; mid = _; finds = finds; ends = ends }

@@ -2,14 +2,8 @@
 use Rattle.std.specs.Prelude.{◌≡◌, ◌≢◌, ◌⊎◌, ◌<◌, List, ℕ, [], ◌++◌, ⊤, codes, decimal, map, Option, Some, None, Result, Ok, Err, OnOk}
 use Rattle.std.specs.Prelude.{IsErr, IsErrAnd}
 use Rattle.std.specs.List.{concat}
-use Rattle.no_std_io2.specs.{Errors.{SaysError}, declared.io.Error.{Error}}
-use Rattle.no_std_io2.specs.declared.io.ErrorKind.TheVariants.{InvalidInput, NotFound, UnexpectedEof}
-use Rattle.no_std_io2.specs.BufRead.{Lender}
-use Rattle.no_std_io2.specs.Copy.{Copied}
-use Rattle.no_std_io2.specs.Read.{Reader}
-use Rattle.no_std_io2.specs.Writers.{Writer, FlushOf}
-use Rattle.no_std_io2.specs.declared.io.Take.{Take}
-use Rattle.no_std_io2.specs.Text.{IsTextError}
+use Rattle.no_std_io2.specs.{Errors.{SaysError}, declared.io.{Error.{Error}, ErrorKind.TheVariants.{InvalidInput, NotFound, UnexpectedEof}}}
+use Rattle.no_std_io2.specs.{Read.{Reader}, Copy.{Copied}, Writers.{Writer, FlushOf}, declared.io.Take.{Take}, Text.{IsTextError}}
 use Rattle.no_std_io2.specs.Write.{Told, Moves, MovesFront, call_mishap}
 use Rattle.tar_reader.specs.declared.archive.Archive.{Archive}
 use Rattle.tar_reader.specs.declared.header.Header.{Header}
@@ -39,7 +33,7 @@ ListEnds lines (Ok (Some h)) old reply new = IsErr reply × ((mid : Told) × Mov
 ListEnds lines (Err e) old reply new = (reply ≡ Err e) × Moves old lines [] new
 
 -- The members of an archive were listed.
-pub record Lists {X : Type 0} (R : Lender X) (old : Archive X) (was : Told) (reply : Result (Unit {0}) Error) (new : Archive X)
+pub record Lists {X : Type 0} (R : Reader X) (old : Archive X) (was : Told) (reply : Result (Unit {0}) Error) (new : Archive X)
     (told : Told) : Type 0 where
   -- the members whose lines were printed
   pub headers : List Header
@@ -79,7 +73,7 @@ MemberEnds K I (Ok (Some h)) mid was reply new now =
     ⊎ ((h.kind ≢ Directory) × CopiesBytes K I mid was reply new now)
 
 -- `copy_member`: a `find`, and what followed. K are the ghost members of the reader of a member's bytes.
-pub record CopiesMember {X W : Type 0} (R : Lender X) (K : Reader (Take X)) (I : Writer W) (name : List ℕ) (old : Archive X) (was : W)
+pub record CopiesMember {X W : Type 0} (R : Reader X) (K : Reader (Take X)) (I : Writer W) (name : List ℕ) (old : Archive X) (was : W)
     (reply : Result (Unit {0}) Error) (new : Archive X) (now : W) : Type 0 where
   pub found : Result (Option Header) Error
   pub mid : Archive X

@@ -2,7 +2,8 @@
 //! `tar_list NAME` copies the member with this name to standard output.
 //!
 //! The status is 0 if the archive was read to its end or the member was copied, 1 after a fault, whose text is printed
-//! to standard error, and 2 if there are more arguments or one is not UTF-8.
+//! to standard error, and 2 if there are more arguments or one is not UTF-8. `--help` and `--version` are no names of
+//! members: it prints that, and reads no archive.
 #![tactic(auto)]
 
 ghost use Rattle.std.specs.Prelude.{◌<◌, length, IfSome, IfNone};
@@ -17,10 +18,22 @@ use std::alloc::Global;
 use std::process::ExitCode;
 use std::rt::Env;
 use std::{env, io};
-use system_streams::{report, stdin, stdout};
+use system_streams::{about, report, stdin, stdout};
 use tar_reader::{Archive, Header, Kind};
 
 const USAGE: &str = "usage: tar_list [NAME]";
+
+// What `--help` prints.
+const HELP: &str = "\
+Usage: tar_list [NAME]
+Lists the members of the tar archive on standard input, one in each line: its
+size in bytes and its name.
+
+With NAME, it copies the member of this name to standard output.
+
+  --help     prints this text
+  --version  prints the version
+";
 
 // The size in bytes of each buffer: of the archive, of the copy of a member, and of the output.
 const BUFFER: usize = 65536;
@@ -69,7 +82,7 @@ fn print_line<W: Write>(header: &Header, out: &mut W) -> Result<()>
 
 // Prints the line of each member, and flushes.
 fn list<R: BufRead, W: Write>(archive: &mut Archive<R>, out: &mut W) -> Result<()>
-    ensures { Lists R.BufRead archive.old (W.told out.old) result archive.new (W.told out.new) }
+    ensures { Lists R.Read archive.old (W.told out.old) result archive.new (W.told out.new) }
 {
     'members: while let Some(header) = archive.next()? {
         print_line(&header, out)?;
@@ -85,7 +98,7 @@ fn copy_member<R: BufRead, W: Write>(
     name: &str,
     out: &mut W,
 ) -> Result<()>
-    ensures { CopiesMember R.BufRead ⟦<Take<R> as Read>⟧ W.Write name.now archive.old out.old result archive.new out.new }
+    ensures { CopiesMember R.Read ⟦<Take<R> as Read>⟧ W.Write name.now archive.old out.old result archive.new out.new }
 {
     let Some(header) = archive.find(name.as_bytes())? else {
         return Err(Error::new(ErrorKind::NotFound, "no member has this name"));
@@ -109,9 +122,20 @@ fn run(rt: &HostRuntime, command: Command) -> Result<()> {
     }
 }
 
+// Answers a name that asks for the help or the version.
+fn told<R: Print + Eprint>(rt: &R, command: &Command) -> Option<ExitCode> {
+    match command {
+        Command::List => None,
+        Command::Copy(name) => about(rt, "tar_list", HELP, name.as_str()),
+    }
+}
+
 fn main(rt: HostRuntime) -> ExitCode {
     match parse_words(&rt) {
-        Ok(Some(command)) => report(&rt, "tar_list", run(&rt, command)),
+        Ok(Some(command)) => match told(&rt, &command) {
+            Some(told) => told,
+            None => report(&rt, "tar_list", run(&rt, command)),
+        },
         Ok(None) => {
             let _ = eprintln!(rt; "{USAGE}");
             ExitCode::from(2)

@@ -1,8 +1,8 @@
 -- For `Script::read`: how the lines that were read so far make a script.
 use Rattle.no_std_io2.proofs.Words.{◌≡◌, ℕ, ◌+◌, ◌-◌, ◌^◌, List, [], ◌∷◌, ◌++◌, false, true, Option, None, Some, refl, sym, subst, ap, ◌∙◌}
 use Rattle.no_std_io2.proofs.Words.{arith, length, length-append, map, Result, Ok, Err, inl, ◌⊎◌, common_steps, is_some, append_assoc}
-use Rattle.no_std_io2.proofs.Words.{IsFault, IsOutOfMemory, Event, byte, fails, first_fault, HasNoFault, Made, Lender, lender_tells}
-use Rattle.no_std_io2.proofs.{Words.{split_delim, split_reader, to_come, without, Bool, error_kind, if◌then◌else◌}, CallsLemmas.{made_more}}
+use Rattle.no_std_io2.proofs.Words.{IsFault, IsOutOfMemory, Event, byte, fails, first_fault, HasNoFault, Made, Reader, tells, split_delim}
+use Rattle.no_std_io2.proofs.{Words.{split_reader, to_come, without, Bool, error_kind, if◌then◌else◌}, CallsLemmas.{made_more}}
 use Rattle.std.specs.{Prelude.{min}, Option.{IfSome}}
 use Rattle.no_std_io2.specs.{declared.io.{Error.{Error}, Split.{Split}}, Pieces.{split_is_ended}, Faults.{HasFirstFault}}
 use Rattle.no_std_io2.specs.Errors.{is_interruption}
@@ -132,13 +132,13 @@ stopped : (d : ℕ) (lines : List (List ℕ)) (e : Error) (told : Option (List E
     → IfSome told (λ E. HasFirstFault E e) ⊎ IsOutOfMemory e
 stopped d lines e told h = grind (arith, common_steps, first_is)
 
-module _ {X T : Type 0} (R : Lender X) (view : T → List ℕ) {old mid : Split X} (now : Split X) {number : ℕ} {bad : Option ℕ}
+module _ {X T : Type 0} (R : Reader X) (view : T → List ℕ) {old mid : Split X} (now : Split X) {number : ℕ} {bad : Option ℕ}
     {script : Script} (so : ReadSoFar (split_next R view) view old number bad script mid) (fresh : split_is_ended old ≡ false) where
   abbrev d : ℕ
   d = split_delim old
 
   abbrev told : Option (List Event)
-  told = to_come (lender_tells R (split_reader old))
+  told = to_come (tells R (split_reader old))
 
   -- what this result of a whole run says of the lines
   gathers : (reply : Result (Unit {0}) Error) → RunsNexts (split_next R view) ⊥ old so.items reply now

@@ -1,6 +1,6 @@
 // `run_closed` over a sink whose writes are counted, and over one that notes their lengths. A row is `run` and the
 // calls; then their replies, how many inner writes there were and of how many bytes each, and how many there may be
-// at most.
+// at most. A row `calls` is the same run; then the inner writes and flushes, in order.
 ghost use Rattle.std.specs.Prelude.{⊤};
 
 use crate::writing::{ops_of, parse_calls, show_replies};
@@ -12,11 +12,23 @@ use rows_play::line::Line;
 use rows_play::player::{Player, Stream};
 use std::alloc::Global;
 
-// A sink that notes the lengths of its writes.
+// A sink that notes the lengths of its writes, and all its calls.
 #[derive(Drop)]
 struct Lengths {
     sink: Sink,
     lengths: Line,
+    calls: Line,
+}
+
+// Adds a call, or the length of one, to those that are noted.
+fn note(notes: &mut Line, call: &str, len: Option<usize>) {
+    if !notes.is_empty() {
+        notes.word(", ");
+    }
+    notes.word(call);
+    if let Some(len) = len {
+        notes.number(len as u64);
+    }
 }
 
 impl Write for Lengths {
@@ -27,14 +39,13 @@ impl Write for Lengths {
     ghost takes_all = { λ _. ⊤ };
 
     fn write(&mut self, buf: &[u8]) -> Result<usize> {
-        if !self.lengths.is_empty() {
-            self.lengths.word(", ");
-        }
-        self.lengths.number(buf.len() as u64);
+        note(&mut self.lengths, "", Some(buf.len()));
+        note(&mut self.calls, "write ", Some(buf.len()));
         self.sink.write(buf)
     }
 
     fn flush(&mut self) -> Result<()> {
+        note(&mut self.calls, "flush", None);
         self.sink.flush()
     }
 }
@@ -61,16 +72,18 @@ fn count<const S: usize>(ops: &[Op<'_>], replies: &mut Vec<Reply>) -> Result<u64
     Ok(run_closed::<Sink, S>(Tally::new(Sink::new()), ops, replies)?.writes())
 }
 
-// Makes the same run over a sink that notes the lengths, and prints them.
-fn show_lengths<const S: usize>(alloc: Global, ops: &[Op<'_>], line: &mut Line) {
+// Makes the same run over a sink that notes its calls, and prints the lengths of its writes, or all calls.
+fn show_calls<const S: usize>(alloc: Global, ops: &[Op<'_>], is_all: bool, line: &mut Line) {
     if S == 0 || S >= 1 << 32 {
         return;
     }
     let device = Lengths {
         sink: Sink::new(),
         lengths: Line::new(alloc),
+        calls: Line::new(alloc),
     };
     match run_closed::<Lengths, S>(Tally::new(device), ops, &mut Vec::new(alloc)) {
+        Ok(tally) if is_all => line.text(tally.get_ref().calls.as_str()),
         Ok(tally) => line.text(tally.get_ref().lengths.as_str()),
         Err(_refused) => line.cut(),
     }
@@ -89,12 +102,16 @@ impl<const S: usize> Stream for Closing<S> {
             Ok(writes) => {
                 show_replies(&replies, line);
                 line.column();
+                if call.word == "calls" {
+                    show_calls::<S>(alloc, &ops, true, line);
+                    return;
+                }
                 line.number(writes);
             }
             Err(_refused) => line.cut(),
         }
         line.word(" writes of ");
-        show_lengths::<S>(alloc, &ops, line);
+        show_calls::<S>(alloc, &ops, false, line);
         line.word(", at most ");
         line.number(most_writes(&calls, S as u64));
     }

@@ -37,14 +37,14 @@ impl Read for Held {
 
     ghost may = { PartMay ⟦<BufReader<Cursor<Vec<u8>>, 4> as Read>⟧.may (λ h. h.reader) (λ h s. record h { reader = s }) };
 
+    ghost held = { λ h. ⟦<BufReader<Cursor<Vec<u8>>, 4> as Read>⟧.held h.reader };
+
     fn read(&mut self, buf: &mut [u8]) -> Result<usize> {
         self.reader.read(buf)
     }
 }
 
 impl BufRead for Held {
-    ghost held = { λ h. ⟦<BufReader<Cursor<Vec<u8>>, 4> as BufRead>⟧.held h.reader };
-
     fn fill_buf(&mut self) -> Result<&[u8]> {
         self.reader.fill_buf()
     }

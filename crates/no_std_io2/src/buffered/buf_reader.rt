@@ -55,7 +55,7 @@ impl<R: Read, const S: usize> BufReader<R, S> {
 
 impl<R, const S: usize> BufReader<R, S> {
     ghost use Rattle.no_std_io2.specs.contracts.buffered.buf_reader.BufReader.{the_row as reader-row};
-    ghost use Rattle.no_std_io2.specs.BufReader.{reader_held, reader_behind, reader_inner};
+    ghost use Rattle.no_std_io2.specs.BufReader.{reader_held, reader_behind, reader_inner, reader_with_inner};
 
     /// Gets a reference to the inner reader, which is ahead of this one by the held
     /// bytes. Follows `std::io::BufReader::get_ref`.
@@ -75,8 +75,7 @@ impl<R, const S: usize> BufReader<R, S> {
     /// Gets a mutable reference to the inner reader. The held bytes stay. Follows `std::io::BufReader::get_mut`.
     pub fn get_mut(&mut self) -> &mut R
         ensures value { result.now ≡ reader_inner self.old }
-        ensures* writes_back { sem 𝓛 (Lends (reader-row R.row S.row) R.row self.entry result
-            (λ inner. record self.old { inner = inner })) }
+        ensures* writes_back { sem 𝓛 (Lends (reader-row R.row S.row) R.row self.entry result (reader_with_inner self.old)) }
     {
         &mut self.inner
     }

@@ -3,7 +3,7 @@ ghost use Rattle.std.specs.Prelude.{◌≡◌, ◌≤◌, [], length, OnOk};
 ghost use Rattle.std.specs.Borrow.{Lends, sem};
 ghost use Rattle.no_std_io2.specs.contracts.buffered.buf_writer.BufWriter.{the_row as writer-row};
 ghost use Rattle.no_std_io2_base.specs.Writers.{WriteAllOf, WriteOf, FlushOf};
-ghost use Rattle.no_std_io2.specs.BufWriter.{BufferMay, writer_inner, writer_buffer, writer_told, InnerCalls};
+ghost use Rattle.no_std_io2.specs.BufWriter.{BufferMay, writer_inner, writer_with_inner, writer_buffer, writer_told, InnerCalls};
 ghost use Rattle.no_std_io2.specs.Unsent.{unsent_bytes};
 ghost use Rattle.no_std_io2.specs.BufWriter.{Unwraps, Buffers, BuffersAll};
 
@@ -75,8 +75,7 @@ impl<W: Write + Drop, const S: usize> BufWriter<W, S> {
     /// out before those that are held. Follows `std::io::BufWriter::get_mut`.
     pub fn get_mut(&mut self) -> &mut W
         ensures value { result.now ≡ writer_inner self.old }
-        ensures* writes_back { sem 𝓛 (Lends (writer-row W.row S.row) W.row self.entry result
-            (λ inner. record { core = record self.old.core { inner = inner } })) }
+        ensures* writes_back { sem 𝓛 (Lends (writer-row W.row S.row) W.row self.entry result (writer_with_inner self.old)) }
     {
         self.core.get_mut()
     }

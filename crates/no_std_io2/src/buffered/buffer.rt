@@ -1,15 +1,19 @@
 //! An array whose bytes from a start to an end are held. All buffers of this crate contain one.
 ghost use Rattle.std.specs.Prelude.{◌≡◌, ◌+◌, ◌-◌, ◌<◌, ◌≤◌, [], ◌++◌, min, length, take, drop, IfErr, OnOk, OnErr};
-ghost use Rattle.std.specs.Prelude.{vec_len, vec_capacity};
+ghost use Rattle.std.specs.Prelude.{vec_len, vec_capacity, slice_range};
 ghost use Rattle.std.specs.Bool.{OnTrue, OnFalse};
 ghost use Rattle.no_std_io2_base.specs.Errors.{IsOutOfMemory};
 ghost use Rattle.no_std_io2_base.specs.Cursor.{HasMoved};
 ghost use Rattle.no_std_io2_base.specs.Read.{GaveLaw, gave_whole, least_room};
 
 use no_std_io2_base::error::Result;
-use no_std_io2_base::internal::{append_rest, copy_bytes};
+use no_std_io2_base::internal::{append_rest, copy_apart, copy_bytes};
 use no_std_io2_base::traits::Read;
 use std::alloc::Allocator;
+
+/// The most bytes of a small buffer. It is taken where code is dear, so its writers are compiled to little code: each
+/// write is a call, and all copies are calls of one function.
+pub(crate) const SMALL: usize = 32;
 
 /// The held bytes are those from `start` to `end`. The bytes before `start` were held at some time
 /// since the last read or `clear`, and are still in the array, so a reader may step back over them.
@@ -20,6 +24,46 @@ pub(crate) struct Buffer<const S: usize> {
     end: usize,
     ghost ordered: { start ≤ end },
     ghost in_range: { end ≤ S },
+}
+
+// Copies bytes over as many others, at most `S`.
+#[inline(always)]
+fn copy_fitting<const S: usize>(from: &[u8], to: &mut [u8])
+    requires same { length from.now ≡ length to.old }
+    requires fits { length from.now ≤ S }
+    ensures { to.new ≡ from.now }
+{
+    if S <= SMALL {
+        copy_apart(from, to);
+        return;
+    }
+    copy_bytes(from, to);
+}
+
+// Copies at most 32 bytes over the first of others.
+#[inline(always)]
+fn copy_front(from: &[u8], to: &mut [u8])
+    requires short { length from.now ≤ 32 }
+    requires fits { length from.now ≤ length to.old }
+    ensures { to.new ≡ from.now ++ drop (length from.now) to.old }
+{
+    copy_apart(from, &mut to[..from.len()]);
+}
+
+// Moves the bytes from `start` to `end` to the front.
+#[inline(always)]
+fn move_down<const S: usize>(bytes: &mut [u8; S], start: usize, end: usize)
+    requires ordered { start ≤ end }
+    requires within { end ≤ S }
+    ensures { take (end - start) bytes.new ≡ slice_range bytes.old start end }
+{
+    if S <= SMALL {
+        let all = *bytes;
+        let from = &all[..];
+        copy_front(&from[start..end], &mut bytes[..]);
+        return;
+    }
+    bytes.copy_within(start..end, 0);
 }
 
 impl<const S: usize> Buffer<S> {
@@ -223,7 +267,7 @@ impl<const S: usize> Buffer<S> {
         ensures start { self.new.start ≡ 0 }
         ensures room { S - self.new.end ≡ S - length (buffer_held self.new) }
     {
-        self.bytes.copy_within(self.start..self.end, 0);
+        move_down(&mut self.bytes, self.start, self.end);
         self.end -= self.start;
         self.start = 0;
     }
@@ -237,7 +281,7 @@ impl<const S: usize> Buffer<S> {
     {
         let end = self.end + more.len();
         let all = &mut self.bytes[..];
-        copy_bytes(more, &mut all[self.end..end]);
+        copy_fitting::<S>(more, &mut all[self.end..end]);
         self.end = end;
     }
 
@@ -260,10 +304,6 @@ impl<const S: usize> Buffer<S> {
             × (buffer_held self.new ≡ buffer_held self.old ++ more.now)) }
         ensures same { OnFalse result (self.new ≡ self.old) }
     {
-        // If this holds, so does the next test. It tells LLVM that a buffer of at most 32 bytes gets no longer copy.
-        if S <= 32 && more.len() >= S {
-            return false;
-        }
         if self.end + more.len() >= S {
             return false;
         }

@@ -4,7 +4,7 @@ ghost use Rattle.std.specs.Borrow.{Lends, sem};
 ghost use Rattle.no_std_io2.specs.contracts.buffered.line_writer.LineWriter.{the_row as line-row};
 ghost use Rattle.no_std_io2_base.specs.Lines.{IsLineState};
 ghost use Rattle.no_std_io2_base.specs.Pieces.{Lacks, newline};
-ghost use Rattle.no_std_io2.specs.LineWriter.{line_inner, line_buffer, line_told, LineCalls};
+ghost use Rattle.no_std_io2.specs.LineWriter.{line_inner, line_with_inner, line_buffer, line_told, LineCalls};
 ghost use Rattle.no_std_io2.specs.LineWriter.{LineWriteAllCalls, line_buffer_after, line_buffer_filled};
 ghost use Rattle.no_std_io2.specs.LineWriter.{IsShortText, HoldsShort};
 ghost use Rattle.no_std_io2.specs.BufWriter.{TakesStep, Unwraps, into_inner_error_writer, BufferMay};
@@ -69,8 +69,7 @@ impl<W: Write + Drop, const S: usize> LineWriter<W, S> {
     /// ```
     pub fn get_mut(&mut self) -> &mut W
         ensures value { result.now ≡ line_inner self.old }
-        ensures* writes_back { sem 𝓛 (Lends (line-row W.row S.row) W.row self.entry result
-            (λ inner. record { core = record { buffered = record self.old.core.buffered { inner = inner }; line = self.old.core.line } })) }
+        ensures* writes_back { sem 𝓛 (Lends (line-row W.row S.row) W.row self.entry result (line_with_inner self.old)) }
     {
         self.core.get_mut()
     }

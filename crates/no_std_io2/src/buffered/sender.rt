@@ -1,6 +1,7 @@
 //! An inner writer with a buffer in front of it, from which both buffered writers are built.
 //!
-//! A write that is held is a hot path, which its callers inline. All else is in a cold function, `.._cold`.
+//! A write that is held is a hot path, which its callers inline. All else is in a cold function, `.._cold`. Through a
+//! small buffer all writes are calls of the cold functions, so that their code is there once.
 ghost use Rattle.std.specs.Prelude.{◌≡◌, ◌+◌, ◌<◌, ◌≤◌, [], ◌++◌, length};
 ghost use Rattle.std.specs.Bool.{OnTrue, OnFalse};
 ghost use Rattle.std.specs.Borrow.{Lends, sem};
@@ -9,7 +10,7 @@ ghost use Rattle.no_std_io2.specs.BufWriter.{sender_inner, sender_buffer, TakesS
 ghost use Rattle.no_std_io2.specs.BufWriter.{WriteCalls, WriteAllCalls, FlushCalls, Unwraps};
 ghost use Rattle.no_std_io2.specs.Unsent.{unsent_bytes};
 
-use super::buffer::Buffer;
+use super::buffer::{Buffer, SMALL};
 use super::into_inner_error::IntoInnerError;
 use super::unsent::Unsent;
 use no_std_io2_base::error::{Error, ErrorKind, Result};
@@ -117,6 +118,19 @@ impl<W: Write + Drop, const S: usize> Sender<W, S> {
         Ok(())
     }
 
+    // Sends the held bytes for a `flush` or an `into_inner`. The loop is inlined, since a call of it takes 12 to 25
+    // instructions more. A buffer of at most 32 bytes, as firmware has, makes the call: that is less code.
+    #[inline(always)]
+    fn send_for_flush(&mut self) -> Result<()>
+        ensures calls { TakesStep W.Write sender_inner sender_buffer SendCalls self.old result self.new }
+        ensures unmoved { self.new.buffer.bytes ≡ self.old.buffer.bytes }
+    {
+        if S > SMALL {
+            return self.send_held();
+        }
+        self.send()
+    }
+
     /// Holds `more` after the held bytes.
     pub(crate) fn hold(&mut self, more: &[u8])
         requires { length (sender_buffer self.old) + length more.now ≤ S }
@@ -166,6 +180,9 @@ impl<W: Write + Drop, const S: usize> Sender<W, S> {
     pub(crate) fn write(&mut self, buf: &[u8]) -> Result<usize>
         ensures { TakesStep W.Write sender_inner sender_buffer (WriteCalls S buf.now) self.old result self.new }
     {
+        if S <= SMALL {
+            return self.write_out_of_line(buf);
+        }
         if self.hold_if_room(buf) {
             return Ok(buf.len());
         }
@@ -190,7 +207,7 @@ impl<W: Write + Drop, const S: usize> Sender<W, S> {
     fn write_cold(&mut self, buf: &[u8]) -> Result<usize>
         ensures { TakesStep W.Write sender_inner sender_buffer (WriteCalls S buf.now) self.old result self.new }
     {
-        self.make_room(buf.len(), true)?;
+        self.make_room(buf.len(), S > SMALL)?;
         if buf.len() >= S {
             return self.inner.write(buf);
         }
@@ -208,6 +225,9 @@ impl<W: Write + Drop, const S: usize> Sender<W, S> {
     pub(crate) fn write_all(&mut self, buf: &[u8]) -> Result<()>
         ensures { TakesStep W.Write sender_inner sender_buffer (WriteAllCalls S buf.now) self.old result self.new }
     {
+        if S <= SMALL {
+            return self.write_all_out_of_line(buf);
+        }
         if self.hold_if_room(buf) {
             return Ok(());
         }
@@ -231,7 +251,7 @@ impl<W: Write + Drop, const S: usize> Sender<W, S> {
     fn write_all_cold(&mut self, buf: &[u8]) -> Result<()>
         ensures { TakesStep W.Write sender_inner sender_buffer (WriteAllCalls S buf.now) self.old result self.new }
     {
-        self.make_room(buf.len(), true)?;
+        self.make_room(buf.len(), S > SMALL)?;
         if buf.len() >= S {
             return self.inner.write_all(buf);
         }
@@ -246,7 +266,7 @@ impl<W: Write + Drop, const S: usize> Sender<W, S> {
     pub(crate) fn flush(&mut self) -> Result<()>
         ensures { TakesStep W.Write sender_inner sender_buffer FlushCalls self.old result self.new }
     {
-        self.send()?;
+        self.send_for_flush()?;
         self.inner.flush()
     }
 
@@ -257,7 +277,7 @@ impl<W: Write + Drop, const S: usize> Sender<W, S> {
     pub(crate) fn into_inner(mut self) -> std::result::Result<W, IntoInnerError<Sender<W, S>>>
         ensures { Unwraps W.Write sender_inner sender_buffer self result }
     {
-        match self.send() {
+        match self.send_for_flush() {
             Ok(()) => Ok(self.inner),
             Err(error) => Err(IntoInnerError::new(self, error)),
         }

@@ -28,7 +28,7 @@ pub fn copy_lent<R: BufRead, W: Write>(
     reader: &mut R,
     writer: &mut W,
 ) -> std::result::Result<u64, CopyError>
-    ensures { LentCopied R.BufRead W.Write reader.old writer.old result reader.new writer.new }
+    ensures { LentCopied R.Read W.Write reader.old writer.old result reader.new writer.new }
 {
     let mut copied = 0u64;
     'pieces: loop {

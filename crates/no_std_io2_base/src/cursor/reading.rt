@@ -1,12 +1,11 @@
 // The impls of `Stored`, `Read` and `BufRead` for `Cursor`.
 ghost use Rattle.std.specs.Prelude.{◌≡◌, ◌+◌, ◌≤◌, ◌<◌, ◌^◌, ◌↔◌, min, length, take, Some, IsOk, IsOkAnd, IfOk, IfErr, OnErr};
 ghost use Rattle.no_std_io2_base.specs.Cursor.{cursor_position, cursor_inner, cursor_left};
-ghost use Rattle.no_std_io2_base.specs.BufRead.{ConsumeLaw};
 ghost use Rattle.no_std_io2_base.specs.Errors.{IsUnexpectedEnd};
 ghost use Rattle.no_std_io2_base.specs.Events.{events_of};
 ghost use Rattle.no_std_io2_base.specs.Takes.{store_at};
 ghost use Rattle.no_std_io2_base.specs.InMemory.{GivesLeft};
-ghost use Rattle.no_std_io2_base.specs.Read.{ReadLaw, ReadExactLaw};
+ghost use Rattle.no_std_io2_base.specs.Read.{ReadLaw, ReadExactLaw, ConsumeLaw};
 
 use super::{AsSlice, Cursor};
 use crate::error::{Result, failed_to_fill};
@@ -36,6 +35,8 @@ impl<T: AsSlice<u8>> Read for Cursor<T> {
     ghost events = { λ c. Some (events_of (cursor_left T.slice c)) };
 
     ghost may = { GivesLeft (cursor_left T.slice) };
+
+    ghost held = { cursor_left T.slice };
 
     #[inline(always)]
     fn read(&mut self, buf: &mut [u8]) -> Result<usize>
@@ -83,8 +84,6 @@ impl<T: AsSlice<u8>> Read for Cursor<T> {
 }
 
 impl<T: AsSlice<u8>> BufRead for Cursor<T> {
-    ghost held = { cursor_left T.slice };
-
     #[tactic(auto, using(crate::proofs::FillBufHeld::begins_whole))]
     fn fill_buf(&mut self) -> Result<&[u8]> {
         Ok(self.left())
@@ -92,7 +91,7 @@ impl<T: AsSlice<u8>> BufRead for Cursor<T> {
 
     fn consume(&mut self, amount: usize)
         requires { amount ≤ length (cursor_left T.slice self.old) }
-        ensures law { ConsumeLaw ⟦<Self as BufRead>⟧ self.old amount self.new }
+        ensures law { ConsumeLaw ⟦<Self as Read>⟧ self.old amount self.new }
 
         // It moves the position by `amount`.
         ensures position { cursor_position self.new ≡ cursor_position self.old + amount }

@@ -8,7 +8,7 @@ ghost use Rattle.no_std_io2_base.specs.Write.{told_out};
 
 use super::Cursor;
 use crate::error::{Result, failed_to_write};
-use crate::impls::copy_prefix;
+use crate::impls::{copy_bytes, copy_prefix};
 use crate::traits::Write;
 use std::alloc::Allocator;
 use std::boxed::BoxedSlice;
@@ -25,13 +25,19 @@ fn write_fitting(content: &mut [u8], pos: &mut u64, buf: &[u8]) -> usize
 }
 
 // `write_all` of a cursor over a slice.
+#[inline(always)]
 fn write_all_fitting(content: &mut [u8], pos: &mut u64, buf: &[u8]) -> Result<()>
     ensures { PutsAllFitting content.old pos.old buf.now result content.new pos.new }
 {
-    if write_fitting(content, pos, buf) < buf.len() {
-        return Err(failed_to_write());
+    let start = (content.len() as u64).min(*pos) as usize;
+    if buf.len() <= content.len() - start {
+        // The length of the copy is that of the piece, which the caller may know.
+        copy_bytes(buf, &mut content[start..start + buf.len()]);
+        *pos += buf.len() as u64;
+        return Ok(());
     }
-    Ok(())
+    write_fitting(content, pos, buf);
+    Err(failed_to_write())
 }
 
 /// Writes over the slice from the position on. The slice keeps its length: a `write` takes as many

@@ -22,6 +22,10 @@ impl<W: Write, A: Allocator> Write for Box<W, A> {
     fn write_all(&mut self, buf: &[u8]) -> Result<()> {
         self.as_mut().write_all(buf)
     }
+
+    fn write_rest(&mut self, rest: &mut &[u8]) -> Result<()> {
+        self.as_mut().write_rest(rest)
+    }
 }
 
 impl<T: Stored, A: Allocator> Stored for Box<T, A> {
@@ -36,6 +40,8 @@ impl<T: Read, A: Allocator> Read for Box<T, A> {
 
     ghost may = { λ old call new. T.may old.value call new.value };
 
+    ghost held = { λ b. T.held b.value };
+
     fn read(&mut self, buf: &mut [u8]) -> Result<usize> {
         self.as_mut().read(buf)
     }
@@ -44,14 +50,16 @@ impl<T: Read, A: Allocator> Read for Box<T, A> {
         self.as_mut().read_exact(buf)
     }
 
+    fn read_full(&mut self, buf: &mut [u8], filled: &mut usize) -> Result<()> {
+        self.as_mut().read_full(buf, filled)
+    }
+
     fn read_to_end<B: Allocator>(&mut self, buf: &mut Vec<u8, B>) -> Result<usize> {
         Read::read_to_end(&mut **self, buf)
     }
 }
 
 impl<T: BufRead, A: Allocator> BufRead for Box<T, A> {
-    ghost held = { λ b. T.held b.value };
-
     fn fill_buf(&mut self) -> Result<&[u8]> {
         self.as_mut().fill_buf()
     }

@@ -74,6 +74,22 @@ pub fn copy_bytes(from: &[u8], to: &mut [u8])
     }
 }
 
+/// Copies at most 32 bytes over as many others. It is not inlined: the code of all small buffers has it once.
+#[inline(never)]
+pub fn copy_apart(from: &[u8], to: &mut [u8])
+    requires same { length from.now ≡ length to.old }
+    requires short { length from.now ≤ 32 }
+    ensures { to.new ≡ from.now }
+{
+    if from.len() >= 16 {
+        copy_ends::<16>(from, to);
+    } else if from.len() >= 8 {
+        copy_ends::<8>(from, to);
+    } else {
+        copy_few(from, to);
+    }
+}
+
 // Copies as many bytes as both slices have, and returns their number.
 #[inline(always)]
 pub(crate) fn copy_prefix(from: &[u8], to: &mut [u8]) -> usize

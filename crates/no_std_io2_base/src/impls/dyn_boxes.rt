@@ -25,6 +25,10 @@ impl<A: Allocator> Write for Box<dyn Write + Drop, A> {
     fn write_all(&mut self, buf: &[u8]) -> Result<()> {
         (**self).write_all(buf)
     }
+
+    fn write_rest(&mut self, rest: &mut &[u8]) -> Result<()> {
+        (**self).write_rest(rest)
+    }
 }
 
 impl<A: Allocator> Stored for Box<dyn Seek + Drop, A> {
@@ -69,12 +73,18 @@ impl<A: Allocator> Read for Box<dyn Read + Drop, A> {
 
     ghost may = { λ b call new. BoxMay b (Read-box b).Read.may call new };
 
+    ghost held = { λ b. (Read-box b).Read.held b.value };
+
     fn read(&mut self, buf: &mut [u8]) -> Result<usize> {
         self.read_object(buf)
     }
 
     fn read_exact(&mut self, buf: &mut [u8]) -> Result<()> {
         (**self).read_exact(buf)
+    }
+
+    fn read_full(&mut self, buf: &mut [u8], filled: &mut usize) -> Result<()> {
+        (**self).read_full(buf, filled)
     }
 
     fn read_to_end<B: Allocator>(&mut self, buf: &mut Vec<u8, B>) -> Result<usize> {
@@ -88,6 +98,7 @@ impl<A: Allocator> ReadObject for Box<dyn Read + Drop, A> {
       turns = λ b. (Read-box b).Read.turns b.value;
       events = λ b. (Read-box b).Read.events b.value;
       may = λ b call new. BoxMay b (Read-box b).Read.may call new;
+      held = λ b. (Read-box b).Read.held b.value;
     } };
 
     fn read_object(&mut self, buf: &mut [u8]) -> Result<usize> {

@@ -19,6 +19,8 @@ impl<A: Allocator> Read for Box<dyn BufRead + Drop, A> {
 
     ghost may = { λ b call new. BoxMay b (BufRead-box b).Read.may call new };
 
+    ghost held = { λ b. (BufRead-box b).Read.held b.value };
+
     fn read(&mut self, buf: &mut [u8]) -> Result<usize> {
         self.read_object(buf)
     }
@@ -27,14 +29,16 @@ impl<A: Allocator> Read for Box<dyn BufRead + Drop, A> {
         (**self).read_exact(buf)
     }
 
+    fn read_full(&mut self, buf: &mut [u8], filled: &mut usize) -> Result<()> {
+        (**self).read_full(buf, filled)
+    }
+
     fn read_to_end<B: Allocator>(&mut self, buf: &mut Vec<u8, B>) -> Result<usize> {
         drain(self, buf)
     }
 }
 
 impl<A: Allocator> BufRead for Box<dyn BufRead + Drop, A> {
-    ghost held = { λ b. (BufRead-box b).BufRead.held b.value };
-
     fn fill_buf(&mut self) -> Result<&[u8]> {
         (**self).fill_buf()
     }
@@ -69,6 +73,7 @@ impl<A: Allocator> ReadObject for Box<dyn BufRead + Drop, A> {
       turns = λ b. (BufRead-box b).Read.turns b.value;
       events = λ b. (BufRead-box b).Read.events b.value;
       may = λ b call new. BoxMay b (BufRead-box b).Read.may call new;
+      held = λ b. (BufRead-box b).Read.held b.value;
     } };
 
     fn read_object(&mut self, buf: &mut [u8]) -> Result<usize> {

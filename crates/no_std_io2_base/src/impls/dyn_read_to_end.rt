@@ -4,7 +4,7 @@
 ghost use Rattle.no_std_io2_base.specs.Read.{Reader, ReadLaw, ReadToEndLaw};
 
 use crate::error::Result;
-use crate::traits::{LEAST_ROOM, open_room, reserve_room};
+use crate::traits::{LEAST_ROOM, open_room, reserve_first};
 use std::alloc::Allocator;
 
 /// A trait object that can be read.
@@ -24,10 +24,11 @@ pub(super) fn drain<O: ReadObject, A: Allocator>(
     ensures law { ReadToEndLaw O.reader object.old buf.old result buf.new object.new }
 {
     let start = buf.len();
+    let own = buf.capacity();
     let mut filled = start;
-    reserve_room(buf, LEAST_ROOM)?;
+    reserve_first(buf, LEAST_ROOM, 0)?;
     'reads: loop {
-        open_room(buf, filled, filled - start, LEAST_ROOM)?;
+        open_room(buf, filled, filled - start, own, LEAST_ROOM)?;
         match object.read_object(&mut buf[filled..]) {
             Ok(0) => {
                 buf.truncate(filled);

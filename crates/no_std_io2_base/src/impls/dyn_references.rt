@@ -25,6 +25,10 @@ impl Write for &mut dyn Write {
     fn write_all(&mut self, buf: &[u8]) -> Result<()> {
         (**self).write_all(buf)
     }
+
+    fn write_rest(&mut self, rest: &mut &[u8]) -> Result<()> {
+        (**self).write_rest(rest)
+    }
 }
 
 impl Stored for &mut dyn Read {
@@ -39,12 +43,18 @@ impl Read for &mut dyn Read {
 
     ghost may = { λ r call new. LentMay r (Read-dyn r.now).Read.may call new };
 
+    ghost held = { λ r. (Read-dyn r.now).Read.held r.now.1 };
+
     fn read(&mut self, buf: &mut [u8]) -> Result<usize> {
         (**self).read(buf)
     }
 
     fn read_exact(&mut self, buf: &mut [u8]) -> Result<()> {
         (**self).read_exact(buf)
+    }
+
+    fn read_full(&mut self, buf: &mut [u8], filled: &mut usize) -> Result<()> {
+        (**self).read_full(buf, filled)
     }
 
     fn read_to_end<A: Allocator>(&mut self, buf: &mut Vec<u8, A>) -> Result<usize> {
@@ -58,6 +68,7 @@ impl ReadObject for &mut dyn Read {
       turns = λ r. (Read-dyn r.now).Read.turns r.now.1;
       events = λ r. (Read-dyn r.now).Read.events r.now.1;
       may = λ r call new. LentMay r (Read-dyn r.now).Read.may call new;
+      held = λ r. (Read-dyn r.now).Read.held r.now.1;
     } };
 
     fn read_object(&mut self, buf: &mut [u8]) -> Result<usize> {

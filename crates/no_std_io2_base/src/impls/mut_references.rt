@@ -22,6 +22,10 @@ impl<W: Write> Write for &mut W {
     fn write_all(&mut self, buf: &[u8]) -> Result<()> {
         Write::write_all(&mut **self, buf)
     }
+
+    fn write_rest(&mut self, rest: &mut &[u8]) -> Result<()> {
+        Write::write_rest(&mut **self, rest)
+    }
 }
 
 impl<T: Stored> Stored for &mut T {
@@ -36,6 +40,8 @@ impl<T: Read> Read for &mut T {
 
     ghost may = { λ old call new. T.may old.now call new.now };
 
+    ghost held = { λ r. T.held r.now };
+
     fn read(&mut self, buf: &mut [u8]) -> Result<usize> {
         Read::read(&mut **self, buf)
     }
@@ -44,14 +50,16 @@ impl<T: Read> Read for &mut T {
         Read::read_exact(&mut **self, buf)
     }
 
+    fn read_full(&mut self, buf: &mut [u8], filled: &mut usize) -> Result<()> {
+        Read::read_full(&mut **self, buf, filled)
+    }
+
     fn read_to_end<A: Allocator>(&mut self, buf: &mut Vec<u8, A>) -> Result<usize> {
         Read::read_to_end(&mut **self, buf)
     }
 }
 
 impl<T: BufRead> BufRead for &mut T {
-    ghost held = { λ r. T.held r.now };
-
     fn fill_buf(&mut self) -> Result<&[u8]> {
         BufRead::fill_buf(&mut **self)
     }

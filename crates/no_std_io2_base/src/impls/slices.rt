@@ -8,7 +8,7 @@ ghost use Rattle.no_std_io2_base.specs.Cursor.{HasMoved};
 
 use super::copying::copy_prefix;
 use crate::error::{Result, failed_to_fill};
-use crate::traits::{BufRead, LEAST_ROOM, Read, Stored, reserve_room};
+use crate::traits::{BufRead, LEAST_ROOM, Read, Stored, reserve_first, reserve_room};
 use std::alloc::Allocator;
 
 // Makes room for the `coming` bytes and 32 more at once if the vector would otherwise grow twice. If the allocation
@@ -19,7 +19,7 @@ fn reserve_ahead<A: Allocator>(buf: &mut Vec<u8, A>, coming: usize)
     ensures grows { vec_capacity buf.old ≤ vec_capacity buf.new }
 {
     if coming >= LEAST_ROOM && coming >= buf.capacity() - buf.len() {
-        let _ = buf.reserve(coming.saturating_add(LEAST_ROOM));
+        let _ = reserve_first(buf, coming.saturating_add(LEAST_ROOM), coming);
     }
 }
 
@@ -33,8 +33,9 @@ fn append_parts<A: Allocator>(rest: &mut &[u8], buf: &mut Vec<u8, A>) -> Result<
     ensures refused { IfErr result IsOutOfMemory }
     ensures full { OnErr result (vec_capacity buf.old < vec_len buf.new + least_room) }
 {
-    reserve_room(buf, LEAST_ROOM)?;
     let all: &[u8] = *rest;
+    let own = buf.capacity();
+    reserve_first(buf, LEAST_ROOM, 0)?;
     let room = buf.capacity() - buf.len();
     let n = all.len().min(room);
     buf.extend_from_slice(&all[..n])?;
@@ -42,7 +43,7 @@ fn append_parts<A: Allocator>(rest: &mut &[u8], buf: &mut Vec<u8, A>) -> Result<
     if n < room {
         return Ok(());
     }
-    reserve_room(buf, rest.len().saturating_add(LEAST_ROOM))?;
+    reserve_room(buf, rest.len().saturating_add(LEAST_ROOM), own, n)?;
     buf.extend_from_slice(rest)?;
     *rest = &all[all.len()..];
     Ok(())
@@ -84,6 +85,8 @@ impl Read for &[u8] {
 
     ghost may = { GivesLeft (λ s. s.now) };
 
+    ghost held = { λ s. s.now };
+
     #[inline(always)]
     fn read(&mut self, buf: &mut [u8]) -> Result<usize> {
         let all: &[u8] = *self;
@@ -118,8 +121,6 @@ impl Read for &[u8] {
 }
 
 impl BufRead for &[u8] {
-    ghost held = { λ s. s.now };
-
     #[tactic(auto, using(crate::proofs::FillBufHeld::begins_whole))]
     fn fill_buf(&mut self) -> Result<&[u8]> {
         Ok(*self)

@@ -1,11 +1,13 @@
 // [`BufRead`], a reader that lends the bytes in its buffer.
-ghost use Rattle.std.specs.Prelude.{◌≡◌, ℕ, List, ◌≤◌, length, false};
+ghost use Rattle.std.specs.Prelude.{◌≡◌, ◌≤◌, length, false};
 ghost use types.Logic.{sem};
-ghost use Rattle.no_std_io2_base.specs.BufRead.{FillBufLaw, AfterLoan, ConsumeLaw, ReadUntilLaw, SkipUntilLaw, ReadLineLaw, Rests};
+ghost use Rattle.std.specs.Io.BufRead.{Rests};
+ghost use Rattle.no_std_io2_base.specs.BufRead.{FillBufLaw, AfterLoan, ReadUntilLaw, SkipUntilLaw, ReadLineLaw};
+ghost use Rattle.no_std_io2_base.specs.Read.{ConsumeLaw};
 ghost use Rattle.no_std_io2_base.specs.Pieces.{split_reader, split_delim, split_is_ended, lines_reader, lines_is_ended};
 
 use super::lines::Lines;
-use super::pieces::{append_text, find_piece, put_line, take_memory};
+use super::pieces::{append_text, find_piece, put_back, take_bytes};
 use super::read::Read;
 use super::split::Split;
 use crate::error::Result;
@@ -21,9 +23,6 @@ use std::alloc::{Allocator, Global};
 /// assert!(rt; r.fill_buf()? == b"bc".as_slice());
 /// ```
 pub trait BufRead: Read {
-    // The bytes in the buffer. If the reader tells its events, the events begin with these bytes.
-    ghost held: { Self → List ℕ };
-
     /// Lends the held bytes. If some bytes are held already, nothing changes. If none are, it first
     /// reads once. An empty slice means the end. Follows `std::io::BufRead::fill_buf`.
     ///
@@ -31,13 +30,13 @@ pub trait BufRead: Read {
     /// Returns the device's error, also an interruption, if the read fails; no byte was then taken.
     /// If bytes are held, there is no error.
     fn fill_buf(&mut self) -> Result<&[u8]>
-        ensures law { FillBufLaw ⟦<Self as BufRead>⟧ self.old result }
-        ensures* after_borrow { sem 𝓛 (Rests Self.row self.entry (λ new. AfterLoan ⟦<Self as BufRead>⟧ self.old result new)) };
+        ensures law { FillBufLaw ⟦<Self as Read>⟧ self.old result }
+        ensures* after_borrow { sem 𝓛 (Rests Self.row self.entry (λ new. AfterLoan ⟦<Self as Read>⟧ self.old result new)) };
 
     /// Drops the first `amount` of the held bytes, at most all of them. Follows `std::io::BufRead::consume`.
     fn consume(&mut self, amount: usize)
-        requires { amount ≤ length (held self.old) }
-        ensures law { ConsumeLaw ⟦<Self as BufRead>⟧ self.old amount self.new };
+        requires { amount ≤ length (Self.held self.old) }
+        ensures law { ConsumeLaw ⟦<Self as Read>⟧ self.old amount self.new };
 
     /// Appends the bytes up to and including the first `delim`, and returns their number. If there is no
     /// `delim`, it appends all bytes that are left. 0 means the end. It ignores interruptions. If `buf` has
@@ -59,7 +58,7 @@ pub trait BufRead: Read {
     fn read_until<A: Allocator>(&mut self, delim: u8, buf: &mut Vec<u8, A>) -> Result<usize>
     where
         Self: Sized,
-        ensures law { ReadUntilLaw ⟦<Self as BufRead>⟧ self.old delim buf.old result buf.new self.new }
+        ensures law { ReadUntilLaw ⟦<Self as Read>⟧ self.old delim buf.old result buf.new self.new }
     {
         let start = buf.len();
         'pieces: loop {
@@ -95,7 +94,7 @@ pub trait BufRead: Read {
     final fn skip_until(&mut self, delim: u8) -> Result<usize>
     where
         Self: Sized,
-        ensures law { SkipUntilLaw ⟦<Self as BufRead>⟧ self.old delim result self.new }
+        ensures law { SkipUntilLaw ⟦<Self as Read>⟧ self.old delim result self.new }
     {
         let mut skipped = 0usize;
         'pieces: loop {
@@ -117,8 +116,8 @@ pub trait BufRead: Read {
     /// Appends the next line to `buf`, with its newline, and returns the number of its bytes: 0
     /// means the end. The last line may have no newline. It ignores interruptions. If the line is
     /// lent whole and `buf` has room for it, it is appended at once. Any other is read by
-    /// `read_until`: into the memory of `buf` if that is empty, and else into a vector from `alloc`
-    /// first. The capacity of `buf` never shrinks. Follows `std::io::BufRead::read_line`.
+    /// `read_until` into the memory of `buf`, behind its bytes. The capacity of `buf` never shrinks.
+    /// Follows `std::io::BufRead::read_line`.
     ///
     /// # Errors
     /// Returns `InvalidData` if the line is not UTF-8; `buf` is unchanged, and the line is taken.
@@ -137,7 +136,7 @@ pub trait BufRead: Read {
     fn read_line(&mut self, alloc: Global, buf: &mut String) -> Result<usize>
     where
         Self: Sized,
-        ensures law { ReadLineLaw ⟦<Self as BufRead>⟧ self.old buf.old result buf.new self.new }
+        ensures law { ReadLineLaw ⟦<Self as Read>⟧ self.old buf.old result buf.new self.new }
     {
         match self.fill_buf() {
             Ok(lent) => {
@@ -150,9 +149,10 @@ pub trait BufRead: Read {
             Err(e) if e.is_interrupted() => {}
             Err(e) => return Err(e),
         }
-        let mut line = take_memory(alloc, buf);
-        let read = self.read_until(b'\n', &mut line);
-        put_line(buf, line, read)
+        let start = buf.len();
+        let mut bytes = take_bytes(alloc, buf);
+        let read = self.read_until(b'\n', &mut bytes);
+        put_back(buf, bytes, start, read)
     }
 
     /// Turns this reader into an iterator over the pieces of its bytes, cut after each `delim` and without it.

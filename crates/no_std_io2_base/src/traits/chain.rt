@@ -5,8 +5,7 @@ ghost use Rattle.std.specs.Borrow.{LendsBoth};
 ghost use Rattle.no_std_io2_base.specs.contracts.traits.chain.Chain.{the_row as chain-row};
 ghost use Rattle.no_std_io2_base.specs.Chain.{chain_first, chain_second, chain_is_done, chain_with_readers};
 ghost use Rattle.no_std_io2_base.specs.Chain.{chain_events, chain_held, ChainMay};
-ghost use Rattle.no_std_io2_base.specs.BufRead.{ConsumeLaw};
-ghost use Rattle.no_std_io2_base.specs.Read.{tells, ReadToEndLaw};
+ghost use Rattle.no_std_io2_base.specs.Read.{tells, ReadToEndLaw, ConsumeLaw};
 
 use super::buf_read::BufRead;
 use super::read::Read;
@@ -100,6 +99,8 @@ impl<T: Read, U: Read> Read for Chain<T, U> {
 
     ghost may = { ChainMay T.Read U.Read };
 
+    ghost held = { chain_held T.held U.held };
+
     #[inline(always)]
     fn read(&mut self, buf: &mut [u8]) -> Result<usize> {
         if self.done_first {
@@ -134,8 +135,6 @@ impl<T: Read, U: Read> Read for Chain<T, U> {
 }
 
 impl<T: BufRead, U: BufRead> BufRead for Chain<T, U> {
-    ghost held = { chain_held T.held U.held };
-
     fn fill_buf(&mut self) -> Result<&[u8]> {
         if self.done_first {
             return self.second.fill_buf();
@@ -149,7 +148,7 @@ impl<T: BufRead, U: BufRead> BufRead for Chain<T, U> {
 
     fn consume(&mut self, amount: usize)
         requires { amount ≤ length (chain_held T.held U.held self.old) }
-        ensures law { ConsumeLaw ⟦<Self as BufRead>⟧ self.old amount self.new }
+        ensures law { ConsumeLaw ⟦<Self as Read>⟧ self.old amount self.new }
     {
         if self.done_first {
             self.second.consume(amount);

@@ -6,6 +6,7 @@ ghost use Rattle.no_std_io2_base.specs.BufRead.{NextPieceLaw};
 
 use super::buf_read::BufRead;
 use super::pieces::{text_of, trim_line};
+use super::read::Read;
 use crate::error::Result;
 use std::alloc::Global;
 
@@ -37,7 +38,7 @@ impl<R> Lines<R> {
 
 // Reads the next line, and drops its newline. `None` means the end.
 fn next_line<R: BufRead>(reader: &mut R, alloc: Global) -> Option<Result<String>>
-    ensures law { NextPieceLaw ⟦<R as BufRead>⟧ reader.old string_bytes line_text RefusesLine newline result reader.new }
+    ensures law { NextPieceLaw ⟦<R as Read>⟧ reader.old string_bytes line_text RefusesLine newline result reader.new }
 {
     let mut line = Vec::new(alloc);
     match reader.read_until(b'\n', &mut line) {
@@ -59,7 +60,7 @@ where
     ghost next_gives = { λ s r t.
         (lines_is_ended s ≡ true → (r ≡ None) × (t ≡ s))
         × (lines_is_ended s ≡ false → (lines_is_ended t ≡ ends_at r)
-        × NextPieceLaw ⟦<R as BufRead>⟧ (lines_reader s) string_bytes line_text RefusesLine newline r (lines_reader t)) };
+        × NextPieceLaw ⟦<R as Read>⟧ (lines_reader s) string_bytes line_text RefusesLine newline r (lines_reader t)) };
 
     ghost remaining = { λ s. at_most (items_left (lines_is_ended s) (R.turns (lines_reader s))) };
 

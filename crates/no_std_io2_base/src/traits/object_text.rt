@@ -1,9 +1,11 @@
 // The printing of a text to an object, through a buffer on the stack.
 ghost use Rattle.std.specs.Prelude.{◌≡◌, ◌≤◌, ◌<◌, ◌++◌, ◌^◌, ℕ, List, IsOk, length};
 ghost use Rattle.no_std_io2_base.specs.Text.{HasText, PrintsOrRefuses};
+ghost use Rattle.no_std_io2_base.specs.Writers.{PrintsByOne, OfObject};
 
+use super::text::Answers;
 use super::write::Write;
-use crate::error::{Error, Result};
+use crate::error::{Error, ErrorKind, Result};
 use crate::impls::copy_bytes;
 use crate::internal::failed_to_write;
 use std::fmt;
@@ -48,9 +50,34 @@ impl<const N: usize> fmt::Write for Page<'_, N> {
 /// Returns `WriteZero` if the text is longer than `N` bytes, and `formatter error` of kind `Other` if the text's own
 /// `fmt` fails. The device then got no call. Returns the error of the `write_all` if that fails; some first bytes of
 /// the text, possibly none or all, were then accepted.
-pub fn print_to_object<D: Display + Drop, const N: usize>(w: &mut dyn Write, text: D) -> Result<()>
+///
+/// ```rust
+/// let mut device = Vec::<u8>::new(rt.alloc());
+/// let n = 3;
+/// print_to_object::<_, _, 64>(&mut device, format_args!("n is {n}\n"))?;
+/// assert!(rt; device.as_slice() == b"n is 3\n".as_slice());
+/// ```
+pub fn print_to_object<D: Display + Drop, E, const N: usize>(
+    w: &mut dyn Write,
+    text: D,
+) -> std::result::Result<(), E>
+where
+    ErrorKind: Answers<E>,
     requires { N < 2 ^ 63 }
-    ensures { PrintsOrRefuses N (told w.old) (D.output text) result (told w.new) }
+    ensures prints { PrintsOrRefuses N (told w.old) (D.output text) (⟦<ErrorKind as Answers<E>>⟧.seen result) (told w.new) }
+
+    // It made one `write_all`, or no call.
+    ensures calls { OfObject w.old (λ a b. PrintsByOne (Write-dyn w.old) N (D.output text) a
+        (⟦<ErrorKind as Answers<E>>⟧.seen result) b) w.new }
+{
+    <ErrorKind as Answers<E>>::answer(print_short::<D, N>(w, text))
+}
+
+// Prints a text of at most `N` bytes to an object.
+fn print_short<D: Display + Drop, const N: usize>(w: &mut dyn Write, text: D) -> Result<()>
+    requires { N < 2 ^ 63 }
+    ensures prints { PrintsOrRefuses N (told w.old) (D.output text) result (told w.new) }
+    ensures calls { OfObject w.old (λ a b. PrintsByOne (Write-dyn w.old) N (D.output text) a result b) w.new }
 {
     let mut room = [0u8; N];
     let mut page = Page::<N> {

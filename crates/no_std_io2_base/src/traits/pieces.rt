@@ -1,6 +1,7 @@
 // The parts of which the calls that read pieces are made.
 ghost use Rattle.std.specs.Prelude.{◌≡◌, ◌≢◌, ◌<◌, ◌≤◌, ◌+◌, ◌⊎◌, [], true, false, length, IfErr, IfOk, IsErrAnd, IsUtf8};
-ghost use Rattle.std.specs.Prelude.{string_bytes, string_len, string_capacity, vec_capacity};
+ghost use Rattle.std.specs.Prelude.{string_bytes, string_len, string_capacity, vec_len, vec_capacity, ℕ, take, drop};
+ghost use Rattle.std.specs.String.{string_vec};
 ghost use Rattle.std.specs.Bool.{OnTrue, OnFalse};
 ghost use Rattle.std.specs.List.{AllWithin};
 ghost use Rattle.no_std_io2_base.specs.Pieces.{FindsPiece, ends_in, without, line_text, IsInvalidText, AnswersLine, Follows};
@@ -12,8 +13,8 @@ use crate::error::{Error, ErrorKind, Result};
 use std::alloc::Global;
 use std::mem;
 
-// The room of a vector for a line, which comes by pieces: without it, the first ones would make the vector grow.
-const LINE_ROOM: usize = 64;
+// The room of a vector for a text, which comes by pieces: without it, the first ones would make the vector grow.
+const TEXT_ROOM: usize = 64;
 
 /// The number of bytes that are compared in one step.
 pub const STEP: usize = 16;
@@ -94,7 +95,7 @@ pub(super) fn text_of(bytes: Vec<u8>) -> Result<String>
     }
 }
 
-// Appends a line's bytes to a string if they are UTF-8, and returns the result of their read. The
+// Appends a text's bytes to a string if they are UTF-8, and returns the result of their read. The
 // string is unchanged if the bytes are not UTF-8, and after every `OutOfMemory`, also the read's.
 fn append_line(buf: &mut String, line: &[u8], read: Result<usize>) -> Result<usize>
     ensures answers { AnswersLine line.now read (string_len buf.old) (string_capacity buf.old) result
@@ -132,7 +133,7 @@ pub(super) fn append_text(buf: &mut String, line: &[u8]) -> bool
 }
 
 // Returns an empty vector. It has the memory of the string if the string is empty. If not, it has room for a short
-// line, unless the allocation fails.
+// text, unless the allocation fails.
 #[inline(always)]
 pub(super) fn take_memory(alloc: Global, buf: &mut String) -> Vec<u8>
     ensures items { result.items ≡ [] }
@@ -143,7 +144,7 @@ pub(super) fn take_memory(alloc: Global, buf: &mut String) -> Vec<u8>
     if buf.is_empty() {
         return mem::replace(buf, String::new(alloc)).into_bytes();
     }
-    match Vec::with_capacity(alloc, LINE_ROOM) {
+    match Vec::with_capacity(alloc, TEXT_ROOM) {
         Ok(line) => line,
         Err(_refused) => Vec::new(alloc),
     }
@@ -178,6 +179,61 @@ pub(super) fn put_line(buf: &mut String, mut line: Vec<u8>, read: Result<usize>)
             read.and(Err(invalid_text()))
         }
     }
+}
+
+// Takes the bytes of a string with their memory. The string is then empty.
+#[inline(always)]
+pub(super) fn take_bytes(alloc: Global, buf: &mut String) -> Vec<u8>
+    ensures { result ≡ string_vec buf.old }
+{
+    mem::replace(buf, String::new(alloc)).into_bytes()
+}
+
+// Returns whether these bytes are UTF-8.
+fn is_text(bytes: &[u8]) -> bool
+    ensures yes { result ≡ true → IsUtf8 bytes.now }
+    ensures no { result ≡ false → IsUtf8 bytes.now → ⊥ }
+{
+    std::str::from_utf8(bytes).is_ok()
+}
+
+// Returns the string of the first `len` bytes, with the memory of all.
+fn text_front(mut bytes: Vec<u8>, len: usize) -> String
+    requires { IsUtf8 (take len bytes.items) }
+    ensures bytes { string_bytes result ≡ take len bytes.items }
+    ensures capacity { string_capacity result ≡ vec_capacity bytes }
+{
+    bytes.truncate(len);
+    unsafe { String::from_utf8_unchecked(bytes) }
+}
+
+// Gives a string back its memory, in which a line was read behind its `start` bytes, and returns the result of the read.
+// The line stays if it is UTF-8, and the read did not fail for lack of memory.
+//
+// # Errors
+// Returns the read's error if the read failed, and `InvalidData` if the line is not UTF-8.
+pub(super) fn put_back(
+    buf: &mut String,
+    bytes: Vec<u8>,
+    start: usize,
+    read: Result<usize>,
+) -> Result<usize>
+    requires within { start ≤ vec_len bytes }
+    requires text { IsUtf8 (take start bytes.items) }
+    ensures answers { (len capacity : ℕ) → AnswersLine (drop start bytes.items) read len capacity result
+        (take start bytes.items) (string_bytes buf.new) }
+    ensures capacity { string_capacity buf.new ≡ vec_capacity bytes }
+{
+    if is_out_of_memory(&read) {
+        *buf = text_front(bytes, start);
+        return read;
+    }
+    if is_text(&bytes[start..]) {
+        *buf = unsafe { String::from_utf8_unchecked(bytes) };
+        return read;
+    }
+    *buf = text_front(bytes, start);
+    read.and(Err(invalid_text()))
 }
 
 // Returns an empty string, with the memory of these bytes.

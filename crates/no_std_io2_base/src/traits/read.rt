@@ -1,5 +1,5 @@
 // [`Read`], a source of bytes.
-ghost use Rattle.std.specs.Prelude.{◌≡◌, ℕ, false, List, Option, None};
+ghost use Rattle.std.specs.Prelude.{◌≡◌, ℕ, false, List, [], Option, None};
 ghost use Rattle.no_std_io2_base.specs.Chain.{chain_first, chain_second, chain_is_done, chain_events, both_to_come};
 ghost use Rattle.no_std_io2_base.specs.Events.{Event};
 ghost use Rattle.no_std_io2_base.specs.Takes.{to_come};
@@ -10,7 +10,7 @@ ghost use Rattle.no_std_io2_base.specs.Take.{limit_inner, limit_left, limit_set,
 use super::bytes::Bytes;
 use super::chain::Chain;
 use super::pieces::{put_line, take_memory};
-use super::room::{LEAST_ROOM, open_room, reserve_room};
+use super::room::{LEAST_ROOM, open_room, reserve_first};
 use super::stored::Stored;
 use super::take::Take;
 use crate::error::{Result, failed_to_fill};
@@ -40,6 +40,9 @@ pub trait Read: Stored {
 
     // What one call with its result may do to the reader. By default it may do anything.
     ghost may: { Self → ReadCall → Self → Type 0 } = { λ _ _ _. Unit {0} };
+
+    // The bytes in the buffer of a reader that lends. If it tells its events, they begin with these bytes.
+    ghost held: { Self → List ℕ } = { λ _. [] };
 
     /// Reads some bytes into the front of `buf` and returns their number, which is at most the
     /// length of `buf`. If `buf` is not empty, `Ok(0)` means the end, and a reader that tells its
@@ -113,9 +116,12 @@ pub trait Read: Stored {
 
     /// Appends all remaining bytes to `buf`, and returns their number. It ignores interruptions.
     /// Before its first read, and whenever no room is left, it makes room for at least 32 bytes; a
-    /// slice and a cursor make room for all of their rest once these are full. If `buf` has room
-    /// for the bytes before the first fault and for 32 more, `read_to_end` never fails for lack of
-    /// memory. Follows `std::io::Read::read_to_end`.
+    /// slice and a cursor make room for all of their rest and 32 bytes. The first growth is by
+    /// these bytes alone, unless `buf` had far more bytes before; the next ones double the
+    /// capacity. If `buf` has room for the bytes before the first fault and for 32 more,
+    /// `read_to_end` never fails for lack of memory. If the length is known,
+    /// `take(len).read_to_end(buf)` needs no more room than that. Follows
+    /// `std::io::Read::read_to_end`.
     ///
     /// # Errors
     /// Returns the first fault if there is one; the reader is then right after it. Returns
@@ -135,10 +141,11 @@ pub trait Read: Stored {
         ensures law { ReadToEndLaw ⟦<Self as Read>⟧ self.old buf.old result buf.new self.new }
     {
         let start = buf.len();
+        let own = buf.capacity();
         let mut filled = start;
-        reserve_room(buf, LEAST_ROOM)?;
+        reserve_first(buf, LEAST_ROOM, 0)?;
         'reads: loop {
-            open_room(buf, filled, filled - start, LEAST_ROOM)?;
+            open_room(buf, filled, filled - start, own, LEAST_ROOM)?;
             match self.read(&mut buf[filled..]) {
                 Ok(0) => {
                     buf.truncate(filled);

@@ -16,12 +16,23 @@ const FIRST_OPENED: usize = 8 * 1024;
 
 const MOST_OPENED: usize = 128 * 1024;
 
-/// Makes room for `wanted` more bytes.
+// A growth by the wanted bytes alone moves at most this many bytes for each one that the call has read.
+const MOST_MOVED: usize = 8;
+
+/// Makes room for `wanted` more bytes, in a vector of which `read` bytes came in this call, and whose capacity was `own`
+/// before it. Its first growth is by these bytes alone, so that a vector of just the right size does not double. The
+/// next ones double it, and so does the first one of a vector that had far more bytes before. So the bytes that growths
+/// move are at most proportional to those that are read, also if many calls append to one vector.
 ///
 /// # Errors
 /// Returns `OutOfMemory` if there was too little room and the vector could not grow; nothing
 /// then changes.
-pub(crate) fn reserve_room<A: Allocator>(buf: &mut Vec<u8, A>, wanted: usize) -> Result<()>
+pub(crate) fn reserve_room<A: Allocator>(
+    buf: &mut Vec<u8, A>,
+    wanted: usize,
+    own: usize,
+    read: usize,
+) -> Result<()>
     ensures items { buf.new.items ≡ buf.old.items }
     ensures len { vec_len buf.new ≡ vec_len buf.old }
     ensures room { OnOk result (vec_len buf.new + wanted ≤ vec_capacity buf.new) }
@@ -29,14 +40,40 @@ pub(crate) fn reserve_room<A: Allocator>(buf: &mut Vec<u8, A>, wanted: usize) ->
     ensures refused { IfErr result IsOutOfMemory }
     ensures full { OnErr result (vec_capacity buf.old < vec_len buf.old + wanted) }
 {
-    buf.reserve(wanted)?;
+    if buf.capacity() == own && buf.len() / MOST_MOVED <= read.saturating_add(LEAST_ROOM) {
+        buf.reserve_exact(wanted)?;
+    } else {
+        buf.reserve(wanted)?;
+    }
     Ok(())
+}
+
+/// Makes room for `wanted` more bytes before the first of the `coming` bytes is read. A full vector has the capacity that
+/// its owner chose, since a read to the end leaves some room, so it counts as read in this call.
+///
+/// # Errors
+/// Returns `OutOfMemory` as `reserve_room` does.
+pub(crate) fn reserve_first<A: Allocator>(
+    buf: &mut Vec<u8, A>,
+    wanted: usize,
+    coming: usize,
+) -> Result<()>
+    ensures items { buf.new.items ≡ buf.old.items }
+    ensures len { vec_len buf.new ≡ vec_len buf.old }
+    ensures room { OnOk result (vec_len buf.new + wanted ≤ vec_capacity buf.new) }
+    ensures grows { vec_capacity buf.old ≤ vec_capacity buf.new }
+    ensures refused { IfErr result IsOutOfMemory }
+    ensures full { OnErr result (vec_capacity buf.old < vec_len buf.old + wanted) }
+{
+    let own = buf.capacity();
+    let read = if buf.len() == own { own } else { coming };
+    reserve_room(buf, wanted, own, read)
 }
 
 /// Extends `buf` by zeros for the next read, unless some are left after the first `filled` bytes.
 /// The number of zeros is the number of bytes read so far, within bounds. So each byte is zeroed
 /// once, and few zeros are never overwritten by a read. If the capacity is used up, it first grows
-/// by at least `least`.
+/// by at least `least`; `own` was the capacity before the call that reads.
 ///
 /// # Errors
 /// Returns `OutOfMemory` if `buf` could not grow; nothing then changes.
@@ -44,6 +81,7 @@ pub(crate) fn open_room<A: Allocator>(
     buf: &mut Vec<u8, A>,
     filled: usize,
     read: usize,
+    own: usize,
     least: usize,
 ) -> Result<()>
     requires within { filled ≤ vec_len buf.old }
@@ -59,7 +97,7 @@ pub(crate) fn open_room<A: Allocator>(
         return Ok(());
     }
     if buf.len() == buf.capacity() {
-        reserve_room(buf, least)?;
+        reserve_room(buf, least, own, read)?;
     }
     let opened = read.max(FIRST_OPENED).min(MOST_OPENED);
     let end = filled + opened.min(buf.capacity() - filled);
@@ -78,9 +116,10 @@ pub fn rest_to_end<R: Read, A: Allocator>(reader: &mut R, buf: &mut Vec<u8, A>) 
     ensures law { ReadToEndLaw R.Read reader.old buf.old result buf.new reader.new }
 {
     let start = buf.len();
+    let own = buf.capacity();
     let mut filled = start;
     'reads: while filled < buf.capacity() {
-        open_room(buf, filled, filled - start, LEAST_ROOM)?;
+        open_room(buf, filled, filled - start, own, LEAST_ROOM)?;
         match reader.read(&mut buf[filled..]) {
             Ok(0) => {
                 buf.truncate(filled);

@@ -6,6 +6,7 @@ ghost use Rattle.no_std_io2_base.specs.BufRead.{NextPieceLaw};
 
 use super::buf_read::BufRead;
 use super::pieces::drop_last;
+use super::read::Read;
 use crate::error::Result;
 use std::alloc::Global;
 
@@ -40,7 +41,7 @@ impl<R> Split<R> {
 
 // Reads the next piece, and drops its delimiter. `None` means the end.
 fn next_piece<R: BufRead>(reader: &mut R, alloc: Global, delim: u8) -> Option<Result<Vec<u8>>>
-    ensures law { NextPieceLaw ⟦<R as BufRead>⟧ reader.old vec_items (without delim) (λ _ _. ⊥) delim result reader.new }
+    ensures law { NextPieceLaw ⟦<R as Read>⟧ reader.old vec_items (without delim) (λ _ _. ⊥) delim result reader.new }
 {
     let mut piece = Vec::new(alloc);
     match reader.read_until(delim, &mut piece) {
@@ -62,7 +63,7 @@ where
     ghost next_gives = { λ s r t.
         (split_is_ended s ≡ true → (r ≡ None) × (t ≡ s))
         × (split_is_ended s ≡ false → (split_is_ended t ≡ ends_at r)
-        × NextPieceLaw ⟦<R as BufRead>⟧ (split_reader s) vec_items (without (split_delim s)) (λ _ _. ⊥) (split_delim s) r (split_reader t))
+        × NextPieceLaw ⟦<R as Read>⟧ (split_reader s) vec_items (without (split_delim s)) (λ _ _. ⊥) (split_delim s) r (split_reader t))
         × (split_delim t ≡ split_delim s) };
 
     ghost remaining = { λ s. at_most (items_left (split_is_ended s) (R.turns (split_reader s))) };

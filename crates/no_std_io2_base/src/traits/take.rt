@@ -3,9 +3,10 @@ ghost use Rattle.std.specs.Prelude.{◌≡◌, ◌≤◌, ◌<◌, ◌+◌, min,
 ghost use types.Logic.{sem};
 ghost use Rattle.std.specs.Borrow.{Lends};
 ghost use Rattle.no_std_io2_base.specs.contracts.traits.take.Take.{the_row as take-row};
-ghost use Rattle.no_std_io2_base.specs.BufRead.{FillBufLaw, AfterLoan, ConsumeLaw, Rests};
+ghost use Rattle.std.specs.Io.BufRead.{Rests};
+ghost use Rattle.no_std_io2_base.specs.BufRead.{FillBufLaw, AfterLoan};
 ghost use Rattle.no_std_io2_base.specs.Take.{limit_with_inner, limit_left, limit_set, limit_inner, limit_events, limit_held, LimitMay};
-ghost use Rattle.no_std_io2_base.specs.Read.{tells, least_room, ToEndLaw, ReadToEndLaw};
+ghost use Rattle.no_std_io2_base.specs.Read.{tells, least_room, ToEndLaw, ReadToEndLaw, ConsumeLaw};
 
 mod seeking;
 
@@ -117,14 +118,10 @@ impl<T: Read> Read for Take<T> {
 
     ghost may = { LimitMay T.Read };
 
+    ghost held = { limit_held T.held };
+
     #[inline(always)]
     fn read(&mut self, buf: &mut [u8]) -> Result<usize> {
-        // If the buffer is shorter than the limit, it is passed on whole.
-        if (buf.len() as u64) < self.limit {
-            let given = self.inner.read(buf)?;
-            self.limit -= given as u64;
-            return Ok(given);
-        }
         if self.limit == 0 {
             return Ok(0);
         }
@@ -146,11 +143,12 @@ impl<T: Read> Read for Take<T> {
         ensures at_limit { limit_left self.old ≡ 0 → result ≡ Ok 0 }
     {
         let start = buf.len();
+        let own = buf.capacity();
         let mut filled = start;
-        reserve_room(buf, min_with_limit(LEAST_ROOM, self.limit))?;
+        reserve_room(buf, min_with_limit(LEAST_ROOM, self.limit), own, 0)?;
         'reads: while self.limit > 0 {
             let least = min_with_limit(LEAST_ROOM, self.limit);
-            open_room(buf, filled, filled - start, least)?;
+            open_room(buf, filled, filled - start, own, least)?;
             match self.read(&mut buf[filled..]) {
                 Ok(0) => {
                     buf.truncate(filled);
@@ -170,13 +168,11 @@ impl<T: Read> Read for Take<T> {
 }
 
 impl<T: BufRead> BufRead for Take<T> {
-    ghost held = { limit_held T.held };
-
     fn fill_buf(&mut self) -> Result<&[u8]>
-        ensures law { FillBufLaw ⟦<Self as BufRead>⟧ self.old result }
+        ensures law { FillBufLaw ⟦<Self as Read>⟧ self.old result }
         // At limit 0 it lends nothing.
         ensures at_limit { limit_left self.old ≡ 0 → IsOkAnd result (λ s. s.now ≡ []) }
-        ensures* after_borrow { sem 𝓛 (Rests (take-row T.row) self.entry (λ new. AfterLoan ⟦<Self as BufRead>⟧ self.old result new)) }
+        ensures* after_borrow { sem 𝓛 (Rests (take-row T.row) self.entry (λ new. AfterLoan ⟦<Self as Read>⟧ self.old result new)) }
     {
         if self.limit == 0 {
             return Ok(b"");
@@ -190,7 +186,7 @@ impl<T: BufRead> BufRead for Take<T> {
 
     fn consume(&mut self, amount: usize)
         requires { amount ≤ length (limit_held T.held self.old) }
-        ensures law { ConsumeLaw ⟦<Self as BufRead>⟧ self.old amount self.new }
+        ensures law { ConsumeLaw ⟦<Self as Read>⟧ self.old amount self.new }
     {
         if self.limit == 0 {
             return;

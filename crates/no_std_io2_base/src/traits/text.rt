@@ -7,7 +7,7 @@ ghost use Rattle.no_std_io2_base.specs.Writers.{PrintsOf, WriteAllOf};
 use super::write::Write;
 use crate::error::{Error, ErrorKind, Result};
 use std::fmt;
-use std::fmt::{Display, Formatter};
+use std::fmt::Display;
 use std::marker::{Brand, PhantomData};
 
 /// The error type of a call that prints a text. `E` is [`Error`], the only type with an impl, and
@@ -101,13 +101,14 @@ pub(super) fn print_to<'a, W: Write, D: Display + Drop, K: Began<W>>(
         × (IsOk result.formatted → IfSome (D.output text) (λ bs. shown ≡ bs))) ∥₁ }
 {
     let Lent { inner } = lent;
-    let mut f = Formatter::new(Adapter::<W, K> {
+    let mut adapter = Adapter::<W, K> {
         inner,
         met: Ok(()),
         began: PhantomData,
-    });
-    let formatted = f.write(text);
-    let Adapter { inner, met, .. } = f.into_inner();
+    };
+    // The formatter has a reference, and not the adapter itself: so LLVM knows its options, and drops the code for others.
+    let formatted = fmt::Write::write(&mut adapter, text);
+    let Adapter { inner, met, .. } = adapter;
     Printed {
         inner,
         met,

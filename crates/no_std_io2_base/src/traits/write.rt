@@ -16,9 +16,10 @@ use std::marker::Brand;
 /// of its error's kind, or an `Ok(0)` of a `write` of some bytes, of kind `WriteZero`.
 ///
 /// Each call keeps this law. `out` followed by `held` is afterwards what it was, followed by
-/// exactly the bytes that the result reports as accepted. What is out stays out. Told mishaps stay
-/// told, and each one that happened is removed from them. An interruption spends a turn, so that a
-/// loop of retries ends.
+/// exactly the accepted bytes. These are what the result of a `write` reports, and what is gone from
+/// the slice of a `write_rest`. Of a `write_all` they are all bytes after `Ok`, and after `Err` some
+/// first ones. What is out stays out. Told mishaps stay told, and each one that happened is removed
+/// from them. An interruption spends a turn, so that a loop of retries ends.
 ///
 /// ```rust
 /// let mut device = Vec::<u8>::new(rt.alloc());
@@ -78,8 +79,9 @@ pub trait Write {
     /// # Errors
     /// Returns `WriteZero` if the device takes no byte, and the device's first fault if it fails.
     /// Then some first bytes of `buf` were accepted, possibly none or all, and the caller cannot
-    /// know how many. A caller that must not send a byte twice calls
-    /// [`write_rest`](Write::write_rest). Never returns `Interrupted`.
+    /// know how many. If it makes the same call again, these bytes are sent twice. A caller that
+    /// must not send a byte twice calls [`write_rest`](Write::write_rest). Never returns
+    /// `Interrupted`.
     ///
     /// ```rust
     /// let mut room = [0u8; 4];

@@ -6,7 +6,7 @@ use super::new_text;
 use super::vectors::Buffered;
 use crate::devices::Devices;
 use crate::streams::make_seeking_call;
-use no_std_io2::io::{BufRead, BufReader, BufWriter, Cursor, Seek, Write};
+use no_std_io2::io::{AsSlice, BufRead, BufReader, BufWriter, Cursor, Seek, Write};
 use rows_play::calls::{Call, make_call};
 use rows_play::fault::{Fault, Made};
 use rows_play::line::{Line, unescape};
@@ -110,17 +110,48 @@ impl<'a> OnLent<'a> {
                 self.content = cursor.into_inner().into_vec();
                 position
             }
-            "&[u8]" => {
-                let mut cursor = Cursor::new(self.content.as_slice());
-                cursor.set_position(self.position);
-                make_seeking_call(alloc, &mut cursor, call, line);
-                cursor.position()
-            }
-            _ => {
-                line.tell(Fault::NoStream);
-                0
-            }
+            _ => self.make_reading_call(alloc, call, line),
         }
+    }
+
+    // Makes a call on a cursor that only reads and seeks, and returns the position afterwards.
+    fn make_reading_call(&self, alloc: Global, call: &Call<'_>, line: &mut Line) -> u64 {
+        let content = self.content.as_slice();
+        match self.name {
+            "&[u8]" => self.read_from(content, alloc, call, line),
+            "&Vec" => self.read_from(&self.content, alloc, call, line),
+            "&str" => match std::str::from_utf8(content) {
+                Ok(text) => self.read_from(text, alloc, call, line),
+                Err(_) => self.refuse(line),
+            },
+            "&[u8;6]" => match content {
+                [a, b, c, d, e, f] => {
+                    let array = [*a, *b, *c, *d, *e, *f];
+                    self.read_from(&array, alloc, call, line)
+                }
+                _ => self.refuse(line),
+            },
+            _ => self.refuse(line),
+        }
+    }
+
+    fn read_from<T: AsSlice<u8> + Drop>(
+        &self,
+        content: T,
+        alloc: Global,
+        call: &Call<'_>,
+        line: &mut Line,
+    ) -> u64 {
+        let mut cursor = Cursor::new(content);
+        cursor.set_position(self.position);
+        make_seeking_call(alloc, &mut cursor, call, line);
+        cursor.position()
+    }
+
+    // The row names no stream that there is.
+    fn refuse(&self, line: &mut Line) -> u64 {
+        line.tell(Fault::NoStream);
+        self.position
     }
 }
 
@@ -151,7 +182,7 @@ impl Stream for OnArray {
 }
 
 // A buffer of 4 bytes over a text. Besides the calls of a reader and a seeker it has `place N`, which sets the position
-// of the text below.
+// of the text below, and `position`, which asks for its own.
 #[derive(Drop)]
 struct Moving<'j> {
     reader: BufReader<Text, 4>,
@@ -162,6 +193,7 @@ impl<'j> Stream for Moving<'j> {
     fn play(&mut self, alloc: Global, call: &Call<'_>, line: &mut Line) {
         match call.word {
             "place" => self.reader.get_mut().set_position(place_of(call, line)),
+            "position" => line.position(&self.reader.position()),
             _ => make_seeking_call(alloc, &mut self.reader, call, line),
         }
         self.devices.show(&self.reader, line);

@@ -1,6 +1,5 @@
 -- Members were passed over, and their lines were printed.
-use Rattle.no_std_io2.proofs.Words.{[], Moves}
-use Rattle.no_std_io2.proofs.Readers.{lends}
+use Rattle.no_std_io2.proofs.{Words.{[], Moves}, Readers.{reader}}
 use Rattle.tar_reader.specs.Archives.{archive_turns}
 use Rattle.tar_reader.proofs.MemberLemmas.{Skipping}
 use Rattle.tar_list.specs.Listing.{member_lines}
@@ -8,7 +7,7 @@ use Rattle.tar_list.proofs.list.Given as goal
 
 abbrev pub invariant-members : goal.invariant-members
 invariant-members g l = record {
-  skipped : Skipping (lends g.R.Stored g.R.Read g.R.BufRead) l.initial.archive l.archive;
+  skipped : Skipping (reader g.R.Stored g.R.Read) l.initial.archive l.archive;
   printed : Moves (g.W.Write.told l.initial.out) (member_lines skipped.headers) [] (g.W.Write.told l.out);
 }
 

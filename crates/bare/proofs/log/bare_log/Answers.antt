@@ -1,6 +1,5 @@
 -- The search does not see that the two puts are one of the whole line, and the two sendings one sending of all.
-use Rattle.no_std_io2.proofs.Words.{common_steps, ◌≡◌, length, ◌++◌, ap, subst, inl, arith, newline}
-use Rattle.no_std_io2.proofs.LineLemmas.{contains_lacks}
+use Rattle.no_std_io2.proofs.Words.{common_steps, ◌≡◌, length, ◌++◌, ap, subst, inl, arith}
 use Rattle.bare.specs.{Queue.{waiting}, Kept.{Resumes}, Log.{line}}
 use Rattle.bare.proofs.KeptLemmas.{resumed_more, line_put}
 use Rattle.bare.proofs.log.bare_log.Goals as goal
@@ -8,7 +7,7 @@ use Rattle.bare.proofs.log.bare_log.Goals as goal
 pub returns : goal.returns
 returns c =
     let text = c.args.text.now in
-    let none = contains_lacks newline text (grind (arith, common_steps, c.contains.ensures, c.if-contains.false)) in
+    let none = c.if-has_newline.ensures.lacks in
     let before = waiting c.bare_resume.new.kept in
     let put : waiting c.bare_put-2.new.queue ≡ before ++ line text =
     line_put before (waiting c.bare_put.new.queue) (waiting c.bare_put-2.new.queue) text c.bare_put.result c.bare_put-2.result

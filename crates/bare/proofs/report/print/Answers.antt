@@ -11,7 +11,7 @@ readings-init g c = Moves-refl _
 
 pub readings-preserved : goal.readings-preserved
 readings-preserved g c =
-    printed_more reading_line c.args.readings.now c.readings.i-counter (omega (arith, c.readings-test.true)) c.in_ok-write.was
+    printed_more reading_line c.args.readings.now c.readings.i (omega (arith, c.readings-test.true)) c.in_ok-write.was
     c.readings.invariant (MovesFront-text c.write.ensures.law.moves)
 
 pub returns-clause-text : goal.returns-clause-text

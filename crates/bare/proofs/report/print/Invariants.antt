@@ -4,4 +4,4 @@ use Rattle.bare.specs.Report.{report}
 use Rattle.bare.proofs.report.print.Given as goal
 
 abbrev pub invariant-readings : goal.invariant-readings
-invariant-readings g l = Moves (g.W.Write.told l.fn.w) (report (take l.i-counter l.fn.readings)) [] (g.W.Write.told l.w)
+invariant-readings g l = Moves (g.W.Write.told l.fn.w) (report (take l.i l.fn.readings)) [] (g.W.Write.told l.w)

@@ -1,6 +1,6 @@
 -- The prover does not find that one more ask joins those before it, nor the bound over all of them.
 use Rattle.no_std_io2.proofs.Words.{ap, ◌+◌, common_steps, Bool, Ok, Err, if◌then◌else◌, ◌≡◌, get_or, arith, refl, ◌∙◌, take_more}
-use Rattle.no_std_io2.proofs.{Readers.{reader}, BufReaderCalls.{buf_lender}}
+use Rattle.no_std_io2.proofs.{Readers.{reader}, BufReaderCalls.{buf_reader}}
 use Rattle.std.proofs.Common.{take_all}
 use Rattle.io_bench.specs.{declared.asks.Ask.TheVariants.{Read}, Asks.{no_ask, next_ask}}
 use Rattle.io_bench.proofs.{AskLemmas.{fits_at, came_takes}, AskSteps.{came_went, few_reads}}
@@ -51,7 +51,8 @@ returns g c =
     let start = c.args.r.now in
     record {
       came_to = all;
-      takes = came_takes (buf_lender R) all;
-      steps = λ fills. let went = came_went R fills start all in (went.0, went.1);
-      bound = λ fills cost meter. few_reads R fills start _ c.asks.r (came_went R fills start all).2 cost meter;
+      takes = came_takes (buf_reader R) all;
+      fills = λ fills. (came_went R start fills all).2.fills;
+      steps = λ fills. let went = came_went R start fills all in (went.0, went.1);
+      bound = λ fills cost meter. few_reads R start _ c.asks.r (came_went R start fills all).2 cost meter;
     }

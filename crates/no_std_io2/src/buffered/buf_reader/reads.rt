@@ -44,6 +44,8 @@ impl<R: Read, const S: usize> Read for BufReader<R, S> {
 
     ghost may = { ReaderMay R.Read };
 
+    ghost held = { reader_held };
+
     #[inline(always)]
     fn read(&mut self, buf: &mut [u8]) -> Result<usize> {
         if self.buffer.len() > 0 {

@@ -1,12 +1,15 @@
 // The `impl` of `Seek` for `BufReader`.
-ghost use Rattle.std.specs.Prelude.{FitsSigned, SomeIff, ◌<◌, ◌^◌, ◌-ℤ◌, pos, length};
+ghost use Rattle.std.specs.Prelude.{◌≡◌, Ok, FitsSigned, SomeIff, ◌<◌, ◌^◌, ◌-ℤ◌, pos, length};
 ghost use Rattle.std.specs.Int.{w64};
 ghost use Rattle.no_std_io2_base.specs.Seek.{WithoutPosition, StreamLenLaw, SeekRelativeLaw, Measured, Moved};
+ghost use Rattle.no_std_io2_base.specs.Takes.{KeepsContent};
 ghost use Rattle.no_std_io2.specs.BufReader.{reader_held, SeeksOnce, ReaderSeeks, ReaderMaySeek, ReaderIsSound, back_by};
+ghost use Rattle.no_std_io2.specs.BufReader.{PositionLaw};
 
 use super::BufReader;
 use no_std_io2_base::error::Result;
-use no_std_io2_base::traits::{Seek, SeekFrom};
+use no_std_io2_base::internal::invalid_seek;
+use no_std_io2_base::traits::{Seek, SeekFrom, Stored};
 
 // Returns `offset` minus `held`, if this fits an `i64`. It leads to the same place, counted from
 // `held` bytes further on.
@@ -18,6 +21,36 @@ fn offset_behind(offset: i64, held: usize) -> Option<i64>
 }
 
 impl<R: Seek, const S: usize> BufReader<R, S> {
+    /// Returns the position from the start of the next byte that this reader would give. It keeps the held bytes and
+    /// those that lie [`behind`](BufReader::behind), and makes one inner `stream_position`; the inner reader is ahead by
+    /// the held bytes. The `stream_position` of this reader is a seek, and drops them. Like `stream_position` of
+    /// `std::io::BufReader`.
+    ///
+    /// # Errors
+    /// Returns the error of the inner `stream_position`. Returns `InvalidInput`, as a refused seek does, if the inner
+    /// position is below the number of held bytes, because the inner reader was moved. After an error the buffer is as
+    /// it was. Over a told store it does not fail.
+    ///
+    /// ```rust
+    /// let mut r = BufReader::<_, 4>::new(Cursor::new(*b"abcdefgh"));
+    /// r.read_exact(&mut [0u8; 3])?;
+    /// assert!(rt; r.position()? == 3);
+    /// assert!(rt; r.buffer() == b"d".as_slice());
+    /// ```
+    pub fn position(&mut self) -> Result<u64>
+        ensures law { PositionLaw R.Seek self.old result self.new }
+        // Seen from outside, a told store does not change, and the result is its position.
+        ensures store { KeepsContent (⟦<BufReader<R, S> as Stored>⟧.store self.old) (λ len was now. (now ≡ was) × (result ≡ Ok was))
+            (⟦<BufReader<R, S> as Stored>⟧.store self.new) }
+        ensures sound { ReaderIsSound R.store self.old → ReaderIsSound R.store self.new }
+    {
+        let at = self.inner.stream_position()?;
+        match at.checked_sub(self.buffer.len() as u64) {
+            Some(position) => Ok(position),
+            None => Err(invalid_seek()),
+        }
+    }
+
     // Seeks the inner reader, and drops the buffer if that succeeds.
     fn seek_inner(&mut self, target: SeekFrom) -> Result<u64>
         ensures { SeeksOnce R.Seek self.old target result self.new }

@@ -26,7 +26,8 @@ impl<W: Write + Drop, const S: usize> BufWriter<W, S> {
     }
 
     /// Writes a record, `head` followed by `tail`, which has to be shorter than `S`. After `Ok` all of it
-    /// was accepted, and is held. The held bytes are sent first if it does not fit beside them.
+    /// was accepted, and is held. The held bytes are sent first if it does not fit beside them. The inner
+    /// calls are those of a `write_all`: that passes `S` bytes or more on, and a fault could cut them.
     ///
     /// # Errors
     /// Returns the errors that [`make_room`](BufWriter::make_room) returns. Nothing of the record was then accepted.

@@ -6,6 +6,7 @@ ghost use Rattle.no_std_io2_base.specs.Pieces.{ends_in, newline};
 ghost use Rattle.no_std_io2.specs.LineWriter.{held_tail, SendLineCalls, SendLinesCalls, LineWriteCalls, LineWriteAllCalls};
 ghost use Rattle.no_std_io2.specs.BufWriter.{sender_inner, sender_buffer, TakesStep};
 
+use crate::buffered::buffer::SMALL;
 use crate::buffered::sender::Sender;
 use memchr::memrchr;
 use no_std_io2_base::error::Result;
@@ -38,13 +39,31 @@ fn lines_len(x: &[u8]) -> usize
     if ends_in_newline(x) {
         return x.len();
     }
-    if STEP <= x.len() && x.len() < 64 && lacks_byte(x, b'\n') {
+    if x.len() < STEP {
+        return lines_len_by_one(x);
+    }
+    if x.len() < 64 && lacks_byte(x, b'\n') {
         return 0;
     }
     match memrchr(b'\n', x) {
         Some(at) => at + 1,
         None => 0,
     }
+}
+
+// `lines_len`, by a loop of little code.
+fn lines_len_by_one(x: &[u8]) -> usize
+    ensures lines { result ≡ lines_len x.now }
+    ensures within { result ≤ length x.now }
+{
+    let mut at = x.len();
+    'bytes: while at > 0 {
+        if x[at - 1] == b'\n' {
+            return at;
+        }
+        at -= 1;
+    }
+    0
 }
 
 // Returns where the held tail of x ends if `sent` bytes of x were sent. The first `len` bytes of x
@@ -145,6 +164,30 @@ fn write_all_lines<W: Write + Drop, const S: usize>(
     w.write_all(&x[len..])
 }
 
+// Sends the held bytes if they end in a newline, or writes the lines, of which there are some.
+fn send_first<W: Write + Drop, const S: usize>(w: &mut Sender<W, S>, lines: &[u8]) -> Result<()>
+    requires { IsLineState (sender_buffer w.old) }
+    ensures none { length lines.now ≡ 0 → TakesStep W.Write sender_inner sender_buffer SendLineCalls w.old result w.new }
+    ensures some { 0 < length lines.now
+        → TakesStep W.Write sender_inner sender_buffer (SendLinesCalls S lines.now) w.old result w.new }
+{
+    if lines.is_empty() {
+        return send_line(w);
+    }
+    send_lines(w, lines)
+}
+
+// Writes all of x through a small buffer.
+#[inline(never)]
+fn write_all_apart<W: Write + Drop, const S: usize>(w: &mut Sender<W, S>, x: &[u8]) -> Result<()>
+    requires { IsLineState (sender_buffer w.old) }
+    ensures { TakesStep W.Write sender_inner sender_buffer (LineWriteAllCalls S x.now) w.old result w.new }
+{
+    let len = lines_len_by_one(x);
+    send_first(w, &x[..len])?;
+    w.write_all(&x[len..])
+}
+
 // Writes all of x.
 #[inline]
 pub(super) fn write_all<W: Write + Drop, const S: usize>(
@@ -154,6 +197,9 @@ pub(super) fn write_all<W: Write + Drop, const S: usize>(
     requires { IsLineState (sender_buffer w.old) }
     ensures { TakesStep W.Write sender_inner sender_buffer (LineWriteAllCalls S x.now) w.old result w.new }
 {
+    if S <= SMALL {
+        return write_all_apart(w, x);
+    }
     let len = lines_len(x);
     if len > 0 {
         return write_all_lines(w, x, len);

@@ -3,4 +3,4 @@ use Rattle.promises.proofs.CopyReads.{copy_cost}
 use Rattle.promises.proofs.counts.counts_a_copy.Goals as goal
 
 pub returns : goal.returns
-returns g c = λ cost meter some fills. copy_cost _ cost meter fills g.row.S some c.copy.result c.copy.ensures
+returns g c = λ cost meter some fills. copy_cost _ cost meter g.row.S some c.copy.result fills c.copy.ensures

@@ -4,8 +4,8 @@ use Rattle.no_std_io2_base.proofs.ReadToEndLoop.{wrote, to_end_none, to_end_no_r
 use Rattle.no_std_io2_base.proofs.{ReadToEndLoop.{to_end_fault}, TakesLemmas.{read_spends}}
 use Rattle.no_std_io2_base.proofs.impls.dyn_read_to_end.drain.Goals as goal
 
-pub returns-in_err-reserve_room : goal.returns-in_err-reserve_room
-returns-in_err-reserve_room g c = grind (arith, common_steps, err_from_is_err_and, to_end_no_room)
+pub returns-in_err-reserve_first : goal.returns-in_err-reserve_first
+returns-in_err-reserve_first g c = grind (arith, common_steps, err_from_is_err_and, to_end_no_room)
 
 pub reads-init : goal.reads-init
 reads-init g c = grind (arith, common_steps, to_end_none)

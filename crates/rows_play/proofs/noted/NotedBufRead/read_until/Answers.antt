@@ -6,7 +6,8 @@ use Rattle.rows_play.proofs.noted.NotedBufRead.read_until.Goals as goal
 pub returns : goal.returns
 returns g c = record {
   law = until_through (λ v. record c.args.self.now { inner = v }) (record {
-    reads = record { told = λ x. refl; may = λ x y call may. record { part = y; rest = refl; does = may } };
+    told = λ x. refl;
+    may = λ x y call may. record { part = y; rest = refl; does = may };
     held = λ x. refl;
   }) c.read_until.ensures.law;
 }

@@ -17,6 +17,7 @@ returns g c =
         ends = full.ends;
         full = λ h. ((full.full h).0, ap put (full.full h).1);
         calls = by_map put
-            (noted_read (record { told = λ x. refl; may = λ x y call may. record { part = y; rest = refl; does = may } })) full.calls;
+            (noted_read
+            (record { told = λ x. refl; may = λ x y call may. record { part = y; rest = refl; does = may }; held = λ x. refl })) full.calls;
       };
     }

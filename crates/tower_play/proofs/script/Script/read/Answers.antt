@@ -1,5 +1,5 @@
 -- The prover does not find the lines that were read so far, nor which is the first bad one.
-use Rattle.no_std_io2.proofs.{Words.{◌≡◌, ◌∙◌, ap, subst, refl, [], Some, Ok, arith, err_from_is_err_and}, Readers.{lends}}
+use Rattle.no_std_io2.proofs.{Words.{◌≡◌, ◌∙◌, ap, subst, refl, [], Some, Ok, arith, err_from_is_err_and}, Readers.{reader}}
 use Rattle.std.proofs.Common.{not, vec_items}
 use Rattle.tower_play.specs.Reading.{Adds, IsBadLine}
 use Rattle.tower_play.proofs.ReadLemmas.{is_none, read_after, read_all, read_bad, read_first, read_good, read_stops}
@@ -57,17 +57,17 @@ lines-preserved g c =
 
 pub returns-in-None-bad-clause-read : goal.returns-in-None-bad-clause-read
 returns-in-None-bad-clause-read g c = λ fresh.
-    read_all (lends g.R.Stored g.R.Read g.R.BufRead) vec_items c.next.new.self c.lines.invariant.read fresh
+    read_all (reader g.R.Stored g.R.Read) vec_items c.next.new.self c.lines.invariant.read fresh
     (rw c.in-None.is at c.next.ensures.steps) c.in-None-bad.is
 
 pub returns-in-Some-bad-clause-first : goal.returns-in-Some-bad-clause-first
 returns-in-Some-bad-clause-first g c = λ fresh.
-    read_first (lends g.R.Stored g.R.Read g.R.BufRead) vec_items c.next.new.self c.lines.invariant.read fresh
+    read_first (reader g.R.Stored g.R.Read) vec_items c.next.new.self c.lines.invariant.read fresh
     (rw c.in-None.is at c.next.ensures.steps) c.in-Some-bad.is
 
 pub returns-in_err-line-clause-stops : goal.returns-in_err-line-clause-stops
 returns-in_err-line-clause-stops g c = λ fresh.
     let p = err_from_is_err_and c.from_residual.result c.from_residual.ensures.1 in
     rw (p.1, p.2)
-    (read_stops (lends g.R.Stored g.R.Read g.R.BufRead) vec_items c.next.new.self c.lines.invariant.read fresh
+    (read_stops (reader g.R.Stored g.R.Read) vec_items c.next.new.self c.lines.invariant.read fresh
     (rw (c.in-Some.is ∙ ap Some c.in_err-line.was) at c.next.ensures.steps))

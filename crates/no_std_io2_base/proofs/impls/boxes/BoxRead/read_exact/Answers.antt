@@ -5,6 +5,6 @@ use Rattle.no_std_io2_base.proofs.impls.boxes.BoxRead.read_exact.Goals as goal
 
 pub returns : goal.returns
 returns g c = record {
-  law = exact_through (λ v. record c.args.self.now { value = v }) (record { told = λ x. refl; may = λ x y call may. may })
+  law = exact_through (λ v. record c.args.self.now { value = v }) (record { told = λ x. refl; may = λ x y call may. may; held = λ x. refl })
       (rw c.as_mut.ensures.value at c.read_exact.ensures.law);
 }

@@ -5,6 +5,7 @@ use Rattle.no_std_io2_base.proofs.impls.boxes.BoxRead.read_to_end.Goals as goal
 
 pub returns : goal.returns
 returns g c = record {
-  law = drained_through (λ v. record c.args.self.now { value = v }) (record { told = λ x. refl; may = λ x y call may. may })
+  law = drained_through (λ v. record c.args.self.now { value = v })
+      (record { told = λ x. refl; may = λ x y call may. may; held = λ x. refl })
       (rw c.deref_mut.ensures.value at c.read_to_end.ensures.law);
 }

@@ -1,6 +1,6 @@
 -- What the call did to the value in the box, it did to the box.
 use Rattle.std.proofs.Common.{rules, refl}
-use Rattle.no_std_io2_base.proofs.{Readers.{lends}, BoxedObjects.{fill_box, loan_box}}
+use Rattle.no_std_io2_base.proofs.{Readers.{reader}, BoxedObjects.{fill_box, loan_box}}
 use Rattle.no_std_io2_base.proofs.impls.dyn_buf_read_boxes.BoxDynBufReadDropBufRead.fill_buf.Goals as goal
 
 pub returns : goal.returns
@@ -9,12 +9,12 @@ returns g c =
       (
         refl,
         λ _. tt,
-        loan_box (λ p. lends (o p).Stored (o p).Read (o p).BufRead) c.args.self.now c.fill_buf.result _ (search rules)
+        loan_box (λ p. reader (o p).Stored (o p).Read) c.args.self.now c.fill_buf.result _ (search rules)
             c.fill_buf.follows.lender-at-none
             c.fill_buf.follows.holds-at-none,
       ),
       record {
-        law = fill_box (λ p. lends (o p).Stored (o p).Read (o p).BufRead) c.args.self.now _ (search rules) c.fill_buf.ensures;
+        law = fill_box (λ p. reader (o p).Stored (o p).Read) c.args.self.now _ (search rules) c.fill_buf.ensures;
         after_borrow = tt;
       },
     )

@@ -6,5 +6,5 @@ use Rattle.no_std_io2_base.proofs.impls.dyn_references.RefMutDynReadRead.read_ex
 pub returns : goal.returns
 returns g c = record {
   law = exact_through (λ v. record c.args.self.now { now = (c.args.self.now.now.0, v) })
-      (record { told = λ x. refl; may = λ x y call may. (y, refl, may) }) c.read_exact.ensures;
+      (record { told = λ x. refl; may = λ x y call may. (y, refl, may); held = λ x. refl }) c.read_exact.ensures;
 }

@@ -6,5 +6,5 @@ use Rattle.no_std_io2_base.proofs.impls.mut_references.RefMutBufRead.read_until.
 pub returns : goal.returns
 returns g c = record {
   law = until_through (λ v. record c.args.self.now { now = v })
-      (record { reads = record { told = λ x. refl; may = λ x y call may. may }; held = λ x. refl }) c.read_until.ensures.law;
+      (record { told = λ x. refl; may = λ x y call may. may; held = λ x. refl }) c.read_until.ensures.law;
 }

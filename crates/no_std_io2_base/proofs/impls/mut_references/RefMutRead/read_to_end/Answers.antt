@@ -6,5 +6,5 @@ use Rattle.no_std_io2_base.proofs.impls.mut_references.RefMutRead.read_to_end.Go
 pub returns : goal.returns
 returns g c = record {
   law = drained_through (λ v. record c.args.self.now { now = v })
-      (record { told = λ x. refl; may = λ x y call may. may }) c.read_to_end.ensures.law;
+      (record { told = λ x. refl; may = λ x y call may. may; held = λ x. refl }) c.read_to_end.ensures.law;
 }

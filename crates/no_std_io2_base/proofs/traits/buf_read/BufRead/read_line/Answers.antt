@@ -1,9 +1,12 @@
--- A line that is lent whole goes straight to the text. Any other is read into a vector: what was lent is lent once more.
+-- A line that is lent whole goes straight to the text. Any other is read into its memory: what was lent is lent once more.
 use Rattle.std.proofs.lemmas.Grind.{common_steps}
-use Rattle.std.proofs.Common.{◌≡◌, ◌∙◌, sym, ap, subst, arith, take, length-take-le, string_len, string_bytes, string_capacity}
-use Rattle.no_std_io2_base.specs.{BufRead.{ReadUntilLaw}, Pieces.{newline}}
-use Rattle.no_std_io2_base.proofs.{LineTaken.{line_law, line_at_once, line_faulted, line_some}, PieceBefore.{until_lent, until_waited}}
-use Rattle.no_std_io2_base.proofs.{PieceLoop.{filled_law}, Readers.{lends}, traits.buf_read.BufRead.read_line.Goals.{in-Ok+else-is_whole}}
+use Rattle.std.proofs.Common.{◌≡◌, ◌≤◌, ℕ, ◌∙◌, sym, ap, subst, arith, take, drop, length-take-le, string_len, string_bytes, vec_len}
+use Rattle.std.proofs.Common.{IsUtf8}
+use Rattle.std.specs.String.{string_vec}
+use Rattle.no_std_io2_base.specs.{BufRead.{ReadUntilLaw}, Pieces.{newline, AnswersLine}}
+use Rattle.no_std_io2_base.proofs.{LineTaken.{line_law, line_at_once, line_faulted, line_some, memory_grows, memory_text}}
+use Rattle.no_std_io2_base.proofs.{PieceBefore.{until_lent, until_waited}, PieceLoop.{filled_law}, Readers.{reader}}
+use Rattle.no_std_io2_base.proofs.traits.buf_read.BufRead.read_line.Goals.{in-Ok+else-is_whole}
 use Rattle.no_std_io2_base.proofs.traits.buf_read.BufRead.read_line.Goals.{else-is_whole-via-then-is_whole+else-append_text}
 use Rattle.no_std_io2_base.proofs.traits.buf_read.BufRead.read_line.Goals.{else-is_whole-via-else-is_whole, in-Err}
 use Rattle.no_std_io2_base.proofs.traits.buf_read.BufRead.read_line.Goals as goal
@@ -21,37 +24,54 @@ returns-in-Err-2 g c = grind (arith, common_steps, filled_law, in-Err, line_faul
 
 pub returns : goal.returns
 returns g c =
-    let R = lends g.Self.Stored g.Self.Read g.Self.BufRead in
-    let memory = c.take_memory-line.ensures in
-    let none = c.take_memory-line.result in
+    let R = reader g.Self.Stored g.Self.Read in
+    let bytes = c.take_bytes-bytes.result in
     let read = c.read_until-read in
-    let put = c.put_line.ensures in
     let both : (c.match-fill_buf.buf ≡ c.args.buf.now)
-    × ReadUntilLaw R c.args.self.now newline none read.result read.new.buf read.new.self =
+    × ReadUntilLaw R c.args.self.now newline bytes read.result read.new.buf read.new.self =
     elim c.match-fill_buf.branch [
       | in-Ok+else-is_whole w ↦
           let filled = filled_law w.in-Ok.is c.fill_buf.ensures.law c.fill_buf.follows.holds-at-none in
           let found = w.find_piece-len.ensures in
           elim w.else-is_whole.branch [
             | else-is_whole-via-then-is_whole+else-append_text v ↦
-                let law = subst (λ s. ReadUntilLaw R s newline none read.result read.new.buf read.new.self) (w.self-is ∙ v.self-is)
+                let law = subst (λ s. ReadUntilLaw R s newline bytes read.result read.new.buf read.new.self) (w.self-is ∙ v.self-is)
                 read.ensures.law in
                 let some = line_some c.args.buf.now (take w.find_piece-len.result.0 w.in-Ok.lent.now) v.if-append_text.ensures.refused in
                 let long = length-take-le w.find_piece-len.result.0 w.in-Ok.lent.now found.within in
                 (w.buf-is ∙ v.buf-is ∙ v.if-append_text.ensures.same, until_lent law filled (omega (arith, some, found.within, long)))
             | else-is_whole-via-else-is_whole v ↦
-                let law = subst (λ s. ReadUntilLaw R s newline none read.result read.new.buf read.new.self) (w.self-is ∙ v.self-is)
+                let law = subst (λ s. ReadUntilLaw R s newline bytes read.result read.new.buf read.new.self) (w.self-is ∙ v.self-is)
                 read.ensures.law in
                 let some = (found.open_ended v.if-is_whole.false).0 in
                 (w.buf-is ∙ v.buf-is, until_lent law filled (omega (arith, some, found.within)))
           ]
       | in-Err w ↦
           let filled = filled_law w.in-Err.is c.fill_buf.ensures.law c.fill_buf.follows.holds-at-none in
-          let law = subst (λ s. ReadUntilLaw R s newline none read.result read.new.buf read.new.self) w.self-is read.ensures.law in
+          let law = subst (λ s. ReadUntilLaw R s newline bytes read.result read.new.buf read.new.self) w.self-is read.ensures.law in
           (w.buf-is, until_waited law filled (sym w.is_interrupted.ensures ∙ w.if-is_interrupted.true))
     ] in
+    let text = c.args.buf.now in
+    let start : c.len-start.result ≡ string_len text = c.len-start.ensures ∙ ap string_len both.0 in
+    let until = subst (λ v. ReadUntilLaw R c.args.self.now newline v read.result read.new.buf read.new.self)
+    (c.take_bytes-bytes.ensures ∙ ap string_vec both.0) both.1 in
     record {
-      law = line_law c.args.buf.now c.take_memory-line.new.buf none read.new.buf (memory.len ∙ ap string_len both.0)
-          (memory.bytes ∙ ap string_bytes both.0) memory.items (memory.capacity ∙ ap string_capacity both.0) both.1 put.answers
-          put.capacity;
+      law = line_law text read.new.buf until
+          (subst (λ n. (len capacity : ℕ) → AnswersLine (drop n read.new.buf.items) read.result len capacity c.put_back.result
+          (take n read.new.buf.items) (string_bytes c.put_back.new.buf)) start c.put_back.ensures.answers)
+          c.put_back.ensures.capacity;
     }
+
+pub put_back-requires-clause-within : goal.put_back-requires-clause-within
+put_back-requires-clause-within g c =
+    let read = c.read_until-read in
+    subst (λ n. n ≤ vec_len read.new.buf) (sym c.len-start.ensures) (memory_grows c.match-fill_buf.buf read.new.buf
+    (subst (λ v. ReadUntilLaw (reader g.Self.Stored g.Self.Read) c.match-fill_buf.self newline v read.result read.new.buf read.new.self)
+    c.take_bytes-bytes.ensures read.ensures.law))
+
+pub put_back-requires-clause-text : goal.put_back-requires-clause-text
+put_back-requires-clause-text g c =
+    let read = c.read_until-read in
+    subst (λ n. IsUtf8 (take n read.new.buf.items)) (sym c.len-start.ensures) (memory_text c.match-fill_buf.buf read.new.buf
+    (subst (λ v. ReadUntilLaw (reader g.Self.Stored g.Self.Read) c.match-fill_buf.self newline v read.result read.new.buf read.new.self)
+    c.take_bytes-bytes.ensures read.ensures.law))

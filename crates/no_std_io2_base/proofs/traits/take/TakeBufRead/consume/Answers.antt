@@ -6,5 +6,5 @@ use Rattle.no_std_io2_base.proofs.traits.take.TakeBufRead.consume.Goals as goal
 pub returns : goal.returns
 returns g c =
     let within : c.args.amount ≤ c.args.self.now.limit =
-    omega (arith, c.requires, length-take c.args.self.now.limit (g.T.BufRead.held c.args.self.now.inner)) in
+    omega (arith, c.requires, length-take c.args.self.now.limit (g.T.Read.held c.args.self.now.inner)) in
     record { law = consumed_inner _ (some_bytes _ c.if-self-eq0.false) c.requires c.consume.ensures.law (omega (arith, within)) refl }

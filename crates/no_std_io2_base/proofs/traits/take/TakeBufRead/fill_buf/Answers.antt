@@ -1,7 +1,7 @@
 -- At the limit, after an error and after a loan: the search does not find the lemmas that cut what comes at the limit.
 use Rattle.std.proofs.{Common.{Err, arith, refl, sym, ap, ◌∙◌}, lemmas.Grind.{common_steps}, lemmas.Result.{err_from_is_err_and}}
 use Rattle.no_std_io2_base.specs.{BufRead.{lent_bytes}, Take.{lent_within}, Read.{Filled}}
-use Rattle.no_std_io2_base.proofs.{FillBufHeld.{begins_nothing}, ReadExactExits.{some_bytes}, TakesLemmas.{takes_none, lend_law}}
+use Rattle.no_std_io2_base.proofs.{FillBufHeld.{begins_nothing}, ReadExactExits.{some_bytes}, TakesLemmas.{takes_none}}
 use Rattle.no_std_io2_base.proofs.{PieceLoop.{filled_law}, LimitLemmas.{limit_takes, filled_inner, filled_took, take_most, front_cut}}
 use Rattle.no_std_io2_base.proofs.LimitLemmas.{some_within, none_within, cut_end, cut_zero, none_at_limit, none_lent, filled_at_limit}
 use Rattle.no_std_io2_base.proofs.traits.take.TakeBufRead.fill_buf.Goals as goal
@@ -17,7 +17,7 @@ returns-in_err-available g c =
     let call =
     filled_inner (lent_bytes c.fill_buf.result) (some_bytes _ c.if-self-eq0.false) refl refl
     (ap lent_bytes (p.1 ∙ ap Err p.2) ∙ sym (ap (λ r. lent_within limit (lent_bytes r)) c.in_err-available.was))
-    (lend_law _ _ _ (Filled _) (filled_law refl c.fill_buf.ensures.law after)) in (
+    (filled_law refl c.fill_buf.ensures.law after) in (
       (
         refl,
         λ _. tt,
@@ -48,7 +48,6 @@ returns g c =
       some_bytes,
       take_most,
       filled_inner,
-      lend_law,
       filled_law,
       limit_takes,
       filled_took,

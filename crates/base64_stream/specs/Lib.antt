@@ -1,0 +1,3 @@
+pub mod Group
+pub mod Encoder
+pub mod Finish

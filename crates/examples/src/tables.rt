@@ -1,0 +1,76 @@
+//! [`print_table`], a loop over a writer whose type is known only at run time, and its callers, each over a writer of
+//! another type.
+ghost use Rattle.std.specs.Prelude.{◌≡◌, ◌⊎◌, ◌++◌, IfOk, IsErrAnd, OnOk};
+ghost use Rattle.no_std_io2.specs.Cursor.{cursor_out};
+ghost use Rattle.no_std_io2.specs.Write.{MovesFront};
+ghost use Rattle.examples.specs.Tables.{table, IsTextRefused};
+
+use no_std_io2::io::{BufWriter, Cursor, LineWriter, Result, Write, print_to_object};
+use std::alloc::Global;
+
+/// Prints a line `ID=VALUE` for each of these rows, each by one `write_all`. It allocates nothing.
+///
+/// # Errors
+/// Returns the error of the writer behind the object, which then has accepted some front of the table. Its contract also
+/// allows that a line is refused; then the writer gets none of it.
+pub fn print_table(w: &mut dyn Write, rows: &[(u32, u32)]) -> Result<()>
+    ensures { MovesFront (told w.old) (table rows.now) result (told w.new) ⊎ IsErrAnd result IsTextRefused }
+{
+    'rows: for (id, value) in rows {
+        print_to_object::<_, _, 32>(w, format_args!("{id}={value}\n"))?;
+    }
+    Ok(())
+}
+
+/// Returns a new vector that has a table.
+///
+/// # Errors
+/// Returns `OutOfMemory` if the vector cannot grow.
+#[tactic(auto, using(no_std_io2::proofs::ObjectRules::lent_writer))]
+pub fn table_of(alloc: Global, rows: &[(u32, u32)]) -> Result<Vec<u8>>
+    ensures { IfOk result (λ v. v.items ≡ table rows.now) }
+{
+    let mut v = Vec::new(alloc);
+    print_table(&mut v, rows)?;
+    Ok(v)
+}
+
+/// Prints a table behind what a page has. It allocates nothing.
+///
+/// # Errors
+/// Returns `WriteZero` if the page has too little room; it then has some front of the table.
+pub fn table_at(page: &mut Cursor<[u8; 64]>, rows: &[(u32, u32)]) -> Result<()>
+    ensures { OnOk result (cursor_out (λ a. a) page.new ≡ cursor_out (λ a. a) page.old ++ table rows.now) }
+{
+    print_table(page, rows)
+}
+
+/// Prints a table behind what a page has, through a buffer of 32 bytes.
+///
+/// # Errors
+/// Returns `WriteZero` if the page has too little room. It is then dropped.
+pub fn add_table(page: Cursor<[u8; 64]>, rows: &[(u32, u32)]) -> Result<Cursor<[u8; 64]>>
+    ensures { IfOk result (λ new. cursor_out (λ a. a) new ≡ cursor_out (λ a. a) page ++ table rows.now) }
+{
+    let mut w = BufWriter::<_, 32>::new(page);
+    print_table(&mut w, rows)?;
+    match w.into_inner() {
+        Ok(page) => Ok(page),
+        Err(e) => Err(e.into()),
+    }
+}
+
+/// Prints a table behind what a page has, through a buffer of 32 bytes that sends whole lines.
+///
+/// # Errors
+/// Returns `WriteZero` if the page has too little room. It is then dropped.
+pub fn add_lines(page: Cursor<[u8; 64]>, rows: &[(u32, u32)]) -> Result<Cursor<[u8; 64]>>
+    ensures { IfOk result (λ new. cursor_out (λ a. a) new ≡ cursor_out (λ a. a) page ++ table rows.now) }
+{
+    let mut w = LineWriter::<_, 32>::new(page);
+    print_table(&mut w, rows)?;
+    match w.into_inner() {
+        Ok(page) => Ok(page),
+        Err(e) => Err(e.into()),
+    }
+}

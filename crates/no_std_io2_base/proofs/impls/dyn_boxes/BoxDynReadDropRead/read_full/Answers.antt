@@ -1,0 +1,13 @@
+-- What the call did to the value in the box, it did to the box.
+use Rattle.std.proofs.Common.{rules}
+use Rattle.no_std_io2_base.proofs.{Readers.{reader}, BoxedObjects.{full_box}}
+use Rattle.no_std_io2_base.proofs.impls.dyn_boxes.BoxDynReadDropRead.read_full.Goals as goal
+
+pub returns : goal.returns
+returns g c =
+    let o = goal.Read-dyn g in
+    record {
+      law = full_box (λ p. reader (o p).Stored (o p).Read) c.args.self.now c.deref_box_mut-1.result.now
+          (search rules) c.read_full.new.self
+          c.read_full.ensures;
+    }

@@ -1,0 +1,10 @@
+-- What the call did to the target, it did to the reference.
+use Rattle.std.proofs.Common.{refl}
+use Rattle.no_std_io2_base.proofs.Forwards.{read_full_through}
+use Rattle.no_std_io2_base.proofs.impls.mut_references.RefMutRead.read_full.Goals as goal
+
+pub returns : goal.returns
+returns g c = record {
+  law = read_full_through (λ v. record c.args.self.now { now = v })
+      (record { told = λ x. refl; may = λ x y call may. may; held = λ x. refl }) c.read_full.ensures.law;
+}

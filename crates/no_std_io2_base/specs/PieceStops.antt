@@ -1,0 +1,15 @@
+-- How a loop over pieces ends before the reader does.
+use Rattle.std.specs.Prelude.{◌≡◌, ◌⊎◌, ℕ, List, Bool, true, Result, Ok, Err}
+use Rattle.no_std_io2_base.specs.{declared.error.Error.{Error}, Errors.{IsOutOfMemory}, Pieces.{GivesPieces}, Reads.{Took}, Takes.{Tells}}
+
+-- From old to new a reader gave these pieces. After them a part of the next one was taken, or all of it; and then came the error e: the
+-- reader's fault, or an allocation failed.
+pub record StopsAfter (d : ℕ) (e : Error) (old : Tells) (ps : List (List ℕ)) (new : Tells) : Type 0 where
+  -- what the reader tells after the pieces
+  pub mid : Tells
+  pub gives : GivesPieces d old ps mid
+  -- the part that was taken then
+  pub part : List ℕ
+  pub how : Result Bool Error
+  pub took : Took mid part how new
+  pub whose : (how ≡ Err e) ⊎ ((how ≡ Ok true) × IsOutOfMemory e)

@@ -1,0 +1,33 @@
+-- Of a header that is known to come both numbers are read, also where an error would be returned.
+use Rattle.no_std_io2.proofs.Words.{◌++◌, Ok, Some, ap, ap₂, ◌∙◌, append_assoc, events_of, Event, List, ℕ, ◌≡◌}
+use Rattle.byteorder.specs.Endian.{big_bytes}
+use Rattle.numbers.specs.ChunkHeaders.{chunk_header}
+use Rattle.numbers.proofs.ChunkLemmas.{header_parts}
+use Rattle.numbers.proofs.chunk_header.read_chunk_header.Goals as goal
+
+pub returns-in_err-kind : goal.returns-in_err-kind
+returns-in_err-kind g c = record {
+  back = λ kind len rest small few told.
+      let known = c.in_err-kind.ensures.back kind _ small (told ∙ ap Some (header_parts kind len rest)) in
+      let no : ⊥ = cc known.0 in
+      absurd no;
+}
+
+pub returns-in_err-len : goal.returns-in_err-len
+returns-in_err-len g c = record {
+  back = λ kind len rest small few told.
+      let first = c.in_ok-kind.ensures.back kind _ small (told ∙ ap Some (header_parts kind len rest)) in
+      let known = c.in_err-len.ensures.back len rest few first.1 in
+      let no : ⊥ = cc known.0 in
+      absurd no;
+}
+
+pub returns : goal.returns
+returns g c = record {
+  back = λ kind len rest small few told.
+      let first = c.in_ok-kind.ensures.back kind _ small (told ∙ ap Some (header_parts kind len rest)) in
+      let next = c.in_ok-len.ensures.back len rest few first.1 in
+      let same : c.in_ok-kind.kind ≡ kind = cc first.0 in
+      let long : c.in_ok-len.len ≡ len = cc next.0 in
+      (ap₂ (λ k l. Ok (k, l)) same long, next.1);
+}

@@ -1,0 +1,10 @@
+-- The numbers so far.
+use Rattle.no_std_io2.proofs.Readers.{reader}
+use Rattle.std.specs.Int.{w16}
+use Rattle.numbers.specs.Numbers.{signed_by}
+use Rattle.numbers.proofs.NumberLemmas.{ReadSoFar}
+use Rattle.numbers.proofs.reading.ReadBytesExt.read_i16_into.Given as goal
+
+abbrev pub invariant-numbers : goal.invariant-numbers
+invariant-numbers g l =
+    ReadSoFar (reader g.Self.Stored g.Self.Read) (signed_by w16 g.T.ByteOrder.number_of 2) 2 l.fn.self l.fn.dst l.i l.dst l.self

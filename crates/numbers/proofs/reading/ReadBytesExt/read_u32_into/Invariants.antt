@@ -1,0 +1,8 @@
+-- The numbers so far.
+use Rattle.no_std_io2.proofs.Readers.{reader}
+use Rattle.numbers.proofs.NumberLemmas.{ReadSoFar}
+use Rattle.numbers.proofs.reading.ReadBytesExt.read_u32_into.Given as goal
+
+abbrev pub invariant-numbers : goal.invariant-numbers
+invariant-numbers g l =
+    ReadSoFar (reader g.Self.Stored g.Self.Read) (g.T.ByteOrder.number_of 4) 4 l.fn.self l.fn.dst l.i l.dst l.self

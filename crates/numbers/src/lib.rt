@@ -1,0 +1,12 @@
+//! Reads and writes numbers of 1 to 8 bytes in either order, over every `Read` and every `Write` of `no_std_io2`. Nothing is
+//! allocated, and no system is called. Follows the traits `ReadBytesExt` and `WriteBytesExt` of the Rust crate `byteorder`.
+#![tactic(auto)]
+
+mod chunk_header;
+mod reading;
+mod writing;
+
+pub use byteorder::{BE, BigEndian, ByteOrder, LE, LittleEndian, NativeEndian, NetworkEndian};
+pub use chunk_header::{read_chunk_header, write_chunk_header};
+pub use reading::ReadBytesExt;
+pub use writing::WriteBytesExt;

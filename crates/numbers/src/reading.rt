@@ -1,0 +1,223 @@
+// [`ReadBytesExt`], which reads numbers.
+ghost use Rattle.std.specs.Prelude.{FitsSigned, ◌<◌, ◌^◌, [], ◌∷◌};
+ghost use Rattle.std.specs.Int.{w8, w16, w32, w64, cast_signed, cast_unsigned};
+ghost use Rattle.numbers.specs.Numbers.{ReadsValue, ReadsBack, ReadsInto, first_byte, signed_by};
+
+use byteorder::ByteOrder;
+use no_std_io2::io::{Read, Result};
+
+/// Reads numbers from any reader. Each call for one number is one `read_exact` of its bytes, in the order that the type
+/// parameter names. Follows `ReadBytesExt` of the Rust crate `byteorder`.
+///
+/// # Errors
+/// Each call for one number returns the error of that `read_exact`: the first fault that comes before the last byte of
+/// the number, after which the bytes before it are taken; or `UnexpectedEof` if the bytes end too early, after which all of
+/// them are taken, except that slices and cursors take nothing. Never returns `Interrupted`.
+pub trait ReadBytesExt: Read {
+    /// Reads a byte.
+    final fn read_u8(&mut self) -> Result<u8>
+    where
+        Self: Sized,
+        ensures reads { ReadsValue ⟦<Self as Read>⟧ first_byte 1 self.old result self.new }
+        ensures back { ReadsBack ⟦<Self as Read>⟧ (λ x. x < 256) (λ x. x ∷ []) self.old result self.new }
+    {
+        let mut bytes = [0u8; 1];
+        self.read_exact(&mut bytes)?;
+        Ok(bytes[0])
+    }
+
+    /// Reads a number of 2 bytes.
+    final fn read_u16<T: ByteOrder>(&mut self) -> Result<u16>
+    where
+        Self: Sized,
+        ensures reads { ReadsValue ⟦<Self as Read>⟧ (T.number_of 2) 2 self.old result self.new }
+        ensures back { ReadsBack ⟦<Self as Read>⟧ (λ x. x < 256 ^ 2) (T.bytes_of 2) self.old result self.new }
+    {
+        let mut bytes = [0u8; 2];
+        self.read_exact(&mut bytes)?;
+        Ok(T::read_u16(&bytes))
+    }
+
+    /// Reads a number of 4 bytes.
+    final fn read_u32<T: ByteOrder>(&mut self) -> Result<u32>
+    where
+        Self: Sized,
+        ensures reads { ReadsValue ⟦<Self as Read>⟧ (T.number_of 4) 4 self.old result self.new }
+        ensures back { ReadsBack ⟦<Self as Read>⟧ (λ x. x < 256 ^ 4) (T.bytes_of 4) self.old result self.new }
+    {
+        let mut bytes = [0u8; 4];
+        self.read_exact(&mut bytes)?;
+        Ok(T::read_u32(&bytes))
+    }
+
+    /// Reads a number of 8 bytes.
+    final fn read_u64<T: ByteOrder>(&mut self) -> Result<u64>
+    where
+        Self: Sized,
+        ensures reads { ReadsValue ⟦<Self as Read>⟧ (T.number_of 8) 8 self.old result self.new }
+        ensures back { ReadsBack ⟦<Self as Read>⟧ (λ x. x < 256 ^ 8) (T.bytes_of 8) self.old result self.new }
+    {
+        let mut bytes = [0u8; 8];
+        self.read_exact(&mut bytes)?;
+        Ok(T::read_u64(&bytes))
+    }
+
+    /// Reads a signed byte.
+    final fn read_i8(&mut self) -> Result<i8>
+    where
+        Self: Sized,
+        ensures reads { ReadsValue ⟦<Self as Read>⟧ (λ bytes. cast_signed w8 (first_byte bytes)) 1 self.old result self.new }
+        ensures back { ReadsBack ⟦<Self as Read>⟧ (FitsSigned w8) (λ x. cast_unsigned w8 x ∷ []) self.old result self.new }
+    {
+        match self.read_u8() {
+            Ok(x) => Ok(x.cast_signed()),
+            Err(e) => Err(e),
+        }
+    }
+
+    /// Reads a signed number of 2 bytes.
+    final fn read_i16<T: ByteOrder>(&mut self) -> Result<i16>
+    where
+        Self: Sized,
+        ensures reads { ReadsValue ⟦<Self as Read>⟧ (signed_by w16 T.number_of 2) 2 self.old result self.new }
+        ensures back { ReadsBack ⟦<Self as Read>⟧ (FitsSigned w16) (λ x. T.bytes_of 2 (cast_unsigned w16 x)) self.old result self.new }
+    {
+        match self.read_u16::<T>() {
+            Ok(x) => Ok(x.cast_signed()),
+            Err(e) => Err(e),
+        }
+    }
+
+    /// Reads a signed number of 4 bytes.
+    final fn read_i32<T: ByteOrder>(&mut self) -> Result<i32>
+    where
+        Self: Sized,
+        ensures reads { ReadsValue ⟦<Self as Read>⟧ (signed_by w32 T.number_of 4) 4 self.old result self.new }
+        ensures back { ReadsBack ⟦<Self as Read>⟧ (FitsSigned w32) (λ x. T.bytes_of 4 (cast_unsigned w32 x)) self.old result self.new }
+    {
+        match self.read_u32::<T>() {
+            Ok(x) => Ok(x.cast_signed()),
+            Err(e) => Err(e),
+        }
+    }
+
+    /// Reads a signed number of 8 bytes.
+    final fn read_i64<T: ByteOrder>(&mut self) -> Result<i64>
+    where
+        Self: Sized,
+        ensures reads { ReadsValue ⟦<Self as Read>⟧ (signed_by w64 T.number_of 8) 8 self.old result self.new }
+        ensures back { ReadsBack ⟦<Self as Read>⟧ (FitsSigned w64) (λ x. T.bytes_of 8 (cast_unsigned w64 x)) self.old result self.new }
+    {
+        match self.read_u64::<T>() {
+            Ok(x) => Ok(x.cast_signed()),
+            Err(e) => Err(e),
+        }
+    }
+
+    /// Reads signed bytes into `dst`, one after another.
+    ///
+    /// # Errors
+    /// Returns the error of the first read that fails. The numbers before it are in `dst`, and the others are as they were.
+    final fn read_i8_into(&mut self, dst: &mut [i8]) -> Result<()>
+    where
+        Self: Sized,
+        ensures { ReadsInto ⟦<Self as Read>⟧ (λ bytes. cast_signed w8 (first_byte bytes)) 1 self.old dst.old result dst.new self.new }
+    {
+        'numbers: for i in 0..dst.len() {
+            dst[i] = self.read_i8()?;
+        }
+        Ok(())
+    }
+
+    /// Reads numbers of 2 bytes each into `dst`, one after another.
+    ///
+    /// # Errors
+    /// Returns the error of the first read that fails. The numbers before it are in `dst`, and the others are as they were.
+    final fn read_u16_into<T: ByteOrder>(&mut self, dst: &mut [u16]) -> Result<()>
+    where
+        Self: Sized,
+        ensures { ReadsInto ⟦<Self as Read>⟧ (T.number_of 2) 2 self.old dst.old result dst.new self.new }
+    {
+        'numbers: for i in 0..dst.len() {
+            dst[i] = self.read_u16::<T>()?;
+        }
+        Ok(())
+    }
+
+    /// Reads numbers of 4 bytes each into `dst`, one after another.
+    ///
+    /// # Errors
+    /// Returns the error of the first read that fails. The numbers before it are in `dst`, and the others are as they were.
+    final fn read_u32_into<T: ByteOrder>(&mut self, dst: &mut [u32]) -> Result<()>
+    where
+        Self: Sized,
+        ensures { ReadsInto ⟦<Self as Read>⟧ (T.number_of 4) 4 self.old dst.old result dst.new self.new }
+    {
+        'numbers: for i in 0..dst.len() {
+            dst[i] = self.read_u32::<T>()?;
+        }
+        Ok(())
+    }
+
+    /// Reads numbers of 8 bytes each into `dst`, one after another.
+    ///
+    /// # Errors
+    /// Returns the error of the first read that fails. The numbers before it are in `dst`, and the others are as they were.
+    final fn read_u64_into<T: ByteOrder>(&mut self, dst: &mut [u64]) -> Result<()>
+    where
+        Self: Sized,
+        ensures { ReadsInto ⟦<Self as Read>⟧ (T.number_of 8) 8 self.old dst.old result dst.new self.new }
+    {
+        'numbers: for i in 0..dst.len() {
+            dst[i] = self.read_u64::<T>()?;
+        }
+        Ok(())
+    }
+
+    /// Reads signed numbers of 2 bytes each into `dst`, one after another.
+    ///
+    /// # Errors
+    /// Returns the error of the first read that fails. The numbers before it are in `dst`, and the others are as they were.
+    final fn read_i16_into<T: ByteOrder>(&mut self, dst: &mut [i16]) -> Result<()>
+    where
+        Self: Sized,
+        ensures { ReadsInto ⟦<Self as Read>⟧ (signed_by w16 T.number_of 2) 2 self.old dst.old result dst.new self.new }
+    {
+        'numbers: for i in 0..dst.len() {
+            dst[i] = self.read_i16::<T>()?;
+        }
+        Ok(())
+    }
+
+    /// Reads signed numbers of 4 bytes each into `dst`, one after another.
+    ///
+    /// # Errors
+    /// Returns the error of the first read that fails. The numbers before it are in `dst`, and the others are as they were.
+    final fn read_i32_into<T: ByteOrder>(&mut self, dst: &mut [i32]) -> Result<()>
+    where
+        Self: Sized,
+        ensures { ReadsInto ⟦<Self as Read>⟧ (signed_by w32 T.number_of 4) 4 self.old dst.old result dst.new self.new }
+    {
+        'numbers: for i in 0..dst.len() {
+            dst[i] = self.read_i32::<T>()?;
+        }
+        Ok(())
+    }
+
+    /// Reads signed numbers of 8 bytes each into `dst`, one after another.
+    ///
+    /// # Errors
+    /// Returns the error of the first read that fails. The numbers before it are in `dst`, and the others are as they were.
+    final fn read_i64_into<T: ByteOrder>(&mut self, dst: &mut [i64]) -> Result<()>
+    where
+        Self: Sized,
+        ensures { ReadsInto ⟦<Self as Read>⟧ (signed_by w64 T.number_of 8) 8 self.old dst.old result dst.new self.new }
+    {
+        'numbers: for i in 0..dst.len() {
+            dst[i] = self.read_i64::<T>()?;
+        }
+        Ok(())
+    }
+}
+
+impl<R: Read> ReadBytesExt for R {}

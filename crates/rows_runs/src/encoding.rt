@@ -1,0 +1,176 @@
+// Base64 and numbers over devices that note their calls.
+//
+// A row of an encoder is a call; then its result, the text out and the calls that reached the device; `drop` ends the
+// encoder. A row of a writer of numbers is `TYPE NUMBER`, with the same columns. A row of a reader of numbers is a type;
+// then the number and the calls.
+use base64::engine::general_purpose::STANDARD;
+use base64_stream::EncoderWriter;
+use no_std_io2::io::Result as IoResult;
+use numbers::{BigEndian, LittleEndian, ReadBytesExt, WriteBytesExt};
+use rows_play::calls::{Call, make_call, new_journal, show_calls, show_out};
+use rows_play::fault::{Fault, Made};
+use rows_play::journal::Journal;
+use rows_play::line::Line;
+use rows_play::player::{Player, Stream};
+use rows_play::recorder::{Name, Recorder};
+use std::alloc::Global;
+use std::cell::RefCell;
+use std::rc::Rc;
+
+// An encoder until it is dropped, and the journal of its device.
+#[derive(Drop)]
+struct Encoding {
+    writer: Option<EncoderWriter<Recorder, 512>>,
+    journal: Rc<RefCell<Journal>>,
+}
+
+impl Stream for Encoding {
+    fn play(&mut self, _alloc: Global, call: &Call<'_>, line: &mut Line) {
+        match (call.word, self.writer.take()) {
+            ("drop", Some(w)) => {
+                drop(w);
+                line.word("-");
+            }
+            ("finish", Some(mut w)) => {
+                line.done(&w.finish());
+                self.writer = Some(w);
+            }
+            (_, Some(mut w)) => {
+                make_call(&mut w, call, line);
+                self.writer = Some(w);
+            }
+            (_, None) => line.tell(Fault::NotReady),
+        }
+        show_out(&self.journal, line);
+        show_calls(&self.journal, line);
+    }
+}
+
+// Writes the unsigned number of a row. It returns `None` if the row has no such number.
+fn write_unsigned(to: &mut Recorder, call: &Call<'_>) -> Option<IoResult<()>> {
+    let n = call.rest.parse::<u64>().ok()?;
+    match call.word {
+        "u8" => Some(to.write_u8(u8::try_from(n).ok()?)),
+        "u16be" => Some(to.write_u16::<BigEndian>(u16::try_from(n).ok()?)),
+        "u16le" => Some(to.write_u16::<LittleEndian>(u16::try_from(n).ok()?)),
+        "u32be" => Some(to.write_u32::<BigEndian>(u32::try_from(n).ok()?)),
+        "u64be" => Some(to.write_u64::<BigEndian>(n)),
+        _ => None,
+    }
+}
+
+// The same of a signed number.
+fn write_signed(to: &mut Recorder, call: &Call<'_>) -> Option<IoResult<()>> {
+    let n = call.rest.parse::<i64>().ok()?;
+    match call.word {
+        "i8" => Some(to.write_i8(i8::try_from(n).ok()?)),
+        "i16be" => Some(to.write_i16::<BigEndian>(i16::try_from(n).ok()?)),
+        "i32be" => Some(to.write_i32::<BigEndian>(i32::try_from(n).ok()?)),
+        "i64be" => Some(to.write_i64::<BigEndian>(n)),
+        _ => None,
+    }
+}
+
+// A writer of numbers, and the journal of its device.
+#[derive(Drop)]
+struct Writing {
+    device: Recorder,
+    journal: Rc<RefCell<Journal>>,
+}
+
+impl Stream for Writing {
+    fn play(&mut self, _alloc: Global, call: &Call<'_>, line: &mut Line) {
+        let written = if call.word.starts_with('u') {
+            write_unsigned(&mut self.device, call)
+        } else {
+            write_signed(&mut self.device, call)
+        };
+        match written {
+            Some(result) => line.done(&result),
+            None => line.tell(Fault::NoNumber),
+        }
+        show_out(&self.journal, line);
+        show_calls(&self.journal, line);
+    }
+}
+
+fn show_unsigned(answer: IoResult<u64>, line: &mut Line) {
+    match answer {
+        Ok(n) => line.number(n),
+        Err(e) => line.error(&e),
+    }
+}
+
+fn show_signed(answer: IoResult<i64>, line: &mut Line) {
+    match answer {
+        Ok(n) => line.offset(n),
+        Err(e) => line.error(&e),
+    }
+}
+
+// A reader of numbers, and the journal of its device.
+#[derive(Drop)]
+struct Reading {
+    device: Recorder,
+    journal: Rc<RefCell<Journal>>,
+}
+
+impl Reading {
+    // Reads three numbers, and prints them also after an error.
+    fn read_three(&mut self, line: &mut Line) {
+        let mut three = [7u16; 3];
+        line.done(&self.device.read_u16_into::<BigEndian>(&mut three));
+        'numbers: for n in three {
+            line.word(" ");
+            line.number(u64::from(n));
+        }
+    }
+
+    fn read_unsigned(&mut self, word: &str, line: &mut Line) {
+        match word {
+            "u8" => show_unsigned(self.device.read_u8().map(u64::from), line),
+            "u16be" => show_unsigned(self.device.read_u16::<BigEndian>().map(u64::from), line),
+            "u16le" => show_unsigned(self.device.read_u16::<LittleEndian>().map(u64::from), line),
+            "u32be" => show_unsigned(self.device.read_u32::<BigEndian>().map(u64::from), line),
+            "u64be" => show_unsigned(self.device.read_u64::<BigEndian>(), line),
+            _ => line.tell(Fault::NoCall),
+        }
+    }
+
+    fn read_signed(&mut self, word: &str, line: &mut Line) {
+        match word {
+            "i8" => show_signed(self.device.read_i8().map(i64::from), line),
+            "i16be" => show_signed(self.device.read_i16::<BigEndian>().map(i64::from), line),
+            "i32be" => show_signed(self.device.read_i32::<BigEndian>().map(i64::from), line),
+            "i64be" => show_signed(self.device.read_i64::<BigEndian>(), line),
+            _ => line.tell(Fault::NoCall),
+        }
+    }
+}
+
+impl Stream for Reading {
+    fn play(&mut self, _alloc: Global, call: &Call<'_>, line: &mut Line) {
+        if call.word == "u16be_into" {
+            self.read_three(line);
+        } else if call.word.starts_with('u') {
+            self.read_unsigned(call.word, line);
+        } else {
+            self.read_signed(call.word, line);
+        }
+        show_calls(&self.journal, line);
+    }
+}
+
+pub fn lend(name: &str, words: &str, player: &mut Player<'_, '_>) -> Made<()> {
+    let journal = new_journal(player.alloc, words)?;
+    let device = Recorder::new(player.alloc, journal.clone()?, Name::Only);
+    match name {
+        "EncoderWriter" => {
+            let writer = Some(EncoderWriter::new(device, STANDARD));
+            player.play(&mut Encoding { writer, journal })
+        }
+        "WriteBytesExt" => player.play(&mut Writing { device, journal }),
+        "ReadBytesExt" => player.play(&mut Reading { device, journal }),
+        _ => Err(Fault::NoStream),
+    }
+}
