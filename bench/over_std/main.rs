@@ -257,7 +257,7 @@ fn level(names: &[&str], device: Device, content: Option<Vec<u8>>) -> Option<Box
     Some(match (names, content) {
         (["Vec"] | [], Some(content)) => Box::new(Cursor::new(content)),
         (["VecDeque"], Some(content)) => Box::new(VecDeque::from(content)),
-        (["[u8]" | "&[u8]"], Some(content)) => Box::new(Cursor::new(content.into_boxed_slice())),
+        (["[u8]" | "&[u8]" | "&Vec" | "&str" | "&[u8;6]"], Some(content)) => Box::new(Cursor::new(content.into_boxed_slice())),
         (["[u8;2]"], Some(content)) => Box::new(Cursor::new(<[u8; 2]>::try_from(content).ok()?)),
         (["BufWriter", n, rest @ ..], content) => Box::new(BufWriter::with_capacity(n.parse().ok()?, level(rest, device, content)?)),
         (["LineWriter", n, rest @ ..], content) => Box::new(LineWriter::with_capacity(n.parse().ok()?, level(rest, device, content)?)),
