@@ -1,11 +1,11 @@
-"""The bytes that parts of crates/bare take. bench/footprint makes its table of them, and check_bare compares the
+"""The bytes that parts of crates/bare take. compare/footprint makes its table of them, and check_bare compares the
 library with that table. Parts are linked into a program without the C library, with unused sections collected. The
 linker's map has the sizes of what came from the library: code with its constants, and data."""
 import os, re, subprocess
 
 FILES = os.path.dirname(os.path.abspath(__file__))
 TOP = os.path.dirname(os.path.dirname(FILES))
-TABLE = f"{TOP}/bench/bare/footprint.md"
+TABLE = f"{TOP}/compare/bare/footprint.md"
 NAMES = {
     "REPORT": "a report by `write!`",
     "LOG": "a log through a port",
@@ -32,7 +32,7 @@ def mapped(text):
 def linked(compiler, library, parts, folder):
     """The bytes of code and of data of some parts, which are linked in a folder, as the program `stack`."""
     free = [*compiler, "-O2", "-ffreestanding", "-fno-stack-protector", "-fno-pic"]
-    calls = [f"-I{TOP}/crates/bare", *[f"-D{it}" for it in parts], "-c", f"{TOP}/bench/bare/stack.c", "-o", "stack.o"]
+    calls = [f"-I{TOP}/crates/bare", *[f"-D{it}" for it in parts], "-c", f"{TOP}/compare/bare/stack.c", "-o", "stack.o"]
     make(folder, *free, *calls)
     make(folder, *free, "-c", f"{FILES}/memory.c", "-o", "memory.o")
     flags = ["-nostdlib", "-static", "-no-pie", "-Wl,--gc-sections,-Map=map"]

@@ -1,6 +1,7 @@
 -- If a call through a buffer in front of a queue fails, there are more bytes than a queue has room for.
 use Rattle.no_std_io2.proofs.Words.{◌≡◌, ℕ, ◌+◌, ◌<◌, List, [], ◌++◌, Result, Ok, Err, length, sym, ap, subst, arith, true≢false}
-use Rattle.no_std_io2.proofs.Words.{length-append, inl, inr, refl, ◌∙◌, Told, WriteCall, Made, Moves, Writes, took, again, stuck, fault}
+use Rattle.no_std_io2.proofs.Words.{length-append, inl, inr, refl, ◌∙◌, WriterState, WriteCall, Made, Moves, Writes, took, again, stuck}
+use Rattle.no_std_io2.proofs.Words.{fault}
 use Rattle.no_std_io2.proofs.Words.{AllCalls, told_out, Writer, CallOf, writer_inner, writer_buffer, writer_told, BufferMay, InnerCalls}
 use Rattle.no_std_io2.proofs.Words.{Buffered, FlushCalls, SendCalls, Step, TakesStep, stops, goes_on, common_steps}
 use Rattle.std.specs.Prelude.{MatchResult, OnOk, OnErr}
@@ -23,11 +24,11 @@ blocked (stuck some says) a b made = absurd (let none = made.1.call.1 some in om
 blocked (fault some is) a b made = subst (λ q. length (waiting q) ≡ capacity) (sym made.2) (ap length made.1.call.1 ∙ made.1.call.0)
 
 -- how many bytes are out and held
-abbrev pub size : Told → ℕ
+abbrev pub size : WriterState → ℕ
 size t = length t.out + length t.held
 
 -- accepted bytes are counted
-pub size-moves : {a b : Told} {x : List ℕ} {k : List ErrorKind} → Moves a x k b → size b ≡ size a + length x
+pub size-moves : {a b : WriterState} {x : List ℕ} {k : List ErrorKind} → Moves a x k b → size b ≡ size a + length x
 size-moves m = omega (arith, simp length-append at (ap length m.bytes))
 
 module _ {S : ℕ} where
@@ -102,12 +103,12 @@ module _ {S : ℕ} where
   handed_full less (refused some short calls) a b made = all_full calls (omega (arith, less, short)) a b made
 
   -- bytes were accepted and flushed: the queue has all of them
-  pub flush_done : {a : Told} {b c : BufWriter Queue S} {x : List ℕ} (q : Result (Unit {0}) Error) → Moves a x [] (buffered.told b)
+  pub flush_done : {a : WriterState} {b c : BufWriter Queue S} {x : List ℕ} (q : Result (Unit {0}) Error) → Moves a x [] (buffered.told b)
       → FlushOf buffered b q c → OnOk q (waiting (writer_inner c) ≡ a.out ++ a.held ++ x)
   flush_done q moved law = grind (arith, common_steps, out_after)
 
   -- or they do not fit
-  pub flush_full : {a : Told} {b c : BufWriter Queue S} {x : List ℕ} (q : Result (Unit {0}) Error) → Moves a x [] (buffered.told b)
+  pub flush_full : {a : WriterState} {b c : BufWriter Queue S} {x : List ℕ} (q : Result (Unit {0}) Error) → Moves a x [] (buffered.told b)
       → FlushOf buffered b q c → OnErr q (capacity < size a + length x)
   flush_full (Ok u) moved law = tt
   flush_full {b = b} {c = c} (Err e) moved law =

@@ -1,6 +1,6 @@
 -- The text of one value more.
 use Rattle.no_std_io2.proofs.Words.{◌≡◌, ℕ, ◌+◌, ◌<◌, List, [], ◌∷◌, ◌++◌, length, take, sym, ap, ◌∙◌, arith, zero, suc, append_assoc}
-use Rattle.no_std_io2.proofs.Words.{Result, Ok, Err, OnOk, ◌⊎◌, inl, inr, subst, common_steps, Told, Moves, MovesFront, call_mishap}
+use Rattle.no_std_io2.proofs.Words.{Result, Ok, Err, OnOk, ◌⊎◌, inl, inr, subst, common_steps, WriterState, Moves, MovesFront, call_mishap}
 use Rattle.std.proofs.Common.{slice_index, IsErrAnd}
 use Rattle.no_std_io2.specs.{declared.io.Error.{Error}, Text.{IsTextError}}
 use Rattle.no_std_io2.proofs.MovesLemmas.{Moves-then, Moves-ends, MovesFront-whole}
@@ -16,7 +16,8 @@ texts_more text i (x ∷ xs) (suc k) j within at =
 texts_more text i _ k j within at = grind arith
 
 -- a front of the texts was printed, and then the next text
-pub printed_more : (text : ℕ → ℕ → List ℕ) (xs : List ℕ) (k : ℕ) {a b c : Told} {r : Result (Unit {0}) Error} {u : Unit {0}} → k < length xs
+pub printed_more : (text : ℕ → ℕ → List ℕ) (xs : List ℕ) (k : ℕ) {a b c : WriterState} {r : Result (Unit {0}) Error} {u : Unit {0}}
+    → k < length xs
     → r ≡ Ok u → Moves a (texts_from text 0 (take k xs)) [] b
     → MovesFront b (text k (slice_index xs k)) r c ⊎ IsErrAnd r IsTextError → Moves a (texts_from text 0 (take (k + 1) xs)) [] c
 printed_more text xs k {u = u} within is so_far (inl next) =
@@ -24,7 +25,7 @@ printed_more text xs k {u = u} within is so_far (inl next) =
 printed_more text xs k within is so_far (inr failed) = absurd (rw is at failed)
 
 -- all texts were printed, and then the writer was flushed
-pub printed_all : (text : ℕ → ℕ → List ℕ) (xs : List ℕ) (k : ℕ) {a b c : Told} (r : Result (Unit {0}) Error) → take k xs ≡ xs
+pub printed_all : (text : ℕ → ℕ → List ℕ) (xs : List ℕ) (k : ℕ) {a b c : WriterState} (r : Result (Unit {0}) Error) → take k xs ≡ xs
     → Moves a (texts_from text 0 (take k xs)) [] b → Moves b [] (call_mishap r) c → OnOk r (Moves a (texts_from text 0 xs) [] c)
 printed_all text xs k {a = a} {b = b} (Ok u) whole so_far flushed =
     Moves-ends (subst (λ l. Moves a (texts_from text 0 l) [] b) whole so_far) flushed

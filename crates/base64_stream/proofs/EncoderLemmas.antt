@@ -4,7 +4,7 @@ use Rattle.no_std_io2.proofs.Words.{◌≢◌, Result, Ok, Err, IfOk, OnOk, refl
 use Rattle.no_std_io2.proofs.Words.{append_assoc, append-nil, length-append, length-take-le}
 use Rattle.no_std_io2.proofs.Words.{Writer, Moves, writer_told, writer_inner, error_kind}
 use Rattle.std.proofs.Common.{count_by, take_all, Global}
-use Rattle.no_std_io2.proofs.Words.{Vec, Told, told_out}
+use Rattle.no_std_io2.proofs.Words.{Vec, WriterState, told_out}
 use Rattle.std.specs.Prelude.{OnErr}
 use Rattle.base64.specs.GeneralPurpose.{encode_of}
 use Rattle.base64.proofs.EngineFacts.{encode_of-append, encode_of-nil}
@@ -159,7 +159,7 @@ pub whole_of : (u x : List ℕ) (n : ℕ) → n ≤ length x → (length u + n) 
 whole_of u x n within whole = rw (length-append u (take n x), length-take-le n x within) whole
 
 -- what was accepted one after another is encoded joined
-pub encodes64_join : {W : Type 0} {S : ℕ} (told : W → Told) → Joins {W = EncoderWriter W S} (Encodes64 told)
+pub encodes64_join : {W : Type 0} {S : ℕ} (told : W → WriterState) → Joins {W = EncoderWriter W S} (Encodes64 told)
 encodes64_join told = record {
   none = λ a rest. refl;
   more = λ a b c x y first next rest. next rest ∙ first (y ++ rest) ∙ ap (will_have told a) (sym (append_assoc x y rest));

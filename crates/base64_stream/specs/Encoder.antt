@@ -1,7 +1,7 @@
 -- What an encoder holds, tells and passes on. I are the ghost members of the writer below.
 use Rattle.std.specs.Prelude.{◌≡◌, ℕ, Bool, List, [], ◌++◌, Result}
 use Rattle.base64.specs.{declared.engine.general_purpose.GeneralPurpose.{GeneralPurpose}, GeneralPurpose.{encode_of}}
-use Rattle.no_std_io2.specs.{declared.io.{Error.{Error}, BufWriter.{BufWriter}}, Write.{Told, told_out}, Wrapping.{told_over}}
+use Rattle.no_std_io2.specs.{declared.io.{Error.{Error}, BufWriter.{BufWriter}}, Write.{WriterState, told_out}, Wrapping.{told_over}}
 use Rattle.no_std_io2.specs.{Writers.{Writer}, BufWriter.{writer_inner, writer_buffer, writer_told, Puts}}
 use Rattle.base64_stream.specs.{declared.encoder.EncoderWriter.{EncoderWriter}, Group.{group_items}}
 
@@ -35,23 +35,23 @@ module _ {W : Type 0} {S : ℕ} where
   encoder_accepted w = w.accepted.bytes
 
   -- the turns of the writer below, which does not tell its mishaps
-  abbrev pub told_below : (W → Told) → EncoderWriter W S → Told
+  abbrev pub told_below : (W → WriterState) → EncoderWriter W S → WriterState
   told_below told w = record (told_out []) { turns = (told (encoder_inner w)).turns }
 
   -- what it tells: every accepted byte is out, also one that waits, since a `flush` cannot send a group that is not whole
-  abbrev pub encoder_told : (W → Told) → EncoderWriter W S → Told
+  abbrev pub encoder_told : (W → WriterState) → EncoderWriter W S → WriterState
   encoder_told told w = told_over (encoder_accepted w) [] (told_below told w)
 
   -- all text that the writer below has accepted, and the text that waits
-  abbrev pub passed_on : (W → Told) → EncoderWriter W S → List ℕ
+  abbrev pub passed_on : (W → WriterState) → EncoderWriter W S → List ℕ
   passed_on told w = (writer_told told w.inner).out ++ (writer_told told w.inner).held
 
   -- what the device will have if `rest` is written too and the encoder is finished
-  abbrev pub will_have : (W → Told) → EncoderWriter W S → List ℕ → List ℕ
+  abbrev pub will_have : (W → WriterState) → EncoderWriter W S → List ℕ → List ℕ
   will_have told w rest = passed_on told w ++ encode_of w.engine (unfinished w ++ rest)
 
   -- these bytes were accepted: the device will have them encoded, and nothing else has changed of what it will have
-  abbrev pub Encodes64 : (W → Told) → EncoderWriter W S → List ℕ → EncoderWriter W S → Type 0
+  abbrev pub Encodes64 : (W → WriterState) → EncoderWriter W S → List ℕ → EncoderWriter W S → Type 0
   Encodes64 told old x new = (rest : List ℕ) → will_have told new rest ≡ will_have told old (x ++ rest)
 
   -- this text was put into the buffer, whole or not at all

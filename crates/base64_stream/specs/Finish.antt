@@ -2,7 +2,7 @@
 use Rattle.std.specs.Prelude.{◌≡◌, ◌≢◌, ◌⊎◌, ℕ, ◌%◌, ◌<◌, ◌≤◌, true, List, [], ◌++◌, length, take, codes, Result, Ok, Err, IsErrAnd}
 use Rattle.base64.specs.GeneralPurpose.{encode_of}
 use Rattle.no_std_io2.specs.{declared.io.{Error.{Error}, BufWriter.{BufWriter}, ErrorKind.TheVariants.{InvalidInput}}, Errors.{SaysError}}
-use Rattle.no_std_io2.specs.{Read.{ended}, Write.{Told}, Writers.{Writer, FlushOf}}
+use Rattle.no_std_io2.specs.{Read.{ended}, Write.{WriterState}, Writers.{Writer, FlushOf}}
 use Rattle.base64_stream.specs.{declared.encoder.EncoderWriter.{EncoderWriter}, Encoder.{encoder_writer, encoder_inner, encoder_held}}
 use Rattle.base64_stream.specs.Encoder.{unfinished, is_closed, encoder_engine, KeepsGroup, PutsText, will_have}
 
@@ -24,7 +24,7 @@ pub data PutsGroups {W : Type 0} {S : ℕ} (I : Writer W) (old : EncoderWriter W
       → (reply ≡ Ok n) ⊎ IsErrAnd reply (λ _. KeepsGroup old new) → PutsGroups I old x reply new
 
 -- the device has what it was to have, nothing waits, and the text is closed
-abbrev pub HasFinished : {W : Type 0} {S : ℕ} → (W → Told) → EncoderWriter W S → EncoderWriter W S → Type 0
+abbrev pub HasFinished : {W : Type 0} {S : ℕ} → (W → WriterState) → EncoderWriter W S → EncoderWriter W S → Type 0
 HasFinished told old new = ((told (encoder_inner new)).out ≡ will_have told old []) × ((told (encoder_inner new)).held ≡ [])
     × (encoder_held new ≡ []) × (unfinished new ≡ []) × (is_closed new ≡ true)
 

@@ -1,12 +1,12 @@
 -- What a read of a file in flash takes.
 use Rattle.no_std_io2.proofs.Words.{◌≡◌, ℕ, ◌+◌, ◌<◌, ◌^◌, Bool, true, false, true≢false, List, [], ◌∷◌, length, take, drop, None, refl}
-use Rattle.no_std_io2.proofs.Words.{sym, ap, subst, arith, length-drop, byte, events_of, Tells, Takes, AreTaken}
+use Rattle.no_std_io2.proofs.Words.{sym, ap, subst, arith, length-drop, byte, events_of, ReaderState, Takes, AreTaken}
 use Rattle.std.proofs.{Common.{set, slice_index, add-one}, Math.Seq.{drop-cons}}
 use Rattle.no_std_io2.specs.Takes.{events_by, store_by, store_at, fits_u64}
 use Rattle.no_std_io2.proofs.StoreLemmas.{fits_at, keeps_at}
 
 -- what it tells
-abbrev flash_tells : List ℕ → ℕ → Tells
+abbrev flash_tells : List ℕ → ℕ → ReaderState
 flash_tells content place = record { events = None; store = store_at content place; turns = length (drop place content) }
 
 -- a buffer with this byte in front begins with it

@@ -2,7 +2,8 @@
 use Rattle.no_std_io2.proofs.Words.{◌≡◌, ℕ, ◌+◌, ◌≤◌, List, [], ◌∷◌, ◌++◌, length, take, Bool, true, false, Option, None, Some, Result, Ok}
 use Rattle.no_std_io2.proofs.Words.{Err, refl, sym, ap, subst, ◌∙◌, arith, inl, inr, IsSomeAnd, append_assoc, append-nil, length-append}
 use Rattle.no_std_io2.proofs.Words.{if◌then◌else◌, drop, take-append_seam, drop-append_seam, common_steps, reader_held, reader_inner}
-use Rattle.no_std_io2.proofs.Words.{behind_held, Event, fails, bytes, events_of, bytes_to_fault, first_fault, Reader, tells, Tells, Takes}
+use Rattle.no_std_io2.proofs.Words.{behind_held, Event, fails, bytes, events_of, bytes_to_fault, first_fault, Reader, tells, ReaderState}
+use Rattle.no_std_io2.proofs.Words.{Takes}
 use Rattle.no_std_io2.proofs.Words.{AreTaken, to_come, IsFront}
 use Rattle.std.proofs.Common.{slice_index_or, IfSome}
 use Rattle.no_std_io2.specs.{declared.io.Error.{Error}, declared.buffered.buf_reader.BufReader.{BufReader}, Errors.{IsUnexpectedEnd}}
@@ -19,7 +20,7 @@ told_of : {R : Type 0} {S : ℕ} (K : Reader R) (r : BufReader R S)
 told_of {S = room} K r = told_behind room (reader_held r) (tells K (reader_inner r))
 
 -- what the look returns, by how the `fill_to` ended
-peeks_at : (how : Result Bool Error) (reply : Result (ℕ × ℕ) Error) (held given : List ℕ) (P E' : List Event) (now : Tells)
+peeks_at : (how : Result Bool Error) (reply : Result (ℕ × ℕ) Error) (held given : List ℕ) (P E' : List Event) (now : ReaderState)
     → SeesHeader how reply (held ++ given) → HasTo 2 how (length (held ++ given)) → bytes P ≡ given → GathersTo P how now
     → to_come now ≡ Some E' → PeeksAt (events_of held ++ (P ++ E')) reply
 peeks_at (Ok true) (Ok header) held given P E' now sees enough is ends told =

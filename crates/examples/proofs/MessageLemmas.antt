@@ -13,7 +13,7 @@ same_length n m small small' same =
     sym (from_be_bytes-to_be_bytes_2 n small) ∙ ap (from_be_bytes w16) same ∙ from_be_bytes-to_be_bytes_2 m small'
 
 -- the length comes first
-pub prefix_known : {S : Type 0} {R : Reader S} {old new : S} {buf buf' : List ℕ} {reply : Result (Unit {0}) Error} (payload : List ℕ)
+pub prefix_known : {X : Type 0} {R : Reader X} {old new : X} {buf buf' : List ℕ} {reply : Result (Unit {0}) Error} (payload : List ℕ)
     (rest : List Event) → ReadExactLaw R old buf reply buf' new → length buf' ≡ 2
     → to_come (tells R old) ≡ Some (events_of (message payload) ++ rest)
     → IsOk reply × (buf' ≡ to_be_bytes w16 (length payload)) × (to_come (tells R new) ≡ Some (events_of payload ++ rest))

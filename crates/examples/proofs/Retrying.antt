@@ -1,19 +1,19 @@
 -- Texts that are written through a buffer, and writes that are made again after faults.
 use Rattle.no_std_io2.proofs.Words.{◌≡◌, ℕ, List, [], length, Result, Ok, Err, true, false, refl, ap, subst, arith, length-append}
 use Rattle.no_std_io2.proofs.Words.{common_steps}
-use Rattle.no_std_io2.proofs.Words.{nil_from_length, with_buffer, writer_inner, writer_buffer, writer_told, Told, Moves, MovesFront}
+use Rattle.no_std_io2.proofs.Words.{nil_from_length, with_buffer, writer_inner, writer_buffer, writer_told, WriterState, Moves, MovesFront}
 use Rattle.std.specs.Result.{is_ok}
 use Rattle.no_std_io2.specs.{declared.io.Error.{Error}, declared.buffered.buf_writer.BufWriter.{BufWriter}, Retries.{Tries, last, again}}
 use Rattle.no_std_io2.proofs.BufWriterLemmas.{MovesFront-device}
 
 -- if a buffer in front of a writer holds nothing, neither does the writer
-pub both_empty : (a : Told) (buffer : List ℕ) → (with_buffer a buffer).held ≡ [] → (a.held ≡ []) × (buffer ≡ [])
+pub both_empty : (a : WriterState) (buffer : List ℕ) → (with_buffer a buffer).held ≡ [] → (a.held ≡ []) × (buffer ≡ [])
 both_empty a buffer none =
     let short = length-append a.held buffer in
     (nil_from_length a.held (omega (arith, ap length none, short)), nil_from_length buffer (omega (arith, ap length none, short)))
 
 -- through a new buffer, which holds nothing afterwards, a text came to the device
-pub came_out : {W : Type 0} {S : ℕ} (told : W → Told) (device : W) (w v : BufWriter W S) (x : List ℕ) → writer_inner w ≡ device
+pub came_out : {W : Type 0} {S : ℕ} (told : W → WriterState) (device : W) (w v : BufWriter W S) (x : List ℕ) → writer_inner w ≡ device
     → writer_buffer w ≡ [] → MovesFront (writer_told told w) x (Ok tt) (writer_told told v) → (writer_told told v).held ≡ []
     → Moves (told device) x [] (told (writer_inner v))
 came_out told device w v x inner none moves flushed =

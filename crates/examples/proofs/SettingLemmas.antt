@@ -1,6 +1,6 @@
 -- One line more, in the search for a key.
 use Rattle.no_std_io2.proofs.Words.{◌≡◌, ℕ, List, [], ◌∷◌, ◌++◌, Option, None, Some, Ok, Err, refl, sym, ap, ◌∙◌, Vec, bytes, newline}
-use Rattle.no_std_io2.proofs.Words.{Reader, tells, Tells}
+use Rattle.no_std_io2.proofs.Words.{Reader, tells, ReaderState}
 use Rattle.no_std_io2.specs.{BufRead.{ReadUntilLaw}, Errors.{IsOutOfMemory}, Pieces.{GivesPieces}, declared.io.Error.{Error}}
 use Rattle.no_std_io2.proofs.PiecesSoFar.{pieces_more, pieces_end, stops_reading, stops_copying}
 use Rattle.examples.specs.Settings.{first_of_two, first_value, setting_in, FindsSetting, MissesSetting}
@@ -22,12 +22,12 @@ first_value-last key (l ∷ lines) line none =
     ap (λ v. first_of_two v (first_value key (lines ++ line ∷ []))) split.0 ∙ first_value-last key lines line split.1
 
 -- These lines came, and none of them has the key.
-pub record LinesWithout (key : List ℕ) (old new : Tells) : Type 0 where
+pub record LinesWithout (key : List ℕ) (old new : ReaderState) : Type 0 where
   pub lines : List (List ℕ)
   pub gives : GivesPieces newline old lines new
   pub none : first_value key lines ≡ None
 
-module _ {X A : Type 0} {R : Reader X} {key : List ℕ} {old : Tells} {mid new : X} {buf buf' : Vec ℕ A}
+module _ {X A : Type 0} {R : Reader X} {key : List ℕ} {old : ReaderState} {mid new : X} {buf buf' : Vec ℕ A}
     (before : LinesWithout key old (tells R mid)) where
   -- a line without the key
   pub without_more : {n : ℕ} (law : ReadUntilLaw R mid newline buf (Ok n) buf' new) → (n ≡ 0 → ⊥)

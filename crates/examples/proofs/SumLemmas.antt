@@ -10,7 +10,7 @@ pub sums_join : {W : Type 0} → Joins {W = Summed W} Sums
 sums_join = joins_modulo summed_sum sum (2 ^ 64) refl (sum_by-append (λ b. b))
 
 -- each read adds what it gave
-pub reads_sum : {S : Type 0} (R : Reader (Summed S)) → ((a b : Summed S) (call : ReadCall) → R.may a call b → ReadSums a call b)
+pub reads_sum : {X : Type 0} (R : Reader (Summed X)) → ((a b : Summed X) (call : ReadCall) → R.may a call b → ReadSums a call b)
     → EachAdds (ReadCallLaw R) Sums
 reads_sum R sums = record {
   joins = sums_join;

@@ -1,5 +1,5 @@
 -- What became of a text that was printed to an object.
-use Rattle.no_std_io2.proofs.Words.{◌≡◌, ℕ, ◌⊎◌, List, ◌++◌, Option, Some, Result, Ok, Err, inl, inr, subst, Told, MovesFront}
+use Rattle.no_std_io2.proofs.Words.{◌≡◌, ℕ, ◌⊎◌, List, ◌++◌, Option, Some, Result, Ok, Err, inl, inr, subst, WriterState, MovesFront}
 use Rattle.std.proofs.Common.{IsErrAnd, OnOk}
 use Rattle.no_std_io2.specs.{declared.io.Error.{Error}, Text.{PrintsOrRefuses}}
 use Rattle.no_std_io2.proofs.{MovesLemmas.{MovesFront-whole}, ObjectLemmas.{row_back, array}, ObjectRules.{buffered, by_lines}}
@@ -10,7 +10,7 @@ use Rattle.no_std_io2.specs.{Cursor.{cursor_out}, BufWriter.{writer_inner, write
 use Rattle.examples.specs.Tables.{IsTextRefused}
 
 -- it was accepted, or a front of it, or it was refused
-pub printed : (N : ℕ) {a b : Told} {bs : List ℕ} (r : Result (Unit {0}) Error) → PrintsOrRefuses N a (Some bs) r b
+pub printed : (N : ℕ) {a b : WriterState} {bs : List ℕ} (r : Result (Unit {0}) Error) → PrintsOrRefuses N a (Some bs) r b
     → MovesFront a bs r b ⊎ IsErrAnd r IsTextRefused
 printed N {a} {b} (Ok u) prints = inl (subst (λ l. MovesFront a l (Ok u) b) prints.is prints.moves)
 printed N {a} {b} (Err e) (inl prints) = inl (subst (λ l. MovesFront a l (Err e) b) prints.is prints.moves)
@@ -18,7 +18,7 @@ printed N (Err e) (inr (inl unwritten, same)) = inr (inl unwritten.0)
 printed N (Err e) (inr (inr failed, same)) = inr (inr failed.1)
 
 -- after `Ok` the writer has all of it
-pub told_bytes : (r : Result (Unit {0}) Error) (a b : Told) (text : List ℕ) → MovesFront a text r b ⊎ IsErrAnd r IsTextRefused
+pub told_bytes : (r : Result (Unit {0}) Error) (a b : WriterState) (text : List ℕ) → MovesFront a text r b ⊎ IsErrAnd r IsTextRefused
     → OnOk r (b.out ++ b.held ≡ a.out ++ a.held ++ text)
 told_bytes (Ok u) a b text (inl moves) = (MovesFront-whole text u moves).bytes
 told_bytes (Ok u) a b text (inr refused) = absurd refused

@@ -1,11 +1,11 @@
 -- The first lines of a reader, passed on to a writer.
 use Rattle.std.specs.Prelude.{◌≡◌, ◌≤◌, ◌<◌, ◌⊎◌, ℕ, List, [], length, None, Bool, true, Result, Ok, Err}
 use Rattle.std.specs.List.{concat}
-use Rattle.no_std_io2.specs.{Errors.{IsOutOfMemory}, Pieces.{newline, GivesPieces, AreAllPieces}, Reads.{Took}, Takes.{Tells}}
-use Rattle.no_std_io2.specs.{Write.{Told, Moves, MovesFront}, declared.io.Error.{Error}}
+use Rattle.no_std_io2.specs.{Errors.{IsOutOfMemory}, Pieces.{newline, GivesPieces, AreAllPieces}, Reads.{Took}, Takes.{ReaderState}}
+use Rattle.no_std_io2.specs.{Write.{WriterState, Moves, MovesFront}, declared.io.Error.{Error}}
 
 -- So many lines came from the reader, and the writer accepted them, each whole. They are fewer than wanted only if no more were to come.
-pub record Heads (wanted : ℕ) (old new : Tells) (told told' : Told) (n : ℕ) : Type 0 where
+pub record Heads (wanted : ℕ) (old new : ReaderState) (told told' : WriterState) (n : ℕ) : Type 0 where
   pub lines : List (List ℕ)
   pub count : length lines ≡ n
   pub within : n ≤ wanted
@@ -19,7 +19,7 @@ IsErrorOf e how (Ok u) = (how ≡ Err e) ⊎ ((how ≡ Ok true) × IsOutOfMemory
 IsErrorOf e how (Err f) = e ≡ f
 
 -- After the error e the writer has accepted all bytes that were taken from the reader; or a front of them, if e is the writer's.
-pub record HeadStops (e : Error) (old new : Tells) (told told' : Told) : Type 0 where
+pub record HeadStops (e : Error) (old new : ReaderState) (told told' : WriterState) : Type 0 where
   pub taken : List ℕ
   pub how : Result Bool Error
   pub took : Took old taken how new

@@ -2,7 +2,7 @@
 use Rattle.std.specs.Prelude.{◌≡◌, ℕ, ◌+◌, ◌/◌, ◌%◌, nat_lt, if◌then◌else◌, List, [], ◌∷◌, ◌++◌, Option, None, Some}
 use Rattle.std.specs.List.{flat_map}
 use Rattle.std.specs.Option.{option_to_list}
-use Rattle.no_std_io2.specs.Write.{Told}
+use Rattle.no_std_io2.specs.Write.{WriterState}
 use Rattle.examples.specs.declared.hex.Hex.{Hex}
 
 -- the digit of a number below 16
@@ -23,7 +23,7 @@ half h = h.half
 
 -- What it tells: the bytes of which both digits were written are out, and one of which only the first was is held. Mishaps and turns are
 -- those of the inner writer.
-abbrev pub hex_told : {W : Type 0} → (W → Told) → Hex W → Told
+abbrev pub hex_told : {W : Type 0} → (W → WriterState) → Hex W → WriterState
 hex_told told h = record {
   out = h.whole.bytes;
   held = option_to_list h.half;
@@ -37,9 +37,9 @@ owed None = []
 owed (Some b) = digit (b % 16) ∷ []
 
 -- all bytes that the inner writer accepted, and the digit that it is still to get
-abbrev pub written : {W : Type 0} → (W → Told) → Hex W → List ℕ
+abbrev pub written : {W : Type 0} → (W → WriterState) → Hex W → List ℕ
 written told h = (told h.inner).out ++ (told h.inner).held ++ owed h.half
 
 -- these bytes were written in hexadecimal
-abbrev pub Encodes : {W : Type 0} → (W → Told) → Hex W → List ℕ → Hex W → Type 0
+abbrev pub Encodes : {W : Type 0} → (W → WriterState) → Hex W → List ℕ → Hex W → Type 0
 Encodes told old bytes new = written told new ≡ written told old ++ hex bytes

@@ -11,7 +11,7 @@ abbrev IsInboxError : ErrorKind → ℕ → Type 0
 IsInboxError kind turns = ((kind ≡ TimedOut) × (turns ≡ 0)) ⊎ ((kind ≡ WouldBlock) × (0 < turns))
 
 -- A read gives the bytes that the source gave. It gives none only if there is no room, or if no turns were left.
-abbrev pub InboxMay : {S : Type 0} → (S → List ℕ) → Inbox S → ReadCall → Inbox S → Type 0
+abbrev pub InboxMay : {X : Type 0} → (X → List ℕ) → Inbox X → ReadCall → Inbox X → Type 0
 InboxMay given old (Gave room (Ok x)) new =
     (given new.source ≡ given old.source ++ x) × (x ≡ [] → (room ≡ 0) ⊎ (old.turns ≡ 0))
 InboxMay given old (Gave room (Err e)) new = (given new.source ≡ given old.source) × IsInboxError (error_kind e) new.turns

@@ -1,6 +1,6 @@
 -- Records with their length in front, and what skipping them takes.
 use Rattle.std.specs.Prelude.{◌≡◌, ◌⊎◌, ℕ, ◌<◌, List, [], ◌∷◌, ◌++◌, length, Result, Ok, Err, false}
-use Rattle.no_std_io2.specs.{Errors.{IsUnexpectedEnd}, Reads.{Took}, Takes.{Tells}, Read.{Reader, tells}, declared.io.Error.{Error}}
+use Rattle.no_std_io2.specs.{Errors.{IsUnexpectedEnd}, Reads.{Took}, Takes.{ReaderState}, Read.{Reader, tells}, declared.io.Error.{Error}}
 
 -- these bytes are whole records: each is a length, in one byte, followed by that many bytes
 pub data AreRecords : List ℕ → Type 0 where
@@ -12,7 +12,7 @@ abbrev pub IsCutOff : List ℕ → Type 0
 IsCutOff part = (len : ℕ) × (body : List ℕ) × (part ≡ len ∷ body) × (length body < len)
 
 -- whole records were taken, up to the end; or a fault came behind whole records or inside another one, or the end inside one
-abbrev RecordsEnd : Tells → Tells → Result (Unit {0}) Error → Type 0
+abbrev RecordsEnd : ReaderState → ReaderState → Result (Unit {0}) Error → Type 0
 RecordsEnd old new (Ok u) = (xs : List ℕ) × AreRecords xs × Took old xs (Ok false) new
 RecordsEnd old new (Err e) = (xs : List ℕ) × (part : List ℕ) × AreRecords xs
     × ((Took old (xs ++ part) (Err e) new × ((part ≡ []) ⊎ IsCutOff part))

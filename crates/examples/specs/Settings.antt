@@ -1,7 +1,7 @@
 -- What a setting is, and which one a reader gives.
 use Rattle.std.specs.Prelude.{◌≡◌, ◌-◌, nat_eq, ℕ, List, [], ◌∷◌, length, take, drop, Option, None, Some, option_map, if◌then◌else◌}
 use Rattle.std.specs.Cmp.Lexicographic.{pointwise}
-use Rattle.no_std_io2.specs.{Pieces.{newline, GivesPieces, AreAllPieces}, PieceStops.{StopsAfter}, Takes.{Tells}}
+use Rattle.no_std_io2.specs.{Pieces.{newline, GivesPieces, AreAllPieces}, PieceStops.{StopsAfter}, Takes.{ReaderState}}
 use Rattle.no_std_io2.specs.declared.io.Error.{Error}
 
 -- what follows these bytes, if the text begins with them
@@ -32,14 +32,14 @@ first_value key [] = None
 first_value key (line ∷ lines) = first_of_two (setting_in key line) (first_value key lines)
 
 -- Lines came, and the result is the first value in them. If there is none, no more lines were to come.
-pub record FindsSetting (key : List ℕ) (old : Tells) (found : Option (List ℕ)) (new : Tells) : Type 0 where
+pub record FindsSetting (key : List ℕ) (old : ReaderState) (found : Option (List ℕ)) (new : ReaderState) : Type 0 where
   pub lines : List (List ℕ)
   pub gives : GivesPieces newline old lines new
   pub first : found ≡ first_value key lines
   pub all : found ≡ None → AreAllPieces newline old lines None
 
 -- Lines without the key came, and then the error e.
-pub record MissesSetting (key : List ℕ) (e : Error) (old new : Tells) : Type 0 where
+pub record MissesSetting (key : List ℕ) (e : Error) (old new : ReaderState) : Type 0 where
   pub lines : List (List ℕ)
   pub none : first_value key lines ≡ None
   pub stops : StopsAfter newline e old lines new

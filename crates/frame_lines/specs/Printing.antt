@@ -2,7 +2,7 @@
 use Rattle.std.specs.Prelude.{◌≡◌, ◌⊎◌, ℕ, List, [], ◌∷◌, ◌++◌, take, Option, Some, None, Result, Ok, Err}
 use Rattle.no_std_io2.specs.declared.io.Error.{Error}
 use Rattle.no_std_io2.specs.Read.{Reader}
-use Rattle.no_std_io2.specs.Write.{Told, Moves}
+use Rattle.no_std_io2.specs.Write.{WriterState, Moves}
 use Rattle.framing.specs.declared.reader.FrameReader.{FrameReader}
 use Rattle.framing.specs.Taking.{TakesFrame}
 use Rattle.line_log.specs.declared.LineLog.{LineLog}
@@ -10,13 +10,13 @@ use Rattle.line_log.specs.Log.{line_of, log_held, log_tells}
 
 -- One line was accepted, and the writer below the log has all of it. Its text is the one that the standard library
 -- prints for the payload, of which no contract says more.
-pub record PrintsPayload {W : Type 0} (told : W → Told) (old new : LineLog W 16386) : Type 0 where
+pub record PrintsPayload {W : Type 0} (told : W → WriterState) (old new : LineLog W 16386) : Type 0 where
   pub text : List ℕ
   pub moves : Moves (log_tells told old) (line_of text) [] (log_tells told new)
   pub sent : log_held new ≡ []
 
 -- From `from` frames with these payloads were taken, one after another, into a room, and for each one line was printed to `to`.
-pub data PrintsEach {R W : Type 0} (I : Reader R) (told : W → Told) (from : FrameReader R 512) (room : List ℕ) (to : LineLog W 16386)
+pub data PrintsEach {R W : Type 0} (I : Reader R) (told : W → WriterState) (from : FrameReader R 512) (room : List ℕ) (to : LineLog W 16386)
     : List (List ℕ) → FrameReader R 512 → List ℕ → LineLog W 16386 → Type 0 where
   nothing : PrintsEach I told from room to [] from room to
   frame : {payloads : List (List ℕ)} {mid new : FrameReader R 512} {held room' : List ℕ} {log log' : LineLog W 16386} (n : ℕ)
@@ -31,7 +31,8 @@ PrintEnds I mid held (Err e) new = (room : List ℕ) × (TakesFrame I mid held (
     ⊎ ((next : Option ℕ) × TakesFrame I mid held (Ok next) new room))
 
 -- Frames were printed, from a room of zeros. After the last line the log was `log`.
-pub record PrintsFrames {R W : Type 0} (I : Reader R) (told : W → Told) (from : FrameReader R 512) (room : List ℕ) (to : LineLog W 16386)
+pub record PrintsFrames {R W : Type 0} (I : Reader R) (told : W → WriterState) (from : FrameReader R 512) (room : List ℕ)
+    (to : LineLog W 16386)
     (reply : Result (Unit {0}) Error) (new : FrameReader R 512) : Type 0 where
   pub payloads : List (List ℕ)
   pub mid : FrameReader R 512

@@ -3,7 +3,7 @@ use Rattle.no_std_io2.proofs.Words.{◌≡◌, ℕ, ◌+◌, ◌<◌, ◌≤◌,
 use Rattle.no_std_io2.proofs.Words.{Bool, false, Result, Ok, Err, IsSomeAnd, refl, sym, ap, subst, ◌∙◌, inl, inr, arith, append_assoc}
 use Rattle.no_std_io2.proofs.Words.{append-nil, length-append, length-take, take-append_seam, drop-append_seam, take-append-le, IsFault}
 use Rattle.no_std_io2.proofs.Words.{Event, fails, bytes, events_of, HasNoFault, first_fault, AreTaken, to_come, IsAtEnd, Reader, tells}
-use Rattle.no_std_io2.proofs.Words.{Told, behind_held}
+use Rattle.no_std_io2.proofs.Words.{WriterState, behind_held}
 use Rattle.std.proofs.{Common.{All}, lemmas.{List.{append_cancel_left}, List.Elements.{All-head}}}
 use Rattle.std.specs.Int.{w32, to_le_bytes, from_le_bytes}
 use Rattle.no_std_io2.specs.{declared.io.Error.{Error}, Reads.{GathersTo, Took}}
@@ -146,11 +146,11 @@ module _ {R : Type 0} {S : ℕ} {I : Reader R} {old new : FrameReader R S} {room
           )
 
 -- what went out are these frames
-went_out : {a b : Told} (sent : List (List ℕ)) (bs : List ℕ) → WentOut a sent b bs → bs ≡ frames sent
+went_out : {a b : WriterState} (sent : List (List ℕ)) (bs : List ℕ) → WentOut a sent b bs → bs ≡ frames sent
 went_out {a} sent bs w = append_cancel_left a.out bs (frames sent) (sym w.out ∙ device_empty w.moves w.empty w.flushed)
 
 -- and if they are told to come, so are the frames
-pub round : (a b : Told) (sent : List (List ℕ)) (told : Option (List Event)) → IsSomeAnd told (λ E. WentOut a sent b (bytes E))
+pub round : (a b : WriterState) (sent : List (List ℕ)) (told : Option (List Event)) → IsSomeAnd told (λ E. WentOut a sent b (bytes E))
     → AreToCome sent told
 round a b sent None went = absurd went
 round a b sent (Some E) went = went_out sent (bytes E) went

@@ -1,6 +1,7 @@
 -- What a reader of frames gives back of the frames that a writer sent.
 use Rattle.std.specs.Prelude.{◌≡◌, ◌⊎◌, ℕ, ◌<◌, List, [], ◌∷◌, ◌++◌, length, take, Option, Some, None, Result, Ok, Err, IfSome, IsSomeAnd}
-use Rattle.no_std_io2.specs.{Events.{Event, bytes, first_fault}, Write.{Told, Moves}, declared.io.{Error.{Error}, ErrorKind.{ErrorKind}}}
+use Rattle.no_std_io2.specs.{Events.{Event, bytes, first_fault}, Write.{WriterState, Moves}}
+use Rattle.no_std_io2.specs.declared.io.{Error.{Error}, ErrorKind.{ErrorKind}}
 use Rattle.framing.specs.{Frames.{frames}, Taking.{SaysNoRoom}}
 
 -- events are told, and their bytes are the frames of these payloads
@@ -21,7 +22,7 @@ GivesBack limit sent before (Err e) room after =
 
 -- A writer that held nothing accepted the frames of `sent`, whatever happened meanwhile. Then it held nothing, and these bytes had
 -- gone out.
-pub record WentOut (old : Told) (sent : List (List ℕ)) (new : Told) (bs : List ℕ) : Type 0 where
+pub record WentOut (old : WriterState) (sent : List (List ℕ)) (new : WriterState) (bs : List ℕ) : Type 0 where
   pub happened : List ErrorKind
   pub moves : Moves old (frames sent) happened new
   pub empty : old.held ≡ []

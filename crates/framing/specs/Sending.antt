@@ -1,6 +1,6 @@
 -- What a writer of frames holds and tells, and what its calls do. I are the ghost members of the writer below.
 use Rattle.std.specs.Prelude.{◌≡◌, ◌⊎◌, ℕ, ◌+◌, ◌<◌, ◌≤◌, ◌^◌, List, ◌++◌, length, codes, [], ◌∷◌, Result, Ok, Err, IsErrAnd}
-use Rattle.no_std_io2.specs.{Errors.{SaysError}, Write.{Told, Moves}, BufWriter.{writer_inner, writer_buffer, writer_told, Puts}}
+use Rattle.no_std_io2.specs.{Errors.{SaysError}, Write.{WriterState, Moves}, BufWriter.{writer_inner, writer_buffer, writer_told, Puts}}
 use Rattle.no_std_io2.specs.{Writers.{Writer}, declared.io.{BufWriter.{BufWriter}, Error.{Error}, ErrorKind.TheVariants.{InvalidInput}}}
 use Rattle.framing.specs.{Frames.{frame, frames}, declared.writer.FrameWriter.{FrameWriter}}
 
@@ -17,7 +17,7 @@ abbrev pub frames_held : {W : Type 0} {S : ℕ} → FrameWriter W S → List ℕ
 frames_held w = writer_buffer w.inner
 
 -- what it tells if the writer below tells `told`
-abbrev pub writer_tells : {W : Type 0} {S : ℕ} → (W → Told) → FrameWriter W S → Told
+abbrev pub writer_tells : {W : Type 0} {S : ℕ} → (W → WriterState) → FrameWriter W S → WriterState
 writer_tells told w = writer_told told w.inner
 
 -- the frame of this payload is shorter than a buffer of S bytes

@@ -4,7 +4,7 @@ ghost use Rattle.std.specs.Prelude.{IsSomeAnd};
 ghost use Rattle.no_std_io2.specs.Events.{bytes};
 ghost use Rattle.no_std_io2.specs.Takes.{to_come};
 ghost use Rattle.no_std_io2.specs.Read.{tells};
-ghost use Rattle.no_std_io2.specs.Write.{Told};
+ghost use Rattle.no_std_io2.specs.Write.{WriterState};
 ghost use Rattle.no_std_io2.specs.BufReader.{reader_held};
 ghost use Rattle.framing.specs.Frames.{frame, HasHeader};
 
@@ -89,7 +89,7 @@ impl<R: Read, const S: usize> FrameReader<R, S> {
             → All (λ p. length p < 2 ^ 32) sent → GivesBack (length room.old) sent (frame_to_come R.Read self.old room.old) result room.new
             (frame_to_come R.Read self.new room.new) }
         // So do those that a writer of frames sent.
-        ensures round { (old new : Told) (sent : List (List ℕ))
+        ensures round { (old new : WriterState) (sent : List (List ℕ))
             → IsSomeAnd (frame_to_come R.Read self.old room.old) (λ E. WentOut old sent new (bytes E))
             → All (λ p. length p < 2 ^ 32) sent → GivesBack (length room.old) sent (frame_to_come R.Read self.old room.old) result room.new
             (frame_to_come R.Read self.new room.new) }

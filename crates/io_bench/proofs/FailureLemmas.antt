@@ -1,6 +1,6 @@
 -- For `run_writes`: at most as many calls of a run failed as mishaps were told.
 use Rattle.no_std_io2.proofs.Words.{common_steps, ◌≡◌, ℕ, true, if◌then◌else◌, List, [], ◌∷◌, length, Option, Some, refl, arith, Moves}
-use Rattle.no_std_io2.proofs.Words.{Told}
+use Rattle.no_std_io2.proofs.Words.{WriterState}
 use Rattle.std.proofs.{Common.{count_by}, lemmas.List.{length-append, Sums.{sum_by-cons}}}
 use Rattle.no_std_io2.specs.{declared.io.ErrorKind.{ErrorKind}, Write.{HasSpent}}
 use Rattle.io_bench.specs.{declared.runs.{Op.{Op}, Reply.{Reply}}, Runs.{EndsFlushed, HasFewer, IsShorterBy, Ran, Run, failures}}
@@ -42,11 +42,11 @@ fewer_of : (kind : ErrorKind) (ops : List Op) (replies : List Reply) (old new : 
 fewer_of kind ops replies old new h = grind (arith, common_steps)
 
 -- these facts are enough for a run
-pub ran_by : {old new : Told} {ops : List Op} {replies : List Reply} (accepted : List ℕ) → Run ops replies accepted
+pub ran_by : {old new : WriterState} {ops : List Op} {replies : List Reply} (accepted : List ℕ) → Run ops replies accepted
     → Moves old accepted (mishaps_of ops replies) new → (EndsFlushed ops replies → new.held ≡ []) → Ran old ops replies new
 ran_by accepted run moves flushed = grind (arith, common_steps, failures_told, fewer_of)
 
 -- over no mishap to come no call fails
-pub none_failed : {old new : Told} {ops : List Op} {replies : List Reply} → Ran old ops replies new → old.mishaps ≡ Some []
+pub none_failed : {old new : WriterState} {ops : List Op} {replies : List Reply} → Ran old ops replies new → old.mishaps ≡ Some []
     → failures ops replies ≡ 0
 none_failed {new = new} ran none = grind (arith, common_steps, none_left, ran.failed, none)

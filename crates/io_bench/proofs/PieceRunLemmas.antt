@@ -24,7 +24,7 @@ pub if_told : (told : Option (List Event)) {P : List Event → Type 0} → ((E :
 if_told told holds = grind (arith, common_steps)
 
 -- one item more was yielded
-pub one_yielded : {S T : Type 0} (next : S → Option (Result T Error) → S → Type 0) (from mid now : S) (old : List T) {items items' : List T}
+pub one_yielded : {X T : Type 0} (next : X → Option (Result T Error) → X → Type 0) (from mid now : X) (old : List T) {items items' : List T}
     (x : T) {r : Option (Result T Error)} → items ≡ old ++ appended old items → items' ≡ items ++ x ∷ []
     → Made (λ s x t. next s (Some (Ok x)) t) from (appended old items) mid → next mid r now → r ≡ Some (Ok x)
     → Made (λ s x t. next s (Some (Ok x)) t) from (appended old items') now
@@ -32,7 +32,7 @@ one_yielded next from mid now old x h pushed made one is =
     grind (arith, common_steps, appended-one, made_more)
 
 -- the same items were yielded
-pub still_yielded : {S T : Type 0} (next : S → Option (Result T Error) → S → Type 0) (from now : S) (old : List T) {items items' : List T}
+pub still_yielded : {X T : Type 0} (next : X → Option (Result T Error) → X → Type 0) (from now : X) (old : List T) {items items' : List T}
     → items' ≡ items → Made (λ s x t. next s (Some (Ok x)) t) from (appended old items) now
     → Made (λ s x t. next s (Some (Ok x)) t) from (appended old items') now
 still_yielded next from now old same made = subst (λ l. Made (λ s x t. next s (Some (Ok x)) t) from (appended old l) now) (sym same) made
@@ -92,21 +92,21 @@ gathered_to A trim refuses full d {mid = mid} t (inr (inr memory)) =
 
 -- What one `next` of an iterator over a lender does, if it has not ended: it takes the next piece, and after an item it
 -- has not ended.
-pub record TakesPieces {S X T : Type 0} (R : Reader X) (reader : S → X) (view : T → List ℕ) (trim : List ℕ → List ℕ)
-    (refuses : List ℕ → Error → Type 0) (d : ℕ) (next : S → Option (Result T Error) → S → Type 0) (live : S → Type 0) : Type 0 where
-  pub law : (s t : S) (r : Option (Result T Error)) → live s → next s r t → NextPieceLaw R (reader s) view trim refuses d r (reader t)
-  pub lives : (s t : S) (x : T) → live s → next s (Some (Ok x)) t → live t
+pub record TakesPieces {V X T : Type 0} (R : Reader X) (reader : V → X) (view : T → List ℕ) (trim : List ℕ → List ℕ)
+    (refuses : List ℕ → Error → Type 0) (d : ℕ) (next : V → Option (Result T Error) → V → Type 0) (live : V → Type 0) : Type 0 where
+  pub law : (s t : V) (r : Option (Result T Error)) → live s → next s r t → NextPieceLaw R (reader s) view trim refuses d r (reader t)
+  pub lives : (s t : V) (x : T) → live s → next s (Some (Ok x)) t → live t
 
-module _ {S X T : Type 0} (R : Reader X) (reader : S → X) (view : T → List ℕ) (trim : List ℕ → List ℕ)
-    (refuses : List ℕ → Error → Type 0) (d : ℕ) (next : S → Option (Result T Error) → S → Type 0) (live : S → Type 0)
+module _ {V X T : Type 0} (R : Reader X) (reader : V → X) (view : T → List ℕ) (trim : List ℕ → List ℕ)
+    (refuses : List ℕ → Error → Type 0) (d : ℕ) (next : V → Option (Result T Error) → V → Type 0) (live : V → Type 0)
     (takes : TakesPieces R reader view trim refuses d next live) where
   -- it has not ended after items
-  still_lives : (xs : List T) (s now : S) → live s → Made (λ s x t. next s (Some (Ok x)) t) s xs now → live now
+  still_lives : (xs : List T) (s now : V) → live s → Made (λ s x t. next s (Some (Ok x)) t) s xs now → live now
   still_lives [] s now lives made = subst live (sym made) lives
   still_lives (x ∷ xs) s now lives made = still_lives xs made.0 now (takes.lives s made.0 x lives made.1) made.2
 
   -- and they are the first pieces
-  first_pieces : (xs : List T) (s now : S) (E : List Event) → live s → Made (λ s x t. next s (Some (Ok x)) t) s xs now
+  first_pieces : (xs : List T) (s now : V) (E : List Event) → live s → Made (λ s x t. next s (Some (Ok x)) t) s xs now
       → to_come (tells R (reader s)) ≡ Some E
       → (after : List Event) × (to_come (tells R (reader now)) ≡ Some after) × GatheredSoFar trim d E (map view xs) after
   first_pieces [] s now E lives made told = (
@@ -130,7 +130,7 @@ module _ {S X T : Type 0} (R : Reader X) (reader : S → X) (view : T → List �
       )
 
   -- so a whole run gives all pieces, or those before its error
-  pub run_gathers : (A full : Type 0) (xs : List T) (s now : S) (reply : Result A Error) → live s → RunsNexts next full s xs reply now
+  pub run_gathers : (A full : Type 0) (xs : List T) (s now : V) (reply : Result A Error) → live s → RunsNexts next full s xs reply now
       → IfSome (to_come (tells R (reader s))) (λ E. GathersPieces {A = A} trim refuses full d E reply (map view xs))
   run_gathers A full xs s now (Ok u) lives (mid, made, last) = if_told _ (λ E told.
       let (after, left, all) = first_pieces xs s mid E lives made told in
@@ -151,8 +151,8 @@ module _ {S X T : Type 0} (R : Reader X) (reader : S → X) (view : T → List �
       })))
 
 -- the error of a run is a fault, if those of its iterator are
-pub run_faults : {S T A : Type 0} (next : S → Option (Result T Error) → S → Type 0) (full : Type 0) (xs : List T) (s now : S)
-    (reply : Result A Error) → ((s t : S) (e : Error) → next s (Some (Err e)) t → IsFault e) → RunsNexts next full s xs reply now
+pub run_faults : {X T A : Type 0} (next : X → Option (Result T Error) → X → Type 0) (full : Type 0) (xs : List T) (s now : X)
+    (reply : Result A Error) → ((s t : X) (e : Error) → next s (Some (Err e)) t → IsFault e) → RunsNexts next full s xs reply now
     → IfErr reply IsFault
 run_faults next full xs s now reply faults run = grind (arith, common_steps)
 

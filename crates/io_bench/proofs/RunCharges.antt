@@ -1,9 +1,10 @@
 -- For `run_closed`: the count of a whole run through a buffer, and its closing, from the calls that it made.
 use Rattle.no_std_io2.proofs.Words.{common_steps, ◌≡◌, ◌+◌, ◌*◌, ◌/◌, ℕ, ◌<◌, ◌≤◌, List, [], ◌∷◌, length, Result, Ok, OnOk, Step, TakesStep}
-use Rattle.no_std_io2.proofs.Words.{Told, length-drop, IsOk, refl, sym, subst, arith, inl, inr, length-append, Writer, TakesAll, WriteCall}
+use Rattle.no_std_io2.proofs.Words.{WriterState, length-drop, IsOk, refl, sym, subst, arith, inl, inr, length-append, Writer, TakesAll}
+use Rattle.no_std_io2.proofs.Words.{WriteCall}
 use Rattle.no_std_io2.proofs.Words.{Wrote, Made, Writes, none, took, again, IsMeter, BufferMay, SendCalls, Stepped, InnerCalls}
 use Rattle.no_std_io2.proofs.{Words.{buffer_after}, BufWriterCalls.{send_does, write_does, write_all_does, flush_does, write_takes}}
-use Rattle.no_std_io2.proofs.{StepLemmas.{Always, Exactly, does}, MeterLemmas.{meter_made}, CallsLemmas.{made_split}}
+use Rattle.no_std_io2.proofs.{StepLemmas.{Always, Exactly, effect_of}, MeterLemmas.{meter_made}, CallsLemmas.{made_split}}
 use Rattle.no_std_io2.specs.declared.io.Error.{Error}
 use Rattle.io_bench.proofs.{StepCosts.{step_cost, writing_all-is}, RunLemmas.{made_one}, PaidLemmas.{Paid, BufferStep, flushed, Paid-same}}
 use Rattle.io_bench.proofs.PaidLemmas.{paid_call, write_call, Paid-bound, Paid-start, calls_for-min}
@@ -28,7 +29,8 @@ module _ {W B : Type 0} (I : Writer W) (cost : W → ℕ) (meter : IsMeter I.may
   paid_at b f n (all, c, is, paid) = (all, c, is, Paid-same refl f n refl paid)
 
   -- a call of x bytes that leaves this in the buffer
-  step_paid : {A : Type 0} {step : Step A} {R : Told → Result A Error → Told → Type 0} {k : List ℕ → ℕ} (left : List ℕ → List ℕ)
+  step_paid : {A : Type 0} {step : Step A} {R : WriterState → Result A Error → WriterState → Type 0} {k : List ℕ → ℕ}
+      (left : List ℕ → List ℕ)
       → Always I step R (Exactly left) k → {f n x g : ℕ} (a b : B) (reply : Result A Error)
       → BufferStep S (length (buffer a)) x (length (left (buffer a))) (k (buffer a)) g → TakesStep I inner buffer step a reply b
       → PaidTo f n a → PaidTo (f + g) (n + x) b
@@ -37,7 +39,7 @@ module _ {W B : Type 0} (I : Writer W) (cost : W → ℕ) (meter : IsMeter I.may
         done.0,
         c + k (buffer a),
         omega (arith, done.2, is),
-        subst (λ l. Paid S (c + k (buffer a)) (f + g) (n + x) (length l)) (sym (at_ok reply done.1 (does always takes).leaves))
+        subst (λ l. Paid S (c + k (buffer a)) (f + g) (n + x) (length l)) (sym (at_ok reply done.1 (effect_of always takes).leaves))
             (paid_call one paid),
       )
 
@@ -91,5 +93,5 @@ module _ {W B : Type 0} (I : Writer W) (cost : W → ℕ) (meter : IsMeter I.may
       let run : PaidTo (flushes ops) (length (given_bytes ops)) last =
       paid_at last (omega arith) (omega arith) (ops_paid ops replies C joined whole old last made start) in
       let bound = Paid-bound S run.1 (flushes ops) (length (given_bytes ops)) (length (buffer last)) run.3 in
-      let last_one = (does (send_does I) sent).counts run.0 in
+      let last_one = (effect_of (send_does I) sent).counts run.0 in
       omega (arith, meter_made I cost meter sent.calls (inner last) w sent.made, last_one.2, run.2, calls_for-min (buffer last), bound)

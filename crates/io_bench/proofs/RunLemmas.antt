@@ -1,6 +1,6 @@
 -- For `run_writes`: the law of a run follows from its calls. And runs through buffers.
 use Rattle.no_std_io2.proofs.Words.{CallOf, TakesAll, Writer, ◌≡◌, List, [], ◌∷◌, ◌++◌, ℕ, refl, sym, ap, ◌∙◌, append_assoc, append-nil}
-use Rattle.no_std_io2.proofs.{Words.{common_steps, arith, Moves, WriteCall, Made, ByCalls, Through, take}, AllFacts.{all_calls}}
+use Rattle.no_std_io2.proofs.{Words.{common_steps, arith, Moves, WriteCall, Made, ByCalls, LevelCalls, take}, AllFacts.{all_calls}}
 use Rattle.no_std_io2.proofs.{CallsLemmas.{by_are, by_then, made_split}, TowerCalls.{through}, MovesLemmas.{Moves-refl, Moves-steady}}
 use Rattle.no_std_io2.proofs.MovesLemmas.{Moves-trans}
 use Rattle.std.specs.List.{AllZip}
@@ -127,7 +127,7 @@ pub below_first : {W B : Type 0} (I : Writer W) {K : Writer B} (inner : B → W)
     → ((a b : B) (call : WriteCall) → K.may a call b
     → ByCalls (CallOf I) (inner a) (λ D. level (buffer a) call D (buffer b)) (inner b))
     → {a b : B} (ops : List Op) (replies : List Reply) → RunCalls K a ops replies b
-    → RunBelow I (λ calls below. Through level (buffer a) calls below (buffer b)) (inner a) ops replies (inner b)
+    → RunBelow I (λ calls below. LevelCalls level (buffer a) calls below (buffer b)) (inner a) ops replies (inner b)
 below_first I {K = K} inner buffer level each {a = a} {b = b} ops replies r =
     by_are (through I K inner buffer level each r.calls a b r.made) (λ below is. (r.calls, r.are, is))
 
@@ -138,7 +138,7 @@ pub below_more : {W B : Type 0} (I : Writer W) {K : Writer B} (inner : B → W) 
     → ByCalls (CallOf I) (inner a) (λ D. level (buffer a) call D (buffer b)) (inner b))
     → {tower : List WriteCall → List WriteCall → Type 0} {a b : B} (ops : List Op) (replies : List Reply)
     → RunBelow K tower a ops replies b
-    → RunBelow I (λ calls below. (mid : List WriteCall) × tower calls mid × Through level (buffer a) mid below (buffer b))
+    → RunBelow I (λ calls below. (mid : List WriteCall) × tower calls mid × LevelCalls level (buffer a) mid below (buffer b))
     (inner a) ops replies (inner b)
 below_more I {K = K} inner buffer level each {a = a} {b = b} ops replies r =
     let (calls, joined, upper) = r.are in

@@ -1,6 +1,6 @@
 -- What a `Faulty` tells, and what its acts do to a call.
 use Rattle.no_std_io2.specs.{Writers.{CallOf, Writer}, declared.io.{Error.{Error}, ErrorKind.{ErrorKind, TheVariants.{WriteZero}}}}
-use Rattle.no_std_io2.specs.{Errors.{error_kind, error_text, is_interruption}, Write.{Told, WriteCall, Wrote, WroteAll, Flushed}}
+use Rattle.no_std_io2.specs.{Errors.{error_kind, error_text, is_interruption}, Write.{WriterState, WriteCall, Wrote, WroteAll, Flushed}}
 use Rattle.std.specs.Prelude.{◌≡◌, Some, None, Option, List, [], ◌∷◌, ◌++◌, drop, if◌then◌else◌, ◌==◌, ℕ, ◌+◌, ◌<◌, count_by, take, Result}
 use Rattle.std.specs.{Prelude.{Ok, IsErrAnd}, Option.{option_map}, List.{flat_map}}
 use Rattle.io_bench.specs.declared.faulty.{Act.{Act, TheVariants.{Take, Zero, Fail}}, Faulty.{Faulty}}
@@ -58,12 +58,12 @@ abbrev pub act_mishaps : List Act → List ErrorKind
 act_mishaps acts = flat_map act_mishap acts
 
 -- what is told with these acts in front of a writer: their mishaps are added, and a turn for each act that interrupts
-abbrev pub with_acts : Told → List Act → Told
+abbrev pub with_acts : WriterState → List Act → WriterState
 with_acts told acts = record told {
   mishaps = option_map (λ kinds. kinds ++ act_mishaps acts) told.mishaps;
   turns = told.turns + count_by is_interruption (act_mishaps acts);
 }
 
 -- what a `Faulty` tells if its inner writer tells `told`
-abbrev pub faulty_told : {W : Type 0} → (W → Told) → Faulty W → Told
+abbrev pub faulty_told : {W : Type 0} → (W → WriterState) → Faulty W → WriterState
 faulty_told told f = with_acts (told f.inner) (acts_left f)

@@ -43,7 +43,7 @@ GathersPieces trim refuses full d E (Err e) items =
 
 -- Each of these items was yielded by one `next`, in order. The `next` that ended the run was the last call; if an
 -- allocation of the run failed, there was none, and the list of items was full.
-abbrev pub RunsNexts : {S T A : Type 0} → (S → Option (Result T Error) → S → Type 0) → Type 0 → S → List T → Result A Error → S → Type 0
-RunsNexts {S} next full old items (Ok _) new = (mid : S) × Made (λ s x t. next s (Some (Ok x)) t) old items mid × next mid None new
-RunsNexts {S} next full old items (Err e) new = (mid : S) × Made (λ s x t. next s (Some (Ok x)) t) old items mid
+abbrev pub RunsNexts : {X T A : Type 0} → (X → Option (Result T Error) → X → Type 0) → Type 0 → X → List T → Result A Error → X → Type 0
+RunsNexts {X} next full old items (Ok _) new = (mid : X) × Made (λ s x t. next s (Some (Ok x)) t) old items mid × next mid None new
+RunsNexts {X} next full old items (Err e) new = (mid : X) × Made (λ s x t. next s (Some (Ok x)) t) old items mid
     × (next mid (Some (Err e)) new ⊎ (IsOutOfMemory e × full × (new ≡ mid)))

@@ -1,6 +1,6 @@
 -- The bytes that replies accept, the calls that failed, and whole runs.
 use Rattle.no_std_io2.specs.{Writers.{CallOf, TakesAll, Writer}, declared.io.ErrorKind.{ErrorKind}, Errors.{error_kind, kind_number}}
-use Rattle.no_std_io2.specs.Write.{Told, Moves, IsFront, zero_write, WriteCall, Wrote, Flushed, ByCalls, AllCalls}
+use Rattle.no_std_io2.specs.Write.{WriterState, Moves, IsFront, zero_write, WriteCall, Wrote, Flushed, ByCalls, AllCalls}
 use Rattle.std.specs.Prelude.{◌≡◌, ℕ, ◌+◌, ◌≤◌, ◌==◌, ◌&&◌, nat_lt, Bool, true, false, if◌then◌else◌, List, [], ◌∷◌, ◌++◌, length, take}
 use Rattle.std.specs.{Prelude.{count_by, ⊤, Option, None, Some, Ok, Err}, List.{AllZip}}
 use Rattle.io_bench.specs.declared.runs.{Op.{Op, TheVariants.{Write, WriteAll, Flush}}, Reply.{Reply, TheVariants.{Took, Done, Failed}}}
@@ -112,7 +112,7 @@ abbrev pub AreWhole : List Op → List Reply → Type 0
 AreWhole ops replies = AllZip IsWhole ops replies
 
 -- From old to new a writer got these calls, and gave these replies.
-pub record Ran (old : Told) (ops : List Op) (replies : List Reply) (new : Told) : Type 0 where
+pub record Ran (old : WriterState) (ops : List Op) (replies : List Reply) (new : WriterState) : Type 0 where
   -- exactly what the replies say was accepted
   pub accepted : List ℕ
   pub run : Run ops replies accepted

@@ -13,7 +13,7 @@ ghost use Rattle.io_bench.specs.Appended.{appended};
 use no_std_io2::io::{BufRead, Lines, Read, Result, Split};
 
 // Makes room for one more item.
-fn make_room<T>(items: &mut Vec<T>) -> Result<()>
+fn reserve_one<T>(items: &mut Vec<T>) -> Result<()>
     ensures items { items.new.items ≡ items.old.items }
     ensures room { OnOk result (vec_len items.new < vec_capacity items.new) }
     ensures refused { IfErr result IsOutOfMemory }
@@ -33,7 +33,7 @@ fn run_items<T: Drop, I: Iterator<Item = Result<T>>>(iter: &mut I, items: &mut V
         (appended items.old.items items.new.items) result iter.new }
 {
     'items: loop {
-        make_room(items)?;
+        reserve_one(items)?;
         match iter.next() {
             None => return Ok(()),
             Some(Ok(item)) => items.push_reserved(item),

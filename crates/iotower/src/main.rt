@@ -16,7 +16,7 @@ use std::process::ExitCode;
 use std::rt::Env;
 use std::{env, io};
 use system_streams::{copy_through, report, stdin, stdout};
-use tower_play::{Fault, Shape, play};
+use tower_play::{PlayError, Shape, play};
 
 const USAGE: &str = "usage: iotower copy buf|line, iotower play buf|line|buf-buf|line-buf";
 
@@ -42,11 +42,11 @@ fn two_words(mut words: env::Args) -> Option<(String, String)>
 }
 
 // Returns the command, or `None` if the arguments are no command or not UTF-8.
-fn parse_words<R: Env + Alloc<A = Global>>(rt: &R) -> Result<Option<Command>, Fault> {
+fn parse_words<R: Env + Alloc<A = Global>>(rt: &R) -> Result<Option<Command>, PlayError> {
     let words = match env::args(rt) {
         Ok(words) => words,
         Err(e) if e.kind() == io::ErrorKind::OutOfMemory => {
-            return Err(Fault::Io(Error::from(ErrorKind::OutOfMemory)));
+            return Err(PlayError::Io(Error::from(ErrorKind::OutOfMemory)));
         }
         Err(_) => return Ok(None),
     };
@@ -71,7 +71,7 @@ fn command_of(verb: &str, mode: &str) -> Option<Command>
     }
 }
 
-fn run(rt: &HostRuntime, command: Command) -> Result<(), Fault> {
+fn run(rt: &HostRuntime, command: Command) -> Result<(), PlayError> {
     let input = stdin(rt);
     let output = stdout(rt);
     match command {

@@ -1,19 +1,19 @@
 -- A line is put into a buffer, and then all is sent.
 use Rattle.no_std_io2.proofs.Words.{Some, nil_from_length, ◌≡◌, ℕ, ◌+◌, ◌≤◌, List, [], length, Result, Ok, Err, OnOk, refl, arith, inl, inr}
 use Rattle.no_std_io2.proofs.Words.{Writer, error_kind, Moves, WriteCall, call_mishap, none as no_write, writer_inner, writer_buffer}
-use Rattle.no_std_io2.proofs.Words.{writer_told, TakesStep, WayCalls, SendCalls}
+use Rattle.no_std_io2.proofs.Words.{writer_told, TakesStep, RoomCalls, SendCalls}
 use Rattle.no_std_io2.specs.{declared.io.Error.{Error}, declared.io.BufWriter.{BufWriter}, BufWriter.{Puts}}
 use Rattle.no_std_io2.proofs.{CallsLemmas.{by_are}, MovesLemmas.{Moves-ends, Moves-steady}, WritesFacts.{writes_left}}
 use Rattle.no_std_io2.proofs.StepLemmas.{then_stops, then_goes_on}
 use Rattle.line_log.specs.Log.{Logs, IsLogged}
 
 -- to make room for a whole buffer is to send
-way_all : (S : ℕ) {held left : List ℕ} {C : List WriteCall} {r : Result (Unit {0}) Error} → WayCalls S S held C r left
+room_all : (S : ℕ) {held left : List ℕ} {C : List WriteCall} {r : Result (Unit {0}) Error} → RoomCalls S S held C r left
     → SendCalls held C r left
-way_all S {held} (inl kept) =
+room_all S {held} (inl kept) =
     let none : held ≡ [] = nil_from_length held (omega (arith, kept.0)) in
     rw (kept.1, kept.2, kept.3, none) no_write
-way_all S (inr sent) = sent.1
+room_all S (inr sent) = sent.1
 
 -- the line was not put
 pub log_stops : {W : Type 0} {S : ℕ} (I : Writer W) (x : List ℕ) {old new : BufWriter W S} (e : Error)
@@ -24,14 +24,14 @@ log_stops I x e put = record { ok = tt; err = put.moves; fault = put.fault; call
 module _ {W : Type 0} {S : ℕ} (I : Writer W) (x : List ℕ) {old mid new : BufWriter W S} where
   -- it was, and then all was sent, or a fault came
   pub log_goes : (met : Result (Unit {0}) Error) → Puts I writer_inner writer_buffer S x old (Ok tt) mid
-      → TakesStep I writer_inner writer_buffer (WayCalls S S) mid met new
+      → TakesStep I writer_inner writer_buffer (RoomCalls S S) mid met new
       → Moves (writer_told I.told mid) [] (call_mishap met) (writer_told I.told new)
       → OnOk met (length (writer_buffer new) + S ≤ S) → Logs I x old (Ok tt) new
   log_goes met put way moves room = record {
-    ok = of_met met moves room (way_all S way.are);
+    ok = of_met met moves room (room_all S way.are);
     err = tt;
     fault = tt;
-    calls = then_goes_on _ put.calls (by_are way (λ C calls. (refl, (met, way_all S calls))));
+    calls = then_goes_on _ put.calls (by_are way (λ C calls. (refl, (met, room_all S calls))));
   }
     where
       of_met : (r : Result (Unit {0}) Error) → Moves (writer_told I.told mid) [] (call_mishap r) (writer_told I.told new)

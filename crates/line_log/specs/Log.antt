@@ -3,7 +3,7 @@ use Rattle.std.specs.Prelude.{◌≡◌, ◌⊎◌, ℕ, ◌+◌, ◌<◌, ◌�
 use Rattle.std.specs.Prelude.{Option, IfSome, Contains}
 use Rattle.no_std_io2.specs.Errors.{IsNoInterruption, SaysError, error_kind}
 use Rattle.no_std_io2.specs.Pieces.{Lacks, newline}
-use Rattle.no_std_io2.specs.Write.{Told, Moves}
+use Rattle.no_std_io2.specs.Write.{WriterState, Moves}
 use Rattle.no_std_io2.specs.BufWriter.{Step, Then, TakesStep, SendCalls, WriteAllCalls, writer_inner, writer_buffer, writer_told}
 use Rattle.no_std_io2.specs.Writers.{Writer}
 use Rattle.no_std_io2.specs.declared.io.BufWriter.{BufWriter}
@@ -35,7 +35,7 @@ abbrev LogCalls : ℕ → List ℕ → Step (Unit {0})
 LogCalls S x = Then (WriteAllCalls S x) (Ignoring SendCalls)
 
 -- after `Ok` all of x was accepted. The writer below has all, and nothing is held; or one mishap came, and some bytes are held
-abbrev pub IsLogged : Told → List ℕ → Told → List ℕ → Type 0
+abbrev pub IsLogged : WriterState → List ℕ → WriterState → List ℕ → Type 0
 IsLogged old x new held = ((held ≡ []) × Moves old x [] new) ⊎ ((0 < length held) × ((k : ErrorKind) × Moves old x (k ∷ []) new))
 
 -- A line x was logged.
@@ -63,7 +63,7 @@ abbrev pub log_held : {W : Type 0} {S : ℕ} → LineLog W S → List ℕ
 log_held l = writer_buffer l.inner
 
 -- what it tells if the writer below tells `told`
-abbrev pub log_tells : {W : Type 0} {S : ℕ} → (W → Told) → LineLog W S → Told
+abbrev pub log_tells : {W : Type 0} {S : ℕ} → (W → WriterState) → LineLog W S → WriterState
 log_tells told l = writer_told told l.inner
 
 -- `log(text)`: its line was logged; or it was refused, and the log is unchanged

@@ -38,7 +38,7 @@ const ROOM: usize = 131_072;
 
 // Why a file was not written, with the system's reason.
 #[derive(Drop)]
-enum Fault {
+enum CatError {
     // The file could not be opened or read.
     Input(io::Error),
     // Standard output failed.
@@ -50,11 +50,11 @@ fn pass<D: SystemRead, E: SystemWrite>(
     input: &mut Patient<D>,
     out: &mut Patient<E>,
     room: &mut [u8],
-) -> Result<u64, Fault> {
+) -> Result<u64, CatError> {
     match copy_with(input, out, room) {
         Ok(count) => Ok(count),
-        Err(CopyError::Read(e)) => Err(Fault::Input(input.reason(e))),
-        Err(CopyError::Write(e)) => Err(Fault::Output(out.reason(e))),
+        Err(CopyError::Read(e)) => Err(CatError::Input(input.reason(e))),
+        Err(CopyError::Write(e)) => Err(CatError::Output(out.reason(e))),
     }
 }
 
@@ -64,13 +64,13 @@ fn print_file<R: Files + Input, E: SystemWrite>(
     name: &str,
     out: &mut Patient<E>,
     room: &mut [u8],
-) -> Result<u64, Fault> {
+) -> Result<u64, CatError> {
     if name == "-" {
         return pass(&mut stdin(rt), out, room);
     }
     match open(rt, name) {
         Ok(mut file) => pass(&mut file, out, room),
-        Err(e) => Err(Fault::Input(e)),
+        Err(e) => Err(CatError::Input(e)),
     }
 }
 
@@ -87,11 +87,11 @@ fn print_files<R: Files + Input + Print + Eprint>(rt: &R, names: &[String]) -> b
     'names: for name in names {
         match print_file(rt, name.as_str(), &mut out, &mut room) {
             Ok(_) => {}
-            Err(Fault::Input(e)) => {
+            Err(CatError::Input(e)) => {
                 let _ = eprintln!(rt; "mycat: {}: {e}", shown(name.as_str()));
                 whole = false;
             }
-            Err(Fault::Output(e)) => {
+            Err(CatError::Output(e)) => {
                 if e.kind() != io::ErrorKind::BrokenPipe {
                     let _ = eprintln!(rt; "mycat: write error: {e}");
                 }

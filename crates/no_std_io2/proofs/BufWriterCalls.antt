@@ -1,35 +1,38 @@
 -- What the steps of a buffered writer do, and what follows for its calls. For `Sender` and `BufWriter`, and for counts of calls.
-use Rattle.no_std_io2.proofs.Words.{TakesAll, CallOf, Writer, Told, Moves, MovesFront, WriteCall, Made, ByCalls, call_mishap, Wrote}
+use Rattle.no_std_io2.proofs.Words.{TakesAll, CallOf, Writer, WriterState, Moves, MovesFront, WriteCall, Made, ByCalls, call_mishap, Wrote}
 use Rattle.no_std_io2.proofs.Words.{Flushed, AllCalls, calls_for, none as no_write, charges, [], ◌≡◌, ◌+◌, ℕ, ◌<◌, ◌≤◌, List, ◌∷◌, ◌++◌}
 use Rattle.no_std_io2.proofs.Words.{length, Result, Ok, OnOk, IfOk, refl, subst, arith, le_refl, append-nil, if◌then◌else◌, nat_lt, inl}
 use Rattle.no_std_io2.proofs.Words.{inr, common_steps, nil_from_length, cases_lt, nat_tests, stops, goes_on, Stepped, TakesStep}
-use Rattle.no_std_io2.proofs.Words.{sender_inner, sender_buffer, Only, SendCalls, WayCalls, Buffered, WriteCalls, WriteAllCalls, FlushCalls}
+use Rattle.no_std_io2.proofs.Words.{sender_inner, sender_buffer, SingleCall, SendCalls, RoomCalls, Buffered, WriteCalls, WriteAllCalls}
+use Rattle.no_std_io2.proofs.Words.{FlushCalls}
 use Rattle.no_std_io2.proofs.{Words.{writing_calls, buffer_after}, BufWriterLemmas.{Moves-kept, Moves-emptied, MovesFront-emptied}}
-use Rattle.no_std_io2.proofs.StepLemmas.{no_ok, then_goes_on, then_does, done, does, Does, Effect, Always, Exactly, Emptied, Sending}
+use Rattle.no_std_io2.proofs.StepLemmas.{no_ok, then_goes_on, then_does, effect_by, effect_of, StepEffect, Effect, Always, Exactly, Emptied}
+use Rattle.no_std_io2.proofs.StepLemmas.{Sending}
 use Rattle.no_std_io2.proofs.StepLemmas.{StepsJoin}
 use Rattle.no_std_io2_base.specs.{declared.error.Error.{Error}, Errors.{IsNoInterruption}, Write.{taken, write_mishap}}
 use Rattle.std.proofs.{Common.{take_all, nat_le}, lemmas.Result.{on_ok_weaker}}
 use Rattle.no_std_io2_base.proofs.{MovesLemmas.{IsFront-refl, Moves-then, zero_write-whole}, CallsLemmas.{by_are, by_call, made_split}}
 use Rattle.no_std_io2_base.proofs.{CallsLemmas.{writes_whole}, WritesFacts.{writes_fault, writes_sends}, AllFacts.{all_calls, call_steady}}
 use Rattle.no_std_io2_base.proofs.MeterLemmas.{writes_count, all_count}
-use Rattle.no_std_io2.specs.{declared.buffered.sender.Sender.{Sender}, BufWriter.{PutCalls, PastEmpty, way_calls, Buffers, BuffersAll}}
+use Rattle.no_std_io2.specs.declared.buffered.sender.Sender.{Sender}
+use Rattle.no_std_io2.specs.BufWriter.{PutCalls, WithNothingHeld, room_calls, Buffers, BuffersAll}
 
 -- in front of fewer than S bytes there is room then,
-pub way_room : (S n : ℕ) {held left : List ℕ} {C : List WriteCall} → n < S → WayCalls S n held C (Ok tt) left → length left + n ≤ S
-way_room S n short way = grind (arith, common_steps, writes_whole)
+pub room_enough : (S n : ℕ) {held left : List ℕ} {C : List WriteCall} → n < S → RoomCalls S n held C (Ok tt) left → length left + n ≤ S
+room_enough S n short way = grind (arith, common_steps, writes_whole)
 
 -- and in front of S bytes and more nothing is held
-pub way_none : (S n : ℕ) {held left : List ℕ} {C : List WriteCall} → S ≤ n → WayCalls S n held C (Ok tt) left → left ≡ []
-way_none S n {held = held} long way = grind (arith, common_steps, nil_from_length, writes_whole)
+pub room_none : (S n : ℕ) {held left : List ℕ} {C : List WriteCall} → S ≤ n → RoomCalls S n held C (Ok tt) left → left ≡ []
+room_none S n {held = held} long way = grind (arith, common_steps, nil_from_length, writes_whole)
 
 module _ {W : Type 0} {I : Writer W} {S : ℕ} where
   -- there is room beside what is held,
-  pub way_kept : (n : ℕ) {held : List ℕ} {a : W} → length held + n ≤ S → Stepped I (WayCalls S n) a held (Ok tt) held a
-  way_kept n room = record { calls = []; made = refl; are = inl (room, refl, refl, refl) }
+  pub room_kept : (n : ℕ) {held : List ℕ} {a : W} → length held + n ≤ S → Stepped I (RoomCalls S n) a held (Ok tt) held a
+  room_kept n room = record { calls = []; made = refl; are = inl (room, refl, refl, refl) }
 
   -- or nothing is held
-  way_empty : (n : ℕ) {held : List ℕ} {a : W} → held ≡ [] → Stepped I (WayCalls S n) a held (Ok tt) held a
-  way_empty n {held} empty = grind (arith, common_steps, no_write, way_kept, cases_lt)
+  room_empty : (n : ℕ) {held : List ℕ} {a : W} → held ≡ [] → Stepped I (RoomCalls S n) a held (Ok tt) held a
+  room_empty n {held} empty = grind (arith, common_steps, no_write, room_kept, cases_lt)
 
   module _ {A : Type 0} (x : List ℕ) {v : A} (past : List WriteCall → Result A Error → Type 0) where
     -- x is held after the held bytes,
@@ -49,7 +52,7 @@ pub buffered_past : {W A : Type 0} {S : ℕ} {I : Writer W} {old mid : Sender W 
     → TakesStep I sender_inner sender_buffer (Buffered S x v past) old reply (record mid { inner = inner })
 buffered_past {S} {I} {mid = mid} {inner = inner} x v past {reply = reply} same none long calls =
     subst (λ w. TakesStep I sender_inner sender_buffer (Buffered S x v past) w reply (record mid { inner = inner })) same
-    (then_goes_on _ (way_empty (length x) none) (passes x past long none none calls))
+    (then_goes_on _ (room_empty (length x) none) (passes x past long none none calls))
 
 -- one call
 pub one_made : {W : Type 0} {I : Writer W} (call : WriteCall) {a b : W} → CallOf I a call b
@@ -68,8 +71,8 @@ pub write_whole : (S : ℕ) {x held left : List ℕ} {C : List WriteCall} {reply
 write_whole = grind (arith, common_steps)
 
 -- what is left once n more bytes have room,
-abbrev way_left : ℕ → ℕ → List ℕ → List ℕ
-way_left S n held = if nat_le (length held + n) S then held else []
+abbrev room_left : ℕ → ℕ → List ℕ → List ℕ
+room_left S n held = if nat_le (length held + n) S then held else []
 
 -- and after x was put there
 abbrev put_left : ℕ → List ℕ → List ℕ → List ℕ
@@ -81,7 +84,7 @@ past_calls S len n = if nat_le S len then n else 0
 
 -- how many inner calls a `write_all` makes, over an inner writer that takes all
 abbrev pub writing_all_calls : ℕ → List ℕ → List ℕ → ℕ
-writing_all_calls S x held = way_calls S held (length x) + past_calls S (length x) (calls_for x)
+writing_all_calls S x held = room_calls S held (length x) + past_calls S (length x) (calls_for x)
 
 -- a `flush` accepts no byte
 abbrev pub Flushing : Effect (Unit {0})
@@ -128,23 +131,23 @@ module _ {W : Type 0} (I : Writer W) where
   -- a step without a call,
   pub kept_does : {C : List WriteCall} {reply : Result (Unit {0}) Error} {held left : List ℕ} (F : List ℕ → List ℕ → Type 0)
       (n : List ℕ → ℕ) (a b : W) → C ≡ [] → reply ≡ Ok tt → left ≡ held → F held held → n held ≡ 0 → Made (CallOf I) a C b
-      → Does I Sending F n a held C reply left b
+      → StepEffect I Sending F n a held C reply left b
   kept_does F n a b is ok same this none made = grind (arith, common_steps)
 
   -- one that makes room for n more bytes,
-  pub way_does : (S n : ℕ) → Always I (WayCalls S n) Sending (Exactly (way_left S n)) (λ held. way_calls S held n)
-  way_does S n a b held left C reply (inl kept) made =
-      kept_does (Exactly (way_left S n)) (λ held. way_calls S held n) a b kept.1 kept.2 kept.3 (grind (arith, nat_tests, kept.0))
+  pub room_does : (S n : ℕ) → Always I (RoomCalls S n) Sending (Exactly (room_left S n)) (λ held. room_calls S held n)
+  room_does S n a b held left C reply (inl kept) made =
+      kept_does (Exactly (room_left S n)) (λ held. room_calls S held n) a b kept.1 kept.2 kept.3 (grind (arith, nat_tests, kept.0))
       (grind (arith, nat_tests, kept.0)) made
-  way_does S n a b held left C reply (inr sent) made =
-      let sends = done send_does sent.1 made in record {
+  room_does S n a b held left C reply (inr sent) made =
+      let sends = effect_by send_does sent.1 made in record {
         tells = sends.tells;
         leaves = grind (arith, common_steps, on_ok_weaker, sends.leaves, sent.0);
         counts = λ t. grind (arith, common_steps, sends.counts t, sent.0);
       }
 
   module _ {A : Type 0} (S : ℕ) (x : List ℕ) (v : A) (past : List WriteCall → Result A Error → Type 0) {R : Effect A} {m : ℕ} where
-    module _ (hold : (s t : Told) → Moves s x [] t → R s (Ok v) t) (gone : Always I (PastEmpty past) R Emptied (λ _. m)) where
+    module _ (hold : (s t : WriterState) → Moves s x [] t → R s (Ok v) t) (gone : Always I (WithNothingHeld past) R Emptied (λ _. m)) where
       -- one that holds x or passes it on,
       put_does : Always I (PutCalls S x v past) R (Exactly (put_left S x)) (λ _. past_calls S (length x) m)
       put_does a b held left C reply (inl kept) made =
@@ -154,7 +157,7 @@ module _ {W : Type 0} (I : Writer W) where
             counts = λ t. grind (arith, nat_tests, common_steps, same, kept.0, kept.1, kept.2);
           }
       put_does a b held left C reply (inr passed) made =
-          let past = done gone passed.1 made in record {
+          let past = effect_by gone passed.1 made in record {
             tells = past.tells;
             leaves = grind (arith, common_steps, past.leaves, passed.0);
             counts = λ t. grind (arith, common_steps, past.counts t, passed.0);
@@ -162,18 +165,19 @@ module _ {W : Type 0} (I : Writer W) where
 
       -- and both: x goes through the buffer
       buffered_does : StepsJoin Sending R R → Always I (Buffered S x v past) R (Exactly (λ held. buffer_after S held x))
-          (λ held. way_calls S held (length x) + past_calls S (length x) m)
+          (λ held. room_calls S held (length x) + past_calls S (length x) m)
       buffered_does follows a b held left C reply write made =
-          let both = done (then_does (WayCalls S (length x)) (PutCalls S x v past) follows (way_does S (length x)) put_does) write made in
+          let both = effect_by
+              (then_does (RoomCalls S (length x)) (PutCalls S x v past) follows (room_does S (length x)) put_does) write made in
           record { tells = both.tells; leaves = grind (arith, common_steps, on_ok_weaker, both.leaves); counts = both.counts }
 
   -- `write(x)`,
   pub write_does : (S : ℕ) (x : List ℕ)
       → Always I (WriteCalls S x) (Writing x) (Exactly (λ held. buffer_after S held x)) (λ held. writing_calls S held x)
-  write_does S x = buffered_does S x (length x) (Only (Wrote x))
+  write_does S x = buffered_does S x (length x) (SingleCall (Wrote x))
       (λ s t m. rw (take_all _ x (le_refl (length x)), zero_write-whole x) m) passed (writing_joins x)
     where
-      passed : Always I (PastEmpty (Only (Wrote x))) (Writing x) Emptied (λ _. 1)
+      passed : Always I (WithNothingHeld (SingleCall (Wrote x))) (Writing x) Emptied (λ _. 1)
       passed a b held left C reply gone made = grind (arith, common_steps, one_inner_call, Moves-emptied, charges)
 
   -- `write_all(x)`
@@ -182,7 +186,7 @@ module _ {W : Type 0} (I : Writer W) where
   write_all_does S x = buffered_does S x tt (λ C. AllCalls C x)
       (λ s t m. (tt, record { accepted = x; front = IsFront-refl x; whole = refl; moves = m })) passed (writing_all_joins x)
     where
-      passed : Always I (PastEmpty (λ C. AllCalls C x)) (WritingAll x) Emptied (λ _. calls_for x)
+      passed : Always I (WithNothingHeld (λ C. AllCalls C x)) (WritingAll x) Emptied (λ _. calls_for x)
       passed a b held left C reply gone made =
           let all = all_calls I gone.2 a b made in record {
             tells = (all.0, MovesFront-emptied gone.0 gone.1 all.1);
@@ -193,10 +197,10 @@ module _ {W : Type 0} (I : Writer W) where
   -- and `flush()`
   pub flush_does : Always I FlushCalls Flushing Emptied calls_for
   flush_does a b held left C reply flush made =
-      let both = done (then_does SendCalls (PastEmpty (Only Flushed)) flushing_joins send_does passed) flush made in
+      let both = effect_by (then_does SendCalls (WithNothingHeld (SingleCall Flushed)) flushing_joins send_does passed) flush made in
       record { tells = both.tells; leaves = both.leaves; counts = λ t. let c = both.counts t in (c.0, c.1, omega (arith, c.2)) }
     where
-      passed : Always I (PastEmpty (Only Flushed)) Flushing Emptied (λ _. 0)
+      passed : Always I (WithNothingHeld (SingleCall Flushed)) Flushing Emptied (λ _. 0)
       passed a b held left C reply gone made = grind (arith, common_steps, one_inner_call, Moves-emptied, call_steady, charges)
 
   module _ {a b : W} {held left : List ℕ} where
@@ -212,11 +216,11 @@ module _ {W : Type 0} (I : Writer W) where
       where
         by : {C : List WriteCall} {reply : Result ℕ Error} → WriteCalls S x held C reply left → Made (CallOf I) a C b
             → reply ≡ Ok (length x)
-        by (stops way) made = no_ok ((done (way_does S (length x)) way made).counts takes).1
+        by (stops way) made = no_ok ((effect_by (room_does S (length x)) way made).counts takes).1
         by (goes_on {C = C} {D = D} way (inl kept)) made = kept.2
         by (goes_on {C = C} {D = D} way (inr gone)) made =
             let parts = made_split (CallOf I) C a D b made in
-            ((one_inner_call parts.0 b gone.1.2 parts.2).all ((done (way_does S (length x)) way parts.1).counts takes).0).1
+            ((one_inner_call parts.0 b gone.1.2 parts.2).all ((effect_by (room_does S (length x)) way parts.1).counts takes).0).1
 
     -- `flush` leaves nothing held, here or further in
     pub flush_empty : {reply : Result (Unit {0}) Error} → Stepped I FlushCalls a held reply left b
@@ -227,9 +231,10 @@ module _ {W : Type 0} (I : Writer W) where
     -- the clause of `write` follows from its inner calls,
     pub buffers_of : {reply : Result ℕ Error} → TakesStep I inner buffer (WriteCalls S x) old reply new
         → Buffers I S inner buffer old x reply new
-    buffers_of calls = let leaves = (does (write_does S x) calls).leaves in grind (arith, common_steps, buffered_fits, write_whole, leaves)
+    buffers_of calls = let leaves = (effect_of (write_does S x) calls).leaves in grind
+        (arith, common_steps, buffered_fits, write_whole, leaves)
 
     -- and that of `write_all`
     pub buffers_all_of : {reply : Result (Unit {0}) Error} → TakesStep I inner buffer (WriteAllCalls S x) old reply new
         → BuffersAll I S inner buffer old x reply new
-    buffers_all_of calls = let leaves = (does (write_all_does S x) calls).leaves in grind (arith, common_steps, buffered_fits, leaves)
+    buffers_all_of calls = let leaves = (effect_of (write_all_does S x) calls).leaves in grind (arith, common_steps, buffered_fits, leaves)

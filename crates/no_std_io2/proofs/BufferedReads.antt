@@ -2,7 +2,7 @@
 use Rattle.no_std_io2.proofs.Words.{common_steps, ◌≡◌, ℕ, ℤ, pos, negsuc, zero, suc, ◌+◌, ◌-◌, ◌*◌, ◌≤◌, min, Bool, true, false, true≢false}
 use Rattle.no_std_io2.proofs.Words.{List, [], ◌++◌, length, take, drop, refl, sym, ap, ap₂, subst, ◌∙◌, arith, append_assoc, append-nil}
 use Rattle.no_std_io2.proofs.Words.{length-append, take-append-drop, Option, None, Some, Result, Ok, Err, IfOk, ◌<◌, drop-append_seam}
-use Rattle.no_std_io2.proofs.Words.{Event, events_of, bytes, Store, Tells, Takes, AreTaken, KeepsContent, to_come, IsAtEnd, answered}
+use Rattle.no_std_io2.proofs.Words.{Event, events_of, bytes, Store, ReaderState, Takes, AreTaken, KeepsContent, to_come, IsAtEnd, answered}
 use Rattle.no_std_io2.proofs.Words.{bytes_given, behind_held, step_back, store_if, store_before, IsCutOn}
 use Rattle.std.proofs.{Common.{IfSome}, Math.Nat.{mul-le-mul_left, mul-suc}, Math.Seq.{drop-append-add}}
 use Rattle.std.proofs.{lemmas.List.{drop-drop, drop-append-le}, lemmas.Bool.Decides.{Decides-and}, lemmas.Bool.{leb-true, le-leb}}
@@ -44,7 +44,7 @@ told_before : (held : List ℕ) (s : Option Store) (E : Option (List Event))
 told_before held s E = grind (arith, common_steps, told_by, before_decides)
 
 -- with or without a store: the held bytes, and then what the inner reader tells
-pub told_behind : (room : ℕ) (held : List ℕ) (t : Tells) → to_come (reader_told room held t) ≡ behind_held held (to_come t)
+pub told_behind : (room : ℕ) (held : List ℕ) (t : ReaderState) → to_come (reader_told room held t) ≡ behind_held held (to_come t)
 told_behind room held t = told_before held t.store t.events
 
 -- a told store keeps its content, by what this says of a buffer that is a part of it
@@ -76,7 +76,7 @@ stays_before s s' whole whole' front y read same moved is before =
     )
 
 -- The inner reader took Q. Its bytes came after these, and some left in front.
-pub goes_before : (whole whole' front : List ℕ) (Q : List Event) {a b : Tells} → Takes a Q b → whole ++ bytes Q ≡ front ++ whole'
+pub goes_before : (whole whole' front : List ℕ) (Q : List Event) {a b : ReaderState} → Takes a Q b → whole ++ bytes Q ≡ front ++ whole'
     → KeepsContent (store_before whole a.store) (λ len was now. now ≡ was + length front) (store_before whole' b.store)
     × (AreBefore whole a.store → AreBefore whole' b.store)
 goes_before whole whole' front Q {a} {b} takes stands = by a.store b.store takes.events takes.store
@@ -114,7 +114,7 @@ taken_behind : (held held' : List ℕ) (P Q : List Event) (E E' : Option (List E
 taken_behind held held' P Q E E' taken is = grind (arith, common_steps, append_assoc)
 
 -- The inner reader took Q. The held bytes and then Q are P and then the bytes that are now held. So P was taken.
-takes_behind : (room : ℕ) (held held' : List ℕ) (P Q : List Event) {a b : Tells} → Takes a Q b
+takes_behind : (room : ℕ) (held held' : List ℕ) (P Q : List Event) {a b : ReaderState} → Takes a Q b
     → events_of held ++ Q ≡ P ++ events_of held' → length held' ≤ room
     → Takes (reader_told room held a) P (reader_told room held' b)
 takes_behind room held held' P Q {a} {b} takes is fits = record {
@@ -132,7 +132,7 @@ takes_behind room held held' P Q {a} {b} takes is fits = record {
 
 module _ (room : ℕ) (held : List ℕ) where
   -- some of the held bytes were given
-  pub takes_held : (t : Tells) (x held' : List ℕ) → held ≡ x ++ held' → length held ≤ room
+  pub takes_held : (t : ReaderState) (x held' : List ℕ) → held ≡ x ++ held' → length held ≤ room
       → Takes (reader_told room held t) (events_of x) (reader_told room held' t)
   takes_held t x held' split fits =
       takes_behind room held held' (events_of x) [] (takes_none t)
@@ -140,7 +140,7 @@ module _ (room : ℕ) (held : List ℕ) where
       (omega (arith, ap length split, length-append x held', fits))
 
   -- a read into the buffer, in which nothing was held
-  pub takes_fill : {held' : List ℕ} {a b : Tells} (answer : Result (List ℕ) Error) → Takes a (answered answer) b → held ≡ []
+  pub takes_fill : {held' : List ℕ} {a b : ReaderState} (answer : Result (List ℕ) Error) → Takes a (answered answer) b → held ≡ []
       → held' ≡ bytes_given answer → length held' ≤ room
       → Takes (reader_told room held a) (fault_of answer) (reader_told room held' b)
   takes_fill {held'} (Ok x) takes none is fits =
@@ -150,20 +150,20 @@ module _ (room : ℕ) (held : List ℕ) where
       (ap₂ (λ l m. events_of l ++ m) none (sym (append-nil _)) ∙ ap (λ l. fault_of (Err e) ++ events_of l) (sym is)) fits
 
   -- the buffer was emptied, and the inner reader took Q
-  pub takes_through : {held' : List ℕ} {a b : Tells} {Q : List Event} → Takes a Q b → held' ≡ []
+  pub takes_through : {held' : List ℕ} {a b : ReaderState} {Q : List Event} → Takes a Q b → held' ≡ []
       → Takes (reader_told room held a) (events_of held ++ Q) (reader_told room held' b)
   takes_through {held'} {Q = Q} takes none =
       takes_behind room held held' (events_of held ++ Q) Q takes
       (sym (append-nil _) ∙ ap (λ l. (events_of held ++ Q) ++ events_of l) (sym none)) (omega (arith, ap length none))
 
   -- nothing was held, and the inner reader took Q
-  pub takes_direct : {held' : List ℕ} {a b : Tells} {Q : List Event} → Takes a Q b → held ≡ [] → held' ≡ []
+  pub takes_direct : {held' : List ℕ} {a b : ReaderState} {Q : List Event} → Takes a Q b → held ≡ [] → held' ≡ []
       → Takes (reader_told room held a) Q (reader_told room held' b)
   takes_direct {held'} {a} {b} {Q} takes empty none =
       subst (λ l. Takes (reader_told room held a) (events_of l ++ Q) (reader_told room held' b)) empty (takes_through takes none)
 
 -- a step over bytes of the buffer, forward or back
-pub steps_over : (room : ℕ) (o : ℤ) (behind held behind' held' : List ℕ) (t : Tells) → IsInBuffer o (length behind) (length held)
+pub steps_over : (room : ℕ) (o : ℤ) (behind held behind' held' : List ℕ) (t : ReaderState) → IsInBuffer o (length behind) (length held)
     → IsCutOn o behind held behind' held' → length held ≤ room → length held' ≤ room
     → TakesOver o behind held (reader_told room held t) (reader_told room held' t)
 steps_over room o behind held behind' held' t within cut fits fits' = by o within cut
@@ -187,11 +187,11 @@ end_behind : (E : Option (List Event)) → IfSome E (λ l. l ≡ []) → IfSome 
 end_behind E end = grind (arith, common_steps)
 
 -- with nothing held, the inner reader's end is the end
-pub ends_unheld : (room : ℕ) (held : List ℕ) (t : Tells) → held ≡ [] → IsAtEnd t → IsAtEnd (reader_told room held t)
+pub ends_unheld : (room : ℕ) (held : List ℕ) (t : ReaderState) → held ≡ [] → IsAtEnd t → IsAtEnd (reader_told room held t)
 ends_unheld room held t none end = grind (arith, common_steps, end_behind, told_behind)
 
 -- and so at the end of a read
-pub end_read : (a : Tells) (room : ℕ) (held buf : List ℕ) (reply : Result ℕ Error) → held ≡ []
+pub end_read : (a : ReaderState) (room : ℕ) (held buf : List ℕ) (reply : Result ℕ Error) → held ≡ []
     → IfOk reply (λ n. n ≡ 0 → 0 < length buf → IsAtEnd a)
     → IfOk reply (λ n. n ≡ 0 → 0 < length buf → IsAtEnd (reader_told room held a))
 end_read a room held buf reply none end = grind (arith, common_steps, ends_unheld)
@@ -201,13 +201,13 @@ begins_by held None = tt
 begins_by held (Some E) = record { rest = E; is = refl }
 
 -- the held bytes come next
-pub begins_lent : (room : ℕ) {held lent : List ℕ} (t : Tells) → lent ≡ held
+pub begins_lent : (room : ℕ) {held lent : List ℕ} (t : ReaderState) → lent ≡ held
     → IfSome (to_come (reader_told room held t)) (λ E. BeginsWith E lent)
 begins_lent room {held} t is =
     subst (λ x. IfSome (to_come (reader_told room held t)) (λ E. BeginsWith E x)) (sym is)
     (subst (λ o. IfSome o (λ E. BeginsWith E held)) (sym (told_behind room held t)) (begins_by held (to_come t)))
 
 -- if nothing was taken, what comes next now came next before
-pub begins_filled : {a b : Tells} (x : List ℕ) → Takes a [] b → IfSome (to_come b) (λ E. BeginsWith E x)
+pub begins_filled : {a b : ReaderState} (x : List ℕ) → Takes a [] b → IfSome (to_come b) (λ E. BeginsWith E x)
     → IfSome (to_come a) (λ E. BeginsWith E x)
 begins_filled {a} {b} x takes begins = grind (arith, common_steps, to_come)

@@ -1,7 +1,7 @@
 -- What follows of a copy, if its reader tells its events or its writer its mishaps.
 use Rattle.no_std_io2.proofs.Words.{common_steps, ◌≡◌, Option, None, Some, true, ℕ, List, ◌∷◌, ◌++◌, [], refl, subst, arith, Err}
 use Rattle.no_std_io2.proofs.Words.{append-nil, Ok, Result, IsInterruption, IsFault, Event, byte, fails, HasNoFault, Reader, ReadCall}
-use Rattle.no_std_io2.proofs.Words.{Tells, Takes, to_come, IsAtEnd, Told, Moves, Made, WriteCall, Writer, CallOf, Copied}
+use Rattle.no_std_io2.proofs.Words.{ReaderState, Takes, to_come, IsAtEnd, WriterState, Moves, Made, WriteCall, Writer, CallOf, Copied}
 use Rattle.std.proofs.lemmas.List.Sums.{sum_by-cons}
 use Rattle.no_std_io2_base.specs.{declared.error.{Error.{Error}, ErrorKind.{ErrorKind}}, Events.{EndsInFault}, Write.{HasSpent}}
 use Rattle.no_std_io2_base.proofs.{EventLemmas.{HasNoFault-front}, MovesLemmas.{Moves-steady}, TakesLemmas.{left_of}}
@@ -20,11 +20,12 @@ no_fault_at_end P e none fault = by fault.0 (subst HasNoFault fault.1 none)
     by (fails f ∷ Q) h = by Q h.1
 
 -- what was taken up to the end is all that was told
-pub took_told : {a b : Tells} {P E : List Event} → Takes a P b → to_come a ≡ Some E → IsAtEnd b → (P ≡ E) × (to_come b ≡ Some [])
+pub took_told : {a b : ReaderState} {P E : List Event} → Takes a P b → to_come a ≡ Some E → IsAtEnd b → (P ≡ E) × (to_come b ≡ Some [])
 took_told {b = b} {P} takes told end = grind (arith, common_steps, append-nil, left_of)
 
 -- a copy fails for a fault of the reader, or a mishap of the writer
-pub copies_steadily : (room : ℕ) {a b : Tells} {P E : List Event} (side : CopyError) (old new : Told) → Takes a P b → to_come a ≡ Some E
+pub copies_steadily : (room : ℕ) {a b : ReaderState} {P E : List Event} (side : CopyError) (old new : WriterState) → Takes a P b
+    → to_come a ≡ Some E
     → HasNoFault E → CopyEnds room (Err side) P b old new → old.mishaps ≡ Some [] → ⊥
 copies_steadily room {P = P} (Read e) old new takes told none ends steady =
     let left = left_of takes told in no_fault_at_end P e (HasNoFault-front P left.0 (subst HasNoFault left.2 none)) ends.fault
@@ -41,7 +42,7 @@ module _ {R W : Type 0} {K : Reader R} {I : Writer W} {S : ℕ} {from from' : R}
   copied_err copied = grind (arith, common_steps)
 
 -- a steady writer is steady afterwards
-pub stays_steady : {a c : Told} {x : List ℕ} → a.mishaps ≡ Some [] → Moves a x [] c → c.mishaps ≡ Some []
+pub stays_steady : {a c : WriterState} {x : List ℕ} → a.mishaps ≡ Some [] → Moves a x [] c → c.mishaps ≡ Some []
 stays_steady {a} {c} {x} steady m = none_left c.mishaps (subst (λ k. HasSpent k [] c.mishaps) steady m.mishaps)
   where
     none_left : (left : Option (List ErrorKind)) → HasSpent (Some []) [] left → left ≡ Some []
@@ -50,7 +51,7 @@ stays_steady {a} {c} {x} steady m = none_left c.mishaps (subst (λ k. HasSpent k
     none_left (Some (k ∷ ks)) h = absurd (omega (arith, h (λ _. true), sum_by-cons (λ _. 1) k ks))
 
 -- what is out after a flush
-pub flushed : (a : Told) {b c : Told} {x : List ℕ}
+pub flushed : (a : WriterState) {b c : WriterState} {x : List ℕ}
     → Moves a x [] b → Moves b [] [] c → c.held ≡ [] → c.out ≡ a.out ++ a.held ++ x
 flushed a {b = b} {c = c} m n empty = grind (arith, common_steps)
 

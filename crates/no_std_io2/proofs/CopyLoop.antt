@@ -1,7 +1,7 @@
 -- The loop of `copy_with`, and so of `copy_sided` and `copy`: it passes on what it reads, piece by piece.
 use Rattle.no_std_io2.proofs.Words.{common_steps, ◌≡◌, ℕ, ◌+◌, ◌-◌, ◌^◌, ◌<◌, ◌≤◌, min, List, [], ◌∷◌, ◌++◌, Result, Ok, Err, true, length}
 use Rattle.no_std_io2.proofs.Words.{take, refl, sym, ap, subst, ◌∙◌, arith, append_assoc, append-nil, length-append, length-take-le, concat}
-use Rattle.no_std_io2.proofs.Words.{IsInterruption, IsFault, bytes, Tells, Bool, Reader, Gave, ReadLaw, GaveLaw, ReadCallLaw, tells}
+use Rattle.no_std_io2.proofs.Words.{IsInterruption, IsFault, bytes, ReaderState, Bool, Reader, Gave, ReadLaw, GaveLaw, ReadCallLaw, tells}
 use Rattle.no_std_io2.proofs.Words.{no_read, and_gave, and_again, WriteCall, Made, AllCalls, Moves, Writer, CallOf, TakesAll}
 use Rattle.std.proofs.lemmas.List.Folds.{concat-append}
 use Rattle.no_std_io2_base.specs.{declared.error.Error.{Error}, Read.{gave}, Reads.{Took}, Writers.{WriteAllOf}}
@@ -28,7 +28,7 @@ joined_more : (xs : List (List ℕ)) (x : List ℕ) → concat xs ++ x ≡ conca
 joined_more xs x = ap (λ l. concat xs ++ l) (sym (append-nil x)) ∙ sym (concat-append xs (x ∷ []))
 
 -- bytes that were taken, and then a call that took none, or met the end or a fault
-pub Took-last : {a b c : Tells} {x : List ℕ} {how : Result Bool Error} → Took a x (Ok true) b → Took b [] how c → Took a x how c
+pub Took-last : {a b c : ReaderState} {x : List ℕ} {how : Result Bool Error} → Took a x (Ok true) b → Took b [] how c → Took a x how c
 Took-last {a} {c = c} {x} {how} first last = subst (λ l. Took a l how c) (append-nil x) (Took-then first last)
 
 -- So far the pieces were passed on whole; `copied` counts their bytes.

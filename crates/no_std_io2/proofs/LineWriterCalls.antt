@@ -12,7 +12,7 @@ use Rattle.no_std_io2_base.proofs.{CallsLemmas.{made_split}, AllFacts.{all_calls
 use Rattle.no_std_io2_base.proofs.LineLemmas.{lines_some, lines_none, lines_split, take_lines, lines_bound, unfinished_all}
 use Rattle.no_std_io2.specs.LineWriter.{SendLineCalls, HoldsTail, LinesCalls, line_buffer_after, line_buffer_filled}
 use Rattle.no_std_io2.proofs.{BufWriterLemmas.{Moves-buffered, Moves-emptied, MovesFront-emptied}}
-use Rattle.no_std_io2.proofs.StepLemmas.{no_ok, then_does, done, Always, Exactly, Emptied, Sending, StepsJoin}
+use Rattle.no_std_io2.proofs.StepLemmas.{no_ok, then_does, effect_by, Always, Exactly, Emptied, Sending, StepsJoin}
 use Rattle.no_std_io2.proofs.BufWriterCalls.{one_inner_call, send_does, kept_does, write_does, write_all_does, write_bound, Writing}
 use Rattle.no_std_io2.proofs.BufWriterCalls.{WritingAll, writing_joins, writing_all_joins, writing_all_calls}
 use Rattle.no_std_io2.proofs.{LineWriterStates.{line_left, line_left-is, tail_whole}, HeldTail.{took_tail, tail_fits}}
@@ -85,7 +85,7 @@ module _ {W : Type 0} (I : Writer W) where
       kept_does I (Exactly line_left) line_calls a b kept.1 kept.2 kept.3 (grind (arith, nat_tests, lines_none held kept.0))
       (grind (arith, nat_tests, lines_none held kept.0)) made
   send_line_does a b held left C reply (inr sent) made =
-      let sends = done (send_does I) sent.1 made in
+      let sends = effect_by (send_does I) sent.1 made in
       let some = lines_some held sent.0 in record {
         tells = sends.tells;
         leaves = grind (arith, common_steps, on_ok_weaker, sends.leaves, some);
@@ -101,7 +101,7 @@ module _ {W : Type 0} (I : Writer W) where
         counts = λ t. grind (arith, common_steps, all_count I past.2 a b made t, past.0);
       }
   send_lines_does S y a b held left C reply (inr behind) made =
-      let both = done (then_does (WriteAllCalls S y) SendCalls (behind_joins y) (write_all_does I S y) (send_does I)) behind.1 made in
+      let both = effect_by (then_does (WriteAllCalls S y) SendCalls (behind_joins y) (write_all_does I S y) (send_does I)) behind.1 made in
       record { tells = both.tells; leaves = both.leaves; counts = λ t. grind (arith, common_steps, both.counts t, behind.0) }
 
   module _ (S : ℕ) (x : List ℕ) where
@@ -130,11 +130,11 @@ module _ {W : Type 0} (I : Writer W) where
     -- over an inner writer that takes all, this is held after it
     tail_filled : {held left : List ℕ} {C : List WriteCall} {reply : Result ℕ Error} → Then SendCalls (LinesCalls S x) held C reply left
         → 0 < lines_len x → (a b : W) → Made (CallOf I) a C b → TakesAll I a → left ≡ take S (unfinished_line x)
-    tail_filled (stops p) some a b made takes = no_ok ((done (send_does I) p made).counts takes).1
+    tail_filled (stops p) some a b made takes = no_ok ((effect_by (send_does I) p made).counts takes).1
     tail_filled (goes_on {C = C} {D = D} {left = left} {reply = reply} p q) some a b made takes =
         let parts = made_split (CallOf I) C a D b made in
         let law = one_inner_call I parts.0 b q.2 parts.2 in
-        (tail_whole S x q.1 reply left (law.all ((done (send_does I) p parts.1).counts takes).0).1 some q.3).1
+        (tail_whole S x q.1 reply left (law.all ((effect_by (send_does I) p parts.1).counts takes).0).1 some q.3).1
 
   module _ {a b : W} {held left : List ℕ} where
     -- the calls of a `write` do that,
@@ -142,7 +142,8 @@ module _ {W : Type 0} (I : Writer W) where
         → LineWrites I S x a held p.calls reply left b
     line_write_does S {x} {reply} p = elim p.are [
       | inl plain ↦
-          let both = done (then_does SendLineCalls (WriteCalls S x) (writing_joins x) send_line_does (write_does I S x)) plain.1 p.made in
+          let both = effect_by
+              (then_does SendLineCalls (WriteCalls S x) (writing_joins x) send_line_does (write_does I S x)) plain.1 p.made in
           record {
             tells = both.tells;
             keeps = λ t. let c = both.counts t in (c.0, c.1, omega (arith, c.2, line_write_few S held x));
@@ -152,7 +153,7 @@ module _ {W : Type 0} (I : Writer W) where
           }
       | inr lines ↦
           let some = lines_some x lines.0 in
-          let both = done (then_does SendCalls (LinesCalls S x) (writing_joins x) (send_does I) (lines_do S x some)) lines.1 p.made in
+          let both = effect_by (then_does SendCalls (LinesCalls S x) (writing_joins x) (send_does I) (lines_do S x some)) lines.1 p.made in
           record {
             tells = both.tells;
             keeps = λ t. let c = both.counts t in (c.0, c.1, omega (arith, c.2, lines_few held));
@@ -170,7 +171,7 @@ module _ {W : Type 0} (I : Writer W) where
         (p : Stepped I (LineWriteAllCalls S x) a held reply left b) → LineWritesAll I S x a held p.calls reply left b
     line_write_all_does S {x} {reply} p = elim p.are [
       | inl plain ↦
-          let both = done (then_does SendLineCalls (WriteAllCalls S x) (writing_all_joins x) send_line_does (write_all_does I S x))
+          let both = effect_by (then_does SendLineCalls (WriteAllCalls S x) (writing_all_joins x) send_line_does (write_all_does I S x))
           plain.1 p.made in
           record {
             tells = both.tells;
@@ -179,7 +180,7 @@ module _ {W : Type 0} (I : Writer W) where
                 (λ e. grind (arith, nat_tests, e, line_left-is held line, lines_none x plain.0, unfinished_all x plain.0)) both.leaves;
           }
       | inr lines ↦
-          let both = done (then_does (SendLinesCalls S (lines_of x)) (WriteAllCalls S (unfinished_line x)) (lines_joins x)
+          let both = effect_by (then_does (SendLinesCalls S (lines_of x)) (WriteAllCalls S (unfinished_line x)) (lines_joins x)
           (send_lines_does S (lines_of x)) (write_all_does I S (unfinished_line x))) lines.1 p.made in
           record {
             tells = both.tells;

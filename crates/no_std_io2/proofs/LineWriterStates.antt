@@ -2,7 +2,7 @@
 use Rattle.no_std_io2.proofs.Words.{Stepped, CallOf, Writer, WriteCall, Wrote, Writes, none as no_write, took, again, stuck, fault}
 use Rattle.no_std_io2.proofs.Words.{AllCalls, newline, IsLineState, lines_of, lines_len, unfinished_line, common_steps, ◌≡◌, ◌+◌, ℕ, ◌<◌}
 use Rattle.no_std_io2.proofs.Words.{◌≤◌, ◌==◌, ◌∙◌, List, ◌++◌, length, take, drop, Result, [], Ok, OnOk, IsOk, IfOk, refl, sym, subst}
-use Rattle.no_std_io2.proofs.Words.{arith, if◌then◌else◌, inl, inr, take-append-drop, IsSuffix, Then, stops, goes_on, SendCalls, WayCalls}
+use Rattle.no_std_io2.proofs.Words.{arith, if◌then◌else◌, inl, inr, take-append-drop, IsSuffix, Then, stops, goes_on, SendCalls, RoomCalls}
 use Rattle.no_std_io2.proofs.Words.{Buffered, WriteCalls, WriteAllCalls, FlushCalls, SendLinesCalls, LineWriteCalls, LineWriteAllCalls}
 use Rattle.no_std_io2.proofs.{BufWriterLemmas.{IsSuffix-trans}, BufWriterCalls.{buffered_fits, write_whole}, HeldTail.{tail_state}}
 use Rattle.no_std_io2_base.specs.{declared.error.Error.{Error}, Pieces.{Lacks}}
@@ -39,9 +39,9 @@ nothing_state : {xs : List ℕ} → xs ≡ [] → IsLineState xs
 nothing_state none = plain_state _ (nothing_lacks none)
 
 -- what making room leaves of the held bytes is an end of them,
-way_end : (S n : ℕ) {held left : List ℕ} {C : List WriteCall} {reply : Result (Unit {0}) Error} → WayCalls S n held C reply left
+room_end : (S n : ℕ) {held left : List ℕ} {C : List WriteCall} {reply : Result (Unit {0}) Error} → RoomCalls S n held C reply left
     → IsSuffix held left
-way_end S n {left = left} way = grind (arith, common_steps, writes_end)
+room_end S n {left = left} way = grind (arith, common_steps, writes_end)
 
 -- a line that is held is sent
 abbrev pub line_left : List ℕ → List ℕ
@@ -69,16 +69,16 @@ module _ {A : Type 0} (S : ℕ) (x : List ℕ) (v : A) (past : List WriteCall �
   -- if neither the held bytes nor x have a newline, the buffer has none after x went through it
   buffered_plain : {held left : List ℕ} {C : List WriteCall} {reply : Result A Error} → Buffered S x v past held C reply left
       → Lacks newline held → Lacks newline x → Lacks newline left
-  buffered_plain (stops way) p q = lacks_end (way_end S (length x) way) p
+  buffered_plain (stops way) p q = lacks_end (room_end S (length x) way) p
   buffered_plain (goes_on {mid = mid} {left = left} way put) p q = elim put [
-    | inl kept ↦ subst (Lacks newline) (sym kept.3) (Lacks-append newline mid x (lacks_end (way_end S (length x) way) p) q)
+    | inl kept ↦ subst (Lacks newline) (sym kept.3) (Lacks-append newline mid x (lacks_end (room_end S (length x) way) p) q)
     | inr gone ↦ nothing_lacks gone.1.1
   ]
 
   -- and if x ends in one, the buffer is a line state
   buffered_line : {held left : List ℕ} {C : List WriteCall} {reply : Result A Error} → Buffered S x v past held C reply left
       → IsLineState held → ((front : List ℕ) → IsLineState (front ++ x)) → IsLineState left
-  buffered_line (stops way) p q = state_end (way_end S (length x) way) p
+  buffered_line (stops way) p q = state_end (room_end S (length x) way) p
   buffered_line (goes_on {mid = mid} {left = left} way put) p q = elim put [
     | inl kept ↦ subst IsLineState (sym kept.3) (q mid)
     | inr gone ↦ nothing_state gone.1.1

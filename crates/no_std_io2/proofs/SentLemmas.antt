@@ -1,7 +1,7 @@
 -- The calls of a buffered writer that first send the held bytes: its seeks and `into_inner`.
 use Rattle.no_std_io2.proofs.Words.{Stepped, CallOf, Writer, Moves, Made, Store, KeepsContent, common_steps, ◌≡◌, ℕ, List, Result, Ok, Err}
 use Rattle.no_std_io2.proofs.Words.{OnOk, IsOk, IfOk, Option, subst, arith, [], SendCalls, TakesStep, with_buffer}
-use Rattle.no_std_io2.proofs.{BufWriterCalls.{send_does}, StepLemmas.{no_ok, does}}
+use Rattle.no_std_io2.proofs.{BufWriterCalls.{send_does}, StepLemmas.{no_ok, effect_of}}
 use Rattle.no_std_io2_base.specs.{declared.{error.Error.{Error}, traits.seek.SeekFrom.{SeekFrom}}, Seek.{IsPosition, Seeker}}
 use Rattle.no_std_io2_base.proofs.{MovesLemmas.{Moves-steady, after_ok}, CallsLemmas.{writes_whole}, WritesFacts.{writes_left, writes_idle}}
 use Rattle.no_std_io2_base.proofs.WritesFacts.{writes_sends}
@@ -38,7 +38,7 @@ module _ {W B : Type 0} {I : Writer W} {inner : B → W} {buffer : B → List �
   -- the sending before a seek failed
   pub seek_failed : {K : Seeker W} {to : SeekFrom} {new : B} {e : Error} → TakesStep I inner buffer SendCalls old (Err e) new
       → SeeksSent I K inner buffer old to (Err e) new
-  seek_failed calls = failed calls (does (send_does I) calls).tells.1 (writes_left calls.are)
+  seek_failed calls = failed calls (effect_of (send_does I) calls).tells.1 (writes_left calls.are)
 
   -- after an `Ok` of a seek nothing is held
   pub seek_empties : {K : Seeker W} {to : SeekFrom} {reply : Result ℕ Error} {new : B} → SeeksSent I K inner buffer old to reply new
@@ -47,14 +47,14 @@ module _ {W B : Type 0} {I : Writer W} {inner : B → W} {buffer : B → List �
 
   -- `into_inner`: all was sent, and the inner writer comes back
   pub unwraps_ok : {w : W} {left : List ℕ} → Stepped I SendCalls (inner old) (buffer old) (Ok tt) left w → Unwraps I inner buffer old (Ok w)
-  unwraps_ok calls = grind (arith, common_steps, sends_all, sent_idle, does, send_does)
+  unwraps_ok calls = grind (arith, common_steps, sends_all, sent_idle, effect_of, send_does)
 
   -- or a fault came, with the writer
   pub unwraps_err : (e : IntoInnerError B)
       → TakesStep I inner buffer SendCalls old (Err (into_inner_error_cause e)) (into_inner_error_writer e)
       → Unwraps I inner buffer old (Err e)
   unwraps_err e calls =
-      let done = does (send_does I) calls in
+      let done = effect_of (send_does I) calls in
       record {
         calls = calls;
         ok = tt;

@@ -1,5 +1,5 @@
 -- The calls of a tower are calls of the device below it. For callers over towers.
-use Rattle.no_std_io2.proofs.Words.{CallOf, Writer, WriteCall, Made, ByCalls, List, ◌∷◌, ℕ, refl, ap, [], Through}
+use Rattle.no_std_io2.proofs.Words.{CallOf, Writer, WriteCall, Made, ByCalls, List, ◌∷◌, ℕ, refl, ap, [], LevelCalls}
 use Rattle.no_std_io2_base.proofs.CallsLemmas.{by_then, law_may}
 
 -- if each call makes such inner calls, calls one after another do
@@ -8,7 +8,7 @@ pub through : {W B : Type 0} (I : Writer W) (K : Writer B) (inner : B → W) (bu
     → ((a b : B) (call : WriteCall) → K.may a call b
     → ByCalls (CallOf I) (inner a) (λ D. level (buffer a) call D (buffer b)) (inner b))
     → (C : List WriteCall) (a b : B) → Made (CallOf K) a C b
-    → ByCalls (CallOf I) (inner a) (λ D. Through level (buffer a) C D (buffer b)) (inner b)
+    → ByCalls (CallOf I) (inner a) (λ D. LevelCalls level (buffer a) C D (buffer b)) (inner b)
 through I K inner buffer level each [] a b made = record { calls = []; made = ap inner made; are = (refl, ap buffer made) }
 through I K inner buffer level each (call ∷ C) a b made =
     let one = each a made.0 call (law_may K a made.0 call made.1) in

@@ -18,13 +18,14 @@ pub use Rattle.std.specs.Prelude.{is_some, ⊤}
 pub use Rattle.no_std_io2.specs.BufReader.{AsksExact, FillsBelow, PassesOn, ReadsBelow, behind_held, lent_held, lent_read, of_held}
 pub use Rattle.no_std_io2.specs.BufReader.{reader_behind, reader_held, reader_inner, step_back, store_before, store_if, was_filled}
 pub use Rattle.no_std_io2.specs.BufReader.{went_past}
-pub use Rattle.no_std_io2.specs.BufWriter.{BufferMay, Buffered, FlushCalls, InnerCalls, Only, SendCalls, Step, Stepped, TakesStep, Then}
-pub use Rattle.no_std_io2.specs.BufWriter.{WayCalls, WriteAllCalls, WriteCalls, buffer_after, goes_on, sender_buffer, sender_inner, stops}
+pub use Rattle.no_std_io2.specs.BufWriter.{BufferMay, Buffered, FlushCalls, InnerCalls, SingleCall, SendCalls, Step, Stepped, TakesStep}
+pub use Rattle.no_std_io2.specs.BufWriter.{Then}
+pub use Rattle.no_std_io2.specs.BufWriter.{RoomCalls, WriteAllCalls, WriteCalls, buffer_after, goes_on, sender_buffer, sender_inner, stops}
 pub use Rattle.no_std_io2.specs.BufWriter.{with_buffer, writer_buffer, writer_inner, writer_told, writing_calls}
 pub use Rattle.no_std_io2.specs.Buffer.{IsCutOn, IsSuffix}
 pub use Rattle.no_std_io2.specs.Copy.{Copied}
 pub use Rattle.no_std_io2.specs.LineWriter.{LineWriteAllCalls, LineWriteCalls, SendLinesCalls, line_buffer, line_inner}
-pub use Rattle.no_std_io2.specs.Towers.{Through}
+pub use Rattle.no_std_io2.specs.Towers.{LevelCalls}
 pub use Rattle.no_std_io2_base.specs.Errors.{IsFault, IsInterruption, IsOutOfMemory, error_kind}
 pub use Rattle.no_std_io2_base.specs.Events.{Event, HasNoFault, byte, bytes, bytes_to_fault, events_of, fails, first_fault}
 pub use Rattle.no_std_io2_base.specs.Lines.{IsLineState, lines_len, lines_of, unfinished_line}
@@ -34,7 +35,8 @@ pub use Rattle.no_std_io2_base.specs.Read.{Consumed, ExactCalls, Filled, Gathers
 pub use Rattle.no_std_io2_base.specs.Read.{ReadCallLaw, ReadLaw, Reader, and_again, and_gave, answered, bytes_given, no_read, tells}
 pub use Rattle.no_std_io2_base.specs.ReadMeter.{FillsRoom, IsReadMeter, bytes_left}
 pub use Rattle.no_std_io2_base.specs.Reads.{Fetches}
-pub use Rattle.no_std_io2_base.specs.Takes.{AreTaken, IsAtEnd, KeepsContent, Store, Takes, Tells, to_come}
-pub use Rattle.no_std_io2_base.specs.Write.{AllCalls, ByCalls, Flushed, IsFront, Made, Moves, MovesFront, Told, WriteCall, Writes, Wrote}
+pub use Rattle.no_std_io2_base.specs.Takes.{AreTaken, IsAtEnd, KeepsContent, Store, Takes, ReaderState, to_come}
+pub use Rattle.no_std_io2_base.specs.Write.{AllCalls, ByCalls, Flushed, IsFront, Made, Moves, MovesFront, WriterState, WriteCall, Writes}
+pub use Rattle.no_std_io2_base.specs.Write.{Wrote}
 pub use Rattle.no_std_io2_base.specs.Write.{WroteAll, again, call_mishap, calls_for, fault, none, stuck, told_out, took}
 pub use Rattle.no_std_io2_base.specs.Writers.{CallOf, TakesAll, Writer}

@@ -6,7 +6,8 @@ use Rattle.std.proofs.Common.{lt_of_le_of_lt, sub-le}
 use lib.Pointwise.{pointwise}
 use denote.{Param.{param, number}, RattleType.{RattleType}}
 use Rattle.no_std_io2_base.specs.{declared.{error.Error.{Error}, traits.seek.SeekFrom.{SeekFrom, TheVariants.{Current}}}}
-use Rattle.no_std_io2_base.specs.{Errors.{IsUnexpectedEnd, IsOutOfMemory}, Events.{Event, events_of}, Takes.{Store, Tells, Takes, to_come}}
+use Rattle.no_std_io2_base.specs.{Errors.{IsUnexpectedEnd, IsOutOfMemory}, Events.{Event, events_of}}
+use Rattle.no_std_io2_base.specs.Takes.{Store, ReaderState, Takes, to_come}
 use Rattle.no_std_io2_base.specs.{Write.{IsFront}, Seek.{Seeker, SeekCall, Sought, Measured, Moved, SeekLaw, StreamLenLaw}}
 use Rattle.no_std_io2_base.specs.{Seek.{StreamPositionLaw}, Errors.{IsInvalidSeek}}
 use Rattle.no_std_io2_base.specs.{Seek.{WithoutPosition}, Read.{Reader, ReadCall, Gave, GaveExactly, GaveAll, Filled, Consumed}}
@@ -60,7 +61,7 @@ store_before held None = None
 store_before held (Some s) = store_if (is_before held s) (step_back (length held) s)
 
 -- the events of a `BufReader`: the held bytes, and then the inner reader's events
-abbrev pub reader_events : {R : Type 0} {S : ℕ} → (R → Tells) → BufReader R S → Option (List Event)
+abbrev pub reader_events : {R : Type 0} {S : ℕ} → (R → ReaderState) → BufReader R S → Option (List Event)
 reader_events told r = behind_held (reader_held r) (to_come (told (reader_inner r)))
 
 -- the store of a `BufReader`: the inner reader's, at the position of the first held byte, if the held bytes are its bytes there
@@ -81,7 +82,7 @@ abbrev pub reader_turns : {R : Type 0} {S : ℕ} → (R → ℕ) → BufReader R
 reader_turns {S = room} turns r = length (reader_held r) + (room + 1) * turns (reader_inner r)
 
 -- what a `BufReader` with a buffer of this size tells, if these bytes are held, and the inner reader tells this
-abbrev pub reader_told : ℕ → List ℕ → Tells → Tells
+abbrev pub reader_told : ℕ → List ℕ → ReaderState → ReaderState
 reader_told room held inner = record {
   events = behind_held held (to_come inner);
   store = store_before held inner.store;
@@ -210,7 +211,7 @@ TakesHeldLine line rest old before (Err e) after new = (after ≡ before) × (re
     × (HasBuffer new (reader_behind old ++ line) rest ⊎ (IsOutOfMemory e × KeepsBuffer old new))
 
 -- a step over bytes of the buffer: forward, the first held bytes are taken; backward, the last bytes behind come again
-abbrev pub TakesOver : ℤ → List ℕ → List ℕ → Tells → Tells → Type 0
+abbrev pub TakesOver : ℤ → List ℕ → List ℕ → ReaderState → ReaderState → Type 0
 TakesOver (pos k) behind held old new = Takes old (events_of (take k held)) new
 TakesOver (negsuc k) behind held old new = Takes new (events_of (drop (length behind - (k + 1)) behind)) old
 

@@ -2,7 +2,8 @@
 -- K those of the inner writer as a seeker.
 use Rattle.std.specs.Prelude.{◌≡◌, ℕ, ◌+◌, List, [], ◌++◌, length, nat_lt, nat_le, ◌&&◌, if◌then◌else◌, ◌<◌, ◌≤◌, ◌⊎◌, ◌∷◌, Some, Result}
 use Rattle.std.specs.{Prelude.{Ok, Err, IsOk, IsOkAnd, IfOk, IfErr, OnOk, codes, Option, None}, Mem.{FitsInMemory}}
-use Rattle.no_std_io2_base.specs.{declared.error.Error.{Error}, Write.{Told, Moves, call_mishap, WriteCall, Wrote, WroteAll, Flushed}}
+use Rattle.no_std_io2_base.specs.declared.error.Error.{Error}
+use Rattle.no_std_io2_base.specs.Write.{WriterState, Moves, call_mishap, WriteCall, Wrote, WroteAll, Flushed}
 use Rattle.no_std_io2_base.specs.{Write.{ByCalls, Writes, AllCalls}, Writers.{Writer, TakesAll, CallOf}, Errors.{error_kind, IsFault}}
 use Rattle.no_std_io2_base.specs.{Errors.{IsNoInterruption}, declared.traits.seek.SeekFrom.{SeekFrom}, Seek.{Seeker, SeekCall, Sought}}
 use Rattle.no_std_io2_base.specs.{Seek.{SeekLaw}, Takes.{Store}}
@@ -21,15 +22,15 @@ sender_buffer w = buffer_held w.buffer
 
 -- `w.get_ref()`
 abbrev pub writer_inner : {W : Type 0} {S : ℕ} → BufWriter W S → W
-writer_inner w = sender_inner w.core
+writer_inner w = sender_inner w.sender
 
 -- w after `*w.get_mut() = x`
 abbrev pub writer_with_inner : {W : Type 0} {S : ℕ} → BufWriter W S → W → BufWriter W S
-writer_with_inner w x = record w { core = record w.core { inner = x } }
+writer_with_inner w x = record w { sender = record w.sender { inner = x } }
 
 -- `w.buffer()`
 abbrev pub writer_buffer : {W : Type 0} {S : ℕ} → BufWriter W S → List ℕ
-writer_buffer w = sender_buffer w.core
+writer_buffer w = sender_buffer w.sender
 
 -- `e.into_inner()`
 abbrev pub into_inner_error_writer : {W : Type 0} → IntoInnerError W → W
@@ -40,11 +41,11 @@ abbrev pub into_inner_error_cause : {W : Type 0} → IntoInnerError W → Error
 into_inner_error_cause e = e.error
 
 -- what is told with this buffer in front of a writer that tells this
-abbrev pub with_buffer : Told → List ℕ → Told
+abbrev pub with_buffer : WriterState → List ℕ → WriterState
 with_buffer told buffer = record told { held = told.held ++ buffer }
 
 -- what a `BufWriter` tells if its inner writer tells `told`
-abbrev pub writer_told : {W : Type 0} {S : ℕ} → (W → Told) → BufWriter W S → Told
+abbrev pub writer_told : {W : Type 0} {S : ℕ} → (W → WriterState) → BufWriter W S → WriterState
 writer_told told w = with_buffer (told (writer_inner w)) (writer_buffer w)
 
 -- the inner writer's store, if nothing is held
@@ -53,12 +54,12 @@ store_unheld [] store = store
 store_unheld (b ∷ held) store = None
 
 -- the number of inner calls that make room for n more bytes, if the inner writer takes all
-abbrev pub way_calls : ℕ → List ℕ → ℕ → ℕ
-way_calls S buffer n = if nat_lt 0 (length buffer) && nat_lt S (length buffer + n) then 1 else 0
+abbrev pub room_calls : ℕ → List ℕ → ℕ → ℕ
+room_calls S buffer n = if nat_lt 0 (length buffer) && nat_lt S (length buffer + n) then 1 else 0
 
 -- the number of inner calls that a write of x makes, if the inner writer takes all
 abbrev pub writing_calls : ℕ → List ℕ → List ℕ → ℕ
-writing_calls S buffer x = way_calls S buffer (length x) + (if nat_le S (length x) then 1 else 0)
+writing_calls S buffer x = room_calls S buffer (length x) + (if nat_le S (length x) then 1 else 0)
 
 -- the buffer after a write of x that returned `Ok`
 abbrev pub buffer_after : ℕ → List ℕ → List ℕ → List ℕ
@@ -78,34 +79,34 @@ pub data Then {A : Type 0} (first : Step (Unit {0})) (next : Step A) (held : Lis
         → Then first next held (C ++ D) reply left
 
 -- these calls, with nothing held before and after them
-abbrev pub PastEmpty : {A : Type 0} → (List WriteCall → Result A Error → Type 0) → Step A
-PastEmpty P held C reply left = (held ≡ []) × (left ≡ []) × P C reply
+abbrev pub WithNothingHeld : {A : Type 0} → (List WriteCall → Result A Error → Type 0) → Step A
+WithNothingHeld P held C reply left = (held ≡ []) × (left ≡ []) × P C reply
 
 -- the held bytes are sent: inner writes of all of them, until nothing is left, or until a fault, which is the result
 abbrev pub SendCalls : Step (Unit {0})
 SendCalls held C reply left = Writes (codes "failed to write the buffered data") C held reply left
 
 -- room is made for n more bytes: no call if they fit beside the held bytes; else these are sent
-abbrev pub WayCalls : ℕ → ℕ → Step (Unit {0})
-WayCalls S n held C reply left = ((length held + n ≤ S) × (C ≡ []) × (reply ≡ Ok tt) × (left ≡ held))
+abbrev pub RoomCalls : ℕ → ℕ → Step (Unit {0})
+RoomCalls S n held C reply left = ((length held + n ≤ S) × (C ≡ []) × (reply ≡ Ok tt) × (left ≡ held))
     ⊎ ((S < length held + n) × SendCalls held C reply left)
 
 -- x is held if it is shorter than S, with the result `Ok(v)`; else these calls pass it on
 abbrev pub PutCalls : {A : Type 0} → ℕ → List ℕ → A → (List WriteCall → Result A Error → Type 0) → Step A
 PutCalls S x v past held C reply left = ((length x < S) × (C ≡ []) × (reply ≡ Ok v) × (left ≡ held ++ x))
-    ⊎ ((S ≤ length x) × PastEmpty past held C reply left)
+    ⊎ ((S ≤ length x) × WithNothingHeld past held C reply left)
 
 -- x goes through a buffer of S bytes: room is made for it, and then it is held or passed on
 abbrev pub Buffered : {A : Type 0} → ℕ → List ℕ → A → (List WriteCall → Result A Error → Type 0) → Step A
-Buffered S x v past = Then (WayCalls S (length x)) (PutCalls S x v past)
+Buffered S x v past = Then (RoomCalls S (length x)) (PutCalls S x v past)
 
 -- only this call, with this result
-abbrev pub Only : {A : Type 0} → (Result A Error → WriteCall) → List WriteCall → Result A Error → Type 0
-Only call C reply = C ≡ call reply ∷ []
+abbrev pub SingleCall : {A : Type 0} → (Result A Error → WriteCall) → List WriteCall → Result A Error → Type 0
+SingleCall call C reply = C ≡ call reply ∷ []
 
 -- `write(x)`
 abbrev pub WriteCalls : ℕ → List ℕ → Step ℕ
-WriteCalls S x = Buffered S x (length x) (Only (Wrote x))
+WriteCalls S x = Buffered S x (length x) (SingleCall (Wrote x))
 
 -- `write_all(x)`
 abbrev pub WriteAllCalls : ℕ → List ℕ → Step (Unit {0})
@@ -113,7 +114,7 @@ WriteAllCalls S x = Buffered S x tt (λ C. AllCalls C x)
 
 -- `flush()`: the held bytes are sent, and then one flush is made
 abbrev pub FlushCalls : Step (Unit {0})
-FlushCalls = Then SendCalls (PastEmpty (Only Flushed))
+FlushCalls = Then SendCalls (WithNothingHeld (SingleCall Flushed))
 
 -- This step was taken by inner calls that kept their laws. They led from the inner writer `old` to `new`.
 abbrev pub Stepped : {W A : Type 0} → Writer W → Step A → W → List ℕ → Result A Error → List ℕ → W → Type 0

@@ -1,8 +1,9 @@
 -- Which bytes a copy moves, which calls it makes, and which side ended it.
 use Rattle.std.specs.{Prelude.{◌≡◌, ℕ, ◌+◌, ◌-◌, ◌^◌, ◌≤◌, ◌<◌, min, List, [], ◌∷◌, ◌++◌, length, Ok, Err, Result}, List.{concat}}
 use Rattle.no_std_io2_base.specs.{declared.error.Error.{Error}, Errors.{error_kind, IsFault}, Events.{Event, bytes, HasNoFault}}
-use Rattle.no_std_io2_base.specs.{Events.{EndsInFault}, Takes.{Tells, Takes, IsAtEnd}, Read.{Reader, tells, ReadCall, Gave, Gathers}}
-use Rattle.no_std_io2_base.specs.{Read.{ReadCallLaw}, Write.{Told, Moves, IsFront, WriteCall, Made, AllCalls}, Writers.{Writer, CallOf}}
+use Rattle.no_std_io2_base.specs.{Events.{EndsInFault}, Takes.{ReaderState, Takes, IsAtEnd}, Read.{Reader, tells, ReadCall, Gave, Gathers}}
+use Rattle.no_std_io2_base.specs.{Read.{ReadCallLaw}, Write.{WriterState, Moves, IsFront, WriteCall, Made, AllCalls}}
+use Rattle.no_std_io2_base.specs.Writers.{Writer, CallOf}
 use Rattle.no_std_io2_base.specs.Writers.{TakesAll}
 use Rattle.no_std_io2.specs.declared.util.sides.CopyError.{CopyError, TheVariants.{Read, Write}}
 
@@ -11,14 +12,14 @@ abbrev pub counted : List ℕ → ℕ
 counted b = min (length b) (2 ^ 64 - 1)
 
 -- A copy that took P from the reader, n bytes, ended at the reader's end, after which the reader tells `end`.
-pub record CopiedWhole (room n : ℕ) (P : List Event) (end : Tells) (old new : Told) : Type 0 where
+pub record CopiedWhole (room n : ℕ) (P : List Event) (end : ReaderState) (old new : WriterState) : Type 0 where
   pub no_fault : HasNoFault P
   pub at_end : 0 < room → IsAtEnd end
   pub count : n ≡ counted (bytes P)
   pub moves : Moves old (bytes P) [] new
 
 -- It ended at the reader's fault, when the writer had accepted all bytes before it.
-pub record ReaderStops (e : Error) (P : List Event) (old new : Told) : Type 0 where
+pub record ReaderStops (e : Error) (P : List Event) (old new : WriterState) : Type 0 where
   pub fault : EndsInFault P e
   pub moves : Moves old (bytes P) [] new
 
@@ -29,7 +30,7 @@ pub record IsNearlyAll (room : ℕ) (accepted x : List ℕ) : Type 0 where
 
 -- It ended at the writer's fault, when the reader had none: of the bytes that were taken, the writer accepted all except at most the last
 -- `room`.
-pub record WriterRefuses (room : ℕ) (e : Error) (P : List Event) (old new : Told) : Type 0 where
+pub record WriterRefuses (room : ℕ) (e : Error) (P : List Event) (old new : WriterState) : Type 0 where
   pub no_fault : HasNoFault P
   pub some_room : 0 < room
   pub fault : IsFault e
@@ -38,7 +39,7 @@ pub record WriterRefuses (room : ℕ) (e : Error) (P : List Event) (old new : To
   pub moves : Moves old accepted (error_kind e ∷ []) new
 
 -- how a copy that took P from the reader ended: at the reader's end, at its fault, or at the writer's fault
-abbrev pub CopyEnds : ℕ → Result ℕ CopyError → List Event → Tells → Told → Told → Type 0
+abbrev pub CopyEnds : ℕ → Result ℕ CopyError → List Event → ReaderState → WriterState → WriterState → Type 0
 CopyEnds room (Ok n) P end old new = CopiedWhole room n P end old new
 CopyEnds room (Err (Read e)) P end old new = ReaderStops e P old new
 CopyEnds room (Err (Write e)) P end old new = WriterRefuses room e P old new

@@ -1,8 +1,8 @@
 -- What a `copy_lent` moves, and which calls it makes.
 use Rattle.std.specs.Prelude.{◌≡◌, ℕ, ◌<◌, List, [], ◌∷◌, ◌++◌, length, Ok, Err, Result}
 use Rattle.no_std_io2_base.specs.{declared.error.Error.{Error}, Errors.{error_kind, IsFault, IsInterruption}, Events.{Event, bytes}}
-use Rattle.no_std_io2_base.specs.{Events.{HasNoFault, EndsInFault}, Takes.{Tells, Takes, IsAtEnd}, Read.{ReadCall, Filled, Consumed}}
-use Rattle.no_std_io2_base.specs.{Read.{Reader, ReadCallLaw, tells}, Write.{Told, Moves, IsFront, WriteCall, Made, AllCalls}}
+use Rattle.no_std_io2_base.specs.{Events.{HasNoFault, EndsInFault}, Takes.{ReaderState, Takes, IsAtEnd}, Read.{ReadCall, Filled, Consumed}}
+use Rattle.no_std_io2_base.specs.{Read.{Reader, ReadCallLaw, tells}, Write.{WriterState, Moves, IsFront, WriteCall, Made, AllCalls}}
 use Rattle.no_std_io2_base.specs.Writers.{Writer, CallOf, TakesAll}
 use Rattle.no_std_io2.specs.{Copy.{counted}, declared.util.sides.CopyError.{CopyError, TheVariants.{Read, Write}}}
 
@@ -20,7 +20,7 @@ pub data HandsLent : List ReadCall → List WriteCall → Result ℕ CopyError �
 
 -- A copy that took P from the reader ended: at the reader's end; or at the reader's fault; or at the writer's fault, when the reader
 -- had none. The writer accepted all that was taken, and after its own fault also a front of the piece that the reader still holds.
-abbrev pub LentEnds : Result ℕ CopyError → List Event → List ℕ → Tells → Told → Told → Type 0
+abbrev pub LentEnds : Result ℕ CopyError → List Event → List ℕ → ReaderState → WriterState → WriterState → Type 0
 LentEnds (Ok n) P held end old new = HasNoFault P × IsAtEnd end × (n ≡ counted (bytes P)) × Moves old (bytes P) [] new
 LentEnds (Err (Read e)) P held end old new = EndsInFault P e × Moves old (bytes P) [] new
 LentEnds (Err (Write e)) P held end old new = HasNoFault P × IsFault e

@@ -1,27 +1,29 @@
 -- What a `LineWriter` holds and tells, and the inner calls that it makes.
 use Rattle.std.specs.Prelude.{ℕ, List, ◌≡◌, ◌+◌, ◌<◌, ◌≤◌, ◌==◌, ◌⊎◌, [], ◌∷◌, ◌++◌, ◌-◌, length, take, drop, nat_le, Contains}
 use Rattle.std.specs.{Prelude.{if◌then◌else◌, Result, Ok, Err, IsOk}, Mem.{FitsInMemory}}
-use Rattle.no_std_io2_base.specs.{declared.error.Error.{Error}, Write.{Told, WriteCall, Wrote, WroteAll, Flushed, AllCalls}, Pieces.{Lacks}}
+use Rattle.no_std_io2_base.specs.{declared.error.Error.{Error}, Write.{WriterState, WriteCall, Wrote, WroteAll, Flushed, AllCalls}}
+use Rattle.no_std_io2_base.specs.Pieces.{Lacks}
 use Rattle.no_std_io2_base.specs.{Pieces.{newline}, Lines.{lines_of, lines_len, unfinished_line}}
 use Rattle.no_std_io2.specs.declared.buffered.line_writer.LineWriter.{LineWriter}
 use Rattle.no_std_io2.specs.{contracts.buffered.line_writer.LineWriter.{the_row as lines-row}, BufWriter.{sender_inner, sender_buffer}}
-use Rattle.no_std_io2.specs.BufWriter.{with_buffer, buffer_after, Step, Then, PastEmpty, SendCalls, WriteCalls, WriteAllCalls, FlushCalls}
+use Rattle.no_std_io2.specs.BufWriter.{with_buffer, buffer_after, Step, Then, WithNothingHeld, SendCalls, WriteCalls, WriteAllCalls}
+use Rattle.no_std_io2.specs.BufWriter.{FlushCalls}
 use denote.{Param.{param, number}, RattleType.{RattleType}}
 
 -- `w.get_ref()`
 abbrev pub line_inner : {W : Type 0} {S : ℕ} → LineWriter W S → W
-line_inner w = sender_inner w.core.buffered
+line_inner w = sender_inner w.sender.buffered
 
 -- w after `*w.get_mut() = x`
 abbrev pub line_with_inner : {W : Type 0} {S : ℕ} → LineWriter W S → W → LineWriter W S
-line_with_inner w x = record w { core = record w.core { buffered = record w.core.buffered { inner = x } } }
+line_with_inner w x = record w { sender = record w.sender { buffered = record w.sender.buffered { inner = x } } }
 
 -- `w.buffer()`
 abbrev pub line_buffer : {W : Type 0} {S : ℕ} → LineWriter W S → List ℕ
-line_buffer w = sender_buffer w.core.buffered
+line_buffer w = sender_buffer w.sender.buffered
 
 -- what a `LineWriter` over a writer that tells this tells: its own buffer is held too
-abbrev pub line_told : {W : Type 0} {S : ℕ} → (W → Told) → LineWriter W S → Told
+abbrev pub line_told : {W : Type 0} {S : ℕ} → (W → WriterState) → LineWriter W S → WriterState
 line_told told w = with_buffer (told (line_inner w)) (line_buffer w)
 
 -- the held bytes, a line state, are sent if they end in a newline; if not, there is no call
@@ -55,7 +57,7 @@ LinesCalls S x held C reply left =
 -- the lines y are passed on: by one `write_all` if nothing is held; if not, they go through the buffer after the held
 -- bytes, and the buffer is sent
 abbrev pub SendLinesCalls : ℕ → List ℕ → Step (Unit {0})
-SendLinesCalls S y held C reply left = PastEmpty (λ D. AllCalls D y) held C reply left
+SendLinesCalls S y held C reply left = WithNothingHeld (λ D. AllCalls D y) held C reply left
     ⊎ ((0 < length held) × Then (WriteAllCalls S y) SendCalls held C reply left)
 
 -- `write(x)`: if x has no newline, a held line is sent, and then x is written as by a `BufWriter`; if x has one, the held bytes are sent,

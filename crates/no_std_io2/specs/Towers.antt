@@ -3,8 +3,8 @@ use Rattle.std.specs.Prelude.{◌≡◌, ℕ, List, [], ◌∷◌, ◌++◌}
 use Rattle.no_std_io2_base.specs.Write.{WriteCall}
 
 -- The calls of a writer with a buffer made these inner calls. `level` says this of one call, and which bytes are held before and after it.
-abbrev pub Through : (List ℕ → WriteCall → List WriteCall → List ℕ → Type 0) → List ℕ → List WriteCall → List WriteCall → List ℕ → Type 0
-Through level held [] inner left = (inner ≡ []) × (left ≡ held)
-Through level held (call ∷ calls) inner left =
+abbrev pub LevelCalls : (List ℕ → WriteCall → List WriteCall → List ℕ → Type 0) → List ℕ → List WriteCall → List WriteCall → List ℕ → Type 0
+LevelCalls level held [] inner left = (inner ≡ []) × (left ≡ held)
+LevelCalls level held (call ∷ calls) inner left =
     (mid : List ℕ) × (first : List WriteCall) × (rest : List WriteCall)
-    × level held call first mid × Through level mid calls rest left × (inner ≡ first ++ rest)
+    × level held call first mid × LevelCalls level mid calls rest left × (inner ≡ first ++ rest)

@@ -2,7 +2,7 @@
 use Rattle.std.proofs.{lemmas.Grind.{common_steps}, Common.{arith, ◌≡◌, ℕ, List, [], ◌∷◌, ◌++◌, Result, OnOk, refl, ap, subst}}
 use Rattle.std.proofs.{Common.{append_assoc, inl, ◌+◌, ◌%◌, length, sym, ◌∙◌}, Math.Nat.{mod-add-mod}}
 use Rattle.no_std_io2_base.specs.{declared.error.Error.{Error}, Write.{WriteCall, Made, ByCalls, WroteAll, Writes, none, took, again}}
-use Rattle.no_std_io2_base.specs.{Write.{stuck, fault, Told, CallLaw, WriteAllLaw}, Writers.{Writer, CallOf}}
+use Rattle.no_std_io2_base.specs.{Write.{stuck, fault, WriterState, CallLaw, WriteAllLaw}, Writers.{Writer, CallOf}}
 
 -- one call more
 pub made_more : {W A : Type 0} (may : W → A → W → Type 0) (C : List A) (a : W) {b c : W} {call : A}
@@ -31,21 +31,21 @@ made_split may [] a D c made = (a, refl, made)
 made_split may (call ∷ C) a D c made =
     let rest = made_split may C made.0 D c made.2 in (rest.0, (made.0, made.1, rest.1), rest.2)
 
-module _ {S A : Type 0} {may : S → A → S → Type 0} {a b : S} {P : List A → Type 0} where
+module _ {X A : Type 0} {may : X → A → X → Type 0} {a b : X} {P : List A → Type 0} where
   -- one call
   pub by_call : (call : A) → may a call b → P (call ∷ []) → ByCalls may a P b
   by_call call did is = record { calls = call ∷ []; made = (b, did, refl); are = is }
 
   -- two calls
-  pub by_two : (mid : S) (c d : A) → may a c mid → may mid d b → P (c ∷ d ∷ []) → ByCalls may a P b
+  pub by_two : (mid : X) (c d : A) → may a c mid → may mid d b → P (c ∷ d ∷ []) → ByCalls may a P b
   by_two mid c d first next is = record { calls = c ∷ d ∷ []; made = (mid, first, (b, next, refl)); are = is }
 
   -- three calls
-  pub by_three : (mid end : S) (c d e : A) → may a c mid → may mid d end → may end e b → P (c ∷ d ∷ e ∷ []) → ByCalls may a P b
+  pub by_three : (mid end : X) (c d e : A) → may a c mid → may mid d end → may end e b → P (c ∷ d ∷ e ∷ []) → ByCalls may a P b
   by_three mid end c d e first second last is = grind (arith, common_steps)
 
   -- calls of a part are calls of the whole
-  pub by_map : {V : Type 0} {may' : V → A → V → Type 0} (put : S → V) → ((x y : S) (call : A) → may x call y → may' (put x) call (put y))
+  pub by_map : {V : Type 0} {may' : V → A → V → Type 0} (put : X → V) → ((x y : X) (call : A) → may x call y → may' (put x) call (put y))
       → ByCalls may a P b → ByCalls may' (put a) P (put b)
   by_map {may' = may'} put each first = grind (arith, common_steps, made_map)
 
@@ -55,11 +55,11 @@ module _ {S A : Type 0} {may : S → A → S → Type 0} {a b : S} {P : List A �
     by_are each = record { calls = first.calls; made = first.made; are = each first.calls first.are }
 
     -- calls were made, and then one more
-    pub by_more : {c : S} {Q : List A → Type 0} (call : A) → may b call c → ((C : List A) → P C → Q (C ++ call ∷ [])) → ByCalls may a Q c
+    pub by_more : {c : X} {Q : List A → Type 0} (call : A) → may b call c → ((C : List A) → P C → Q (C ++ call ∷ [])) → ByCalls may a Q c
     by_more {c} call did more = grind (arith, common_steps, made_more)
 
     -- calls were made, and then others
-    pub by_then : {c : S} {Q R : List A → Type 0} → ByCalls may b Q c → ((C D : List A) → P C → Q D → R (C ++ D)) → ByCalls may a R c
+    pub by_then : {c : X} {Q R : List A → Type 0} → ByCalls may b Q c → ((C D : List A) → P C → Q D → R (C ++ D)) → ByCalls may a R c
     by_then {c} next both = grind (arith, common_steps, made_then)
 
 -- If each call raises a number by one, modulo m, the number counts the calls.
@@ -84,7 +84,7 @@ pub law_may : {W : Type 0} (I : Writer W) (old new : W) (call : WriteCall) → C
 law_may x1 old new x4 law = grind (arith, common_steps)
 
 -- the `write_all` of a type that has a body of its own for it is one call, with that call's law
-pub own_law : {W : Type 0} {told : W → Told} {takes_all : W → Type 0} {may : W → WriteCall → W → Type 0} {a b : W} {x : List ℕ}
+pub own_law : {W : Type 0} {told : W → WriterState} {takes_all : W → Type 0} {may : W → WriteCall → W → Type 0} {a b : W} {x : List ℕ}
     {reply : Result (Unit {0}) Error} → CallLaw told takes_all may a (WroteAll x reply) b → WriteAllLaw told takes_all may a x reply b
 own_law {x = x} {reply} own = record {
   never_interrupted = own.1;

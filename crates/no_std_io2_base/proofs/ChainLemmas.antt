@@ -1,7 +1,8 @@
 -- What the two readers of a `Chain` take, the chain takes.
 use Rattle.std.proofs.{lemmas.Grind.{common_steps}, Common.{◌≡◌, ℕ, ◌+◌, ◌≤◌, true, false, true≢false, List, [], ◌++◌, Result, Ok, Err}}
 use Rattle.std.proofs.Common.{None, ◌-◌, IfOk, OnOk, Vec, vec_len, vec_capacity, le_trans, length, refl, sym, ap, ◌∙◌, arith}
-use Rattle.no_std_io2_base.specs.{declared.{error.Error.{Error}, traits.chain.Chain.{Chain}}, Events.{Event, bytes}, Takes.{Tells, Takes}}
+use Rattle.no_std_io2_base.specs.{declared.{error.Error.{Error}, traits.chain.Chain.{Chain}}, Events.{Event, bytes}}
+use Rattle.no_std_io2_base.specs.Takes.{ReaderState, Takes}
 use Rattle.no_std_io2_base.specs.{Takes.{IsAtEnd}, Read.{Reader, tells, GaveAll, ToEndLaw, ReadToEndLaw, DrainsOrStops, ended}}
 use Rattle.no_std_io2_base.specs.Chain.{chain_first, chain_second, chain_is_done, chain_events, chain_held, by_first, by_both}
 use Rattle.no_std_io2_base.specs.Chain.{by_second, ChainMay}
@@ -47,7 +48,8 @@ module _ {T U : Type 0} (R : Reader T) (S : Reader U) where
   done_ends c done end = grind (arith, common_steps)
 
 -- how it ended, of a reader that is at its end if the other is
-end_of_both : (l : Type 0) (P : List Event) (t t' : Tells) (reply : Result ℕ Error) → (IsAtEnd t → IsAtEnd t') → DrainsOrStops l P reply t
+end_of_both : (l : Type 0) (P : List Event) (t t' : ReaderState) (reply : Result ℕ Error) → (IsAtEnd t → IsAtEnd t')
+    → DrainsOrStops l P reply t
     → DrainsOrStops l P reply t'
 end_of_both l x2 t t' x5 end stops = grind (arith, common_steps)
 

@@ -5,7 +5,8 @@ use Rattle.std.proofs.lemmas.{Grind.{common_steps}, Bool.{cases_lt}, List.{lengt
 use Rattle.std.proofs.{lemmas.Bool.Decides.{nat_tests}, Math.Seq.{take-append-add}}
 use Rattle.std.specs.Result.{OnOk, OnErr, IfErr}
 use Rattle.no_std_io2_base.specs.{declared.error.{Error.{Error}, ErrorKind.{ErrorKind, TheVariants.{WriteZero}}}, Errors.{error_kind}}
-use Rattle.no_std_io2_base.specs.{Errors.{is_interruption, IsFault, IsNoInterruption, IsOutOfMemory}, Write.{Told, Moves, MovesFront}}
+use Rattle.no_std_io2_base.specs.Errors.{is_interruption, IsFault, IsNoInterruption, IsOutOfMemory}
+use Rattle.no_std_io2_base.specs.Write.{WriterState, Moves, MovesFront}
 use Rattle.no_std_io2_base.specs.{Write.{told_out, taken, write_mishap, zero_write}, Cursor.{bytes_before, put_at, fitting, IsRefusal}}
 use Rattle.no_std_io2_base.specs.{Cursor.{PutsWhole, PutsAll, PutsFitting, PutsAllFitting}, Appends.{AppendsWhole}}
 
@@ -53,7 +54,7 @@ appends_moves : {old new x : List ℕ} {k : List ErrorKind} → new ≡ old ++ x
 appends_moves {old} {new} {x} is none = grind (arith, common_steps)
 
 -- all of x was accepted
-all_accepted : {a b : Told} {x : List ℕ} → Moves a x [] b → MovesFront a x (Ok tt) b
+all_accepted : {a b : WriterState} {x : List ℕ} → Moves a x [] b → MovesFront a x (Ok tt) b
 all_accepted {x = x} moves = record { accepted = x; front = ([], sym (append-nil x)); whole = refl; moves = moves }
 
 -- a refusal is no interruption

@@ -1,9 +1,9 @@
 -- A reader behind a reference, or in a box: what a call did to the reader, it did to the reference or the box.
 use Rattle.std.proofs.{Common.{rules, arith, ◌≡◌, ℕ, List, Result, refl, sym, subst, Vec, String, Option}, lemmas.Grind.{common_steps}}
 use Rattle.std.specs.Borrow.{Bor}
-use Rattle.no_std_io2_base.specs.{declared.error.Error.{Error}, Events.{Event}, Takes.{Store, Tells}, Read.{Reader, tells, ReadCall}}
+use Rattle.no_std_io2_base.specs.{declared.error.Error.{Error}, Events.{Event}, Takes.{Store, ReaderState}, Read.{Reader, tells, ReadCall}}
 use Rattle.no_std_io2_base.specs.{Read.{ReadCallLaw, ReadLaw, ReadExactLaw, ReadFullLaw, ToEndLaw, ConsumeLaw}, BufRead.{AfterLoan}}
-use Rattle.no_std_io2_base.specs.{BufRead.{ReadUntilLaw, ReadLineLaw}, Write.{Told, WriteCall, ByCalls, CallLaw, WriteAllLaw}}
+use Rattle.no_std_io2_base.specs.{BufRead.{ReadUntilLaw, ReadLineLaw}, Write.{WriterState, WriteCall, ByCalls, CallLaw, WriteAllLaw}}
 use Rattle.no_std_io2_base.specs.Write.{WriteRestLaw, AllCalls, PartMay}
 use Rattle.no_std_io2_base.proofs.CallsLemmas.{made_map}
 
@@ -15,7 +15,7 @@ pub record PassesReads {X Y : Type 0} (R : Reader X) (R' : Reader Y) (put : X �
 
 module _ {X Y : Type 0} {R : Reader X} {R' : Reader Y} {put : X → Y} (through : PassesReads R R' put) (a b : X) where
   -- what holds of that which was told before and after
-  between : (P : Tells → Tells → Type 0) → P (tells R a) (tells R b) → P (tells R' (put a)) (tells R' (put b))
+  between : (P : ReaderState → ReaderState → Type 0) → P (tells R a) (tells R b) → P (tells R' (put a)) (tells R' (put b))
   between P holds =
       subst (λ t. P t (tells R' (put b))) (sym (through.told a)) (subst (λ t. P (tells R a) t) (sym (through.told b)) holds)
 
@@ -55,19 +55,19 @@ module _ {X Y : Type 0} {R : Reader X} {R' : Reader Y} (put : X → Y) (through 
   line_through {buf = buf} law = grind (arith, common_steps, between, made_map, call_through)
 
 -- a writer that a part is put into: what a call did to the part, it did to the whole
-pub wrote_through : {W V : Type 0} (told : V → Told) (takes_all : V → Type 0) (may : W → WriteCall → W → Type 0)
+pub wrote_through : {W V : Type 0} (told : V → WriterState) (takes_all : V → Type 0) (may : W → WriteCall → W → Type 0)
     (may' : V → WriteCall → V → Type 0) (put : W → V) → ((a b : W) (call : WriteCall) → may a call b → may' (put a) call (put b))
     → (a b : W) (call : WriteCall) → CallLaw (λ w. told (put w)) (λ w. takes_all (put w)) may a call b
     → CallLaw told takes_all may' (put a) call (put b)
 wrote_through told takes_all may may' put each a b x9 law = grind (arith, common_steps)
 
-pub write_all_through : {W V : Type 0} {told : V → Told} {takes_all : V → Type 0} {may : W → WriteCall → W → Type 0}
+pub write_all_through : {W V : Type 0} {told : V → WriterState} {takes_all : V → Type 0} {may : W → WriteCall → W → Type 0}
     {may' : V → WriteCall → V → Type 0} (put : W → V) → ((a b : W) (call : WriteCall) → may a call b → may' (put a) call (put b))
     → {a b : W} {x : List ℕ} {reply : Result (Unit {0}) Error} → WriteAllLaw (λ w. told (put w)) (λ w. takes_all (put w)) may a x reply b
     → WriteAllLaw told takes_all may' (put a) x reply (put b)
 write_all_through put each {a} {b} law = search (arith, rules, made_map, wrote_through)
 
-pub write_rest_through : {W V : Type 0} {told : V → Told} {takes_all : V → Type 0} {may : W → WriteCall → W → Type 0}
+pub write_rest_through : {W V : Type 0} {told : V → WriterState} {takes_all : V → Type 0} {may : W → WriteCall → W → Type 0}
     {may' : V → WriteCall → V → Type 0} (put : W → V) → ((a b : W) (call : WriteCall) → may a call b → may' (put a) call (put b))
     → {a b : W} {x left : List ℕ} {reply : Result (Unit {0}) Error}
     → WriteRestLaw (λ w. told (put w)) (λ w. takes_all (put w)) may a x reply b left
@@ -80,7 +80,8 @@ passed_on : {W V A : Type 0} {may : W → A → W → Type 0} {get : V → W} {p
 passed_on {may = may} old back twice a b call did = grind (arith, common_steps)
 
 -- the calls of its `write_all`
-module _ {W V : Type 0} {told : V → Told} {takes_all : V → Type 0} {may : W → WriteCall → W → Type 0} {get : V → W} {put : V → W → V} where
+module _ {W V : Type 0} {told : V → WriterState} {takes_all : V → Type 0} {may : W → WriteCall → W → Type 0} {get : V → W}
+    {put : V → W → V} where
   pub passes_write_all : {old new : V} {x : List ℕ} {reply : Result (Unit {0}) Error}
       → WriteAllLaw (λ w. told (put old w)) (λ w. takes_all (put old w)) may (get old) x reply (get new)
       → put old (get old) ≡ old → put old (get new) ≡ new → ((w : W) → get (put old w) ≡ w)

@@ -6,7 +6,7 @@ use Rattle.std.proofs.Common.{length, filter, refl, sym, ap, ap₂, ◌∙◌, s
 use Rattle.std.proofs.Common.{⊎_elim, length-append, IfSome, OnSome, IfErr, Vec, String, vec_len, vec_capacity}
 use Rattle.std.proofs.lemmas.{Grind.{common_steps}, List.{append_cancel_left, nil_from_length}}
 use Rattle.no_std_io2_base.specs.{declared.error.Error.{Error}, Errors.{IsFault, IsOutOfMemory}, Events.{Event, byte, fails, events_of}}
-use Rattle.no_std_io2_base.specs.{Events.{bytes, HasNoFault, EndsInFault, bytes_to_fault, first_fault}, Takes.{Tells, Takes, to_come}}
+use Rattle.no_std_io2_base.specs.{Events.{bytes, HasNoFault, EndsInFault, bytes_to_fault, first_fault}, Takes.{ReaderState, Takes, to_come}}
 use Rattle.no_std_io2_base.specs.{Read.{Reader, tells}, BufRead.{NextPieceLaw, ReadUntilLaw, ReadLineLaw, line_room}, Pieces.{Lacks}}
 use Rattle.no_std_io2_base.specs.Pieces.{EndsAt, PieceEnds, ends_in, pieces, pieces_before, pieces_given, ends_at, items_left, newline}
 
@@ -102,7 +102,8 @@ none_left : (E P after : List Event) → E ≡ P ++ after → E ≡ P → after 
 none_left E P after split all = append_cancel_left P after [] (sym split ∙ all ∙ sym (append-nil P))
 
 -- what a piece says of all
-given_read : (lacks : ℕ → Type 0) (d : ℕ) (t : Tells) (E P after : List Event) (read : Result ℕ Error) → to_come t ≡ Some E → E ≡ P ++ after
+given_read : (lacks : ℕ → Type 0) (d : ℕ) (t : ReaderState) (E P after : List Event) (read : Result ℕ Error) → to_come t ≡ Some E
+    → E ≡ P ++ after
     → PieceEnds lacks d t P read → GivenRead d E (bytes P) read after
 given_read lacks d t E P after (Ok n) told split (free, count, ends) =
     search (arith, rules, ⊎_elim, none_left, of_told, GivesNone, given_none, given_next)
@@ -111,7 +112,7 @@ given_read lacks d t E P after (Err e) told split (none, inr (free, refused, (pa
     grind (arith, common_steps, of_told, part_comes, length-append)
 
 -- A call that takes one piece from a reader that tells the events E: those after it are told, and the piece says this of all pieces of E.
-pub piece_given : (lacks : ℕ → Type 0) (d : ℕ) (t t' : Tells) (E P : List Event) (read : Result ℕ Error) → Takes t P t'
+pub piece_given : (lacks : ℕ → Type 0) (d : ℕ) (t t' : ReaderState) (E P : List Event) (read : Result ℕ Error) → Takes t P t'
     → PieceEnds lacks d t P read → to_come t ≡ Some E
     → (after : List Event) × (to_come t' ≡ Some after) × (E ≡ P ++ after) × GivenRead d E (bytes P) read after
 piece_given lacks d t t' E P read takes ends told = grind (arith, common_steps, left_of, given_read)
@@ -139,7 +140,7 @@ few_bytes (byte b ∷ P) = omega (arith, few_bytes P)
 few_bytes (fails e ∷ P) = omega (arith, few_bytes P)
 
 -- some bytes spend a turn
-pub piece_spends : {t t' : Tells} {P : List Event} → Takes t P t' → 0 < length (bytes P) → t'.turns < t.turns
+pub piece_spends : {t t' : ReaderState} {P : List Event} → Takes t P t' → 0 < length (bytes P) → t'.turns < t.turns
 piece_spends {P = P} takes some = spends takes (omega (arith, some, few_bytes P))
 
 module _ {X T : Type 0} {R : Reader X} {old new : X} {view : T → List ℕ} {trim : List ℕ → List ℕ} where

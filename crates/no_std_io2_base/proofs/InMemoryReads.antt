@@ -3,7 +3,8 @@ use Rattle.std.proofs.{lemmas.Grind.{common_steps}, Common.{◌≡◌, ℕ, ◌+
 use Rattle.std.proofs.Common.{drop, refl, sym, ap, subst, ◌∙◌, arith, le_refl, None, Some, IfOk, IfErr, IfSome, Vec, vec_len, vec_capacity}
 use Rattle.std.proofs.Common.{length-append, take-append-drop, length-take, IsOkAnd}
 use Rattle.no_std_io2_base.specs.{declared.error.Error.{Error}, Errors.{IsUnexpectedEnd, IsOutOfMemory}, Events.{events_of, bytes}}
-use Rattle.no_std_io2_base.specs.{Takes.{Tells, Takes, to_come, IsAtEnd}, Read.{Reader, tells, ReadCall, Gave, GaveExactly, GaveAll, ended}}
+use Rattle.no_std_io2_base.specs.Takes.{ReaderState, Takes, to_come, IsAtEnd}
+use Rattle.no_std_io2_base.specs.Read.{Reader, tells, ReadCall, Gave, GaveExactly, GaveAll, ended}
 use Rattle.no_std_io2_base.specs.{Read.{ReadLaw, ReadExactLaw, ReadToEndLaw, DrainsOrStops, least_room, FillsOrEnds}, InMemory.{GivesLeft}}
 use Rattle.std.specs.Borrow.{Bor}
 use Rattle.no_std_io2_base.specs.{declared.cursor.Cursor.{Cursor}, Cursor.{cursor_left}, Takes.{store_at}, ReadMeter.{FillsRoom}}
@@ -12,7 +13,7 @@ use Rattle.no_std_io2_base.proofs.EventLemmas.{events_of-append, length-events_o
 use Rattle.no_std_io2_base.proofs.{ReadCalls.{exact_own, to_end_own}, TakesLemmas.{gives_whole, drains_ended}, FillsRoomLemmas.{fills_by}}
 
 -- what a reader tells that has these bytes left, and no store
-abbrev tells_left : List ℕ → Tells
+abbrev tells_left : List ℕ → ReaderState
 tells_left left = record { events = Some (events_of left); store = None; turns = length left }
 
 -- the first of them are taken
@@ -29,12 +30,12 @@ fitting_part : (left part rest : List ℕ) (room : ℕ) → left ≡ part ++ res
 fitting_part left part rest room split long = grind (arith, common_steps)
 
 -- From old to new a reader gave `part` of the bytes that were left.
-pub record GivesPart {S : Type 0} (R : Reader S) (left : S → List ℕ) (old : S) (part : List ℕ) (new : S) : Type 0 where
+pub record GivesPart {X : Type 0} (R : Reader X) (left : X → List ℕ) (old : X) (part : List ℕ) (new : X) : Type 0 where
   pub split : left old ≡ part ++ left new
   pub takes : Takes (tells R old) (events_of part) (tells R new)
   pub told : to_come (tells R new) ≡ Some (events_of (left new))
 
-module _ {S : Type 0} {R : Reader S} {left : S → List ℕ} {old new : S} {part : List ℕ} (gives : GivesPart R left old part new) where
+module _ {X : Type 0} {R : Reader X} {left : X → List ℕ} {old new : X} {part : List ℕ} (gives : GivesPart R left old part new) where
   -- if nothing is left, the reader is at its end
   ends : left new ≡ [] → IsAtEnd (tells R new)
   ends none = subst (λ E. IfSome E (λ l. l ≡ [])) (sym gives.told) (ap events_of none)
@@ -63,15 +64,15 @@ module _ {S : Type 0} {R : Reader S} {left : S → List ℕ} {old new : S} {part
             (bytes-events_of part);
       }
 
-module _ {S : Type 0} {R : Reader S} {left : S → List ℕ} where
-  module _ (may : (old new : S) (call : ReadCall) → GivesLeft left old call new → R.may old call new) {old : S} where
+module _ {X : Type 0} {R : Reader X} {left : X → List ℕ} where
+  module _ (may : (old new : X) (call : ReadCall) → GivesLeft left old call new → R.may old call new) {old : X} where
     -- a `read` of a reader that gives what is left gave as many bytes as fit
-    pub read_left : {new : S} {buf : List ℕ} (buf' : List ℕ) (n : ℕ) → GivesPart R left old (take n buf') new
+    pub read_left : {new : X} {buf : List ℕ} (buf' : List ℕ) (n : ℕ) → GivesPart R left old (take n buf') new
         → n ≡ min (length (left old)) (length buf') → ReadLaw R old buf (Ok n) buf' new
     read_left {new} buf' n gives count = grind (arith, common_steps)
 
     -- a `read_exact` fills the buffer
-    pub exact_part : {new : S} {buf buf' : List ℕ} {u : Unit {0}} → GivesPart R left old buf' new → (length buf ≡ 0 → new ≡ old)
+    pub exact_part : {new : X} {buf buf' : List ℕ} {u : Unit {0}} → GivesPart R left old buf' new → (length buf ≡ 0 → new ≡ old)
         → ReadExactLaw R old buf (Ok u) buf' new
     exact_part {new} {buf' = buf'} {u} gives empty =
         let room = length buf' in
@@ -95,8 +96,8 @@ module _ {S : Type 0} {R : Reader S} {left : S → List ℕ} where
         grind (arith, common_steps, HasNoFault-events_of, bytes-events_of, ends, exact_own)
 
 -- a reader that gives what is left is filling
-pub fills_left : {S : Type 0} {R : Reader S} (left : S → List ℕ) → ((x : S) → to_come (tells R x) ≡ Some (events_of (left x)))
-    → ((old new : S) (call : ReadCall) → R.may old call new → GivesLeft left old call new) → (x : S) → FillsRoom R x
+pub fills_left : {X : Type 0} {R : Reader X} (left : X → List ℕ) → ((x : X) → to_come (tells R x) ≡ Some (events_of (left x)))
+    → ((old new : X) (call : ReadCall) → R.may old call new → GivesLeft left old call new) → (x : X) → FillsRoom R x
 fills_left left told gives x = fills_by (λ _. Unit {0}) left (λ x now. told x)
     (λ old room answer new now law. (
       subst (λ a. IsOkAnd a (λ g. length g ≡ min room (length (left old)))) (sym (gives old new (Gave room answer) law.call).0)

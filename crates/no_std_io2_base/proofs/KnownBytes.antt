@@ -7,7 +7,8 @@ use Rattle.std.proofs.Common.{Vec, IfOk, IfErr}
 use Rattle.std.proofs.Common.{length, Result, Ok, Err, IfSome, IsOk, Some, inl, inr, ap, sym, ◌∙◌, subst, arith, append-nil, length-append}
 use Rattle.std.proofs.{Common.{length-take, refl}, lemmas.{Grind.{common_steps}, List.{append_cancel_left}}, Math.Seq.{take-append_seam}}
 use Rattle.no_std_io2_base.specs.{declared.error.Error.{Error}, Events.{Event, bytes, cut, events_of, fails, HasNoFault, EndsInFault}}
-use Rattle.no_std_io2_base.specs.{Takes.{Tells, Takes, to_come, TakesBytes}, Read.{Reader, tells, ReadExactLaw, AllOrNone, FillsOrEnds}}
+use Rattle.no_std_io2_base.specs.Takes.{ReaderState, Takes, to_come, TakesBytes}
+use Rattle.no_std_io2_base.specs.Read.{Reader, tells, ReadExactLaw, AllOrNone, FillsOrEnds}
 use Rattle.no_std_io2_base.specs.{Read.{gave_whole, ReadFullLaw, ReadToEndLaw}, Errors.{IsOutOfMemory}}
 
 -- cut right after the bytes x, only these are left
@@ -18,7 +19,7 @@ cut_behind x rest = grind (arith, common_steps, cut-bytes, append-nil)
 long_events : (x : List ℕ) (rest : List Event) → length (bytes (events_of x ++ rest)) ≡ length x + length (bytes rest)
 long_events x rest = ap length (bytes-behind x rest) ∙ length-append x (bytes rest)
 
-module _ {a b : Tells} (x : List ℕ) (rest : List Event) (told : to_come a ≡ Some (events_of x ++ rest)) where
+module _ {a b : ReaderState} (x : List ℕ) (rest : List Event) (told : to_come a ≡ Some (events_of x ++ rest)) where
   -- If as many bytes were taken, and nothing behind the last of them, these are x, and the rest is to come.
   pub whole_back : (P : List Event) → Takes a P b → cut (length x) P ≡ P → length (bytes P) ≡ length x
       → (bytes P ≡ x) × (to_come b ≡ Some rest)
@@ -52,7 +53,7 @@ module _ {a b : Tells} (x : List ℕ) (rest : List Event) (told : to_come a ≡ 
       (subst (λ n. IfSome (to_come b) (AllOrNone P n)) (sym long) left))
 
 -- A `read_exact` of as many bytes gives x, and the rest is to come.
-pub exact_known : {S : Type 0} {R : Reader S} {old new : S} {buf buf' : List ℕ} {reply : Result (Unit {0}) Error} (x : List ℕ)
+pub exact_known : {X : Type 0} {R : Reader X} {old new : X} {buf buf' : List ℕ} {reply : Result (Unit {0}) Error} (x : List ℕ)
     (rest : List Event) → ReadExactLaw R old buf reply buf' new → length x ≡ length buf'
     → to_come (tells R old) ≡ Some (events_of x ++ rest)
     → IsOk reply × (buf' ≡ x) × (to_come (tells R new) ≡ Some rest)
@@ -63,7 +64,7 @@ bytes_within : (n : ℕ) (P : List Event) → cut n P ≡ P → length (bytes P)
 bytes_within n P within = omega (arith, ap (λ l. length (bytes l)) within, ap length (bytes-cut n P), length-take n (bytes P))
 
 -- A `read_full` into room for as many bytes gives x, and the rest is to come.
-pub full_known : {S : Type 0} {R : Reader S} {old new : S} {buf buf' : List ℕ} {filled filled' : ℕ} (reply : Result (Unit {0}) Error)
+pub full_known : {X : Type 0} {R : Reader X} {old new : X} {buf buf' : List ℕ} {filled filled' : ℕ} (reply : Result (Unit {0}) Error)
     (x : List ℕ) (rest : List Event) → ReadFullLaw R old buf filled reply buf' filled' new → length x ≡ length buf - filled
     → to_come (tells R old) ≡ Some (events_of x ++ rest)
     → IsOk reply × (filled' ≡ filled + length x) × (take filled' buf' ≡ take filled buf ++ x) × (to_come (tells R new) ≡ Some rest)
@@ -78,7 +79,7 @@ full_known (Err e) x rest law long told =
     absurd (no_fault_before x rest told law.taken law.takes law.ends.0 (omega (arith, law.ends.1, long)))
 
 -- Of bytes that are known to come, a `read_exact` gives as many as its buffer has, if there are so many, and the others are to come.
-pub exact_cut : {S : Type 0} {R : Reader S} {old new : S} {buf buf' : List ℕ} {reply : Result (Unit {0}) Error} (bs : List ℕ)
+pub exact_cut : {X : Type 0} {R : Reader X} {old new : X} {buf buf' : List ℕ} {reply : Result (Unit {0}) Error} (bs : List ℕ)
     (rest : List Event) → ReadExactLaw R old buf reply buf' new → to_come (tells R old) ≡ Some (events_of bs ++ rest)
     → length buf' ≤ length bs
     → IsOk reply × (buf' ≡ take (length buf') bs) × (to_come (tells R new) ≡ Some (events_of (drop (length buf') bs) ++ rest))
@@ -94,7 +95,7 @@ same_front p q r s is long =
     sym (take-append_seam q s) ∙ ap (λ n. take n (q ++ s)) long ∙ ap (take (length p)) (sym is) ∙ take-append_seam p r
 
 -- Two reads, of as many bytes as two known parts have, gave these parts.
-pub in_parts : {a b c : Tells} {x y : List ℕ} (ps qs rest : List ℕ) → TakesBytes a x b → TakesBytes b y c
+pub in_parts : {a b c : ReaderState} {x y : List ℕ} (ps qs rest : List ℕ) → TakesBytes a x b → TakesBytes b y c
     → to_come a ≡ Some (events_of (ps ++ (qs ++ rest))) → length x ≡ length ps → length y ≡ length qs → (x ≡ ps) × (y ≡ qs)
 in_parts {x = x} {y} ps qs rest first next told long longer =
     let (more, is) = front_taken (ps ++ (qs ++ rest)) (x ++ y) (TakesBytes-then first next) told in
@@ -103,7 +104,7 @@ in_parts {x = x} {y} ps qs rest first next told long longer =
     (one, same_front qs y rest more (append_cancel_left x _ _ (ap (λ l. l ++ (qs ++ rest)) one ∙ same)) longer)
 
 -- A `read_to_end` of bytes that are all that is known to come appends them, and nothing is left; or an allocation failed.
-pub to_end_known : {S A : Type 0} {R : Reader S} {old new : S} {buf buf' : Vec ℕ A} (reply : Result ℕ Error) (x : List ℕ)
+pub to_end_known : {X A : Type 0} {R : Reader X} {old new : X} {buf buf' : Vec ℕ A} (reply : Result ℕ Error) (x : List ℕ)
     → ReadToEndLaw R old buf reply buf' new → to_come (tells R old) ≡ Some (events_of x)
     → IfOk reply (λ n. (n ≡ length x) × (buf'.items ≡ buf.items ++ x) × (to_come (tells R new) ≡ Some []))
     × IfErr reply IsOutOfMemory

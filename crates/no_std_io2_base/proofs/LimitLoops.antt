@@ -3,7 +3,7 @@ use Rattle.std.proofs.{lemmas.Grind.{common_steps}, Common.{◌≡◌, ℕ, ◌+
 use Rattle.std.proofs.Common.{sym, ap, subst, ◌∙◌, arith, Option, None, Some, inl, inr, ◌⊎◌, length-append, length-take-le, Vec, String}
 use Rattle.std.proofs.{Common.{string_bytes}, lemmas.List.{append_cancel_right}}
 use Rattle.no_std_io2_base.specs.{declared.{error.Error.{Error}, traits.take.Take.{Take}}, Events.{Event, events_of, bytes, cut}}
-use Rattle.no_std_io2_base.specs.{Takes.{Tells, Takes, to_come, AreTaken}, Read.{Reader, tells, ReadCallLaw, ReadExactLaw, ToEndLaw}}
+use Rattle.no_std_io2_base.specs.{Takes.{ReaderState, Takes, to_come, AreTaken}, Read.{Reader, tells, ReadCallLaw, ReadExactLaw, ToEndLaw}}
 use Rattle.no_std_io2_base.specs.{Read.{answered, fault_of, ended}, BufRead.{ReadUntilLaw, ReadLineLaw}, Take.{limit_inner, limit_left}}
 use Rattle.no_std_io2_base.specs.Take.{cut_to_come, LimitTakes}
 use Rattle.no_std_io2_base.proofs.{EventLemmas.{bytes-append, bytes-events_of, length-events_of}, GivenPieces.{few_bytes}}
@@ -58,7 +58,7 @@ lost (Some E) (Some E') k k' P Q above below within falls = inl (append_cancel_r
     (sym (ap (cut k) below ∙ cut-within Q E' k k' within falls) ∙ above))
 
 -- if no events are told, any with as many bytes were taken
-untold : {a b : Tells} {Q : List Event} (P : List Event) → to_come a ≡ None → length (bytes P) ≡ length (bytes Q)
+untold : {a b : ReaderState} {Q : List Event} (P : List Event) → to_come a ≡ None → length (bytes P) ≡ length (bytes Q)
     → min 1 (length P) ≤ min 1 (length Q) → Takes a Q b → Takes a P b
 untold {a} {b} P none same fewer takes = grind (arith, common_steps)
 

@@ -4,7 +4,7 @@ use Rattle.no_std_io2_base.specs.{declared.error.Error.{Error}, Errors.{IsFault}
 use Rattle.no_std_io2_base.specs.Read.{GaveLaw, NextLaw}
 use Rattle.no_std_io2_base.proofs.{ReadLoop.{ReadsSoFar, reads_until}, TakesLemmas.{takes_then, takes_still, nothing_read, read_law}}
 
-module _ {S : Type 0} {R : Reader S} {old now new : S} {part ys : List ℕ} (before : ReadsSoFar R (λ _ room. room ≡ 1) old [] now) where
+module _ {X : Type 0} {R : Reader X} {old now new : X} {part ys : List ℕ} (before : ReadsSoFar R (λ _ room. room ≡ 1) old [] now) where
   -- at the end
   pub next_end : {reply : Result ℕ Error} {n : ℕ} → ReadLaw R now part reply ys new → reply ≡ Ok n → n ≡ 0 → length ys ≡ 1
       → NextLaw R old None new

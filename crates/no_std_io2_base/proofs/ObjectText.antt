@@ -3,7 +3,7 @@ use Rattle.std.proofs.Common.{arith, ◌≡◌, ℕ, ◌<◌, List, [], ◌∷�
 use Rattle.std.proofs.{Common.{ap, subst, ◌∙◌, append-nil, take, is_err, OnOk}, lemmas.{Grind.{common_steps}, List.Folds.{concat-append}}}
 use Rattle.std.proofs.lemmas.Fn.{chained_keeps}
 use Rattle.std.specs.{List.{concat}, Fmt.{WritesText}}
-use Rattle.no_std_io2_base.specs.{declared.error.Error.{Error}, Write.{Told}, Text.{HasText, PrintsShort, PrintsOrRefuses}}
+use Rattle.no_std_io2_base.specs.{declared.error.Error.{Error}, Write.{WriterState}, Text.{HasText, PrintsShort, PrintsOrRefuses}}
 
 -- what stands under an `Ok`, if the result is no error
 pub when_ok : {E X : Type 0} (r : Result (Unit {0}) E) → false ≡ is_err r → OnOk r X → X
@@ -38,6 +38,6 @@ pub page_text : (N : ℕ) (output : Option (List ℕ)) (bytes : List ℕ) (len :
 page_text N x2 bytes len is same has = grind (arith, common_steps)
 
 -- a text that was printed is one of the two results
-pub short_prints : (N : ℕ) {old new : Told} {output : Option (List ℕ)} (reply : Result (Unit {0}) Error)
+pub short_prints : (N : ℕ) {old new : WriterState} {output : Option (List ℕ)} (reply : Result (Unit {0}) Error)
     → PrintsShort N old output reply new → PrintsOrRefuses N old output reply new
 short_prints N x2 prints = grind (arith, common_steps)

@@ -2,7 +2,7 @@
 use Rattle.std.proofs.Common.{rules, arith, ◌≡◌, ℕ, ◌+◌, ◌<◌, List, [], ◌∷◌, ◌++◌, Result, Ok, Err, Vec, length, vec_len, vec_capacity}
 use Rattle.std.proofs.{Common.{refl, sym, ap, subst, ◌∙◌, append_assoc, ⊎_elim, inl, inr}, lemmas.Grind.{common_steps}}
 use Rattle.no_std_io2_base.specs.{declared.error.Error.{Error}, Errors.{IsInterruption}, Events.{Event, byte, fails, bytes, HasNoFault}}
-use Rattle.no_std_io2_base.specs.{Takes.{Tells, Takes}, Read.{ReadCall, Filled, Consumed, Reader, FilledLaw}, BufRead.{ReadUntilLaw}}
+use Rattle.no_std_io2_base.specs.{Takes.{ReaderState, Takes}, Read.{ReadCall, Filled, Consumed, Reader, FilledLaw}, BufRead.{ReadUntilLaw}}
 use Rattle.no_std_io2_base.specs.Pieces.{Lacks, ComesBehind, PieceEnds, PartCalls, no_part, and_part, and_waited, PieceCalls}
 use Rattle.no_std_io2_base.proofs.{EventLemmas.{bytes-append, HasNoFault-append}, TakesLemmas.{takes_then, IsAll-behind}}
 use Rattle.no_std_io2_base.proofs.TakesLemmas.{EndsInFault-behind}
@@ -46,11 +46,11 @@ piece_waited may_refuse d e C x (Err f) again (D, parts, inr (may, memory, lent,
     (Filled (Err e) ∷ D, parts_waited again parts, inr (may, memory, lent, some, ap (λ l. Filled (Err e) ∷ l) calls))
 
 -- what comes behind Q comes behind P and Q, if P was taken before
-behind_both : {a b : Tells} (P Q : List Event) (x : List ℕ) → Takes a P b → ComesBehind b Q x → ComesBehind a (P ++ Q) x
+behind_both : {a b : ReaderState} (P Q : List Event) (x : List ℕ) → Takes a P b → ComesBehind b Q x → ComesBehind a (P ++ Q) x
 behind_both {a} {b} P Q x takes comes = grind (arith, common_steps)
 
 -- the ends of a piece, if events without bytes and without a fault were taken before
-piece_ends_behind : (lacks : ℕ → Type 0) {a b : Tells} (d : ℕ) (P Q : List Event) (read : Result ℕ Error) → Takes a P b → HasNoFault P
+piece_ends_behind : (lacks : ℕ → Type 0) {a b : ReaderState} (d : ℕ) (P Q : List Event) (read : Result ℕ Error) → Takes a P b → HasNoFault P
     → bytes P ≡ [] → PieceEnds lacks d b Q read → PieceEnds lacks d a (P ++ Q) read
 piece_ends_behind lacks d P Q (Ok n) takes free none ends = (
   HasNoFault-append P Q free ends.0,

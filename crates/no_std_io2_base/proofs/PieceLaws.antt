@@ -3,7 +3,7 @@ use Rattle.std.proofs.{lemmas.Grind.{common_steps}, Common.{◌≡◌, ◌≢◌
 use Rattle.std.proofs.Common.{length, refl, sym, ap, ◌∙◌, arith, true≢false, eqb-true, eq-eqb, ne_eqb, suc-ne-zero, get_or, drop, count_by}
 use Rattle.std.proofs.{Common.{cond, ◌⊎◌, inl, inr}, lemmas.List.Sums.{sum_by-append, sum_by-cons}}
 use Rattle.no_std_io2_base.specs.{Pieces.{Lacks, ends_in, in_front, pieces, ArePieces, EndsPiece, EndsAt}, Events.{Event, byte, bytes}}
-use Rattle.no_std_io2_base.specs.Takes.{Tells, IsAll}
+use Rattle.no_std_io2_base.specs.Takes.{ReaderState, IsAll}
 use Rattle.no_std_io2_base.proofs.EventLemmas.{bytes-append}
 
 -- the pieces if the first byte is d, and if it is not
@@ -87,7 +87,7 @@ pub piece_bytes : {d : ℕ} {P : List Event} → EndsAt d P → EndsPiece d (byt
 piece_bytes {d} {P} (front, is, none) = (bytes front, ap bytes is ∙ bytes-append front (byte d ∷ []), none)
 
 -- What one piece is, by its last byte: it ends in d, or it is the last one.
-pub piece_ended : (d : ℕ) (old : Tells) (P : List Event) → EndsAt d P ⊎ (Lacks d (bytes P) × IsAll old P)
+pub piece_ended : (d : ℕ) (old : ReaderState) (P : List Event) → EndsAt d P ⊎ (Lacks d (bytes P) × IsAll old P)
     → (ends_in d (bytes P) ≡ true → EndsPiece d (bytes P)) × (ends_in d (bytes P) ≡ false → Lacks d (bytes P) × IsAll old P)
 piece_ended d old P (inl at) =
     let ends = piece_bytes at in

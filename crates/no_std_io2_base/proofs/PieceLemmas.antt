@@ -4,7 +4,8 @@ use Rattle.std.proofs.Common.{length, take, drop, All, Option, None, Some, IfSom
 use Rattle.std.proofs.Common.{inl, add-one, take-suc, slice_index, true≢false, eqb-true, eq-eqb, drop_of_length-le, take_all, le_refl}
 use Rattle.std.proofs.{Common.{length-take, take-append-drop}, lemmas.List.Elements.{recursion_from_All}}
 use Rattle.std.specs.List.{AllWithin}
-use Rattle.no_std_io2_base.specs.{declared.error.Error.{Error}, Events.{Event, fails, events_of, bytes, BeginsWith}, Takes.{Tells, Takes}}
+use Rattle.no_std_io2_base.specs.{declared.error.Error.{Error}, Events.{Event, fails, events_of, bytes, BeginsWith}}
+use Rattle.no_std_io2_base.specs.Takes.{ReaderState, Takes}
 use Rattle.no_std_io2_base.specs.{Takes.{AreTaken, to_come}, Pieces.{Lacks, but_last, EndsPiece, FindsPiece, IsPiecePart, ComesBehind}}
 use Rattle.no_std_io2_base.proofs.EventLemmas.{bytes-append, bytes-events_of, events_of-append}
 
@@ -63,7 +64,7 @@ found_part d lent n true found some = grind (arith, common_steps, but_last-end, 
 found_part d lent n false found some = (some, Lacks-but_last d (take n lent) (found.open_ended refl).1)
 
 -- of lent bytes, which come next, the first ones do
-pub comes_behind : {a b : Tells} (P : List Event) (x : List ℕ) (n : ℕ) → Takes a P b → IfSome (to_come b) (λ E. BeginsWith E x)
+pub comes_behind : {a b : ReaderState} (P : List Event) (x : List ℕ) (n : ℕ) → Takes a P b → IfSome (to_come b) (λ E. BeginsWith E x)
     → ComesBehind a P (take n x)
 comes_behind {a} {b} P x n takes begins = by (to_come a) (to_come b) takes.events begins
   where

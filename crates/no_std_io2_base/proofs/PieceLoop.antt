@@ -4,13 +4,13 @@ use Rattle.std.proofs.Common.{Result, Ok, Err, Vec, vec_len, vec_capacity, lengt
 use Rattle.std.proofs.Common.{append-nil, le_refl, le_trans, inl, inr, length-append, length-take-le, take_all}
 use Rattle.std.specs.Borrow.{Bor}
 use Rattle.no_std_io2_base.specs.{declared.error.Error.{Error}, Errors.{IsInterruption, IsFault, IsOutOfMemory}, Events.{Event, fails}}
-use Rattle.no_std_io2_base.specs.{Events.{events_of, bytes, HasNoFault}, Takes.{Tells, Takes, IsAll}, Read.{Filled, Consumed, Reader}}
+use Rattle.no_std_io2_base.specs.{Events.{events_of, bytes, HasNoFault}, Takes.{ReaderState, Takes, IsAll}, Read.{Filled, Consumed, Reader}}
 use Rattle.no_std_io2_base.specs.{Read.{tells, ConsumeLaw, FilledLaw, ReadCallLaw}, BufRead.{FillBufLaw, AfterLoan, ReadUntilLaw}}
 use Rattle.no_std_io2_base.specs.{BufRead.{lent_bytes}, Pieces.{Lacks, EndsPiece, EndsAt, FindsPiece, PieceEnds, PartCalls, no_part}}
 use Rattle.no_std_io2_base.specs.{Pieces.{and_part, and_waited, PieceCalls}, Write.{ByCalls}}
 use Rattle.no_std_io2_base.proofs.{CallsLemmas.{by_more, by_then}, EventLemmas.{events_of-append, HasNoFault-append, HasNoFault-events_of}}
 use Rattle.no_std_io2_base.proofs.{EventLemmas.{length-events_of}, PieceLemmas.{bytes-more, bytes-fails, Lacks-append, found_part}}
-use Rattle.no_std_io2_base.proofs.{PieceLemmas.{comes_behind}, TakesLemmas.{takes_none, takes_then, takes_still, takes_turns, takes_all}}
+use Rattle.no_std_io2_base.proofs.{PieceLemmas.{comes_behind}, TakesLemmas.{takes_none, takes_then, takes_still, takes_turns, takes_to_end}}
 use Rattle.no_std_io2_base.proofs.TakesLemmas.{spends, stays_at_end}
 
 -- a `fill_buf` and its loan are a call
@@ -45,7 +45,7 @@ module _ {X : Type 0} {R : Reader X} {now after new : X} {lent : List ℕ} {n : 
         omega (arith, less, takes_turns filled.takes)
 
 -- why an allocation failed, in weaker words
-pub piece_since : {lacks lacks' : ℕ → Type 0} (d : ℕ) (old : Tells) (P : List Event) (read : Result ℕ Error)
+pub piece_since : {lacks lacks' : ℕ → Type 0} (d : ℕ) (old : ReaderState) (P : List Event) (read : Result ℕ Error)
     → ((n : ℕ) → lacks n → lacks' n) → PieceEnds lacks d old P read → PieceEnds lacks' d old P read
 piece_since d old x3 x4 since ends = grind (arith, common_steps)
 
@@ -145,7 +145,7 @@ module _ {X : Type 0} {R : Reader X} {d : ℕ} {old now after : X} {P : List Eve
       )
       ended (inr none) =
           let same : P ≡ P ++ events_of (take n lent) = grind (arith, common_steps) in
-          let all = takes_all P before.takes (stays_at_end filled.takes (filled.end (ap Ok none))) in
+          let all = takes_to_end P before.takes (stays_at_end filled.takes (filled.end (ap Ok none))) in
           inr (subst (λ l. Lacks d (bytes l)) same before.lacks, subst (IsAll (tells R old)) same all)
 
       -- then the loop ends

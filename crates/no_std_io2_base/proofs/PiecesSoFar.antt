@@ -5,13 +5,13 @@ use Rattle.std.proofs.lemmas.List.Folds.{concat-append}
 use Rattle.std.proofs.lemmas.List.{nil_from_length}
 use Rattle.std.specs.List.{concat}
 use Rattle.no_std_io2_base.specs.{declared.error.Error.{Error}, Errors.{IsOutOfMemory}, Events.{Event, bytes, HasNoFault, bytes_to_fault}}
-use Rattle.no_std_io2_base.specs.{Events.{first_fault}, Takes.{Tells, to_come}, Read.{Reader, tells}, BufRead.{ReadUntilLaw}}
+use Rattle.no_std_io2_base.specs.{Events.{first_fault}, Takes.{ReaderState, to_come}, Read.{Reader, tells}, BufRead.{ReadUntilLaw}}
 use Rattle.no_std_io2_base.specs.{Pieces.{pieces_given, GivesFirst, GivesPieces, AreAllPieces, ComeFirst}, Write.{IsFront}}
 use Rattle.no_std_io2_base.specs.PieceStops.{StopsAfter}
 use Rattle.no_std_io2_base.proofs.GivenPieces.{until_given, GivesNext, GivesNone, bytes_to_fault-append, first_fault-append}
 
 -- before the first piece no pieces were given
-pub pieces_none : (d : ℕ) (t : Tells) → GivesPieces d t [] t
+pub pieces_none : (d : ℕ) (t : ReaderState) → GivesPieces d t [] t
 pieces_none d t = grind (arith, common_steps)
 
 -- if no byte was taken, what comes stays the same
@@ -44,7 +44,7 @@ parted : (d n : ℕ) (E F after : List Event) (ps : List (List ℕ)) (x part res
     → Says d F x (Ok n) after → bytes_to_fault E ≡ (concat ps ++ part) ++ (rest ++ bytes_to_fault after)
 parted d n E F after ps x part rest is first next = grind (arith, common_steps)
 
-module _ {X A : Type 0} {R : Reader X} {d : ℕ} {a : Tells} {ps : List (List ℕ)} {mid new : X} {buf buf' : Vec ℕ A} where
+module _ {X A : Type 0} {R : Reader X} {d : ℕ} {a : ReaderState} {ps : List (List ℕ)} {mid new : X} {buf buf' : Vec ℕ A} where
   module _ (gives : GivesPieces d a ps (tells R mid)) where
     -- a `read_until` gave one piece more
     pub pieces_more : {n : ℕ} (law : ReadUntilLaw R mid d buf (Ok n) buf' new) → (n ≡ 0 → ⊥)

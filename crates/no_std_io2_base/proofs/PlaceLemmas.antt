@@ -3,7 +3,8 @@ use Rattle.std.proofs.Common.{rules, ◌≡◌, ℕ, ◌+◌, List, ◌++◌, le
 use Rattle.std.proofs.{Common.{◌≤◌, append-nil, length-drop, IfSome, IsSomeAnd, IsOk, OnOk}, lemmas.Grind.{common_steps}}
 use Rattle.std.proofs.Math.Seq.{take-append_seam}
 use Rattle.no_std_io2_base.specs.{declared.error.Error.{Error}, declared.traits.seek.SeekFrom.{SeekFrom}, Events.{Event, events_of, bytes}}
-use Rattle.no_std_io2_base.specs.{Takes.{Store, Tells, Takes, KeepsContent, to_come}, Read.{Reader, tells, ReadExactLaw}, Seek.{Seeks}}
+use Rattle.no_std_io2_base.specs.{Takes.{Store, ReaderState, Takes, KeepsContent, to_come}, Read.{Reader, tells, ReadExactLaw}}
+use Rattle.no_std_io2_base.specs.Seek.{Seeks}
 use Rattle.no_std_io2_base.specs.{Seek.{IsTarget}, ReadAt.{ReadsAt, HasBytesAt}}
 use Rattle.no_std_io2_base.proofs.{EventLemmas.{bytes-append, bytes-events_of}, KnownBytes.{exact_cut}}
 
@@ -18,11 +19,11 @@ pub record StoreTaken (s : Store) (P : List Event) (t : Store) : Type 0 where
   pub split : events_of (drop s.position s.content) ≡ P ++ events_of (drop t.position t.content)
 
 -- what is taken of a told store
-pub store_taken : {a b : Tells} {P : List Event} → Takes a P b → IfSome a.store (λ s. IsSomeAnd b.store (StoreTaken s P))
+pub store_taken : {a b : ReaderState} {P : List Event} → Takes a P b → IfSome a.store (λ s. IsSomeAnd b.store (StoreTaken s P))
 store_taken {a} {b} {P} takes = grind (arith, common_steps)
 
 -- a told store tells its bytes
-store_tells : (a : Tells) → IfSome a.store (λ s. to_come a ≡ Some (events_of (drop s.position s.content)))
+store_tells : (a : ReaderState) → IfSome a.store (λ s. to_come a ≡ Some (events_of (drop s.position s.content)))
 store_tells a = grind (arith, common_steps)
 
 -- the bytes that were taken are those at the target of the seek

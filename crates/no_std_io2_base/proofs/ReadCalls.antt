@@ -6,12 +6,12 @@ use Rattle.no_std_io2_base.specs.Read.{gave_whole, Gathers, no_read, and_gave, a
 use Rattle.no_std_io2_base.proofs.CallsLemmas.{by_call}
 
 -- the `read_exact` of a type that has a body of its own for it is one call
-pub exact_own : {S : Type 0} {may : S → ReadCall → S → Type 0} {old new : S} (reply : Result (Unit {0}) Error) (buf : List ℕ)
+pub exact_own : {X : Type 0} {may : X → ReadCall → X → Type 0} {old new : X} (reply : Result (Unit {0}) Error) (buf : List ℕ)
     → may old (GaveExactly (length buf) (gave_whole reply buf)) new → ByCalls may old (λ C. ExactCalls C reply buf) new
 exact_own reply buf own = by_call (GaveExactly (length buf) (gave_whole reply buf)) own (inl refl)
 
 -- and so may a `read_to_end` be
-pub to_end_own : {S : Type 0} {may : S → ReadCall → S → Type 0} {old new : S} {x y : List ℕ} {answer : Result (Unit {0}) Error}
+pub to_end_own : {X : Type 0} {may : X → ReadCall → X → Type 0} {old new : X} {x y : List ℕ} {answer : Result (Unit {0}) Error}
     → may old (GaveAll x answer) new → y ≡ x → ByCalls may old (λ C. ToEndCalls C y answer) new
 to_end_own {x = x} {answer = answer} own is = by_call (GaveAll x answer) own (inl ([], [], x, no_read, is, refl))
 

@@ -9,7 +9,7 @@ use Rattle.no_std_io2_base.proofs.{CallsLemmas.{by_are}, TakesLemmas.{all_taken}
 begins : {x : List ℕ} (at : ℕ) (buf : List ℕ) → take at buf ≡ x → IsFront x buf
 begins at buf is = (drop at buf, subst (λ l. buf ≡ l ++ drop at buf) is (sym (take-append-drop at buf)))
 
-module _ {S : Type 0} {R : Reader S} {old new : S} {buf buf' : List ℕ} {at : ℕ} (long : length buf' ≡ length buf) where
+module _ {X : Type 0} {R : Reader X} {old new : X} {buf buf' : List ℕ} {at : ℕ} (long : length buf' ≡ length buf) where
   -- all of it is filled
   pub exact_all : {u : Unit {0}} → ReadFullLaw R old buf 0 (Ok u) buf' at new → length buf' ≤ at → ReadExactLaw R old buf (Ok u) buf' new
   exact_all {u} full past = grind (arith, common_steps)

@@ -11,7 +11,7 @@ use Rattle.no_std_io2_base.proofs.TakesLemmas.{takes_then, takes_still, nothing_
 use Rattle.no_std_io2_base.proofs.TakesLemmas.{bytes_more, bytes_still}
 
 -- behind the first `start` bytes of the buffer stand those that were taken, up to `at`
-pub record FullSoFar {S : Type 0} (R : Reader S) (old : S) (buf : List ℕ) (start at : ℕ) (buf' : List ℕ) (now : S) : Type 0 where
+pub record FullSoFar {X : Type 0} (R : Reader X) (old : X) (buf : List ℕ) (start at : ℕ) (buf' : List ℕ) (now : X) : Type 0 where
   pub long : length buf' ≡ length buf
   pub untouched : length buf ≤ start → now ≡ old
   pub given : List ℕ
@@ -23,7 +23,7 @@ pub record FullSoFar {S : Type 0} (R : Reader S) (old : S) (buf : List ℕ) (sta
   pub gives : Gives (length buf - start) taken given
 
 -- before the first read nothing is filled
-pub full_none : {S : Type 0} {R : Reader S} {old : S} {buf : List ℕ} {start : ℕ} → FullSoFar R old buf start start buf old
+pub full_none : {X : Type 0} {R : Reader X} {old : X} {buf : List ℕ} {start : ℕ} → FullSoFar R old buf start start buf old
 unfolding reads_none
 full_none {buf = buf} {start} = record {
   long = refl;
@@ -36,7 +36,7 @@ full_none {buf = buf} {start} = record {
   gives = gives_none _;
 }
 
-module _ {S : Type 0} {R : Reader S} {old now : S} {buf xs : List ℕ} {start at : ℕ} (before : FullSoFar R old buf start at xs now) where
+module _ {X : Type 0} {R : Reader X} {old now : X} {buf xs : List ℕ} {start at : ℕ} (before : FullSoFar R old buf start at xs now) where
   module _ (below : at < length xs) (ys : List ℕ) (room : length ys ≡ length (take (length xs - at) (drop at xs))) where
     -- the length of the buffer stays, and a read into all that is left of it is the next one
     pub stays : length (put_mid at (length xs - at) xs ys) ≡ length buf
@@ -57,7 +57,7 @@ module _ {S : Type 0} {R : Reader S} {old now : S} {buf xs : List ℕ} {start at
     kept = grind (arith, common_steps)
 
     -- a read gave some bytes more
-    pub full_read : {new : S} {part : List ℕ} {n : ℕ} → ReadLaw R now part (Ok n) ys new → (n ≡ 0 → ⊥)
+    pub full_read : {new : X} {part : List ℕ} {n : ℕ} → ReadLaw R now part (Ok n) ys new → (n ≡ 0 → ⊥)
         → FullSoFar R old buf start (at + n) (put_mid at (length xs - at) xs ys) new
     unfolding reads_more bytes_more
     full_read {n = n} read some =
@@ -75,7 +75,7 @@ module _ {S : Type 0} {R : Reader S} {old now : S} {buf xs : List ℕ} {start at
         }
 
     -- a read was interrupted
-    pub full_interruption : {new : S} {part : List ℕ} {e : Error} → ReadLaw R now part (Err e) ys new → IsInterruption e
+    pub full_interruption : {new : X} {part : List ℕ} {e : Error} → ReadLaw R now part (Err e) ys new → IsInterruption e
         → FullSoFar R old buf start at (put_mid at (length xs - at) xs ys) new
     unfolding reads_again bytes_still
     full_interruption {e = e} read interrupted = record {
@@ -90,7 +90,7 @@ module _ {S : Type 0} {R : Reader S} {old now : S} {buf xs : List ℕ} {start at
     }
 
     -- the end came first
-    pub full_end : {new : S} {part : List ℕ} {reply : Result ℕ Error} {n : ℕ} → ReadLaw R now part reply ys new → reply ≡ Ok n → n ≡ 0
+    pub full_end : {new : X} {part : List ℕ} {reply : Result ℕ Error} {n : ℕ} → ReadLaw R now part reply ys new → reply ≡ Ok n → n ≡ 0
         → ReadFullLaw R old buf start (Ok tt) (put_mid at (length xs - at) xs ys) at new
     full_end {new} read is zero =
         let end = nothing_read read is zero in
@@ -106,7 +106,7 @@ module _ {S : Type 0} {R : Reader S} {old now : S} {buf xs : List ℕ} {start at
         }
 
     -- a fault came first
-    pub full_fault : {new : S} {part : List ℕ} {e : Error} → ReadLaw R now part (Err e) ys new → IsFault e
+    pub full_fault : {new : X} {part : List ℕ} {e : Error} → ReadLaw R now part (Err e) ys new → IsFault e
         → ReadFullLaw R old buf start (Err e) (put_mid at (length xs - at) xs ys) at new
     full_fault {new} {e = e} read fault =
         let same : bytes (before.taken ++ fails e ∷ []) ≡ bytes before.taken =
@@ -123,7 +123,7 @@ module _ {S : Type 0} {R : Reader S} {old now : S} {buf xs : List ℕ} {start at
         }
 
 -- all of it is filled
-pub full_all : {S : Type 0} {R : Reader S} {old now : S} {buf xs : List ℕ} {start at : ℕ} → FullSoFar R old buf start at xs now
+pub full_all : {X : Type 0} {R : Reader X} {old now : X} {buf xs : List ℕ} {start at : ℕ} → FullSoFar R old buf start at xs now
     → length xs ≤ at → ReadFullLaw R old buf start (Ok tt) xs at now
 full_all {R = R} {old} {now} {buf} {xs} {start} {at} before past =
     let whole : length before.given ≡ length buf - start = omega (arith, before.counts, before.long, past, before.within) in

@@ -6,19 +6,19 @@ use Rattle.no_std_io2_base.proofs.{CallsLemmas.{by_more}, ReadExactExits.{some_b
 use Rattle.no_std_io2_base.proofs.TakesLemmas.{read_law}
 
 -- the bytes x were taken, by these reads
-pub record ReadsSoFar {S : Type 0} (R : Reader S) (asks : ℕ → ℕ → Type 0) (old : S) (x : List ℕ) (now : S) : Type 0 where
+pub record ReadsSoFar {X : Type 0} (R : Reader X) (asks : ℕ → ℕ → Type 0) (old : X) (x : List ℕ) (now : X) : Type 0 where
   pub took : TakesBytes (tells R old) x (tells R now)
   pub open took use *
   pub made : ByCalls (ReadCallLaw R) old (λ C. Gathers asks C x) now
 
 -- no read yet
-unfoldable pub reads_none : {S : Type 0} {R : Reader S} {asks : ℕ → ℕ → Type 0} (old : S) → ReadsSoFar R asks old [] old
+unfoldable pub reads_none : {X : Type 0} {R : Reader X} {asks : ℕ → ℕ → Type 0} (old : X) → ReadsSoFar R asks old [] old
 reads_none {R = R} old = record {
   took = record { taken = []; takes = takes_none (tells R old); no_fault = tt; are = refl };
   made = record { calls = []; made = refl; are = no_read };
 }
 
-module _ {S : Type 0} {R : Reader S} {asks : ℕ → ℕ → Type 0} {old now new : S} {x : List ℕ} where
+module _ {X : Type 0} {R : Reader X} {asks : ℕ → ℕ → Type 0} {old now new : X} {x : List ℕ} where
   module _ (before : ReadsSoFar R asks old x now) where
     -- a read gave some bytes more
     unfoldable pub reads_more : {part ys : List ℕ} {n : ℕ} → ReadLaw R now part (Ok n) ys new → (n ≡ 0 → ⊥)

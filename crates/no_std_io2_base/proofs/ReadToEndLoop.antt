@@ -4,14 +4,14 @@ use Rattle.std.proofs.Common.{drop, refl, sym, ap, subst, ◌∙◌, arith, le_r
 use Rattle.std.proofs.Common.{vec_capacity, inl, inr, append_assoc, append-nil, take_all, OnOk, IfOk, length-append}
 use Rattle.no_std_io2_base.specs.{declared.error.Error.{Error}, Errors.{IsInterruption, IsFault, IsOutOfMemory}, Events.{Event, fails}}
 use Rattle.no_std_io2_base.specs.{Events.{bytes, HasNoFault}, Read.{Reader, ReadLaw, ToEndLaw, ReadToEndLaw, IsRoom, no_read, GathersUntil}}
-use Rattle.no_std_io2_base.specs.{Read.{DrainsOrStops, least_room, ended}, Takes.{Tells}}
+use Rattle.no_std_io2_base.specs.{Read.{DrainsOrStops, least_room, ended}, Takes.{ReaderState}}
 use Rattle.no_std_io2_base.proofs.{CallsLemmas.{by_are, by_then}, EventLemmas.{bytes-append, HasNoFault-append}, ReadCalls.{to_end_then}}
 use Rattle.no_std_io2_base.proofs.{ReadLoop.{ReadsSoFar, reads_none, reads_more, reads_again, reads_until}, ReadParts.{written}}
 use Rattle.no_std_io2_base.proofs.{ReadParts.{take-written, take-written_below}, TakesLemmas.{takes_none, takes_then, takes_still}}
 use Rattle.no_std_io2_base.proofs.TakesLemmas.{nothing_read, read_law, EndsInFault-behind}
 
 -- the bytes up to `filled` are what was taken
-pub record ToEndSoFar {S A : Type 0} (R : Reader S) (old : S) (buf : Vec ℕ A) (filled : ℕ) (buf' : Vec ℕ A) (now : S) : Type 0 where
+pub record ToEndSoFar {X A : Type 0} (R : Reader X) (old : X) (buf : Vec ℕ A) (filled : ℕ) (buf' : Vec ℕ A) (now : X) : Type 0 where
   pub within : filled ≤ vec_len buf'
   pub capacity : vec_capacity buf ≤ vec_capacity buf'
   pub given : List ℕ
@@ -35,7 +35,7 @@ wrote {filled} {len} {slice} {items} {part} long is room front opened =
     grind (arith, common_steps, length-take, length-drop, take-written_below, le_refl, take-written)
 
 -- before the first read nothing is taken
-pub to_end_none : {S A : Type 0} {R : Reader S} {old : S} {buf mid : Vec ℕ A} {start : ℕ} → start ≡ vec_len buf → mid.items ≡ buf.items
+pub to_end_none : {X A : Type 0} {R : Reader X} {old : X} {buf mid : Vec ℕ A} {start : ℕ} → start ≡ vec_len buf → mid.items ≡ buf.items
     → vec_len mid ≡ vec_len buf → vec_capacity buf ≤ vec_capacity mid → ToEndSoFar R old buf start mid old
 to_end_none {buf = buf} {mid} {start} is same len grown = record {
   within = omega (arith, is, len);
@@ -47,7 +47,7 @@ to_end_none {buf = buf} {mid} {start} is same len grown = record {
 }
 
 -- there was no room for the first read, and an allocation failed
-pub to_end_no_room : {S A : Type 0} {lacks : ℕ → Type 0} {R : Reader S} {old : S} {buf mid : Vec ℕ A} {e : Error} → IsOutOfMemory e
+pub to_end_no_room : {X A : Type 0} {lacks : ℕ → Type 0} {R : Reader X} {old : X} {buf mid : Vec ℕ A} {e : Error} → IsOutOfMemory e
     → mid.items ≡ buf.items → vec_capacity buf ≤ vec_capacity mid → lacks 0 → ToEndLaw lacks R old buf (Err e) mid old
 to_end_no_room {buf = buf} refused same grown why = record {
   taken = [];
@@ -80,7 +80,7 @@ module _ {A : Type 0} (buf mid : Vec ℕ A) (P Q : List Event) (first : mid.item
     both_counted (Err e) k is = tt
 
   -- and they end as Q does
-  pub both_ended : (reply : Result ℕ Error) (k : ℕ) (t : Tells) → HasNoFault P → vec_capacity buf ≤ vec_capacity mid
+  pub both_ended : (reply : Result ℕ Error) (k : ℕ) (t : ReaderState) → HasNoFault P → vec_capacity buf ≤ vec_capacity mid
       → DrainsOrStops (vec_capacity mid < vec_len mid + (length (bytes Q) + least_room)) Q reply t
       → DrainsOrStops (vec_capacity buf < vec_len buf + (length (bytes (P ++ Q)) + least_room)) (P ++ Q) (recount reply k) t
   both_ended (Ok n) k t free grown (none, end) = (HasNoFault-append P Q free none, end)
@@ -90,7 +90,7 @@ module _ {A : Type 0} (buf mid : Vec ℕ A) (P Q : List Event) (first : mid.item
       let more = ap length first ∙ length-append buf.items (bytes P) in
       inr (HasNoFault-append P Q free none, refused, omega (arith, why, grown, more, long, buf.ok.0, mid.ok.0))
 
-module _ {S A : Type 0} {R : Reader S} {old now : S} {buf xs : Vec ℕ A} {filled : ℕ} (before : ToEndSoFar R old buf filled xs now) where
+module _ {X A : Type 0} {R : Reader X} {old now : X} {buf xs : Vec ℕ A} {filled : ℕ} (before : ToEndSoFar R old buf filled xs now) where
   -- what was taken was appended
   given_bytes : {v : List ℕ} → v ≡ take filled xs.items → v ≡ buf.items ++ bytes before.taken
   given_bytes same = same ∙ before.shown ∙ ap (λ l. buf.items ++ l) (sym before.are)
@@ -102,7 +102,7 @@ module _ {S A : Type 0} {R : Reader S} {old now : S} {buf xs : Vec ℕ A} {fille
   to_end_refused {v = v} refused len front grown why = grind (arith, common_steps)
 
   -- the room is full, and the reader's own `read_to_end` read on: k bytes in all
-  pub rest_drained : {v : Vec ℕ A} {new : S} (reply : Result ℕ Error) (k : ℕ) → vec_len xs ≤ filled → ReadToEndLaw R now xs reply v new
+  pub rest_drained : {v : Vec ℕ A} {new : X} (reply : Result ℕ Error) (k : ℕ) → vec_len xs ≤ filled → ReadToEndLaw R now xs reply v new
       → OnOk reply (k ≡ vec_len v - vec_len buf) → ReadToEndLaw R old buf (recount reply k) v new
   rest_drained {v} {new} reply k past last is =
       let P = before.taken in
@@ -119,7 +119,7 @@ module _ {S A : Type 0} {R : Reader S} {old now : S} {buf xs : Vec ℕ A} {fille
             (λ C D first all. rw (joined, ended_recount reply k) (to_end_then (ended reply) first all));
       }
 
-  module _ {new : S} {room part : List ℕ} where
+  module _ {new : X} {room part : List ℕ} where
     -- a read gave some bytes more
     pub to_end_read : {xs' : Vec ℕ A} {n : ℕ} → ReadLaw R now room (Ok n) part new → (n ≡ 0 → ⊥)
         → PartWritten filled (vec_len xs') xs.items xs'.items part

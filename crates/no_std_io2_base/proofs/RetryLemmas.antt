@@ -1,12 +1,13 @@
 -- How tries follow one another.
 use Rattle.std.proofs.{lemmas.Grind.{common_steps}, Common.{◌≡◌, ℕ, ◌+◌, List, ◌∷◌, length, true, Option, Result, Ok, Err, refl, arith}}
 use Rattle.std.proofs.{Common.{count_by, []}, lemmas.List.Recursion.{is_count_by}}
-use Rattle.no_std_io2_base.specs.{declared.error.{Error.{Error}, ErrorKind.{ErrorKind}}, Write.{Told, Sends, HasSpent}, Retries.{HasAtMost}}
+use Rattle.no_std_io2_base.specs.{declared.error.{Error.{Error}, ErrorKind.{ErrorKind}}, Write.{WriterState, Sends, HasSpent}}
+use Rattle.no_std_io2_base.specs.Retries.{HasAtMost}
 use Rattle.no_std_io2_base.specs.Retries.{HasSpentTries, Tries, again}
 use Rattle.no_std_io2_base.proofs.MovesLemmas.{Moves-refl}
 
 -- at the start nothing went, and all is still to go
-pub sends_none : (a : Told) (to_go : List ℕ) → Sends a to_go (Ok tt) a to_go
+pub sends_none : (a : WriterState) (to_go : List ℕ) → Sends a to_go (Ok tt) a to_go
 sends_none a to_go = record { sent = []; split = refl; moves = Moves-refl a }
 
 -- what was left out of a list of kinds, counted

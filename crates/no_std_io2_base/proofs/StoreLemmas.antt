@@ -1,7 +1,7 @@
 -- What is told of a content and a position in it.
 use Rattle.std.proofs.{lemmas.Grind.{common_steps}, Common.{◌≡◌, ℕ, ◌+◌, ◌<◌, ◌^◌, true, List, ◌++◌, length, drop, Some, sym, ap, ◌∙◌}}
 use Rattle.std.proofs.{Common.{arith, length-append, length-drop}, Math.Seq.{drop-append_seam}, lemmas.List.{drop-drop}}
-use Rattle.no_std_io2_base.specs.{Events.{events_of}, Takes.{Tells, Takes, KeepsContent, to_come, store_at, fits_u64}}
+use Rattle.no_std_io2_base.specs.{Events.{events_of}, Takes.{ReaderState, Takes, KeepsContent, to_come, store_at, fits_u64}}
 use Rattle.no_std_io2_base.proofs.EventLemmas.{events_of-append, length-events_of, bytes-events_of}
 
 -- both fit, so the test says so
@@ -14,7 +14,7 @@ pub keeps_at : (Goes : ℕ → ℕ → ℕ → Type 0) (content : List ℕ) (was
 keeps_at Goes content was now near goes = grind (arith, common_steps)
 
 -- what a reader tells of a content from a position on
-abbrev tells_at : List ℕ → ℕ → Tells
+abbrev tells_at : List ℕ → ℕ → ReaderState
 tells_at content position = record {
   events = Some (events_of (drop position content));
   store = store_at content position;

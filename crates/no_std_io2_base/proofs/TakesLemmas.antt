@@ -3,42 +3,43 @@ use Rattle.std.proofs.{lemmas.Grind.{common_steps}, Common.{◌≡◌, ℕ, zero
 use Rattle.std.proofs.Common.{length, Option, Some, refl, sym, ap, subst, ◌∙◌, arith, append_assoc, append-nil, length-append, drop}
 use Rattle.std.proofs.Common.{length-take-le, IfOk, IfSome, OnOk}
 use Rattle.no_std_io2_base.specs.{declared.error.Error.{Error}, Errors.{IsInterruption}, Events.{Event, byte, fails, events_of, bytes}}
-use Rattle.no_std_io2_base.specs.{Events.{HasNoFault, cut, EndsInFault}, Takes.{Tells, Takes, TakesBytes, to_come, IsAtEnd, IsAll}}
+use Rattle.no_std_io2_base.specs.{Events.{HasNoFault, cut, EndsInFault}, Takes.{ReaderState, Takes, TakesBytes, to_come, IsAtEnd, IsAll}}
 use Rattle.no_std_io2_base.specs.Read.{Reader, tells, ReadCall, gave, ended, bytes_given, ReadCallLaw, GaveLaw, ReadLaw, ReadExactLaw}
 use Rattle.no_std_io2_base.specs.{Read.{Gives, AllOrNone, DrainsOrStops}, Write.{Made}}
 use Rattle.no_std_io2_base.proofs.{CallsLemmas.{made_map}, EventLemmas.{bytes-append, bytes-events_of, HasNoFault-append}}
 use Rattle.no_std_io2_base.proofs.EventLemmas.{HasNoFault-events_of, cut-append}
 
 -- before the first call nothing is taken
-pub takes_none : (t : Tells) → Takes t [] t
+pub takes_none : (t : ReaderState) → Takes t [] t
 takes_none t = grind (arith, common_steps)
 
 -- one call after another
-pub takes_then : {a b c : Tells} {P Q : List Event} → Takes a P b → Takes b Q c → Takes a (P ++ Q) c
+pub takes_then : {a b c : ReaderState} {P Q : List Event} → Takes a P b → Takes b Q c → Takes a (P ++ Q) c
 takes_then {a} {b} {c} {P} {Q} first next = grind (arith, common_steps, bytes-append, length-append)
 
 -- a call that takes nothing, after others
-pub takes_still : {a b c : Tells} {P : List Event} → Takes a P b → Takes b [] c → Takes a P c
+pub takes_still : {a b c : ReaderState} {P : List Event} → Takes a P b → Takes b [] c → Takes a P c
 takes_still {a} {c = c} {P} first next = subst (λ l. Takes a l c) (append-nil P) (takes_then first next)
 
 -- turns do not rise
-pub takes_turns : {a b : Tells} {P : List Event} → Takes a P b → b.turns ≤ a.turns
+pub takes_turns : {a b : ReaderState} {P : List Event} → Takes a P b → b.turns ≤ a.turns
 takes_turns takes = omega (arith, takes.turns)
 
 -- the turns fall if some event is taken
-pub spends : {a b : Tells} {P : List Event} → Takes a P b → 0 < length P → b.turns < a.turns
+pub spends : {a b : ReaderState} {P : List Event} → Takes a P b → 0 < length P → b.turns < a.turns
 spends takes some = omega (arith, takes.turns)
 
 -- what was taken up to the end is all
-pub takes_all : {a b : Tells} (P : List Event) → Takes a P b → IsAtEnd b → IsAll a P
-takes_all {a} {b} P takes end = grind (arith, common_steps)
+pub takes_to_end : {a b : ReaderState} (P : List Event) → Takes a P b → IsAtEnd b → IsAll a P
+takes_to_end {a} {b} P takes end = grind (arith, common_steps)
 
 -- a reader stays at its end
-pub stays_at_end : {a b : Tells} → Takes a [] b → IsAtEnd b → IsAtEnd a
-stays_at_end takes end = takes_all [] takes end
+pub stays_at_end : {a b : ReaderState} → Takes a [] b → IsAtEnd b → IsAtEnd a
+stays_at_end takes end = takes_to_end [] takes end
 
 -- some bytes, and then some more
-unfoldable pub bytes_more : {a b c : Tells} {x : List ℕ} (y : List ℕ) → TakesBytes a x b → Takes b (events_of y) c → TakesBytes a (x ++ y) c
+unfoldable pub bytes_more : {a b c : ReaderState} {x : List ℕ} (y : List ℕ) → TakesBytes a x b → Takes b (events_of y) c
+    → TakesBytes a (x ++ y) c
 bytes_more {x = x} y so_far takes = record {
   taken = so_far.taken ++ events_of y;
   takes = takes_then so_far.takes takes;
@@ -47,7 +48,7 @@ bytes_more {x = x} y so_far takes = record {
 }
 
 -- or an interruption
-unfoldable pub bytes_still : {a b c : Tells} {x : List ℕ} {e : Error} → TakesBytes a x b → Takes b (fails e ∷ []) c → IsInterruption e
+unfoldable pub bytes_still : {a b c : ReaderState} {x : List ℕ} {e : Error} → TakesBytes a x b → Takes b (fails e ∷ []) c → IsInterruption e
     → TakesBytes a x c
 bytes_still {e = e} so_far takes again = record {
   taken = so_far.taken ++ fails e ∷ [];
@@ -57,12 +58,12 @@ bytes_still {e = e} so_far takes again = record {
 }
 
 -- what is left of told events
-pub left_of : {a b : Tells} {P E : List Event} → Takes a P b → to_come a ≡ Some E → (after : List Event) × (to_come b ≡ Some after)
+pub left_of : {a b : ReaderState} {P E : List Event} → Takes a P b → to_come a ≡ Some E → (after : List Event) × (to_come b ≡ Some after)
     × (E ≡ P ++ after)
 left_of {a} {b} {P} {E} takes told = grind (arith, common_steps)
 
 -- if events were told, and all of them were taken, none are to come
-pub at_end_after : {a b : Tells} {P E : List Event} → Takes a P b → to_come a ≡ Some E → IsAll a P → IsAtEnd b
+pub at_end_after : {a b : ReaderState} {P E : List Event} → Takes a P b → to_come a ≡ Some E → IsAll a P → IsAtEnd b
 at_end_after {a} {b} {P} {E} takes told all = grind (arith, common_steps)
 
 -- the events behind events that are only bytes are only bytes
@@ -72,7 +73,7 @@ bytes_after [] (p ∷ P) Q is = cc
 bytes_after (b ∷ bs) (p ∷ P) Q is = bytes_after bs P Q (ap (drop 1) is)
 
 -- What is known after a front of the bytes that were to come was taken: the others are to come.
-pub known_after : {a b : Tells} (bs x : List ℕ) → TakesBytes a x b → to_come a ≡ Some (events_of bs)
+pub known_after : {a b : ReaderState} (bs x : List ℕ) → TakesBytes a x b → to_come a ≡ Some (events_of bs)
     → (rest : List ℕ) × (bs ≡ x ++ rest) × (to_come b ≡ Some (events_of rest))
 known_after bs x took told =
     let (after, still, split) = left_of took.takes told in
@@ -80,11 +81,13 @@ known_after bs x took told =
     (bytes after, whole, still ∙ ap Some (bytes_after bs took.taken after split))
 
 -- what was taken is a front of the bytes that were to come
-pub front_taken : {a b : Tells} (bs x : List ℕ) → TakesBytes a x b → to_come a ≡ Some (events_of bs) → (rest : List ℕ) × (bs ≡ x ++ rest)
+pub front_taken : {a b : ReaderState} (bs x : List ℕ) → TakesBytes a x b → to_come a ≡ Some (events_of bs)
+    → (rest : List ℕ) × (bs ≡ x ++ rest)
 front_taken bs x took told = let (rest, whole, still) = known_after bs x took told in (rest, whole)
 
 -- and the others are what is to come then
-pub front_gone : {a b : Tells} (bs x cs : List ℕ) → TakesBytes a x b → to_come a ≡ Some (events_of bs) → to_come b ≡ Some (events_of cs)
+pub front_gone : {a b : ReaderState} (bs x cs : List ℕ) → TakesBytes a x b → to_come a ≡ Some (events_of bs)
+    → to_come b ≡ Some (events_of cs)
     → bs ≡ x ++ cs
 front_gone bs x cs took told left =
     let (rest, whole, still) = known_after bs x took told in
@@ -92,7 +95,7 @@ front_gone bs x cs took told left =
     whole ∙ ap (λ l. x ++ l) (sym (bytes-events_of rest) ∙ ap bytes same ∙ bytes-events_of cs)
 
 -- bytes, and then bytes
-pub TakesBytes-then : {a b c : Tells} {x y : List ℕ} → TakesBytes a x b → TakesBytes b y c → TakesBytes a (x ++ y) c
+pub TakesBytes-then : {a b c : ReaderState} {x y : List ℕ} → TakesBytes a x b → TakesBytes b y c → TakesBytes a (x ++ y) c
 TakesBytes-then {x = x} first next = record {
   taken = first.taken ++ next.taken;
   takes = takes_then first.takes next.takes;
@@ -101,40 +104,40 @@ TakesBytes-then {x = x} first next = record {
 }
 
 -- a buffer was filled
-pub TakesBytes-fills : {S : Type 0} {R : Reader S} {old new : S} {buf buf' : List ℕ} {u : Unit {0}} → ReadExactLaw R old buf (Ok u) buf' new
+pub TakesBytes-fills : {X : Type 0} {R : Reader X} {old new : X} {buf buf' : List ℕ} {u : Unit {0}} → ReadExactLaw R old buf (Ok u) buf' new
     → TakesBytes (tells R old) buf' (tells R new)
 TakesBytes-fills law = record { taken = law.taken; takes = law.takes; no_fault = law.ends.0.no_fault; are = law.ends.0.given }
 
 -- two buffers were filled, one after the other
-pub TakesBytes-pair : {S : Type 0} {R : Reader S} {old mid new : S} {first first' second second' : List ℕ} {u : Unit {0}}
+pub TakesBytes-pair : {X : Type 0} {R : Reader X} {old mid new : X} {first first' second second' : List ℕ} {u : Unit {0}}
     (reply : Result (Unit {0}) Error) → ReadExactLaw R old first (Ok u) first' mid → ReadExactLaw R mid second reply second' new
     → OnOk reply (TakesBytes (tells R old) (first' ++ second') (tells R new))
 TakesBytes-pair (Ok u) one next = TakesBytes-then (TakesBytes-fills one) (TakesBytes-fills next)
 TakesBytes-pair (Err e) one next = tt
 
 -- all that is to come behind P is all, with P in front
-pub IsAll-behind : {a b : Tells} (P Q : List Event) → Takes a P b → IsAll b Q → IsAll a (P ++ Q)
+pub IsAll-behind : {a b : ReaderState} (P Q : List Event) → Takes a P b → IsAll b Q → IsAll a (P ++ Q)
 IsAll-behind {a} {b} P Q takes all = grind (arith, common_steps)
 
 -- a fault behind events without one
 pub EndsInFault-behind : (P Q : List Event) {e : Error} → HasNoFault P → EndsInFault Q e → EndsInFault (P ++ Q) e
 EndsInFault-behind P Q {e} no_fault fault = grind (arith, common_steps, append_assoc, HasNoFault-append)
 
-module _ {S : Type 0} (R : Reader S) where
+module _ {X : Type 0} (R : Reader X) where
   -- a call that keeps its law is one that the reader may make
-  read_may : (a b : S) (call : ReadCall) → ReadCallLaw R a call b → R.may a call b
+  read_may : (a b : X) (call : ReadCall) → ReadCallLaw R a call b → R.may a call b
   read_may a b x3 law = grind (arith, common_steps)
 
   -- and it takes something
-  law_takes : (a b : S) (call : ReadCall) → ReadCallLaw R a call b → (P : List Event) × Takes (tells R a) P (tells R b)
+  law_takes : (a b : X) (call : ReadCall) → ReadCallLaw R a call b → (P : List Event) × Takes (tells R a) P (tells R b)
   law_takes a b x3 law = grind (arith, common_steps)
 
   -- calls, without their laws
-  pub made_may : (C : List ReadCall) (a b : S) → Made (ReadCallLaw R) a C b → Made R.may a C b
+  pub made_may : (C : List ReadCall) (a b : X) → Made (ReadCallLaw R) a C b → Made R.may a C b
   made_may C a b made = made_map (ReadCallLaw R) R.may (λ x. x) read_may C a b made
 
   -- calls take something
-  pub made_takes : (C : List ReadCall) (a b : S) → Made (ReadCallLaw R) a C b → (P : List Event) × Takes (tells R a) P (tells R b)
+  pub made_takes : (C : List ReadCall) (a b : X) → Made (ReadCallLaw R) a C b → (P : List Event) × Takes (tells R a) P (tells R b)
   made_takes [] a b made = ([], subst (λ x. Takes (tells R a) [] (tells R x)) (sym made) (takes_none (tells R a)))
   made_takes (call ∷ C) a b made =
       let first = law_takes a made.0 call made.1 in
@@ -142,7 +145,7 @@ module _ {S : Type 0} (R : Reader S) where
       (first.0 ++ rest.0, takes_then first.1 rest.1)
 
 -- a `read` is a call
-pub read_law : {S : Type 0} {R : Reader S} {old new : S} {buf buf' : List ℕ} (reply : Result ℕ Error)
+pub read_law : {X : Type 0} {R : Reader X} {old new : X} {buf buf' : List ℕ} (reply : Result ℕ Error)
     → ReadLaw R old buf reply buf' new → GaveLaw R old (length buf') (gave reply buf') new
 read_law {buf' = buf'} (Ok n) read = record {
   bound = omega (arith, read.bound, length-take-le n buf' read.bound);
@@ -153,22 +156,22 @@ read_law {buf' = buf'} (Ok n) read = record {
 read_law (Err e) read = record { bound = omega arith; takes = read.takes; end = λ none. absurd (let no : ⊥ = cc in no); call = read.call }
 
 -- and a call that fits is a `read`
-pub read_by : {S : Type 0} {R : Reader S} {old new : S} {buf buf' : List ℕ} (reply : Result ℕ Error) → IfOk reply (λ n. n ≤ length buf')
+pub read_by : {X : Type 0} {R : Reader X} {old new : X} {buf buf' : List ℕ} (reply : Result ℕ Error) → IfOk reply (λ n. n ≤ length buf')
     → GaveLaw R old (length buf') (gave reply buf') new → ReadLaw R old buf reply buf' new
 read_by x1 bound law = grind (arith, common_steps)
 
 -- a read that gives some bytes spends a turn
-pub read_spends : {S : Type 0} {R : Reader S} {old new : S} {buf buf' : List ℕ} {n : ℕ} → ReadLaw R old buf (Ok n) buf' new → (n ≡ 0 → ⊥)
+pub read_spends : {X : Type 0} {R : Reader X} {old new : X} {buf buf' : List ℕ} {n : ℕ} → ReadLaw R old buf (Ok n) buf' new → (n ≡ 0 → ⊥)
     → R.turns new < R.turns old
 read_spends {buf' = buf'} {n} law some = grind (arith, common_steps)
 
 -- a read of no bytes
-pub nothing_read : {S : Type 0} {R : Reader S} {old new : S} {buf buf' : List ℕ} {reply : Result ℕ Error} {n : ℕ}
+pub nothing_read : {X : Type 0} {R : Reader X} {old new : X} {buf buf' : List ℕ} {reply : Result ℕ Error} {n : ℕ}
     → ReadLaw R old buf reply buf' new → reply ≡ Ok n → n ≡ 0 → GaveLaw R old (length buf') (Ok []) new
 nothing_read {R = R} {old} {new} {buf} {buf'} law is none = grind (arith, common_steps)
 
 -- a read of no bytes into some room met the end
-pub met_end : {S : Type 0} {R : Reader S} {old new : S} {buf buf' : List ℕ} {reply : Result ℕ Error} {n : ℕ}
+pub met_end : {X : Type 0} {R : Reader X} {old new : X} {buf buf' : List ℕ} {reply : Result ℕ Error} {n : ℕ}
     → ReadLaw R old buf reply buf' new → reply ≡ Ok n → n ≡ 0 → 0 < length buf'
     → Takes (tells R old) [] (tells R new) × IsAtEnd (tells R new)
 met_end law is none some = let zero = nothing_read law is none in (zero.takes, zero.end refl some)
@@ -178,12 +181,12 @@ pub all_taken : (P : List Event) (room : ℕ) (left : Option (List Event)) → I
 all_taken x1 room x3 end = grind (arith, common_steps)
 
 -- how a `read_to_end` ended, with a weaker reason
-pub drains_lacks : {lacks lacks' : Type 0} (P : List Event) (reply : Result ℕ Error) (new : Tells) → (lacks → lacks')
+pub drains_lacks : {lacks lacks' : Type 0} (P : List Event) (reply : Result ℕ Error) (new : ReaderState) → (lacks → lacks')
     → DrainsOrStops lacks P reply new → DrainsOrStops lacks' P reply new
 drains_lacks x1 x2 new weaker ends = grind (arith, common_steps)
 
 -- and as one call
-pub drains_ended : (lacks : Type 0) (P : List Event) (reply : Result ℕ Error) (new : Tells) → DrainsOrStops lacks P reply new
+pub drains_ended : (lacks : Type 0) (P : List Event) (reply : Result ℕ Error) (new : ReaderState) → DrainsOrStops lacks P reply new
     → DrainsOrStops (Unit {0}) P (ended reply) new
 drains_ended lacks x2 x3 new ends = grind (arith, common_steps)
 

@@ -6,15 +6,15 @@ use Rattle.std.proofs.{Props.{props}, lemmas.{List.Folds.{concat-append}, Fn.{ch
 use Rattle.std.specs.{Coded.{le_prop, Π_prop, Unit-prop}, List.{concat}, Fmt.{WritesInCalls, WritesText, DisplaysOnOk, IsPlainFormatter}}
 use Rattle.std.specs.{Fmt.{formatter_writer}, declared.fmt.{Formatter.{Formatter}, Error.{Error as FormatError}}}
 use mathlib.Core.HLevel.{⊥_prop}
-use Rattle.no_std_io2_base.specs.{declared.error.{Error.{Error}, ErrorKind.{ErrorKind}}, Write.{Told, Moves, MovesFront, HasSpent}}
+use Rattle.no_std_io2_base.specs.{declared.error.{Error.{Error}, ErrorKind.{ErrorKind}}, Write.{WriterState, Moves, MovesFront, HasSpent}}
 use Rattle.no_std_io2_base.specs.{Write.{call_mishap}, Writers.{Writer, WriteAllOf, PrintsOf, WriteFmtOf}, Text.{nothing, piece, silent}}
 use Rattle.no_std_io2_base.specs.{Text.{IsTextError, FailsText, MovesText}, Errors.{IsNoInterruption}}
 use Rattle.no_std_io2_base.proofs.MovesLemmas.{after_ok, IsFront-refl, Moves-refl, MovesFront-join, MovesFront-first, MovesFront-flush}
 
-module _ {S : Type 0} {I : Writer S} {old : S} where
+module _ {X : Type 0} {I : Writer X} {old : X} where
   -- a piece more, if the test says that no error was met
   pub prints_next : (b : Bool) {met : Result (Unit {0}) Error} → b ≡ is_ok met → b ≡ true
-      → {text bytes x : List ℕ} {reply : Result (Unit {0}) Error} {mid new : S}
+      → {text bytes x : List ℕ} {reply : Result (Unit {0}) Error} {mid new : X}
       → WriteAllOf I mid bytes reply new → bytes ≡ x
       → PrintsOf I old text met mid → PrintsOf I old (text ++ x) reply new
   prints_next b {met = Ok u} is had {text = text} {bytes = bytes} {reply = reply} {new = new} wrote same so_far =
@@ -22,45 +22,45 @@ module _ {S : Type 0} {I : Writer S} {old : S} where
   prints_next b {met = Err e} is had wrote same so_far = absurd (true≢false (sym had ∙ is))
 
   -- no call, if it says that one was
-  pub prints_after : (b : Bool) {met : Result (Unit {0}) Error} → b ≡ is_ok met → b ≡ false → {text : List ℕ} (x : List ℕ) {now : S}
+  pub prints_after : (b : Bool) {met : Result (Unit {0}) Error} → b ≡ is_ok met → b ≡ false → {text : List ℕ} (x : List ℕ) {now : X}
       → PrintsOf I old text met now → PrintsOf I old (text ++ x) met now
   prints_after b is had x so_far = grind (arith, common_steps, silent)
 
   -- some front was accepted
-  prints_moves : {text : List ℕ} {reply : Result (Unit {0}) Error} {new : S}
+  prints_moves : {text : List ℕ} {reply : Result (Unit {0}) Error} {new : X}
       → PrintsOf I old text reply new → MovesFront (I.told old) text reply (I.told new)
   prints_moves nothing = record { accepted = []; front = IsFront-refl []; whole = refl; moves = Moves-refl (I.told old) }
   prints_moves (piece {text = text} x {reply = reply} so_far wrote) = MovesFront-join text x reply (prints_moves so_far) wrote.moves
   prints_moves (silent {text = text} x {e = e} so_far) = MovesFront-first text x e (prints_moves so_far)
 
   -- and no interruption is returned
-  prints_fault : {text : List ℕ} {reply : Result (Unit {0}) Error} {new : S}
+  prints_fault : {text : List ℕ} {reply : Result (Unit {0}) Error} {new : X}
       → PrintsOf I old text reply new → IsNoInterruption reply
   prints_fault nothing = tt
   prints_fault (piece x so_far wrote) = wrote.never_interrupted
   prints_fault (silent x so_far) = prints_fault so_far
 
 -- a formatter's calls, one after another, print what they print together
-module _ {W S : Type 0} (prints : S → List ℕ → W → Type 0) where
+module _ {W X : Type 0} (prints : X → List ℕ → W → Type 0) where
   abbrev PrintsNext : W → List ℕ → W → Type 0
-  PrintsNext s bs t = (old : S) (text : List ℕ) → prints old text s → prints old (text ++ bs) t
+  PrintsNext s bs t = (old : X) (text : List ℕ) → prints old text s → prints old (text ++ bs) t
 
-  prints_calls : (s : W) {bs : List ℕ} (t : W) (old : S) → WritesInCalls PrintsNext s bs t → prints old [] s → prints old bs t
+  prints_calls : (s : W) {bs : List ℕ} (t : W) (old : X) → WritesInCalls PrintsNext s bs t → prints old [] s → prints old bs t
   prints_calls s t old w start = rw (← w.whole) (chained_keeps PrintsNext (λ xs q. prints old (concat xs) q)
       (λ xs q x v so_far next. rw (concat-append, append-nil) (next old (concat xs) so_far)) w.parts s t start w.calls)
 
   -- a text was printed by a writer for formatters: whatever its `fmt` did, and its output if that is specified
-  pub prints_through : {s t : W} {old : S} (output : Option (List ℕ)) (formatted : Result (Unit {0}) FormatError)
+  pub prints_through : {s t : W} {old : X} (output : Option (List ℕ)) (formatted : Result (Unit {0}) FormatError)
       → OnOk formatted (WritesText PrintsNext s output t) → prints old [] s
-      → ∥ ((old : S) × (text : List ℕ) × prints old text t) ∥₁
-      → ∥ ((old : S) × (text : List ℕ) × prints old text t × (IsOk formatted → IfSome output (λ bs. text ≡ bs))) ∥₁
+      → ∥ ((old : X) × (text : List ℕ) × prints old text t) ∥₁
+      → ∥ ((old : X) × (text : List ℕ) × prints old text t × (IsOk formatted → IfSome output (λ bs. text ≡ bs))) ∥₁
   prints_through None formatted writes start had = ∥∥₁_map had (λ p. (p.0, p.1, p.2, λ ok. tt))
   prints_through (Some bs) (Err e) writes start had = ∥∥₁_map had (λ p. (p.0, p.1, p.2, λ ok. absurd (true≢false (sym ok))))
   prints_through {s = s} {t = t} {old = old} (Some bs) (Ok u) writes start had =
       ∣ (old, bs, prints_calls s t old writes start, λ ok. refl) ∣₁
 
   -- a specified output was printed through a formatter, after `Ok`
-  pub prints_output : (f g : Formatter W) {s t : W} (old : S) (output : Option (List ℕ)) (formatted : Result (Unit {0}) FormatError)
+  pub prints_output : (f g : Formatter W) {s t : W} (old : X) (output : Option (List ℕ)) (formatted : Result (Unit {0}) FormatError)
       → formatter_writer f ≡ s → IsPlainFormatter f → t ≡ formatter_writer g → DisplaysOnOk PrintsNext f formatted output g → IsOk formatted
       → prints old [] s → IfSome output (λ bs. prints old bs t)
   prints_output f g old x4 formatted over plain back shows ok start = grind (arith, common_steps, prints_calls)
@@ -77,14 +77,14 @@ HasSpent-prop (Some a) k None = ⊥_prop
 HasSpent-prop (Some a) k (Some c) = Π_prop (λ p. le_prop)
 
 -- the bytes that were accepted from a to b
-abbrev since : Told → Told → List ℕ
+abbrev since : WriterState → WriterState → List ℕ
 since a b = drop (length (a.out ++ a.held)) (b.out ++ b.held)
 
 -- whatever was accepted, it is those
-since-is : {a b : Told} {x : List ℕ} {k : List ErrorKind} → Moves a x k b → x ≡ since a b
+since-is : {a b : WriterState} {x : List ℕ} {k : List ErrorKind} → Moves a x k b → x ≡ since a b
 since-is {a} {b} {x} m = sym (ap (drop (length (a.out ++ a.held))) m.bytes ∙ drop-append_seam (a.out ++ a.held) x)
 
-Moves-had : {a b : Told} {k : List ErrorKind} → ∥ ((x : List ℕ) × Moves a x k b) ∥₁ → Moves a (since a b) k b
+Moves-had : {a b : WriterState} {k : List ErrorKind} → ∥ ((x : List ℕ) × Moves a x k b) ∥₁ → Moves a (since a b) k b
 Moves-had {a} {b} {k} had = record {
   front = (drop (length a.out) b.out, ∥∥₁_elim had (Prim.hlevel props) (λ m. behind a.out b.out m.1.front.0 m.1.front.1));
   bytes = ∥∥₁_elim had (Prim.hlevel props) (λ m. behind (a.out ++ a.held) (b.out ++ b.held) m.0 m.1.bytes);
@@ -97,7 +97,7 @@ OnOk-prop (Ok u) xs ys = Prim.hlevel props
 OnOk-prop (Err e) xs ys = Unit-prop
 
 -- of a known text the front that was accepted is known
-MovesFront-had : {a b : Told} {text : List ℕ} {r : Result (Unit {0}) Error} → ∥ MovesFront a text r b ∥₁ → MovesFront a text r b
+MovesFront-had : {a b : WriterState} {text : List ℕ} {r : Result (Unit {0}) Error} → ∥ MovesFront a text r b ∥₁ → MovesFront a text r b
 MovesFront-had {a} {b} {text} {r} had = record {
   accepted = since a b;
   front = (
@@ -113,7 +113,7 @@ MovesFront-had {a} {b} {text} {r} had = record {
     is_whole x1 z is whole = grind (arith, common_steps)
 
 -- of any text some bytes were accepted
-MovesFront-some : {a b : Told} {r : Result (Unit {0}) Error} → ∥ ((text : List ℕ) × MovesFront a text r b) ∥₁
+MovesFront-some : {a b : WriterState} {r : Result (Unit {0}) Error} → ∥ ((text : List ℕ) × MovesFront a text r b) ∥₁
     → MovesFront a (since a b) r b
 MovesFront-some {a} {b} {r} had = record {
   accepted = since a b;
@@ -123,7 +123,7 @@ MovesFront-some {a} {b} {r} had = record {
 }
 
 -- what was printed of a text whose `fmt` returned `Ok`
-moves_text : {a b : Told} (output : Option (List ℕ)) {met : Result (Unit {0}) Error}
+moves_text : {a b : WriterState} (output : Option (List ℕ)) {met : Result (Unit {0}) Error}
     → ∥ ((text : List ℕ) × MovesFront a text met b × IfSome output (λ bs. text ≡ bs)) ∥₁ → MovesText a output met b
 moves_text {a} {b} None {met} had = record {
   text = since a b;
@@ -147,14 +147,14 @@ text_fault : (met r : Result (Unit {0}) Error) → FailsText met r → IsNoInter
 text_fault met x2 why fault = grind (arith, common_steps)
 
 -- the name of the loan is what it was
-pub name_kept : {S : Type 0} {at : S → Type 0} {name was : ℕ} {R : S → List ℕ → Type 0} {Q : List ℕ → Type 0}
-    → ∥ ((x : S) × (text : List ℕ) × ((at x × (name ≡ was)) × R x text) × Q text) ∥₁ → name ≡ was
+pub name_kept : {X : Type 0} {at : X → Type 0} {name was : ℕ} {R : X → List ℕ → Type 0} {Q : List ℕ → Type 0}
+    → ∥ ((x : X) × (text : List ℕ) × ((at x × (name ≡ was)) × R x text) × Q text) ∥₁ → name ≡ was
 name_kept had = ∥∥₁_elim had (Prim.hlevel props) (λ p. p.2.0.1)
 
-module _ {S : Type 0} {I : Writer S} {old new : S} {name was : ℕ} {output : Option (List ℕ)} {met : Result (Unit {0}) Error} where
+module _ {X : Type 0} {I : Writer X} {old new : X} {name was : ℕ} {output : Option (List ℕ)} {met : Result (Unit {0}) Error} where
   -- what is known of a text that was printed, from the result
   pub law_shown : (formatted : Result (Unit {0}) FormatError) (reply : Result (Unit {0}) Error)
-      → ∥ ((x : S) × (text : List ℕ) × (((x ≡ old) × (name ≡ was)) × PrintsOf I x text met new)
+      → ∥ ((x : X) × (text : List ℕ) × (((x ≡ old) × (name ≡ was)) × PrintsOf I x text met new)
       × (IsOk formatted → IfSome output (λ bs. text ≡ bs))) ∥₁
       → OnOk formatted (reply ≡ met) → OnErr formatted (FailsText met reply)
       → WriteFmtOf I old output reply new
@@ -181,11 +181,12 @@ module _ {S : Type 0} {I : Writer S} {old new : S} {name was : ℕ} {output : Op
       }
 
 -- A `write!` of a text whose output is specified: a front of it was accepted, or its own `fmt` failed.
-pub MovesFront-text : {a b : Told} {bs : List ℕ} {r : Result (Unit {0}) Error} → MovesText a (Some bs) r b
+pub MovesFront-text : {a b : WriterState} {bs : List ℕ} {r : Result (Unit {0}) Error} → MovesText a (Some bs) r b
     → MovesFront a bs r b ⊎ IsErrAnd r IsTextError
 MovesFront-text {a} {b} {bs} {r} f = grind (arith, common_steps)
 
 -- `write!(..)?; flush()`, if the `write!` returned `Ok`
-pub MovesFront-text_flush : {a b c : Told} {text : List ℕ} {u : Unit {0}} (r : Result (Unit {0}) Error) → MovesText a (Some text) (Ok u) b
+pub MovesFront-text_flush : {a b c : WriterState} {text : List ℕ} {u : Unit {0}} (r : Result (Unit {0}) Error)
+    → MovesText a (Some text) (Ok u) b
     → Moves b [] (call_mishap r) c → MovesFront a text r c
 MovesFront-text_flush {text = text} {u} r f g = ⊎_elim (λ front. MovesFront-flush text u r front g) (λ no. absurd no) (MovesFront-text f)

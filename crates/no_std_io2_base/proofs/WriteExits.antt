@@ -25,7 +25,7 @@ pub fewer_left : (n : ℕ) {turns : ℕ} (turns' k : ℕ) (left : List ℕ)
     → turns' + length (take (length left - n) (drop n left)) < turns + length left
 fewer_left n turns' k left some fits spent = omega (arith, some, fits, spent, ap length (rest_is n left), length-drop n left)
 
-module _ {S : Type 0} {I : Writer S} {old now : S} {start left : List ℕ} where
+module _ {X : Type 0} {I : Writer X} {old now : X} {start left : List ℕ} where
   module _ (before : CallsSoFar (CallOf I) (codes "failed to write whole buffer") old start left now) where
     -- all was sent
     pub writes_done : left ≡ [] → WriteRestOf I old start (Ok tt) now left
@@ -33,7 +33,7 @@ module _ {S : Type 0} {I : Writer S} {old now : S} {start left : List ℕ} where
         writes_law I (calls_end before (Ok tt) left [] refl
         (subst (λ l. Writes (codes "failed to write whole buffer") [] l (Ok tt) l) (sym empty) no_write))
 
-    module _ {new : S} where
+    module _ {new : X} where
       -- n bytes more were sent
       pub writes_more : {n : ℕ} → WriteOf I now left (Ok n) new → 0 < length left → 0 < n
           → CallsSoFar (CallOf I) (codes "failed to write whole buffer") old start

@@ -42,10 +42,10 @@ pub writes_idle : {text : List ℕ} {C : List WriteCall} {x left : List ℕ} {re
     → Writes text C x reply left → x ≡ [] → (C ≡ []) × IsOk reply
 writes_idle x1 empty = grind (arith, common_steps)
 
-module _ {S : Type 0} (I : Writer S) where
+module _ {X : Type 0} (I : Writer X) where
   -- what was accepted
   pub writes_sends : {text : List ℕ} {C : List WriteCall} {x left : List ℕ} {reply : Result (Unit {0}) Error}
-      → Writes text C x reply left → (a b : S) → Made (CallOf I) a C b
+      → Writes text C x reply left → (a b : X) → Made (CallOf I) a C b
       → Sends (I.told a) x reply (I.told b) left
   writes_sends none a b made = grind (arith, common_steps)
   writes_sends (took {x = x} {left = left} {n = n} some more w) a b made =
@@ -63,7 +63,7 @@ module _ {S : Type 0} (I : Writer S) where
 
   -- a writer that takes all does so in one call, which is counted
   pub writes_all : {text : List ℕ} {C : List WriteCall} {x left : List ℕ} {reply : Result (Unit {0}) Error}
-      → Writes text C x reply left → (a b : S) → Made (CallOf I) a C b → TakesAll I a
+      → Writes text C x reply left → (a b : X) → Made (CallOf I) a C b → TakesAll I a
       → TakesAll I b × IsOk reply × (length C ≡ calls_for x)
   writes_all none a b made takes =
       (subst (TakesAll I) (sym made) takes, refl, refl)
@@ -80,7 +80,7 @@ module _ {S : Type 0} (I : Writer S) where
   writes_all (fault some is) a b made takes = no_error (made.1.all takes).1
 
   -- the law of `write_rest` follows from its writes
-  pub writes_law : {x left : List ℕ} {reply : Result (Unit {0}) Error} {a b : S}
+  pub writes_law : {x left : List ℕ} {reply : Result (Unit {0}) Error} {a b : X}
       → ByCalls (CallOf I) a (λ C. Writes (codes "failed to write whole buffer") C x reply left) b
       → WriteRestOf I a x reply b left
   writes_law {x} {left} {reply} {a} {b} calls = grind (arith, common_steps, writes_fault, writes_sends, writes_whole, writes_all)

@@ -2,7 +2,8 @@
 use Rattle.std.specs.Prelude.{◌≡◌, ℕ, ◌-◌, ◌<◌, List, [], ◌++◌, length, Ok, Err, Result, ◌+◌, ◌≤◌, take, drop, Vec, String, ◌^◌, ◌==◌}
 use Rattle.std.specs.Prelude.{min, if◌then◌else◌, vec_len, vec_capacity, string_bytes, string_len, string_capacity, IfOk, IfSome, IsOkAnd}
 use Rattle.std.specs.{Prelude.{Option}, Borrow.{Bor}}
-use Rattle.no_std_io2_base.specs.{declared.error.Error.{Error}, Events.{Event, events_of, bytes, BeginsWith}, Takes.{Store, Tells, Takes}}
+use Rattle.no_std_io2_base.specs.{declared.error.Error.{Error}, Events.{Event, events_of, bytes, BeginsWith}}
+use Rattle.no_std_io2_base.specs.Takes.{Store, ReaderState, Takes}
 use Rattle.no_std_io2_base.specs.{Takes.{to_come, IsAtEnd}, Read.{Reader, tells, ReadCall, Filled, Consumed, ReadCallLaw, bytes_given}}
 use Rattle.no_std_io2_base.specs.{Read.{fault_of}, Pieces.{newline, PieceEnds, AnswersLine, PieceCalls, YieldsRead}, Write.{ByCalls}}
 

@@ -1,6 +1,6 @@
 -- The two readers of a `Chain`, its mark, what it tells, and what its calls do.
 use Rattle.std.specs.Prelude.{◌≡◌, ℕ, ◌<◌, true, false, Bool, List, [], ◌++◌, if◌then◌else◌, Option, None, Some, Ok, IsErr}
-use Rattle.no_std_io2_base.specs.{declared.traits.chain.Chain.{Chain}, Events.{Event}, Takes.{Tells, to_come, IsAtEnd}, Read.{Reader}}
+use Rattle.no_std_io2_base.specs.{declared.traits.chain.Chain.{Chain}, Events.{Event}, Takes.{ReaderState, to_come, IsAtEnd}, Read.{Reader}}
 use Rattle.no_std_io2_base.specs.Read.{tells, ReadCall, Gave, GaveExactly, GaveAll, Filled, Consumed, ReadCallLaw, ToEndCalls}
 use Rattle.no_std_io2_base.specs.Write.{ByCalls}
 
@@ -27,12 +27,12 @@ both_to_come (Some E) None = None
 both_to_come (Some E) (Some F) = Some (E ++ F)
 
 -- the events of both readers, or, once the first is done, those of the second
-abbrev pub chain_to_come : Bool → Tells → Tells → Option (List Event)
+abbrev pub chain_to_come : Bool → ReaderState → ReaderState → Option (List Event)
 chain_to_come true first second = to_come second
 chain_to_come false first second = both_to_come (to_come first) (to_come second)
 
 -- the events of a chain of readers that tell this
-abbrev pub chain_events : {T U : Type 0} → (T → Tells) → (U → Tells) → Chain T U → Option (List Event)
+abbrev pub chain_events : {T U : Type 0} → (T → ReaderState) → (U → ReaderState) → Chain T U → Option (List Event)
 chain_events first second c = chain_to_come c.done_first (first c.first) (second c.second)
 
 -- the bytes that the current reader holds

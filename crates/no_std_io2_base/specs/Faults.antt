@@ -1,7 +1,7 @@
 -- Whose error a call returned that uses a reader and a writer.
 use Rattle.std.specs.Prelude.{◌≡◌, ◌⊎◌, ◌<◌, ◌==◌, List, ◌++◌, count_by, Option, None, Some, IfSome, ⊤}
 use Rattle.no_std_io2_base.specs.{declared.error.ErrorKind.{ErrorKind}, declared.error.Error.{Error}, Errors.{error_kind, kind_number}}
-use Rattle.no_std_io2_base.specs.{Errors.{IsInterruption}, Events.{Event, EndsInFault}, Takes.{Tells, to_come}, Write.{Told}}
+use Rattle.no_std_io2_base.specs.{Errors.{IsInterruption}, Events.{Event, EndsInFault}, Takes.{ReaderState, to_come}, Write.{WriterState}}
 
 -- The first fault of E is e.
 pub record HasFirstFault (E : List Event) (e : Error) : Type 0 where
@@ -17,10 +17,10 @@ TellsMishap (Some kinds) kind = 0 < count_by (λ other. kind_number other == kin
 
 -- A writer that told this may have failed with e: if mishaps were told, the kind of e is one of them; and if e is an interruption, a turn
 -- was left.
-pub record MayFail (told : Told) (e : Error) : Type 0 where
+pub record MayFail (told : WriterState) (e : Error) : Type 0 where
   pub mishap : TellsMishap told.mishaps (error_kind e)
   pub turn : IsInterruption e → 0 < told.turns
 
 -- e is the first fault that a reader told, or a failure of a writer that told this
-abbrev pub IsFaultOf : Tells → Told → Error → Type 0
+abbrev pub IsFaultOf : ReaderState → WriterState → Error → Type 0
 IsFaultOf from told e = IfSome (to_come from) (λ E. HasFirstFault E e) ⊎ MayFail told e

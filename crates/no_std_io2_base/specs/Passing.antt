@@ -1,7 +1,7 @@
 -- The bytes that `skip` skips, and the calls that take a number of bytes.
 use Rattle.std.specs.Prelude.{◌≡◌, ◌⊎◌, ℕ, ◌+◌, ◌-◌, ◌<◌, min, List, [], ◌∷◌, ◌++◌, length, take, Result, Ok, Err}
 use Rattle.no_std_io2_base.specs.{declared.error.Error.{Error}, Errors.{IsFault, IsInterruption, IsUnexpectedEnd}, Events.{Event, bytes}}
-use Rattle.no_std_io2_base.specs.{Events.{HasNoFault, EndsInFault}, Takes.{Tells, Takes, IsAtEnd}, Read.{ReadCall, Filled, Consumed}}
+use Rattle.no_std_io2_base.specs.{Events.{HasNoFault, EndsInFault}, Takes.{ReaderState, Takes, IsAtEnd}, Read.{ReadCall, Filled, Consumed}}
 use Rattle.no_std_io2_base.specs.{Read.{Reader, tells, ReadCallLaw}, Write.{ByCalls}}
 
 -- C are the calls of a loop that takes `want` bytes and has taken x: each `fill_buf` lent some bytes, and as many of them as were still
@@ -23,7 +23,7 @@ SkipCalls n C x (Ok u) = PortionCalls n C x
 SkipCalls n C x (Err e) = (IsFault e × PortionsUntil n C x (Err e)) ⊎ (IsUnexpectedEnd e × PortionsUntil n C x (Ok []))
 
 -- how a `skip` that took P ended, with `left` bytes still to be skipped: all were skipped; or a fault came first, or the end
-abbrev SkipEnds : List Event → Result (Unit {0}) Error → ℕ → Tells → Type 0
+abbrev SkipEnds : List Event → Result (Unit {0}) Error → ℕ → ReaderState → Type 0
 SkipEnds P (Ok u) left new = HasNoFault P × (left ≡ 0)
 SkipEnds P (Err e) left new = (0 < left) × (EndsInFault P e ⊎ (IsUnexpectedEnd e × HasNoFault P × IsAtEnd new))
 

@@ -1,12 +1,13 @@
 -- How a loop over pieces ends before the reader does.
 use Rattle.std.specs.Prelude.{◌≡◌, ◌⊎◌, ℕ, List, Bool, true, Result, Ok, Err}
-use Rattle.no_std_io2_base.specs.{declared.error.Error.{Error}, Errors.{IsOutOfMemory}, Pieces.{GivesPieces}, Reads.{Took}, Takes.{Tells}}
+use Rattle.no_std_io2_base.specs.{declared.error.Error.{Error}, Errors.{IsOutOfMemory}, Pieces.{GivesPieces}, Reads.{Took}}
+use Rattle.no_std_io2_base.specs.Takes.{ReaderState}
 
 -- From old to new a reader gave these pieces. After them a part of the next one was taken, or all of it; and then came the error e: the
 -- reader's fault, or an allocation failed.
-pub record StopsAfter (d : ℕ) (e : Error) (old : Tells) (ps : List (List ℕ)) (new : Tells) : Type 0 where
+pub record StopsAfter (d : ℕ) (e : Error) (old : ReaderState) (ps : List (List ℕ)) (new : ReaderState) : Type 0 where
   -- what the reader tells after the pieces
-  pub mid : Tells
+  pub mid : ReaderState
   pub gives : GivesPieces d old ps mid
   -- the part that was taken then
   pub part : List ℕ

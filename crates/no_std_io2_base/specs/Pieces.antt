@@ -4,7 +4,7 @@ use Rattle.std.specs.{Prelude.{if◌then◌else◌, ◌⊎◌, Option, None, Som
 use Rattle.std.specs.{List.{concat}, Prelude.{IsSomeAnd}}
 use Rattle.no_std_io2_base.specs.{declared.error.Error.{Error}, Errors.{error_kind, IsInterruption, IsFault, IsOutOfMemory, error_text}}
 use Rattle.no_std_io2_base.specs.Events.{Event, byte, events_of, bytes, HasNoFault, EndsInFault, bytes_to_fault, first_fault}
-use Rattle.no_std_io2_base.specs.{Takes.{Tells, to_come, IsAll}, Read.{ReadCall, Filled, Consumed}, Write.{IsFront}}
+use Rattle.no_std_io2_base.specs.{Takes.{ReaderState, to_come, IsAll}, Read.{ReadCall, Filled, Consumed}, Write.{IsFront}}
 use Rattle.no_std_io2_base.specs.{declared.error.ErrorKind.TheVariants.{InvalidData, OutOfMemory}, declared.traits.split.Split.{Split}}
 use Rattle.no_std_io2_base.specs.declared.traits.lines.Lines.{Lines}
 
@@ -80,13 +80,13 @@ abbrev pub IsPiecePart : ℕ → List ℕ → Type 0
 IsPiecePart d part = (0 < length part) × Lacks d (but_last part)
 
 -- behind the events P these bytes are to come, if events are told
-abbrev pub ComesBehind : Tells → List Event → List ℕ → Type 0
+abbrev pub ComesBehind : ReaderState → List Event → List ℕ → Type 0
 ComesBehind t P x = IfSome (to_come t) (λ E. (rest : List Event) × (E ≡ P ++ (events_of x ++ rest)))
 
 -- How a call that took the events P of one piece ended: with the first d, or at the end; or before a d, with a fault, or since an
 -- allocation failed for the next bytes of the piece. `lacks` is the reason why these and the bytes of P needed one. At the end P is all
 -- that was told. The last call is then a `consume` of no byte, after which a reader that told nothing may tell events (`at_end_after`).
-abbrev pub PieceEnds : (ℕ → Type 0) → ℕ → Tells → List Event → Result ℕ Error → Type 0
+abbrev pub PieceEnds : (ℕ → Type 0) → ℕ → ReaderState → List Event → Result ℕ Error → Type 0
 PieceEnds lacks d old P (Ok n) = HasNoFault P × (n ≡ length (bytes P)) × (EndsAt d P ⊎ (Lacks d (bytes P) × IsAll old P))
 PieceEnds lacks d old P (Err e) = Lacks d (bytes P) × (EndsInFault P e ⊎ (HasNoFault P × IsOutOfMemory e
     × ((part : List ℕ) × IsPiecePart d part × ComesBehind old P part × lacks (length (bytes P) + length part))))
@@ -124,15 +124,15 @@ pub record GivesFirst (d : ℕ) (E : List Event) (ps : List (List ℕ)) (after :
   pub bytes : bytes_to_fault E ≡ concat ps ++ bytes_to_fault after
 
 -- From old to new a reader gave these pieces, if it tells its events.
-pub record GivesPieces (d : ℕ) (old : Tells) (ps : List (List ℕ)) (new : Tells) : Type 0 where
+pub record GivesPieces (d : ℕ) (old : ReaderState) (ps : List (List ℕ)) (new : ReaderState) : Type 0 where
   pub told : IfSome (to_come old) (λ E. IsSomeAnd (to_come new) (GivesFirst d E ps))
 
 -- these are all pieces that a reader gives, and then this fault comes, or none, if it tells its events
-abbrev pub AreAllPieces : ℕ → Tells → List (List ℕ) → Option Error → Type 0
+abbrev pub AreAllPieces : ℕ → ReaderState → List (List ℕ) → Option Error → Type 0
 AreAllPieces d t ps fault = IfSome (to_come t) (λ E. (pieces_given d E ≡ ps) × (first_fault E ≡ fault))
 
 -- these bytes come first, before any fault, if the reader tells its events
-abbrev pub ComeFirst : Tells → List ℕ → Type 0
+abbrev pub ComeFirst : ReaderState → List ℕ → Type 0
 ComeFirst t x = IfSome (to_come t) (λ E. IsFront x (bytes_to_fault E))
 
 -- the inner reader

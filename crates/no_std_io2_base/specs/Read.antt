@@ -3,7 +3,8 @@ use Rattle.std.specs.Prelude.{◌≡◌, ℕ, ◌<◌, List, [], ◌∷◌, ◌+
 use Rattle.std.specs.Prelude.{vec_capacity, Some, IfOk, IsOk, Option, None, IfSome, drop}
 use Rattle.no_std_io2_base.specs.{declared.error.Error.{Error}, Errors.{IsInterruption, IsFault, IsUnexpectedEnd, IsOutOfMemory}}
 use Rattle.no_std_io2_base.specs.{declared.traits.bytes.Bytes.{Bytes}, Events.{Event, byte, fails, events_of, bytes, HasNoFault, cut}}
-use Rattle.no_std_io2_base.specs.{Events.{EndsInFault, BeginsWith}, Takes.{Store, Tells, Takes, to_come, IsAtEnd}, Write.{ByCalls, IsFront}}
+use Rattle.no_std_io2_base.specs.{Events.{EndsInFault, BeginsWith}, Takes.{Store, ReaderState, Takes, to_come, IsAtEnd}}
+use Rattle.no_std_io2_base.specs.Write.{ByCalls, IsFront}
 
 -- A call of a reader, with its result.
 pub data ReadCall : Type 0 where
@@ -96,7 +97,7 @@ Reader S = record {
 }
 
 -- what a reader tells
-abbrev pub tells : {S : Type 0} → Reader S → S → Tells
+abbrev pub tells : {X : Type 0} → Reader X → X → ReaderState
 tells R x = record { events = R.events x; store = R.store x; turns = R.turns x }
 
 -- the events that a `read` took, by its answer: the given bytes, or the error
@@ -120,23 +121,23 @@ abbrev pub AllOrNone : List Event → ℕ → List Event → Type 0
 AllOrNone P room left = (left ≡ []) ⊎ ((P ≡ []) × HasNoFault left × (length (bytes left) < room))
 
 -- how a `read_exact` of `room` bytes that took P ended: it gave them; or a fault came before the last of them, or the end
-abbrev pub FillsOrEnds : ℕ → List Event → Result (List ℕ) Error → Tells → Type 0
+abbrev pub FillsOrEnds : ℕ → List Event → Result (List ℕ) Error → ReaderState → Type 0
 FillsOrEnds room P (Ok x) new = Gives room P x × (length x ≡ room)
 FillsOrEnds room P (Err e) new = (length (bytes P) < room)
     × (EndsInFault P e ⊎ (IsUnexpectedEnd e × HasNoFault P × IfSome (to_come new) (AllOrNone P room)))
 
 -- how a `read_full` into this much room that took P ended: it gave so many bytes, or met the end; or a fault came first
-abbrev FillsOrMeetsEnd : ℕ → List Event → Result (Unit {0}) Error → Tells → Type 0
+abbrev FillsOrMeetsEnd : ℕ → List Event → Result (Unit {0}) Error → ReaderState → Type 0
 FillsOrMeetsEnd room P (Ok u) new = HasNoFault P × (cut room P ≡ P) × (length (bytes P) < room → IsAtEnd new)
 FillsOrMeetsEnd room P (Err e) new = EndsInFault P e × (length (bytes P) < room)
 
 -- how a `read_to_end` that took P ended: at the end; or after a fault; or since an allocation failed, for which `lacks` is a reason
-abbrev pub DrainsOrStops : {A : Type 0} → Type 0 → List Event → Result A Error → Tells → Type 0
+abbrev pub DrainsOrStops : {A : Type 0} → Type 0 → List Event → Result A Error → ReaderState → Type 0
 DrainsOrStops lacks P (Ok _) new = HasNoFault P × IsAtEnd new
 DrainsOrStops lacks P (Err e) new = EndsInFault P e ⊎ (HasNoFault P × IsOutOfMemory e × lacks)
 
 -- a `read`, by its answer
-pub record GaveLaw {S : Type 0} (R : Reader S) (old : S) (room : ℕ) (answer : Result (List ℕ) Error) (new : S) : Type 0 where
+pub record GaveLaw {X : Type 0} (R : Reader X) (old : X) (room : ℕ) (answer : Result (List ℕ) Error) (new : X) : Type 0 where
   -- it gives at most as many bytes as fit
   pub bound : length (bytes_given answer) ≤ room
   -- it takes the bytes or the error that it gives
@@ -147,7 +148,7 @@ pub record GaveLaw {S : Type 0} (R : Reader S) (old : S) (room : ℕ) (answer : 
   pub call : R.may old (Gave room answer) new
 
 -- a `fill_buf`, by its answer
-pub record FilledLaw {S : Type 0} (R : Reader S) (old : S) (answer : Result (List ℕ) Error) (new : S) : Type 0 where
+pub record FilledLaw {X : Type 0} (R : Reader X) (old : X) (answer : Result (List ℕ) Error) (new : X) : Type 0 where
   -- if bytes were held, they are lent, all of them, and nothing has changed
   pub held : 0 < length (R.held old) → (answer ≡ Ok (R.held old)) × (new ≡ old)
   -- the lent bytes come next, and are held
@@ -161,7 +162,7 @@ pub record FilledLaw {S : Type 0} (R : Reader S) (old : S) (answer : Result (Lis
   pub call : R.may old (Filled answer) new
 
 -- `consume(amount)`
-pub record ConsumeLaw {S : Type 0} (R : Reader S) (old : S) (amount : ℕ) (new : S) : Type 0 where
+pub record ConsumeLaw {X : Type 0} (R : Reader X) (old : X) (amount : ℕ) (new : X) : Type 0 where
   -- the first of the held bytes are dropped, and taken
   pub held : R.held new ≡ drop amount (R.held old)
   pub takes : Takes (tells R old) (events_of (take amount (R.held old))) (tells R new)
@@ -169,7 +170,7 @@ pub record ConsumeLaw {S : Type 0} (R : Reader S) (old : S) (amount : ℕ) (new 
   pub call : R.may old (Consumed amount) new
 
 -- a call, by its law
-abbrev pub ReadCallLaw : {S : Type 0} → Reader S → S → ReadCall → S → Type 0
+abbrev pub ReadCallLaw : {X : Type 0} → Reader X → X → ReadCall → X → Type 0
 ReadCallLaw R old (Gave room answer) new = GaveLaw R old room answer new
 ReadCallLaw R old (GaveExactly room answer) new = R.may old (GaveExactly room answer) new
     × ((P : List Event) × Takes (tells R old) P (tells R new) × FillsOrEnds room P answer (tells R new))
@@ -179,7 +180,7 @@ ReadCallLaw R old (Filled answer) new = FilledLaw R old answer new
 ReadCallLaw R old (Consumed n) new = (n ≤ length (R.held old)) × ConsumeLaw R old n new
 
 -- `read(buf)`
-pub record ReadLaw {S : Type 0} (R : Reader S) (old : S) (buf : List ℕ) (reply : Result ℕ Error) (buf' : List ℕ) (new : S) : Type 0 where
+pub record ReadLaw {X : Type 0} (R : Reader X) (old : X) (buf : List ℕ) (reply : Result ℕ Error) (buf' : List ℕ) (new : X) : Type 0 where
   -- it gives at most as many bytes as fit
   pub bound : IfOk reply (λ n. n ≤ length buf')
   -- it takes the bytes or the error that it gives
@@ -190,8 +191,8 @@ pub record ReadLaw {S : Type 0} (R : Reader S) (old : S) (buf : List ℕ) (reply
   pub call : R.may old (Gave (length buf') (gave reply buf')) new
 
 -- `read_exact(buf)`
-pub record ReadExactLaw {S : Type 0} (R : Reader S) (old : S) (buf : List ℕ) (reply : Result (Unit {0}) Error) (buf' : List ℕ)
-    (new : S) : Type 0 where
+pub record ReadExactLaw {X : Type 0} (R : Reader X) (old : X) (buf : List ℕ) (reply : Result (Unit {0}) Error) (buf' : List ℕ)
+    (new : X) : Type 0 where
   -- what it takes
   pub taken : List Event
   pub takes : Takes (tells R old) taken (tells R new)
@@ -203,8 +204,8 @@ pub record ReadExactLaw {S : Type 0} (R : Reader S) (old : S) (buf : List ℕ) (
   pub calls : ByCalls (ReadCallLaw R) old (λ C. ExactCalls C reply buf') new
 
 -- `read_full(buf, &mut filled)`, of a buffer whose first `filled` bytes are there already
-pub record ReadFullLaw {S : Type 0} (R : Reader S) (old : S) (buf : List ℕ) (filled : ℕ) (reply : Result (Unit {0}) Error) (buf' : List ℕ)
-    (filled' : ℕ) (new : S) : Type 0 where
+pub record ReadFullLaw {X : Type 0} (R : Reader X) (old : X) (buf : List ℕ) (filled : ℕ) (reply : Result (Unit {0}) Error) (buf' : List ℕ)
+    (filled' : ℕ) (new : X) : Type 0 where
   -- what it takes
   pub taken : List Event
   pub takes : Takes (tells R old) taken (tells R new)
@@ -223,8 +224,8 @@ abbrev pub least_room : ℕ
 least_room = 32
 
 -- `read_to_end(&mut buf)` of a reader that gives up only if `lacks` holds for the number of bytes that it took
-pub record ToEndLaw {S A : Type 0} (lacks : ℕ → Type 0) (R : Reader S) (old : S) (buf : Vec ℕ A) (reply : Result ℕ Error) (buf' : Vec ℕ A)
-    (new : S) : Type 0 where
+pub record ToEndLaw {X A : Type 0} (lacks : ℕ → Type 0) (R : Reader X) (old : X) (buf : Vec ℕ A) (reply : Result ℕ Error) (buf' : Vec ℕ A)
+    (new : X) : Type 0 where
   -- what it takes
   pub taken : List Event
   pub takes : Takes (tells R old) taken (tells R new)
@@ -238,7 +239,7 @@ pub record ToEndLaw {S A : Type 0} (lacks : ℕ → Type 0) (R : Reader S) (old 
   pub calls : ByCalls (ReadCallLaw R) old (λ C. ToEndCalls C (bytes taken) (ended reply)) new
 
 -- `read_to_end(&mut buf)`: an allocation can fail only if buf had no room for the bytes that were taken and 32 more
-abbrev pub ReadToEndLaw : {S A : Type 0} → Reader S → S → Vec ℕ A → Result ℕ Error → Vec ℕ A → S → Type 0
+abbrev pub ReadToEndLaw : {X A : Type 0} → Reader X → X → Vec ℕ A → Result ℕ Error → Vec ℕ A → X → Type 0
 ReadToEndLaw R old buf = ToEndLaw (λ n. vec_capacity buf < vec_len buf + (n + least_room)) R old buf
 
 -- the inner reader
@@ -254,7 +255,7 @@ abbrev IsRetried : List Event → Event → Type 0
 IsRetried P event = (Q : List Event) × (P ≡ Q ++ event ∷ []) × IsInterruptionsAlone Q
 
 -- how a `next` that took P ended: with a byte, with a fault, or at the end
-abbrev EndsNext : List Event → Option (Result ℕ Error) → Tells → Type 0
+abbrev EndsNext : List Event → Option (Result ℕ Error) → ReaderState → Type 0
 EndsNext P None new = IsInterruptionsAlone P × IsAtEnd new
 EndsNext P (Some (Ok b)) new = IsRetried P (byte b)
 EndsNext P (Some (Err e)) new = IsRetried P (fails e) × IsFault e
@@ -266,7 +267,7 @@ last_read (Some (Ok b)) = Ok (b ∷ [])
 last_read (Some (Err e)) = Err e
 
 -- A `next` took some events, by reads into room for one byte each. All but the last were interrupted.
-pub record NextLaw {S : Type 0} (R : Reader S) (old : S) (result : Option (Result ℕ Error)) (new : S) : Type 0 where
+pub record NextLaw {X : Type 0} (R : Reader X) (old : X) (result : Option (Result ℕ Error)) (new : X) : Type 0 where
   pub taken : List Event
   pub takes : Takes (tells R old) taken (tells R new)
   -- they end in the byte or the fault that it yields

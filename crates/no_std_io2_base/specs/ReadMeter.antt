@@ -14,17 +14,17 @@ told_bytes None = []
 told_bytes (Some E) = bytes E
 
 -- the bytes that the reader tells to come
-abbrev pub bytes_left : {S : Type 0} → Reader S → S → List ℕ
+abbrev pub bytes_left : {X : Type 0} → Reader X → X → List ℕ
 bytes_left R x = told_bytes (to_come (tells R x))
 
 -- In this state, and after each but the last of n reads in a row, the reader tells that only bytes are to come, and a `read` gives as many
 -- of them as fit.
-abbrev pub FillsFor : {S : Type 0} → Reader S → ℕ → S → Type 0
+abbrev pub FillsFor : {X : Type 0} → Reader X → ℕ → X → Type 0
 FillsFor R zero x = ⊤
-FillsFor {S} R (suc n) x = (to_come (tells R x) ≡ Some (events_of (bytes_left R x)))
-    × ((room : ℕ) (answer : Result (List ℕ) Error) (after : S) → GaveLaw R x room answer after
+FillsFor {X} R (suc n) x = (to_come (tells R x) ≡ Some (events_of (bytes_left R x)))
+    × ((room : ℕ) (answer : Result (List ℕ) Error) (after : X) → GaveLaw R x room answer after
     → IsOkAnd answer (λ g. length g ≡ min room (length (bytes_left R x))) × FillsFor R n after)
 
 -- The reader is filling in this state: however many reads follow, only bytes are to come, and each gives as many of them as fit.
-pub record FillsRoom {S : Type 0} (R : Reader S) (x : S) : Type 0 where
+pub record FillsRoom {X : Type 0} (R : Reader X) (x : X) : Type 0 where
   pub always : (n : ℕ) → FillsFor R n x

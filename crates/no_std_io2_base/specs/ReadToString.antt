@@ -5,7 +5,7 @@ use Rattle.no_std_io2_base.specs.{Read.{DrainsOrStops, ToEndCalls, ended, least_
 use Rattle.no_std_io2_base.specs.BufRead.{line_room}
 
 -- `read_to_string(alloc, buf)`
-pub record ReadToStringLaw {S A : Type 0} (R : Reader S) (old : S) (buf : String A) (reply : Result ℕ Error) (buf' : String A) (new : S)
+pub record ReadToStringLaw {X A : Type 0} (R : Reader X) (old : X) (buf : String A) (reply : Result ℕ Error) (buf' : String A) (new : X)
     : Type 0 where
   -- what it takes
   pub taken : List Event

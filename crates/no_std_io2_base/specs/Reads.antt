@@ -2,17 +2,17 @@
 -- `Ok(false)` if it met the end, and an error if it met that fault.
 use Rattle.std.specs.Prelude.{◌≡◌, ◌⊎◌, ◌<◌, ℕ, List, [], ◌∷◌, ◌++◌, length, ⊤, Bool, true, false, Result, Ok, Err, IfErr}
 use Rattle.no_std_io2_base.specs.{declared.error.Error.{Error}, Errors.{IsFault, IsInterruption}, Events.{Event, bytes, HasNoFault}}
-use Rattle.no_std_io2_base.specs.{Events.{EndsInFault}, Takes.{Tells, Takes, IsAtEnd}, Write.{Made, ByCalls}, Read.{Reader, tells}}
+use Rattle.no_std_io2_base.specs.{Events.{EndsInFault}, Takes.{ReaderState, Takes, IsAtEnd}, Write.{Made, ByCalls}, Read.{Reader, tells}}
 use Rattle.no_std_io2_base.specs.Read.{ReadCallLaw, ReadCall, Gave, GaveExactly, GaveAll, Filled, Consumed, Gathers, GathersUntil}
 
 -- how a reader that took P ended, and tells this now
-abbrev pub GathersTo : List Event → Result Bool Error → Tells → Type 0
+abbrev pub GathersTo : List Event → Result Bool Error → ReaderState → Type 0
 GathersTo P (Ok true) new = HasNoFault P
 GathersTo P (Ok false) new = HasNoFault P × IsAtEnd new
 GathersTo P (Err e) new = EndsInFault P e
 
 -- From old to new a reader took these bytes, and ended like this.
-pub record Took (old : Tells) (x : List ℕ) (how : Result Bool Error) (new : Tells) : Type 0 where
+pub record Took (old : ReaderState) (x : List ℕ) (how : Result Bool Error) (new : ReaderState) : Type 0 where
   pub taken : List Event
   pub takes : Takes old taken new
   pub are : bytes taken ≡ x
@@ -25,8 +25,8 @@ ReadsTo asks C x (Ok false) = GathersUntil asks C x (Ok [])
 ReadsTo asks C x (Err e) = GathersUntil asks C x (Err e)
 
 -- From old to new reads gave x, and ended like this. `asks` says into how much room a read is made after that many bytes.
-pub record Reads {S : Type 0} (R : Reader S) (asks : ℕ → ℕ → Type 0) (old : S) (x : List ℕ) (how : Result Bool Error)
-    (new : S) : Type 0 where
+pub record Reads {X : Type 0} (R : Reader X) (asks : ℕ → ℕ → Type 0) (old : X) (x : List ℕ) (how : Result Bool Error)
+    (new : X) : Type 0 where
   pub calls : List ReadCall
   pub made : Made (ReadCallLaw R) old calls new
   pub are : ReadsTo asks calls x how
@@ -47,14 +47,14 @@ AllGoOn (GaveExactly room answer ∷ C) = ⊥
 AllGoOn (GaveAll x answer ∷ C) = ⊥
 
 -- this call met the end or the fault
-abbrev Met : ReadCall → Result (List ℕ) Error → Type 0
-Met call answer = (call ≡ Filled answer) ⊎ ((room : ℕ) × (call ≡ Gave room answer))
+abbrev AnsweredBy : ReadCall → Result (List ℕ) Error → Type 0
+AnsweredBy call answer = (call ≡ Filled answer) ⊎ ((room : ℕ) × (call ≡ Gave room answer))
 
 -- calls that went on were made, and then, at the end or a fault, one more, which met it
 abbrev pub Asked : List ReadCall → Result Bool Error → Type 0
 Asked C (Ok true) = AllGoOn C
-Asked C (Ok false) = (D : List ReadCall) × (call : ReadCall) × AllGoOn D × (C ≡ D ++ call ∷ []) × Met call (Ok [])
-Asked C (Err e) = (D : List ReadCall) × (call : ReadCall) × AllGoOn D × (C ≡ D ++ call ∷ []) × Met call (Err e)
+Asked C (Ok false) = (D : List ReadCall) × (call : ReadCall) × AllGoOn D × (C ≡ D ++ call ∷ []) × AnsweredBy call (Ok [])
+Asked C (Err e) = (D : List ReadCall) × (call : ReadCall) × AllGoOn D × (C ≡ D ++ call ∷ []) × AnsweredBy call (Err e)
 
 -- From old to new a reader that lends got calls of `read` and `fill_buf`. It gave x, and may go on; or it met the end or
 -- a fault, after which it got no more calls.

@@ -1,6 +1,7 @@
 -- What a `Sink` tells; an `Empty` tells what its sink tells.
 use Rattle.std.specs.Prelude.{◌≡◌, ℕ, List, [], ◌++◌, length, Some, Ok}
-use Rattle.no_std_io2_base.specs.{Seek.{SeekCall, Sought}, Write.{Told, WriteCall, Wrote, WroteAll, Flushed}, declared.sinks.Sink.{Sink}}
+use Rattle.no_std_io2_base.specs.{Seek.{SeekCall, Sought}, Write.{WriterState, WriteCall, Wrote, WroteAll, Flushed}}
+use Rattle.no_std_io2_base.specs.declared.sinks.Sink.{Sink}
 use Rattle.no_std_io2_base.specs.declared.empties.Empty.{Empty}
 
 -- the bytes that a sink took
@@ -12,7 +13,7 @@ abbrev pub empty_taken : Empty → List ℕ
 empty_taken e = sink_taken e.sink
 
 -- what a sink tells: the bytes that it took are out, and no mishap is to come
-abbrev pub sink_told : Sink → Told
+abbrev pub sink_told : Sink → WriterState
 sink_told s = record { out = sink_taken s; held = []; mishaps = Some []; turns = 0 }
 
 -- what one call does: a `write` takes all its bytes, and a `flush` changes nothing

@@ -1,6 +1,7 @@
 -- The limit and the inner reader of a `Take`, what it tells, and what its calls do.
 use Rattle.std.specs.Prelude.{◌≡◌, ℕ, ◌+◌, ◌-◌, ◌<◌, min, List, [], length, take, Option, None, Some, Result, Ok, Err}
-use Rattle.no_std_io2_base.specs.{declared.error.Error.{Error}, declared.traits.take.Take.{Take}, Events.{Event, bytes, cut}, Takes.{Tells}}
+use Rattle.no_std_io2_base.specs.{declared.error.Error.{Error}, declared.traits.take.Take.{Take}, Events.{Event, bytes, cut}}
+use Rattle.no_std_io2_base.specs.Takes.{ReaderState}
 use Rattle.no_std_io2_base.specs.{Takes.{Takes, to_come}, Read.{Reader, tells, ReadCall, Gave, Filled, Consumed, ReadCallLaw, bytes_given}}
 
 -- `t.limit()`
@@ -25,7 +26,7 @@ cut_to_come limit None = None
 cut_to_come limit (Some E) = Some (cut limit E)
 
 -- the events of a `Take` of a reader that tells this
-abbrev pub limit_events : {T : Type 0} → (T → Tells) → Take T → Option (List Event)
+abbrev pub limit_events : {T : Type 0} → (T → ReaderState) → Take T → Option (List Event)
 limit_events told t = cut_to_come t.limit (to_come (told t.inner))
 
 -- at most `limit` of the inner reader's held bytes

@@ -29,7 +29,7 @@ abbrev pub store_at : List ℕ → ℕ → Option Store
 store_at content position = store_by (fits_u64 content position) content position (fits_by content position)
 
 -- What a reader tells.
-pub record Tells : Type 0 where
+pub record ReaderState : Type 0 where
   -- the events to come, if it tells them; a reader with a store need not
   pub events : Option (List Event)
   -- its store, if it tells one
@@ -43,7 +43,7 @@ events_by None E = E
 events_by (Some s) E = Some (events_of (drop s.position s.content))
 
 -- the events to come, if they are told
-abbrev pub to_come : Tells → Option (List Event)
+abbrev pub to_come : ReaderState → Option (List Event)
 to_come t = events_by t.store t.events
 
 -- If events were told, they still are, and P is gone from their front.
@@ -59,7 +59,7 @@ KeepsContent (Some old) Goes None = ⊥
 KeepsContent (Some old) Goes (Some new) = (new.content ≡ old.content) × Goes (length old.content) old.position new.position
 
 -- From old to new a reader took the events P.
-pub record Takes (old : Tells) (P : List Event) (new : Tells) : Type 0 where
+pub record Takes (old : ReaderState) (P : List Event) (new : ReaderState) : Type 0 where
   -- they are gone from the front of the events to come, and no others are
   pub events : AreTaken (to_come old) P (to_come new)
   -- a store keeps its content, and its position moves by the bytes of P
@@ -68,16 +68,16 @@ pub record Takes (old : Tells) (P : List Event) (new : Tells) : Type 0 where
   pub turns : new.turns + min 1 (length P) ≤ old.turns
 
 -- From old to new a reader took these bytes, and no fault.
-pub record TakesBytes (old : Tells) (x : List ℕ) (new : Tells) : Type 0 where
+pub record TakesBytes (old : ReaderState) (x : List ℕ) (new : ReaderState) : Type 0 where
   pub taken : List Event
   pub takes : Takes old taken new
   pub no_fault : HasNoFault taken
   pub are : bytes taken ≡ x
 
 -- no event is to come, if events are told
-abbrev pub IsAtEnd : Tells → Type 0
+abbrev pub IsAtEnd : ReaderState → Type 0
 IsAtEnd t = IfSome (to_come t) (λ E. E ≡ [])
 
 -- P is all that is to come, if events are told
-abbrev pub IsAll : Tells → List Event → Type 0
+abbrev pub IsAll : ReaderState → List Event → Type 0
 IsAll t P = IfSome (to_come t) (λ E. E ≡ P)

@@ -4,10 +4,10 @@ use Rattle.std.specs.Prelude.{Bool, true, false, take, length, ◌≤◌, ◌<�
 use Rattle.no_std_io2_base.specs.{declared.error.Error.{Error}, declared.error.ErrorKind.{ErrorKind}}
 use Rattle.no_std_io2_base.specs.{declared.error.ErrorKind.TheVariants.{Other}, Errors.{error_kind, error_text}}
 use Rattle.no_std_io2_base.specs.Errors.{IsNoInterruption, IsUnwritten}
-use Rattle.no_std_io2_base.specs.Write.{Told, MovesFront, WriteCall, WriteAllLaw}
+use Rattle.no_std_io2_base.specs.Write.{WriterState, MovesFront, WriteCall, WriteAllLaw}
 
 -- From old to new this text was printed to a writer, by one `write_all` after another; this is the result of the last.
-pub data Prints {W : Type 0} (told : W → Told) (takes_all : W → Type 0) (may : W → WriteCall → W → Type 0) (old : W) : List ℕ
+pub data Prints {W : Type 0} (told : W → WriterState) (takes_all : W → Type 0) (may : W → WriteCall → W → Type 0) (old : W) : List ℕ
     → Result (Unit {0}) Error → W → Type 0 where
   nothing : Prints told takes_all may old [] (Ok tt) old
   piece : {text : List ℕ} (x : List ℕ) {reply : Result (Unit {0}) Error} {mid new : W}
@@ -35,14 +35,14 @@ abbrev AnswersText : Option (List ℕ) → List ℕ → Result (Unit {0}) Error 
 AnswersText output text met reply = (IfSome output (λ bs. text ≡ bs) × (reply ≡ met)) ⊎ FailsText met reply
 
 -- From old to new some text was printed to a writer, with the result `met`: the writer accepted a front of it, all of it after `Ok`.
-pub record MovesText (old : Told) (output : Option (List ℕ)) (reply : Result (Unit {0}) Error) (new : Told) : Type 0 where
+pub record MovesText (old : WriterState) (output : Option (List ℕ)) (reply : Result (Unit {0}) Error) (new : WriterState) : Type 0 where
   pub text : List ℕ
   pub met : Result (Unit {0}) Error
   pub moves : MovesFront old text met new
   pub answers : AnswersText output text met reply
 
 -- `write_fmt(text)`, for a text with this output
-pub record WriteFmtLaw {W : Type 0} (told : W → Told) (takes_all : W → Type 0) (may : W → WriteCall → W → Type 0)
+pub record WriteFmtLaw {W : Type 0} (told : W → WriterState) (takes_all : W → Type 0) (may : W → WriteCall → W → Type 0)
     (old : W) (output : Option (List ℕ)) (reply : Result (Unit {0}) Error) (new : W) : Type 0 where
   -- the result is never an interruption
   pub never_interrupted : IsNoInterruption reply
@@ -57,7 +57,8 @@ abbrev pub HasText : ℕ → List ℕ → ℕ → Bool → List ℕ → Type 0
 HasText N bytes len is_over text = (is_over ≡ false → take len bytes ≡ text) × (is_over ≡ true → N < length text)
 
 -- From old to new a text of at most N bytes was printed to a writer, which accepted some front of it, all of it after `Ok`.
-pub record PrintsShort (N : ℕ) (old : Told) (output : Option (List ℕ)) (reply : Result (Unit {0}) Error) (new : Told) : Type 0 where
+pub record PrintsShort (N : ℕ) (old : WriterState) (output : Option (List ℕ)) (reply : Result (Unit {0}) Error)
+    (new : WriterState) : Type 0 where
   pub text : List ℕ
   pub short : length text ≤ N
   pub is : IfSome output (λ bs. text ≡ bs)
@@ -68,6 +69,6 @@ abbrev pub RefusesText : ℕ → Option (List ℕ) → Error → Type 0
 RefusesText N output e = (IsUnwritten e × IfSome output (λ bs. N < length bs)) ⊎ ((error_kind e ≡ Other) × IsTextError e)
 
 -- A text of at most N bytes was printed. After an error it was not, or some front of it was; then the writer got no call.
-abbrev pub PrintsOrRefuses : ℕ → Told → Option (List ℕ) → Result (Unit {0}) Error → Told → Type 0
+abbrev pub PrintsOrRefuses : ℕ → WriterState → Option (List ℕ) → Result (Unit {0}) Error → WriterState → Type 0
 PrintsOrRefuses N old output (Ok u) new = PrintsShort N old output (Ok u) new
 PrintsOrRefuses N old output (Err e) new = PrintsShort N old output (Err e) new ⊎ (RefusesText N output e × (new ≡ old))

@@ -7,7 +7,7 @@ use Rattle.no_std_io2_base.specs.{declared.error.ErrorKind.TheVariants.{WriteZer
 use Rattle.no_std_io2_base.specs.Errors.{IsInterruption, IsFault, SaysError}
 
 -- What a writer tells.
-pub record Told : Type 0 where
+pub record WriterState : Type 0 where
   -- the bytes that are out: the device has them
   pub out : List ℕ
   -- the bytes that it has accepted and that are not out yet
@@ -30,7 +30,7 @@ HasSpent (Some old) happened (Some new) =
     (counted : ErrorKind → Bool) → count_by counted new + count_by counted happened ≤ count_by counted old
 
 -- From old to new a writer accepted these bytes, and these mishaps happened.
-pub record Moves (old : Told) (accepted : List ℕ) (happened : List ErrorKind) (new : Told) : Type 0 where
+pub record Moves (old : WriterState) (accepted : List ℕ) (happened : List ErrorKind) (new : WriterState) : Type 0 where
   -- what is out stays out
   pub front : IsFront old.out new.out
   -- no byte is lost, repeated or moved
@@ -60,29 +60,29 @@ call_mishap (Ok u) = []
 call_mishap (Err e) = error_kind e ∷ []
 
 -- From old to new a writer accepted some front of x, all of it after `Ok`.
-pub record MovesFront (old : Told) (x : List ℕ) (reply : Result (Unit {0}) Error) (new : Told) : Type 0 where
+pub record MovesFront (old : WriterState) (x : List ℕ) (reply : Result (Unit {0}) Error) (new : WriterState) : Type 0 where
   pub accepted : List ℕ
   pub front : IsFront accepted x
   pub whole : OnOk reply (accepted ≡ x)
   pub moves : Moves old accepted (call_mishap reply) new
 
 -- From old to new a writer accepted exactly what is gone from the front of `rest`.
-pub record Sends (old : Told) (rest : List ℕ) (reply : Result (Unit {0}) Error) (new : Told) (left : List ℕ) : Type 0 where
+pub record Sends (old : WriterState) (rest : List ℕ) (reply : Result (Unit {0}) Error) (new : WriterState) (left : List ℕ) : Type 0 where
   pub sent : List ℕ
   pub split : rest ≡ sent ++ left
   pub moves : Moves old sent (call_mishap reply) new
 
 -- From old to new a writer accepted these lists, one after another, without a mishap.
-abbrev pub MovesEach : Told → List (List ℕ) → Told → Type 0
+abbrev pub MovesEach : WriterState → List (List ℕ) → WriterState → Type 0
 MovesEach old [] new = Moves old [] [] new
-MovesEach old (x ∷ xs) new = (mid : Told) × Moves old x [] mid × MovesEach mid xs new
+MovesEach old (x ∷ xs) new = (mid : WriterState) × Moves old x [] mid × MovesEach mid xs new
 
 -- how many writes pass these bytes on, if the writer takes all: 1, or 0 if there are no bytes
 abbrev pub calls_for : List ℕ → ℕ
 calls_for x = if nat_lt 0 (length x) then 1 else 0
 
 -- what a writer tells that holds nothing, has these bytes out, and does not tell its mishaps
-abbrev pub told_out : List ℕ → Told
+abbrev pub told_out : List ℕ → WriterState
 told_out bytes = record { out = bytes; held = []; mishaps = None; turns = 0 }
 
 -- A call of a writer, with its result.
@@ -93,12 +93,12 @@ pub data WriteCall : Type 0 where
   Flushed : Result (Unit {0}) Error → WriteCall
 
 -- the calls of the list were made, one after another, and led from old to new
-abbrev pub Made : {S A : Type 0} → (S → A → S → Type 0) → S → List A → S → Type 0
+abbrev pub Made : {X A : Type 0} → (X → A → X → Type 0) → X → List A → X → Type 0
 Made may old [] new = new ≡ old
-Made {S} may old (call ∷ C) new = (mid : S) × may old call mid × Made may mid C new
+Made {X} may old (call ∷ C) new = (mid : X) × may old call mid × Made may mid C new
 
 -- From old to new calls were made, one after another, and this holds for their list.
-pub record ByCalls {S A : Type 0} (may : S → A → S → Type 0) (old : S) (Are : List A → Type 0) (new : S) : Type 0 where
+pub record ByCalls {X A : Type 0} (may : X → A → X → Type 0) (old : X) (Are : List A → Type 0) (new : X) : Type 0 where
   pub calls : List A
   pub made : Made may old calls new
   pub are : Are calls
@@ -152,11 +152,11 @@ abbrev pub AllCalls : List WriteCall → List ℕ → Result (Unit {0}) Error �
 AllCalls C x reply = (C ≡ WroteAll x reply ∷ []) ⊎ ((left : List ℕ) × Writes (codes "failed to write whole buffer") C x reply left)
 
 -- The writer takes all: it accepts every write whole from now on, and no mishap is to come.
-abbrev pub AcceptsAll : {W : Type 0} → (W → Told) → (W → Type 0) → W → Type 0
+abbrev pub AcceptsAll : {W : Type 0} → (W → WriterState) → (W → Type 0) → W → Type 0
 AcceptsAll told takes_all w = takes_all w × ((told w).mishaps ≡ Some [])
 
 -- `write(x)`
-pub record WriteLaw {W : Type 0} (told : W → Told) (takes_all : W → Type 0) (may : W → WriteCall → W → Type 0)
+pub record WriteLaw {W : Type 0} (told : W → WriterState) (takes_all : W → Type 0) (may : W → WriteCall → W → Type 0)
     (old : W) (x : List ℕ) (reply : Result ℕ Error) (new : W) : Type 0 where
   -- at most the length of x is reported as accepted
   pub bound : IfOk reply (λ n. n ≤ length x)
@@ -168,7 +168,7 @@ pub record WriteLaw {W : Type 0} (told : W → Told) (takes_all : W → Type 0) 
   pub call : may old (Wrote x reply) new
 
 -- `flush()`
-pub record FlushLaw {W : Type 0} (told : W → Told) (takes_all : W → Type 0) (may : W → WriteCall → W → Type 0)
+pub record FlushLaw {W : Type 0} (told : W → WriterState) (takes_all : W → Type 0) (may : W → WriteCall → W → Type 0)
     (old : W) (reply : Result (Unit {0}) Error) (new : W) : Type 0 where
   -- after `Ok` nothing is held
   pub empty : OnOk reply ((told new).held ≡ [])
@@ -180,7 +180,7 @@ pub record FlushLaw {W : Type 0} (told : W → Told) (takes_all : W → Type 0) 
   pub call : may old (Flushed reply) new
 
 -- a call, by its law
-abbrev pub CallLaw : {W : Type 0} → (W → Told) → (W → Type 0) → (W → WriteCall → W → Type 0) → W → WriteCall → W → Type 0
+abbrev pub CallLaw : {W : Type 0} → (W → WriterState) → (W → Type 0) → (W → WriteCall → W → Type 0) → W → WriteCall → W → Type 0
 CallLaw told takes_all may old (Wrote x reply) new = WriteLaw told takes_all may old x reply new
 CallLaw told takes_all may old (Flushed reply) new = FlushLaw told takes_all may old reply new
 CallLaw told takes_all may old (WroteAll x reply) new = may old (WroteAll x reply) new
@@ -188,7 +188,7 @@ CallLaw told takes_all may old (WroteAll x reply) new = may old (WroteAll x repl
     × (AcceptsAll told takes_all old → AcceptsAll told takes_all new)
 
 -- `write_all(x)`
-pub record WriteAllLaw {W : Type 0} (told : W → Told) (takes_all : W → Type 0) (may : W → WriteCall → W → Type 0)
+pub record WriteAllLaw {W : Type 0} (told : W → WriterState) (takes_all : W → Type 0) (may : W → WriteCall → W → Type 0)
     (old : W) (x : List ℕ) (reply : Result (Unit {0}) Error) (new : W) : Type 0 where
   -- the result is never an interruption
   pub never_interrupted : IsNoInterruption reply
@@ -200,7 +200,7 @@ pub record WriteAllLaw {W : Type 0} (told : W → Told) (takes_all : W → Type 
   pub calls : ByCalls (CallLaw told takes_all may) old (λ C. AllCalls C x reply) new
 
 -- `write_rest(&mut x)`
-pub record WriteRestLaw {W : Type 0} (told : W → Told) (takes_all : W → Type 0) (may : W → WriteCall → W → Type 0)
+pub record WriteRestLaw {W : Type 0} (told : W → WriterState) (takes_all : W → Type 0) (may : W → WriteCall → W → Type 0)
     (old : W) (x : List ℕ) (reply : Result (Unit {0}) Error) (new : W) (left : List ℕ) : Type 0 where
   -- the result is never an interruption
   pub never_interrupted : IsNoInterruption reply

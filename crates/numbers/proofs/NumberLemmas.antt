@@ -8,7 +8,7 @@ use Rattle.no_std_io2.proofs.KnownBytes.{exact_known}
 use Rattle.numbers.specs.Numbers.{ReadsValue, AreRead, no_number, one_more, ReadsInto}
 
 -- if its bytes are known to come next, the number is read
-pub value_back : {S X : Type 0} {R : Reader S} {value : List ℕ → X} {n : ℕ} {old new : S} (reply : Result X Error) (x : X)
+pub value_back : {V X : Type 0} {R : Reader V} {value : List ℕ → X} {n : ℕ} {old new : V} (reply : Result X Error) (x : X)
     (spelled : List ℕ) (rest : List Event) → ReadsValue R value n old reply new → length spelled ≡ n → value spelled ≡ x
     → to_come (tells R old) ≡ Some (events_of spelled ++ rest)
     → (reply ≡ Ok x) × (to_come (tells R new) ≡ Some rest)
@@ -24,19 +24,19 @@ pub spelled_back : (value : List ℕ → ℕ) (spelled : List ℕ) (x : ℕ) →
 spelled_back value spelled x is = ap value (sym (append-nil spelled)) ∙ is
 
 -- So far the first i numbers of dst were read, and the others are as they were in `start`.
-pub record ReadSoFar {S X : Type 0} (R : Reader S) (value : List ℕ → X) (n : ℕ) (old : S) (start : List X) (i : ℕ) (dst : List X) (now : S)
+pub record ReadSoFar {V X : Type 0} (R : Reader V) (value : List ℕ → X) (n : ℕ) (old : V) (start : List X) (i : ℕ) (dst : List X) (now : V)
     : Type 0 where
   pub are : AreRead R value n old (take i dst) now
   pub rest : drop i dst ≡ drop i start
   pub long : length dst ≡ length start
 
-module _ {S X : Type 0} {R : Reader S} {value : List ℕ → X} {n : ℕ} {old : S} where
+module _ {V X : Type 0} {R : Reader V} {value : List ℕ → X} {n : ℕ} {old : V} where
   -- none at first
   pub into_none : (start : List X) → ReadSoFar R value n old start 0 start old
   into_none start = record { are = no_number; rest = refl; long = refl }
 
   -- one more
-  pub into_more : (start dst : List X) (i : ℕ) (x : X) {mid new : S} → i < length dst → ReadSoFar R value n old start i dst mid
+  pub into_more : (start dst : List X) (i : ℕ) (x : X) {mid new : V} → i < length dst → ReadSoFar R value n old start i dst mid
       → ReadsValue R value n mid (Ok x) new → ReadSoFar R value n old start (i + 1) (set dst i x) new
   into_more start dst i x {new = new} within before reads = record {
     are = subst (λ l. AreRead R value n old l new) (sym (take_more_set dst i x within)) (one_more x before.are reads);
@@ -45,12 +45,12 @@ module _ {S X : Type 0} {R : Reader S} {value : List ℕ → X} {n : ℕ} {old :
   }
 
   -- these were all
-  pub into_all : (start dst : List X) (i : ℕ) {now : S} → i ≡ length dst → ReadSoFar R value n old start i dst now
+  pub into_all : (start dst : List X) (i : ℕ) {now : V} → i ≡ length dst → ReadSoFar R value n old start i dst now
       → AreRead R value n old dst now
   into_all start dst i {now} all before = subst (λ l. AreRead R value n old l now) (take_all i dst (omega (arith, all))) before.are
 
   -- the next one failed
-  pub into_stops : (start dst : List X) (i : ℕ) {e : Error} {mid new : S} → i < length dst → ReadSoFar R value n old start i dst mid
+  pub into_stops : (start dst : List X) (i : ℕ) {e : Error} {mid new : V} → i < length dst → ReadSoFar R value n old start i dst mid
       → ReadsValue R value n mid (Err e) new → ReadsInto R value n old start (Err e) dst new
   into_stops start dst i {mid = mid} within before reads =
       let few : length (take i dst) ≡ i = length-take-le i dst (omega (arith, within)) in (

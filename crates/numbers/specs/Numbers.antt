@@ -19,25 +19,25 @@ outcome (Err e) = Err e
 
 -- A number of n bytes was read, by one `read_exact` of n bytes. After `Ok` these bytes spell the result; an error is that of the
 -- `read_exact`, whose law says what was taken.
-pub record ReadsValue {S X : Type 0} (R : Reader S) (value : List ℕ → X) (n : ℕ) (old : S) (reply : Result X Error) (new : S) : Type 0 where
+pub record ReadsValue {V X : Type 0} (R : Reader V) (value : List ℕ → X) (n : ℕ) (old : V) (reply : Result X Error) (new : V) : Type 0 where
   pub buf : List ℕ
   pub long : length buf ≡ n
   pub law : ReadExactLaw R old (replicate n 0) (outcome reply) buf new
   pub spells : IfOk reply (λ x. x ≡ value buf)
 
 -- if the bytes of a number are known to come next, that number is read, and no other byte
-abbrev pub ReadsBack : {S X : Type 0} → Reader S → (X → Type 0) → (X → List ℕ) → S → Result X Error → S → Type 0
+abbrev pub ReadsBack : {V X : Type 0} → Reader V → (X → Type 0) → (X → List ℕ) → V → Result X Error → V → Type 0
 ReadsBack {X = X} R fits spelled old reply new = (x : X) (rest : List Event) → fits x
     → to_come (tells R old) ≡ Some (events_of (spelled x) ++ rest) → (reply ≡ Ok x) × (to_come (tells R new) ≡ Some rest)
 
 -- From old to new these numbers were read, one after another.
-pub data AreRead {S X : Type 0} (R : Reader S) (value : List ℕ → X) (n : ℕ) (old : S) : List X → S → Type 0 where
+pub data AreRead {V X : Type 0} (R : Reader V) (value : List ℕ → X) (n : ℕ) (old : V) : List X → V → Type 0 where
   no_number : AreRead R value n old [] old
-  one_more : {xs : List X} {mid new : S} (x : X) → AreRead R value n old xs mid → ReadsValue R value n mid (Ok x) new
+  one_more : {xs : List X} {mid new : V} (x : X) → AreRead R value n old xs mid → ReadsValue R value n mid (Ok x) new
       → AreRead R value n old (xs ++ x ∷ []) new
 
 -- Numbers were read into `dst`: all of it; or the first ones, and then the next read failed. The rest of `dst` is as it was.
-abbrev pub ReadsInto : {S X : Type 0} → Reader S → (List ℕ → X) → ℕ → S → List X → Result (Unit {0}) Error → List X → S → Type 0
+abbrev pub ReadsInto : {V X : Type 0} → Reader V → (List ℕ → X) → ℕ → V → List X → Result (Unit {0}) Error → List X → V → Type 0
 ReadsInto R value n old dst (Ok u) dst' new = AreRead R value n old dst' new
-ReadsInto {S} {X} R value n old dst (Err e) dst' new = (xs : List X) × (mid : S) × AreRead R value n old xs mid
+ReadsInto {V} {X} R value n old dst (Err e) dst' new = (xs : List X) × (mid : V) × AreRead R value n old xs mid
     × (length xs < length dst) × (dst' ≡ xs ++ drop (length xs) dst) × ReadsValue R value n mid (Err e) new

@@ -1,10 +1,11 @@
 -- For `towers`: which errors a writer with a buffer returns, if each call of its inner writer fails with such errors only.
 use Rattle.no_std_io2.proofs.Words.{common_steps, ◌≡◌, ℕ, ◌<◌, List, ◌∷◌, [], Result, Ok, Err, IfErr, IfOk, length, arith, subst, sym, inl}
 use Rattle.no_std_io2.proofs.Words.{inr, WriteCall, Wrote, WroteAll, Flushed, Made, AllCalls, Writer, CallOf, Step, TakesStep, Then, stops}
-use Rattle.no_std_io2.proofs.Words.{goes_on, SendCalls, WayCalls, Buffered, WriteCalls, Only, WriteAllCalls, FlushCalls, InnerCalls}
+use Rattle.no_std_io2.proofs.Words.{goes_on, SendCalls, RoomCalls, Buffered, WriteCalls, SingleCall, WriteAllCalls, FlushCalls, InnerCalls}
 use Rattle.no_std_io2.proofs.Words.{BufferMay, lines_of, unfinished_line, SendLinesCalls, LineWriteCalls, LineWriteAllCalls}
 use Rattle.no_std_io2.proofs.{CallsLemmas.{made_split}, LineLemmas.{lines_some}}
-use Rattle.no_std_io2.specs.{declared.io.Error.{Error}, BufWriter.{PastEmpty, PutCalls}, LineWriter.{SendLineCalls, LinesCalls, HoldsTail}}
+use Rattle.no_std_io2.specs.{declared.io.Error.{Error}, BufWriter.{WithNothingHeld, PutCalls}}
+use Rattle.no_std_io2.specs.LineWriter.{SendLineCalls, LinesCalls, HoldsTail}
 use Rattle.no_std_io2.specs.LineWriter.{LineCalls}
 use Rattle.promises.specs.Fails.{FailsBy, FailsOnly}
 use Rattle.promises.proofs.FailsLemmas.{call_fails, writes_fail, all_fails}
@@ -32,15 +33,15 @@ module _ {W : Type 0} (I : Writer W) (Q : Error → Type 0) (fails : FailsOnly Q
   send_fails : Fails SendCalls
   send_fails = λ held C reply left writes a b made. writes_fail I Q fails writes a b made
 
-  way_fails : (S n : ℕ) → Fails (WayCalls S n)
-  way_fails S n = grind (arith, common_steps, send_fails)
+  room_fails : (S n : ℕ) → Fails (RoomCalls S n)
+  room_fails S n = grind (arith, common_steps, send_fails)
 
   buffered_gives : {A : Type 0} (P : Result A Error → Type 0) (S : ℕ) (x : List ℕ) (v : A) (past : List WriteCall → Result A Error → Type 0)
       → ((e : Error) → Q e → P (Err e)) → P (Ok v)
       → ((C : List WriteCall) (reply : Result A Error) → past C reply → (a b : W) → Made (CallOf I) a C b → P reply)
       → Gives P (Buffered S x v past)
   buffered_gives P S x v past of_error kept of_past =
-      then_gives P (WayCalls S (length x)) (PutCalls S x v past) of_error (way_fails S (length x))
+      then_gives P (RoomCalls S (length x)) (PutCalls S x v past) of_error (room_fails S (length x))
       (λ held C reply left put a b made. elim put [
         | inl held ↦ subst P (sym held.2) kept
         | inr gone ↦ of_past C reply gone.1.2 a b made
@@ -55,7 +56,7 @@ module _ {W : Type 0} (I : Writer W) (Q : Error → Type 0) (fails : FailsOnly Q
   Some x reply = IfErr reply Q × IfOk reply (λ n. 0 < length x → 0 < n)
 
   write_some : (S : ℕ) (x : List ℕ) → Gives (Some x) (WriteCalls S x)
-  write_some S x = buffered_gives (Some x) S x (length x) (Only (Wrote x)) (λ e q. (q, tt)) (tt, λ some. some)
+  write_some S x = buffered_gives (Some x) S x (length x) (SingleCall (Wrote x)) (λ e q. (q, tt)) (tt, λ some. some)
       (λ C reply is a b made. one {call = Wrote x reply} a b is made)
 
   write_all_fails : (S : ℕ) (x : List ℕ) → Fails (WriteAllCalls S x)
@@ -63,7 +64,7 @@ module _ {W : Type 0} (I : Writer W) (Q : Error → Type 0) (fails : FailsOnly Q
       (λ C reply calls a b made. all_fails I Q fails reply calls a b made)
 
   flush_fails : Fails FlushCalls
-  flush_fails = then_gives (λ reply. IfErr reply Q) SendCalls (PastEmpty (Only Flushed)) (λ e q. q) send_fails
+  flush_fails = then_gives (λ reply. IfErr reply Q) SendCalls (WithNothingHeld (SingleCall Flushed)) (λ e q. q) send_fails
       (λ held C reply left gone a b made. one {call = Flushed reply} a b gone.2 made)
 
   -- such a step of a writer with a buffer

@@ -1,8 +1,8 @@
 -- Which call of a buffer's inner writer is the last.
 use Rattle.std.proofs.{Common.{arith}, lemmas.Grind.{common_steps}}
 use Rattle.no_std_io2.proofs.Words.{ℕ, List, [], ◌∷◌, ◌++◌, Result, Ok, Err, IfOk, IfErr, OnOk, length, refl, WriteCall, Wrote, WroteAll}
-use Rattle.no_std_io2.proofs.Words.{Flushed, AllCalls, Writes, none, took, again, stuck, fault, stops, goes_on, WayCalls, FlushCalls}
-use Rattle.no_std_io2.proofs.Words.{WriteCalls, Only}
+use Rattle.no_std_io2.proofs.Words.{Flushed, AllCalls, Writes, none, took, again, stuck, fault, stops, goes_on, RoomCalls, FlushCalls}
+use Rattle.no_std_io2.proofs.Words.{WriteCalls, SingleCall}
 use Rattle.no_std_io2.specs.{declared.io.Error.{Error}, BufWriter.{PutCalls}}
 use Rattle.promises.specs.Promises.{HasNoFlush, FailedWith, EndsIn, EndsInFlush}
 
@@ -67,31 +67,31 @@ pub flush_flushed : {held left : List ℕ} {C : List WriteCall} {reply : Result 
 flush_flushed calls = grind (arith, common_steps, flushed_last, goes_on, stops)
 
 -- the way for a write
-way_ends : (n : ℕ) {S : ℕ} {held left : List ℕ} {C : List WriteCall} {e : Error} → WayCalls S n held C (Err e) left → EndsIn C e
-way_ends n way = grind (arith, common_steps, writes_end)
+room_ends : (n : ℕ) {S : ℕ} {held left : List ℕ} {C : List WriteCall} {e : Error} → RoomCalls S n held C (Err e) left → EndsIn C e
+room_ends n way = grind (arith, common_steps, writes_end)
 
-way_only : (n : ℕ) {S : ℕ} {held left : List ℕ} {C : List WriteCall} {reply : Result (Unit {0}) Error} → WayCalls S n held C reply left
+room_only : (n : ℕ) {S : ℕ} {held left : List ℕ} {C : List WriteCall} {reply : Result (Unit {0}) Error} → RoomCalls S n held C reply left
     → HasNoFlush C
-way_only n way = grind (arith, common_steps, writes_only)
+room_only n way = grind (arith, common_steps, writes_only)
 
 -- what is written after it
 put_only : {S : ℕ} {x held left : List ℕ} {D : List WriteCall} {reply : Result ℕ Error}
-    → PutCalls S x (length x) (Only (Wrote x)) held D reply left → HasNoFlush D
+    → PutCalls S x (length x) (SingleCall (Wrote x)) held D reply left → HasNoFlush D
 put_only put = grind (arith, common_steps)
 
 put_ends : {S : ℕ} {x held left : List ℕ} {D : List WriteCall} {e : Error} (C : List WriteCall)
-    → PutCalls S x (length x) (Only (Wrote x)) held D (Err e) left → EndsIn (C ++ D) e
+    → PutCalls S x (length x) (SingleCall (Wrote x)) held D (Err e) left → EndsIn (C ++ D) e
 put_ends C put = grind (arith, common_steps, ends_last)
 
 -- a `write`
 pub write_only : {S : ℕ} {x held left : List ℕ} {C : List WriteCall} {reply : Result ℕ Error} → WriteCalls S x held C reply left
     → HasNoFlush C
-write_only {x = x} (stops way) = way_only (length x) way
-write_only {x = x} (goes_on {C} {D} way put) = both_only C D (way_only (length x) way) (put_only put)
+write_only {x = x} (stops way) = room_only (length x) way
+write_only {x = x} (goes_on {C} {D} way put) = both_only C D (room_only (length x) way) (put_only put)
 
 pub write_ends : {S : ℕ} {x held left : List ℕ} {C : List WriteCall} {reply : Result ℕ Error} → WriteCalls S x held C reply left
     → IfErr reply (EndsIn C)
-write_ends {x = x} (stops way) = way_ends (length x) way
+write_ends {x = x} (stops way) = room_ends (length x) way
 write_ends {reply = Ok n} (goes_on way put) = tt
 write_ends {reply = Err e} (goes_on {C} way put) = put_ends C put
 

@@ -1,6 +1,6 @@
 -- For `bounds` and `counts`: what the calls of a buffered writer cost, by each number that counts those of the inner writer.
 use Rattle.no_std_io2.proofs.Words.{◌+◌, ℕ, ◌≤◌, List, Result, Ok, Err, IfOk, arith, Writer, calls_for, charges, IsMeter, Step, TakesStep}
-use Rattle.no_std_io2.proofs.{StepLemmas.{does}, BufWriterCalls.{send_does}, MeterLemmas.{meter_made}}
+use Rattle.no_std_io2.proofs.{StepLemmas.{effect_of}, BufWriterCalls.{send_does}, MeterLemmas.{meter_made}}
 use Rattle.no_std_io2.specs.{declared.io.Error.{Error}, Meter.{Costs}, BufWriter.{UnwrapCalls}}
 use Rattle.no_std_io2.specs.declared.buffered.into_inner_error.IntoInnerError.{IntoInnerError}
 
@@ -16,6 +16,6 @@ module _ {W : Type 0} (I : Writer W) where
   pub unwrap_cost : {B : Type 0} (inner : B → W) (buffer : B → List ℕ) (old : B) (reply : Result W (IntoInnerError B))
       → UnwrapCalls I inner buffer old reply → IfOk reply (λ w. Costs I (inner old) (calls_for (buffer old)) w)
   unwrap_cost inner buffer old (Ok w) calls = λ cost meter takes.
-      let sent = (does (send_does I) calls).counts takes in
+      let sent = (effect_of (send_does I) calls).counts takes in
       omega (arith, meter_made I cost meter calls.calls (inner old) w calls.made, sent.2)
   unwrap_cost inner buffer old (Err e) calls = tt

@@ -1,31 +1,32 @@
 -- The words of the promises.
 use Rattle.std.specs.Prelude.{◌≡◌, ◌+◌, ℕ, List, [], ◌∷◌, ◌++◌, length, ⊤, Ok, Err, None, Some}
-use Rattle.no_std_io2.specs.{declared.io.{Error.{Error}, ErrorKind.TheVariants.{WriteZero}}, Errors.{error_kind}, Write.{Told, WriteCall}}
+use Rattle.no_std_io2.specs.{declared.io.{Error.{Error}, ErrorKind.TheVariants.{WriteZero}}, Errors.{error_kind}}
+use Rattle.no_std_io2.specs.Write.{WriterState, WriteCall}
 use Rattle.no_std_io2.specs.{Write.{Wrote, WroteAll, Flushed}, declared.buffered.buf_writer.BufWriter.{BufWriter}}
 use Rattle.no_std_io2.specs.declared.{buffered.{line_writer.LineWriter.{LineWriter}, buf_reader.BufReader.{BufReader}}, io.Chain.{Chain}}
 use Rattle.no_std_io2.specs.{declared.io.Take.{Take}, BufWriter.{writer_inner, writer_buffer, with_buffer}, BufReader.{reader_told}}
 use Rattle.no_std_io2.specs.{BufReader.{reader_held, reader_inner}, declared.io.Cursor.{Cursor}, Cursor.{cursor_inner, cursor_left}}
-use Rattle.no_std_io2.specs.{Cursor.{cursor_position}, Events.{events_of}, Takes.{Tells, store_at}, Take.{limit_inner, limit_events}}
+use Rattle.no_std_io2.specs.{Cursor.{cursor_position}, Events.{events_of}, Takes.{ReaderState, store_at}, Take.{limit_inner, limit_events}}
 use Rattle.no_std_io2.specs.{Chain.{chain_first, chain_second, chain_events}, LineWriter.{line_inner, line_buffer}}
 
 -- all accepted bytes, in order: those that are out, then those that are held
-abbrev pub bytes_in : Told → List ℕ
+abbrev pub bytes_in : WriterState → List ℕ
 bytes_in t = t.out ++ t.held
 
 -- what a tower of two buffers tells: what its device tells, and as held also the bytes of each buffer
-abbrev pub in_tower : {W : Type 0} {S T : ℕ} → (W → Told) → LineWriter (BufWriter W S) T → Told
+abbrev pub in_tower : {W : Type 0} {S T : ℕ} → (W → WriterState) → LineWriter (BufWriter W S) T → WriterState
 in_tower told w = with_buffer (with_buffer (told (writer_inner (line_inner w))) (writer_buffer (line_inner w))) (line_buffer w)
 
 -- what a `LineWriter` over a device tells: what its device tells, and as held also its buffer
-abbrev pub in_lines : {W : Type 0} {S : ℕ} → (W → Told) → LineWriter W S → Told
+abbrev pub in_lines : {W : Type 0} {S : ℕ} → (W → WriterState) → LineWriter W S → WriterState
 in_lines told w = with_buffer (told (line_inner w)) (line_buffer w)
 
 -- what a `Take` of a reader that tells this tells: the events up to and including the byte at the limit
-abbrev pub in_take : {R : Type 0} → (R → Tells) → Take R → Tells
+abbrev pub in_take : {R : Type 0} → (R → ReaderState) → Take R → ReaderState
 in_take told t = record { events = limit_events told t; store = None; turns = (told (limit_inner t)).turns }
 
 -- what a `Chain` of readers that tell this tells: the events of the first, and then those of the second
-abbrev pub in_chain : {R U : Type 0} → (R → Tells) → (U → Tells) → Chain R U → Tells
+abbrev pub in_chain : {R U : Type 0} → (R → ReaderState) → (U → ReaderState) → Chain R U → ReaderState
 in_chain first second c = record {
   events = chain_events first second c;
   store = None;
@@ -33,11 +34,11 @@ in_chain first second c = record {
 }
 
 -- what a `BufReader` of a reader that tells this tells: the held bytes, and then those events
-abbrev pub in_reader : {R : Type 0} {S : ℕ} → (R → Tells) → BufReader R S → Tells
+abbrev pub in_reader : {R : Type 0} {S : ℕ} → (R → ReaderState) → BufReader R S → ReaderState
 in_reader {S = room} told r = reader_told room (reader_held r) (told (reader_inner r))
 
 -- what a cursor tells: its bytes from the position on, and its content with the position
-abbrev pub in_cursor : {T : Type 0} → (T → List ℕ) → Cursor T → Tells
+abbrev pub in_cursor : {T : Type 0} → (T → List ℕ) → Cursor T → ReaderState
 in_cursor slice c = record {
   events = Some (events_of (cursor_left slice c));
   store = store_at (slice (cursor_inner c)) (cursor_position c);

@@ -62,8 +62,8 @@ fn holds_what_comes_next<R: BufRead>(r: &mut R) -> Result<usize>
 }
 
 /// A seek over a known content keeps it, and goes to its target, or is refused if there is none.
-pub fn goes_to_its_target<S: Seek>(s: &mut S, target: SeekFrom) -> Result<u64>
-    ensures { (was : Store) → S.store s.old ≡ Some was → (now : Store) × (S.store s.new ≡ Some now)
+pub fn goes_to_its_target<T: Seek>(s: &mut T, target: SeekFrom) -> Result<u64>
+    ensures { (was : Store) → T.store s.old ≡ Some was → (now : Store) × (T.store s.new ≡ Some now)
         × (now.content ≡ was.content) × Seeks (length was.content) was.position target result now.position }
 {
     s.seek(target)

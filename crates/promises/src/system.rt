@@ -52,9 +52,9 @@ fn takes_bytes_from_the_system<W: Write>(w: &mut ToStd<W>, x: &[u8]) -> io::Resu
 }
 
 // A seek of the system's `std::io` moves the position of a told store.
-fn seeks_for_the_system<S: Seek>(s: &mut ToStd<S>, target: io::SeekFrom) -> io::Result<u64>
-    ensures { SeekMoves (position_of (S.store (std_inner s.old))) (position_of (S.store (std_inner s.new)))
-        (content_of (S.store (std_inner s.old))) target result }
+fn seeks_for_the_system<T: Seek>(s: &mut ToStd<T>, target: io::SeekFrom) -> io::Result<u64>
+    ensures { SeekMoves (position_of (T.store (std_inner s.old))) (position_of (T.store (std_inner s.new)))
+        (content_of (T.store (std_inner s.old))) target result }
 {
     io::Seek::seek(s, target)
 }

@@ -27,8 +27,8 @@ fn reads_through<'a, R: Read>(r: &mut Box<&'a mut R>, buf: &mut [u8]) -> Result<
     r.read(buf)
 }
 
-fn seeks_through<'a, S: Seek>(s: &mut Box<&'a mut S>, target: SeekFrom) -> Result<u64>
-    ensures { SeekLaw S.Seek s.old.value.now target result s.new.value.now }
+fn seeks_through<'a, T: Seek>(s: &mut Box<&'a mut T>, target: SeekFrom) -> Result<u64>
+    ensures { SeekLaw T.Seek s.old.value.now target result s.new.value.now }
 {
     s.seek(target)
 }

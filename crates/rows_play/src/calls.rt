@@ -85,7 +85,7 @@ pub fn target(words: &str) -> Option<SeekFrom> {
 }
 
 /// Makes the call of a row on any seeker, and prints its result. Returns `false` if the row makes no such call.
-pub fn make_seek<S: Seek>(s: &mut S, call: &Call<'_>, line: &mut Line) -> bool {
+pub fn make_seek<T: Seek>(s: &mut T, call: &Call<'_>, line: &mut Line) -> bool {
     match call.word {
         "seek" => match target(call.rest) {
             Some(pos) => line.position(&s.seek(pos)),

@@ -4,7 +4,7 @@ ghost use Rattle.std.specs.Prelude.{[], length, ◌+◌, drop};
 ghost use Rattle.no_std_io2.specs.Errors.{IsFault};
 
 use super::journal::Journal;
-use super::lent::Lent;
+use super::lent::LentRecorder;
 use no_std_io2::ghost_bytes::GhostBytes;
 use no_std_io2::io::{BufRead, Error, Read, Result, Seek, SeekFrom, Stored, Write};
 use std::alloc::Global;
@@ -21,51 +21,51 @@ const LENT: usize = 4;
 pub struct Recorder {
     journal: Rc<RefCell<Journal>>,
     // Which of several readers it is.
-    name: Name,
+    name: ReaderName,
     taken: GhostBytes,
     // The bytes that it lends.
-    lent: Lent,
+    lent: LentRecorder,
     turns: usize,
 }
 
 // Which of several readers it is. A boxed object cannot contain a string of the program, so this stands for
 // a name.
 #[derive(Clone, Copy, PartialEq, Eq)]
-pub enum Name {
+pub enum ReaderName {
     Only,
     Second,
 }
 
-impl Name {
+impl ReaderName {
     fn read(self) -> &'static str {
         match self {
-            Name::Only => "read ",
-            Name::Second => "read second ",
+            ReaderName::Only => "read ",
+            ReaderName::Second => "read second ",
         }
     }
 
     fn fill(self) -> &'static str {
         match self {
-            Name::Only => "fill ",
-            Name::Second => "fill second ",
+            ReaderName::Only => "fill ",
+            ReaderName::Second => "fill second ",
         }
     }
 
     fn consume(self) -> &'static str {
         match self {
-            Name::Only => "consume ",
-            Name::Second => "consume second ",
+            ReaderName::Only => "consume ",
+            ReaderName::Second => "consume second ",
         }
     }
 }
 
 impl Recorder {
-    pub fn new(alloc: Global, journal: Rc<RefCell<Journal>>, name: Name) -> Recorder {
+    pub fn new(alloc: Global, journal: Rc<RefCell<Journal>>, name: ReaderName) -> Recorder {
         Recorder {
             journal,
             name,
             taken: GhostBytes::new(),
-            lent: Lent::none(alloc),
+            lent: LentRecorder::none(alloc),
             turns: TURNS,
         }
     }
@@ -161,7 +161,7 @@ impl BufRead for Recorder {
             let bytes = self.ask_read(self.name.fill(), LENT)?;
             if bytes.len() <= self.turns {
                 self.turns -= bytes.len();
-                self.lent = Lent::new(bytes);
+                self.lent = LentRecorder::new(bytes);
             }
         }
         Ok(self.lent.rest())

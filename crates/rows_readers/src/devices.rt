@@ -5,7 +5,7 @@ use rows_play::fault::Made;
 use rows_play::journal::Journal;
 use rows_play::line::Line;
 use rows_play::noted::Noted;
-use rows_play::recorder::{Name, Recorder};
+use rows_play::recorder::{ReaderName, Recorder};
 use std::alloc::Global;
 use std::cell::RefCell;
 use std::rc::Rc;
@@ -31,12 +31,12 @@ pub struct Devices<'j> {
 }
 
 impl<'j> Devices<'j> {
-    pub fn recorder(&self, name: Name) -> Made<Recorder> {
+    pub fn recorder(&self, name: ReaderName) -> Made<Recorder> {
         Ok(Recorder::new(self.alloc, self.journal.clone()?, name))
     }
 
     pub fn first(&self) -> Made<Recorder> {
-        self.recorder(Name::Only)
+        self.recorder(ReaderName::Only)
     }
 
     // Makes a device that notes the name of each call.

@@ -10,7 +10,7 @@ use rows_play::calls::Call;
 use rows_play::fault::{Fault, Made};
 use rows_play::line::{Line, cut_last, unescape};
 use rows_play::player::{Player, Stream};
-use rows_play::recorder::Name;
+use rows_play::recorder::ReaderName;
 use std::alloc::Global;
 
 // Returns whether a row takes an item.
@@ -123,7 +123,7 @@ pub fn lend_bytes(tower: &str, devices: &Devices<'_>, player: &mut Player<'_, '_
     match tower {
         "Device" => play_bytes(devices.first()?, devices, player),
         "Chain" => {
-            let both = devices.first()?.chain(devices.recorder(Name::Second)?);
+            let both = devices.first()?.chain(devices.recorder(ReaderName::Second)?);
             play_bytes(both, devices, player)
         }
         _ => Err(Fault::NoStream),

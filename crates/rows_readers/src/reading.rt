@@ -5,7 +5,7 @@ use crate::streams::{play_buffered, play_chain, play_lending, play_limited, play
 use no_std_io2::io::{BufRead, BufReader, Chain, Read};
 use rows_play::fault::{Fault, Made};
 use rows_play::player::Player;
-use rows_play::recorder::{Name, Recorder};
+use rows_play::recorder::{ReaderName, Recorder};
 
 pub fn lend(tower: &str, devices: &Devices<'_>, player: &mut Player<'_, '_>) -> Made<()> {
     let device = devices.first()?;
@@ -40,7 +40,7 @@ fn lend_chain(
     devices: &Devices<'_>,
     player: &mut Player<'_, '_>,
 ) -> Made<()> {
-    let second = devices.recorder(Name::Second)?;
+    let second = devices.recorder(ReaderName::Second)?;
     match tower {
         "Chain" => play_chain(device, second, devices, player),
         "Chain Take" => play_chain(device.take(2), second, devices, player),
@@ -84,7 +84,7 @@ fn lend_three(
     devices: &Devices<'_>,
     player: &mut Player<'_, '_>,
 ) -> Made<()> {
-    let third = devices.recorder(Name::Second)?;
+    let third = devices.recorder(ReaderName::Second)?;
     play_chain(first, second.chain(third), devices, player)
 }
 

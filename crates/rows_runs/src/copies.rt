@@ -13,7 +13,7 @@ use rows_play::journal::Journal;
 use rows_play::line::Line;
 use rows_play::noted::Noted;
 use rows_play::player::{Player, Stream};
-use rows_play::recorder::{Name, Recorder};
+use rows_play::recorder::{ReaderName, Recorder};
 use std::alloc::Global;
 use std::cell::RefCell;
 use std::rc::Rc;
@@ -54,8 +54,8 @@ impl Ends {
         let input = journal.clone()?;
         let output = journal.clone()?;
         Ok(Ends {
-            input: Recorder::new(alloc, input, Name::Only),
-            output: Recorder::new(alloc, output, Name::Only),
+            input: Recorder::new(alloc, input, ReaderName::Only),
+            output: Recorder::new(alloc, output, ReaderName::Only),
             journal,
         })
     }
@@ -103,7 +103,7 @@ impl Stream for Noting {
 /// Lends copies by chunks of 4 bytes.
 pub fn lend_plain(words: &str, player: &mut Player<'_, '_>) -> Made<()> {
     let journal = new_journal(player.alloc, words)?;
-    let recorder = Recorder::new(player.alloc, journal.clone()?, Name::Only);
+    let recorder = Recorder::new(player.alloc, journal.clone()?, ReaderName::Only);
     let output = Noted::new(recorder, journal.clone()?);
     player.play(&mut Noting { output, journal })
 }

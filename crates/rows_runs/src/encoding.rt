@@ -12,7 +12,7 @@ use rows_play::fault::{Fault, Made};
 use rows_play::journal::Journal;
 use rows_play::line::Line;
 use rows_play::player::{Player, Stream};
-use rows_play::recorder::{Name, Recorder};
+use rows_play::recorder::{ReaderName, Recorder};
 use std::alloc::Global;
 use std::cell::RefCell;
 use std::rc::Rc;
@@ -163,7 +163,7 @@ impl Stream for Reading {
 
 pub fn lend(name: &str, words: &str, player: &mut Player<'_, '_>) -> Made<()> {
     let journal = new_journal(player.alloc, words)?;
-    let device = Recorder::new(player.alloc, journal.clone()?, Name::Only);
+    let device = Recorder::new(player.alloc, journal.clone()?, ReaderName::Only);
     match name {
         "EncoderWriter" => {
             let writer = Some(EncoderWriter::new(device, STANDARD));

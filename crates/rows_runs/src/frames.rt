@@ -11,7 +11,7 @@ use rows_play::fault::{Fault, Made};
 use rows_play::journal::Journal;
 use rows_play::line::Line;
 use rows_play::player::{Player, Stream};
-use rows_play::recorder::{Name, Recorder};
+use rows_play::recorder::{ReaderName, Recorder};
 use std::alloc::Global;
 use std::cell::RefCell;
 use std::fmt;
@@ -184,7 +184,7 @@ impl Stream for Logging {
 
 pub fn lend(name: &str, words: &str, player: &mut Player<'_, '_>) -> Made<()> {
     let journal = new_journal(player.alloc, words)?;
-    let device = Recorder::new(player.alloc, journal.clone()?, Name::Only);
+    let device = Recorder::new(player.alloc, journal.clone()?, ReaderName::Only);
     match name {
         "FrameWriter" => {
             let writer = Some(FrameWriter::new(device));

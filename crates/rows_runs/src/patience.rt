@@ -9,7 +9,7 @@ use rows_play::line::{Line, cut};
 use rows_play::noted::Noted;
 use rows_play::player::{Player, Stream};
 use rows_play::reads::make_read;
-use rows_play::recorder::{Name, Recorder};
+use rows_play::recorder::{ReaderName, Recorder};
 use std::alloc::Global;
 use std::cell::RefCell;
 use std::rc::Rc;
@@ -39,7 +39,7 @@ pub fn lend(words: &str, player: &mut Player<'_, '_>) -> Made<()> {
         return Err(Fault::NoNumber);
     };
     let journal = new_journal(player.alloc, answers)?;
-    let recorder = Recorder::new(player.alloc, journal.clone()?, Name::Only);
+    let recorder = Recorder::new(player.alloc, journal.clone()?, ReaderName::Only);
     let device = Noted::new(recorder, journal.clone()?);
     let patient = Patient::new(ToStd::new(device), turns);
     player.play(&mut Patience { patient, journal })

@@ -9,7 +9,7 @@ use rows_play::fault::{Fault, Made};
 use rows_play::journal::Journal;
 use rows_play::line::Line;
 use rows_play::player::{Player, Stream};
-use rows_play::recorder::{Name, Recorder};
+use rows_play::recorder::{ReaderName, Recorder};
 use std::alloc::Global;
 use std::cell::RefCell;
 use std::rc::Rc;
@@ -58,7 +58,7 @@ impl Stream for Readings {
 
 pub fn lend(words: &str, player: &mut Player<'_, '_>) -> Made<()> {
     let journal = new_journal(player.alloc, words)?;
-    let device = Recorder::new(player.alloc, journal.clone()?, Name::Only);
+    let device = Recorder::new(player.alloc, journal.clone()?, ReaderName::Only);
     player.play(&mut Readings {
         writer: BufWriter::new(device),
         journal,

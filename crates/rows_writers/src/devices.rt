@@ -11,14 +11,14 @@ use rows_play::journal::Journal;
 use rows_play::line::Line;
 use rows_play::noted::Noted;
 use rows_play::player::{Player, Stream};
-use rows_play::recorder::{Name, Recorder};
+use rows_play::recorder::{ReaderName, Recorder};
 use std::alloc::Global;
 use std::cell::RefCell;
 use std::rc::Rc;
 
 /// Makes a recorder with this journal.
 pub fn new_recorder(alloc: Global, journal: &Rc<RefCell<Journal>>) -> Made<Recorder> {
-    Ok(Recorder::new(alloc, journal.clone()?, Name::Only))
+    Ok(Recorder::new(alloc, journal.clone()?, ReaderName::Only))
 }
 
 /// Makes a device that also notes the name of each call.

@@ -17,7 +17,7 @@ pub type Object = Box<dyn Write + Drop>;
 
 /// What a column of a tower shows.
 #[derive(Clone, Copy)]
-pub enum Part {
+pub enum Column {
     /// The bytes that the device took, if it keeps them itself.
     Taken,
     /// The bytes that each level holds.
@@ -27,7 +27,7 @@ pub enum Part {
 /// A writer over a device.
 pub trait Tower: Write + Drop {
     /// Prints a column of each level that has this part, the outer one first.
-    fn show(&self, _part: Part, _line: &mut Line) {}
+    fn show(&self, _part: Column, _line: &mut Line) {}
 
     /// Makes a call of the outer level that a device does not have: `below TEXT` writes to the level below, and
     /// `into_inner` unwraps the outer level and puts an empty one in its place. If that fails, the tower is kept; for
@@ -51,8 +51,8 @@ impl Tower for Numbered<Device> {}
 impl Tower for Object {}
 
 impl Tower for Vec<u8> {
-    fn show(&self, part: Part, line: &mut Line) {
-        if let Part::Taken = part {
+    fn show(&self, part: Column, line: &mut Line) {
+        if let Column::Taken = part {
             line.column();
             line.bytes(self);
         }
@@ -60,7 +60,7 @@ impl Tower for Vec<u8> {
 }
 
 impl<W: Tower> Tower for Box<W> {
-    fn show(&self, part: Part, line: &mut Line) {
+    fn show(&self, part: Column, line: &mut Line) {
         W::show(self, part, line);
     }
 }
@@ -75,8 +75,8 @@ fn show_refusal<W>(alloc: Global, refused: &IntoInnerError<W>, line: &mut Line) 
 }
 
 impl<W: Tower, const S: usize> Tower for BufWriter<W, S> {
-    fn show(&self, part: Part, line: &mut Line) {
-        if let Part::Held = part {
+    fn show(&self, part: Column, line: &mut Line) {
+        if let Column::Held = part {
             line.column();
             line.bytes(self.buffer());
         }
@@ -113,8 +113,8 @@ impl<W: Tower, const S: usize> Tower for BufWriter<W, S> {
 }
 
 impl<W: Tower, const S: usize> Tower for LineWriter<W, S> {
-    fn show(&self, part: Part, line: &mut Line) {
-        if let Part::Held = part {
+    fn show(&self, part: Column, line: &mut Line) {
+        if let Column::Held = part {
             line.column();
             line.bytes(self.buffer());
         }

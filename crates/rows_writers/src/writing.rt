@@ -2,7 +2,7 @@
 //
 // The columns after a call are its result, the bytes that the device took, the held bytes of each level, the outer one
 // first, and over a recorder the calls that reached it.
-use crate::tower::{Part, Tower};
+use crate::tower::{Column, Tower};
 use no_std_io2::io::{Seek, Write};
 use rows_play::calls::{Call, expect, make_call, make_seek, show_calls, show_out};
 use rows_play::fault::{Fault, Made};
@@ -83,12 +83,12 @@ impl<T: Tower> Writing<T> {
     fn show(&self, line: &mut Line) {
         match &self.columns {
             Columns::State => {
-                self.show_part(Part::Taken, 0, line);
-                self.show_part(Part::Held, 0, line);
+                self.show_part(Column::Taken, 0, line);
+                self.show_part(Column::Held, 0, line);
             }
             Columns::All(journal, levels) => {
                 show_out(journal, line);
-                self.show_part(Part::Held, *levels, line);
+                self.show_part(Column::Held, *levels, line);
                 show_calls(journal, line);
             }
             Columns::Calls(journal) => show_calls(journal, line),
@@ -96,7 +96,7 @@ impl<T: Tower> Writing<T> {
     }
 
     // Prints a column for each level. If the tower is gone, none holds anything.
-    fn show_part(&self, part: Part, levels: usize, line: &mut Line) {
+    fn show_part(&self, part: Column, levels: usize, line: &mut Line) {
         if let Some(tower) = &self.tower {
             tower.show(part, line);
             return;

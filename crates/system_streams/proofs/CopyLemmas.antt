@@ -1,8 +1,9 @@
 -- A copy, piece by piece.
 use Rattle.no_std_io2.proofs.Words.{◌≡◌, ℕ, List, [], ◌∷◌, ◌++◌, ap, ◌∙◌, subst, arith, Ok, Err, Result, Some, None, Option, append-nil}
-use Rattle.no_std_io2.proofs.Words.{inr, ◌⊎◌, Bool, length, length-append, nil_from_length, error_kind, Event, bytes, HasNoFault, Tells}
-use Rattle.no_std_io2.proofs.Words.{to_come, Reader, tells, ReadCall, Told, Moves, WriteCall, Flushed, Made, ByCalls, Writer, CallOf}
-use Rattle.no_std_io2.proofs.{Words.{with_buffer, Copied, Through}, TakesLemmas.{takes_all}, MovesLemmas.{Moves-then, Moves-ends}}
+use Rattle.no_std_io2.proofs.Words.{inr, ◌⊎◌, Bool, length, length-append, nil_from_length, error_kind, Event, bytes, HasNoFault}
+use Rattle.no_std_io2.proofs.Words.{ReaderState}
+use Rattle.no_std_io2.proofs.Words.{to_come, Reader, tells, ReadCall, WriterState, Moves, WriteCall, Flushed, Made, ByCalls, Writer, CallOf}
+use Rattle.no_std_io2.proofs.{Words.{with_buffer, Copied, LevelCalls}, TakesLemmas.{takes_to_end}, MovesLemmas.{Moves-then, Moves-ends}}
 use Rattle.no_std_io2.proofs.{BufWriterLemmas.{Moves-bare}, CallsLemmas.{made_more}, CopyLemmas.{copied_ok, copied_err}}
 use Rattle.no_std_io2.proofs.{TowerCalls.{through}, FaultLemmas.{first_fault_taken, may_fail, no_failure}}
 use Rattle.std.proofs.Common.{IfSome}
@@ -11,13 +12,13 @@ use Rattle.no_std_io2.specs.{declared.io.CopyError.{CopyError}, Faults.{HasFirst
 use Rattle.system_streams.specs.Copies.{CopiesAll, HandsAndFlushes, HandsThrough, BufferCalls}
 
 -- a copy, and then a flush
-pub copies_all : {R W : Type 0} {K : Reader R} {I : Writer W} {from from' : R} {old mid : W} {n : ℕ} {end : Told}
+pub copies_all : {R W : Type 0} {K : Reader R} {I : Writer W} {from from' : R} {old mid : W} {n : ℕ} {end : WriterState}
     → Copied K I 64 from old (Ok n) from' mid → Moves (I.told mid) [] [] end → CopiesAll (tells K from) (I.told old) n end
 copies_all ok flushed =
     let copied = copied_ok ok in
     record {
       taken = copied.taken;
-      all = takes_all copied.taken copied.takes (copied.ends.at_end (omega arith));
+      all = takes_to_end copied.taken copied.takes (copied.ends.at_end (omega arith));
       no_fault = copied.ends.no_fault;
       moves = Moves-ends copied.ends.moves flushed;
       count = copied.ends.count;
@@ -34,27 +35,29 @@ copies_err {K = K} {I} {from} {from'} {old} {mid} err =
     of_side side copied = grind (arith, first_fault_taken, may_fail)
 
 -- and if the flush after it failed, that was a mishap of the writer's too
-pub flush_err : {R W : Type 0} {K : Reader R} {I : Writer W} {from from' : R} {old mid : W} {n : ℕ} {e : Error} {end : Told}
+pub flush_err : {R W : Type 0} {K : Reader R} {I : Writer W} {from from' : R} {old mid : W} {n : ℕ} {e : Error} {end : WriterState}
     → Copied K I 64 from old (Ok n) from' mid → Moves (I.told mid) [] (error_kind e ∷ []) end → IsFaultOf (tells K from) (I.told old) e
 flush_err ok flushed = inr (may_fail (Moves-then (copied_ok ok).ends.moves flushed))
 
 -- what was to come of a reader is to come of a buffer in front of it
-all_through : (a b : Tells) (P : List Event) → to_come a ≡ to_come b → IsAll a P → IsAll b P
+all_through : (a b : ReaderState) (P : List Event) → to_come a ≡ to_come b → IsAll a P → IsAll b P
 all_through a b P same all = subst (λ E. IfSome E (λ l. l ≡ P)) same all
 
 -- and a fault of the two is one of those behind the buffers
-pub fault_through : {E F : Option (List Event)} {old new : Told} {e : Error} → E ≡ F → old.mishaps ≡ new.mishaps → old.turns ≡ new.turns
+pub fault_through : {E F : Option (List Event)} {old new : WriterState} {e : Error} → E ≡ F → old.mishaps ≡ new.mishaps
+    → old.turns ≡ new.turns
     → IfSome E (λ l. HasFirstFault l e) ⊎ MayFail old e → IfSome F (λ l. HasFirstFault l e) ⊎ MayFail new e
 fault_through same mishaps turns failed = grind (arith, IfSome, error_kind)
 
 -- a reader without a fault and a writer without a mishap leave none
-pub is_steady : (E : Option (List Event)) {old : Told} {e : Error} (P : Type 0) → IfSome E (λ l. HasFirstFault l e) ⊎ MayFail old e
+pub is_steady : (E : Option (List Event)) {old : WriterState} {e : Error} (P : Type 0) → IfSome E (λ l. HasFirstFault l e) ⊎ MayFail old e
     → IfSome E (λ l. HasNoFault l → old.mishaps ≡ Some [] → P)
 is_steady None P failed = tt
 is_steady (Some E) {old} {e} P failed = λ none steady. absurd (no_failure E old none steady e failed)
 
 -- an empty buffer that is put in front and taken off again changes nothing
-pub passes_off : {a b : Tells} {told inner mid end : Told} {n : ℕ} (buffer : List ℕ) → to_come a ≡ to_come b → inner ≡ told → buffer ≡ []
+pub passes_off : {a b : ReaderState} {told inner mid end : WriterState} {n : ℕ} (buffer : List ℕ) → to_come a ≡ to_come b → inner ≡ told
+    → buffer ≡ []
     → CopiesAll a (with_buffer inner buffer) n mid → Moves mid [] [] end → CopiesAll b told n end
 passes_off {a} {b} {told = told} {end = end} buffer same same' empty copied left = record {
   taken = copied.taken;
@@ -65,7 +68,7 @@ passes_off {a} {b} {told = told} {end = end} buffer same same' empty copied left
 }
 
 -- nothing more is held
-pub none_held : {a b : Told} → a.held ≡ [] → Moves a [] [] b → b.held ≡ []
+pub none_held : {a b : WriterState} → a.held ≡ [] → Moves a [] [] b → b.held ≡ []
 none_held {a} {b} none moves =
     let whole : b.out ++ b.held ≡ a.out = moves.bytes ∙ append-nil (a.out ++ a.held) ∙ ap (λ l. a.out ++ l) none ∙ append-nil a.out in
     let grown = ap length moves.front.1 ∙ length-append a.out moves.front.0 in
@@ -102,7 +105,7 @@ handed_through I {K} line inner buffer each {output = output} {w = w} {old = old
       handed = hands.handed;
       below = below.calls;
       through =
-          subst (λ l. Through (BufferCalls line) [] calls below.calls l) gone
-          (subst (λ h. Through (BufferCalls line) h calls below.calls (buffer new)) empty below.are);
+          subst (λ l. LevelCalls (BufferCalls line) [] calls below.calls l) gone
+          (subst (λ h. LevelCalls (BufferCalls line) h calls below.calls (buffer new)) empty below.are);
       made = subst (λ v. Made (CallOf I) v below.calls w) at (subst (λ v. Made (CallOf I) (inner old) below.calls v) same below.made);
     }

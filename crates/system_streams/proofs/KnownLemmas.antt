@@ -20,7 +20,7 @@ at_end : (F : Option (List Event)) → IfSome F (λ E. E ≡ []) → IsKnownEnd 
 at_end F end = grind (arith, common_steps)
 
 -- a read consumes the bytes that it gives, and keeps all at an error
-pub consumes_bytes : {S : Type 0} {R : Reader S} {old new : S} {buf buf' : List ℕ} (reply : Result ℕ Error) (result : Result ℕ Std.Error)
+pub consumes_bytes : {X : Type 0} {R : Reader X} {old new : X} {buf buf' : List ℕ} (reply : Result ℕ Error) (result : Result ℕ Std.Error)
     → ReadLaw R old buf reply buf' new → SameAnswer reply result
     → ReadConsumes (bytes_to_come (tells R old)) (bytes_to_come (tells R new)) result buf'
 consumes_bytes reply result read same =

@@ -1,11 +1,12 @@
 -- What a copy through buffers takes, and what it does to the writer.
 use Rattle.std.specs.Prelude.{◌≡◌, ℕ, Bool, true, false, List, [], ◌∷◌, ◌++◌, Ok}
-use Rattle.no_std_io2.specs.{Events.{Event, bytes, HasNoFault}, Takes.{Tells, IsAll}, Writers.{Writer, CallOf}, Write.{Told, Moves}}
+use Rattle.no_std_io2.specs.{Events.{Event, bytes, HasNoFault}, Takes.{ReaderState, IsAll}, Writers.{Writer, CallOf}}
+use Rattle.no_std_io2.specs.Write.{WriterState, Moves}
 use Rattle.no_std_io2.specs.{Write.{WriteCall, Flushed, Made}, BufWriter.{InnerCalls}, LineWriter.{LineCalls}, Copy.{counted, Handed}}
-use Rattle.no_std_io2.specs.Towers.{Through}
+use Rattle.no_std_io2.specs.Towers.{LevelCalls}
 
 -- A copy took all events of a reader that told this, and no fault. The writer accepted their bytes without a mishap, and n is their count.
-pub record CopiesAll (from : Tells) (old : Told) (n : ℕ) (new : Told) : Type 0 where
+pub record CopiesAll (from : ReaderState) (old : WriterState) (n : ℕ) (new : WriterState) : Type 0 where
   pub taken : List Event
   pub all : IsAll from taken
   pub no_fault : HasNoFault taken
@@ -30,5 +31,5 @@ pub record HandsThrough {W : Type 0} (I : Writer W) (line : Bool) (old new : W) 
   pub calls : List WriteCall
   pub handed : Handed 64 pieces calls (Ok tt)
   pub below : List WriteCall
-  pub through : Through (BufferCalls line) [] (calls ++ Flushed (Ok tt) ∷ []) below []
+  pub through : LevelCalls (BufferCalls line) [] (calls ++ Flushed (Ok tt) ∷ []) below []
   pub made : Made (CallOf I) old below new

@@ -2,7 +2,8 @@
 use Rattle.std.specs.Prelude.{◌≡◌, ℕ, ◌<◌, ◌-◌, ◌^◌, List, [], ◌++◌, length, Option, None, Some, Ok, Err, Result, IsErrAnd}
 use Rattle.std.specs.Io.KnownBytes.{ReadConsumes}
 use Rattle.no_std_io2.specs.{declared.io.{Error.{Error}, SeekFrom.{SeekFrom, TheVariants.{Start, End, Current}}}, Read.{ReadCall, Gave}}
-use Rattle.no_std_io2.specs.{Read.{gave}, Seek.{SeekCall, Sought, Measured, Moved}, Write.{Told, WriteCall, Wrote, WroteAll, Flushed}}
+use Rattle.no_std_io2.specs.{Read.{gave}, Seek.{SeekCall, Sought, Measured, Moved}}
+use Rattle.no_std_io2.specs.Write.{WriterState, WriteCall, Wrote, WroteAll, Flushed}
 use Rattle.no_std_io2.specs.Write.{taken}
 use Rattle.system_streams.specs.declared.{patient.Patient.{Patient}, system.{SystemWrite.{Ghosts as Device}, SystemRead.{Ghosts as Source}}}
 use Rattle.system_streams.specs.{declared.system.SystemSeek.{Ghosts as Place}, Turns.{AnswersFor, AnswersRead, GivesOn, IsOutOfTurns}}
@@ -38,7 +39,7 @@ Remembers (Ok x) old new = new ≡ old
 Remembers (Err e) old new = new ≡ Some e
 
 -- what a patient writer tells: those bytes are out, nothing is held, and no mishaps are told
-abbrev pub patient_told : {D : Type 0} → Patient D → Told
+abbrev pub patient_told : {D : Type 0} → Patient D → WriterState
 patient_told p = record { out = patient_taken p; held = []; mishaps = None; turns = patient_turns p }
 
 -- what one call does: it makes the same call of the device, once, and the result is made from the device's result

@@ -155,10 +155,10 @@ fn own_place(place: io::SeekFrom) -> SeekFrom
     }
 }
 
-impl<S: Seek> io::Seek for ToStd<S> {
-    ghost stream_position = { λ s. position_of (S.store (std_inner s)) };
+impl<T: Seek> io::Seek for ToStd<T> {
+    ghost stream_position = { λ s. position_of (T.store (std_inner s)) };
 
-    ghost stream_bytes = { λ s. content_of (S.store (std_inner s)) };
+    ghost stream_bytes = { λ s. content_of (T.store (std_inner s)) };
 
     fn seek(&mut self, to: io::SeekFrom) -> io::Result<u64>
         ensures moves { SeekMoves (⟦<Self as io::Seek>⟧.stream_position self.old) (⟦<Self as io::Seek>⟧.stream_position self.new)
@@ -167,7 +167,7 @@ impl<S: Seek> io::Seek for ToStd<S> {
 
         // It makes one call of the seeker, and returns its result.
         ensures law { (place : SeekFrom) × (reply : Result ℕ Error) × (std_place place ≡ to) × SameAnswer reply result
-            × SeekLaw S.Seek (std_inner self.old) place reply (std_inner self.new) }
+            × SeekLaw T.Seek (std_inner self.old) place reply (std_inner self.new) }
     {
         match self.inner.seek(own_place(to)) {
             Ok(at) => Ok(at),

@@ -1,5 +1,5 @@
 -- The lines of members, one after another.
-use Rattle.no_std_io2.proofs.Words.{◌≡◌, ◌⊎◌, List, ℕ, [], ◌∷◌, ◌++◌, Result, Ok, append-nil, inl, inr, Told, Moves, MovesFront, Err}
+use Rattle.no_std_io2.proofs.Words.{◌≡◌, ◌⊎◌, List, ℕ, [], ◌∷◌, ◌++◌, Result, Ok, append-nil, inl, inr, WriterState, Moves, MovesFront, Err}
 use Rattle.no_std_io2.proofs.{Words.{Option, Some, None, refl, ⊤, IfOk, Reader, Writer}, MovesLemmas.{Moves-then, MovesFront-whole}}
 use Rattle.std.proofs.{Common.{IsErrAnd, IfSome}, lemmas.{List.{map-append}, List.Folds.{concat-append}}}
 use Rattle.no_std_io2.specs.{declared.io.{Error.{Error}, Take.{Take}}, Text.{IsTextError}}
@@ -8,7 +8,7 @@ use Rattle.tar_reader.proofs.MemberLemmas.{Skipping, comes_to}
 use Rattle.tar_list.specs.Listing.{member_line, member_lines, PrintsMember, ListEnds, Lists, MemberEnds, CopiesMember}
 
 -- a text was printed, and no formatter failed
-pub printed_whole : {a b : Told} (x : List ℕ) {r : Result (Unit {0}) Error} {u : Unit {0}} → r ≡ Ok u
+pub printed_whole : {a b : WriterState} (x : List ℕ) {r : Result (Unit {0}) Error} {u : Unit {0}} → r ≡ Ok u
     → MovesFront a x r b ⊎ IsErrAnd r IsTextError → MovesFront a x (Ok tt) b
 printed_whole x is (inl printed) = rw is at printed
 printed_whole x is (inr failed) = absurd (rw is at failed)
@@ -18,13 +18,13 @@ lines_more : (headers : List Header) (h : Header) → member_lines (headers ++ h
 lines_more headers h = rw (map-append, concat-append, append-nil)
 
 -- it was printed whole
-pub prints_more : {a b c : Told} (headers : List Header) (h : Header) {r : Result (Unit {0}) Error} {u : Unit {0}} → r ≡ Ok u
+pub prints_more : {a b c : WriterState} (headers : List Header) (h : Header) {r : Result (Unit {0}) Error} {u : Unit {0}} → r ≡ Ok u
     → Moves a (member_lines headers) [] b → PrintsMember h b r c → Moves a (member_lines (headers ++ h ∷ [])) [] c
 prints_more headers h is so_far line =
     rw (lines_more headers h) (Moves-then so_far (MovesFront-whole (member_line h) tt (printed_whole (member_line h) is line)))
 
 -- members were passed over, and the next call ended the list
-pub lists : {X : Type 0} {R : Reader X} {old mid new : Archive X} {was told : Told} {last : Result (Option Header) Error}
+pub lists : {X : Type 0} {R : Reader X} {old mid new : Archive X} {was told : WriterState} {last : Result (Option Header) Error}
     {reply : Result (Unit {0}) Error} (before : Skipping R old mid) → NextHeaderLaw R mid last new
     → ListEnds (member_lines before.headers) last was reply told → Lists R old was reply new told
 lists {last = last} before law ends =

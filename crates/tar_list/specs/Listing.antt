@@ -4,7 +4,7 @@ use Rattle.std.specs.Prelude.{IsErr, IsErrAnd}
 use Rattle.std.specs.List.{concat}
 use Rattle.no_std_io2.specs.{Errors.{SaysError}, declared.io.{Error.{Error}, ErrorKind.TheVariants.{InvalidInput, NotFound, UnexpectedEof}}}
 use Rattle.no_std_io2.specs.{Read.{Reader}, Copy.{Copied}, Writers.{Writer, FlushOf}, declared.io.Take.{Take}, Text.{IsTextError}}
-use Rattle.no_std_io2.specs.Write.{Told, Moves, MovesFront, call_mishap}
+use Rattle.no_std_io2.specs.Write.{WriterState, Moves, MovesFront, call_mishap}
 use Rattle.tar_reader.specs.declared.archive.Archive.{Archive}
 use Rattle.tar_reader.specs.declared.header.Header.{Header}
 use Rattle.tar_reader.specs.declared.header.Kind.TheVariants.{Directory}
@@ -22,19 +22,19 @@ abbrev pub member_lines : List Header → List ℕ
 member_lines headers = concat (map member_line headers)
 
 -- The line of a member was printed: some front of it was accepted, all of it after `Ok`. Or the error says that a formatter failed.
-abbrev pub PrintsMember : Header → Told → Result (Unit {0}) Error → Told → Type 0
+abbrev pub PrintsMember : Header → WriterState → Result (Unit {0}) Error → WriterState → Type 0
 PrintsMember h old reply new = MovesFront old (member_line h) reply new ⊎ IsErrAnd reply IsTextError
 
 -- How a list ended, by the last `next`, after these lines were printed. At the end of the archive the writer was flushed, and holds nothing
 -- after `Ok`. At a header the printing of its line failed. At an error of the archive, that is the error of the list.
-abbrev pub ListEnds : List ℕ → Result (Option Header) Error → Told → Result (Unit {0}) Error → Told → Type 0
+abbrev pub ListEnds : List ℕ → Result (Option Header) Error → WriterState → Result (Unit {0}) Error → WriterState → Type 0
 ListEnds lines (Ok None) old reply new = Moves old lines (call_mishap reply) new × OnOk reply (new.held ≡ [])
-ListEnds lines (Ok (Some h)) old reply new = IsErr reply × ((mid : Told) × Moves old lines [] mid × PrintsMember h mid reply new)
+ListEnds lines (Ok (Some h)) old reply new = IsErr reply × ((mid : WriterState) × Moves old lines [] mid × PrintsMember h mid reply new)
 ListEnds lines (Err e) old reply new = (reply ≡ Err e) × Moves old lines [] new
 
 -- The members of an archive were listed.
-pub record Lists {X : Type 0} (R : Reader X) (old : Archive X) (was : Told) (reply : Result (Unit {0}) Error) (new : Archive X)
-    (told : Told) : Type 0 where
+pub record Lists {X : Type 0} (R : Reader X) (old : Archive X) (was : WriterState) (reply : Result (Unit {0}) Error) (new : Archive X)
+    (told : WriterState) : Type 0 where
   -- the members whose lines were printed
   pub headers : List Header
   -- what the last `next` returned

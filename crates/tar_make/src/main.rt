@@ -32,7 +32,7 @@ type Archive<'a> = Builder<Patient<io::Printer<'a, HostRuntime>>, BUFFER>;
 
 // Why a member is not what it should be.
 #[derive(Drop)]
-enum Fault {
+enum AddError {
     // The system's reason: the file cannot be found or opened.
     System(io::Error),
     // No header can hold it, it cannot be read, or it has another size by now.
@@ -50,23 +50,23 @@ fn described(found: &fs::Metadata) -> Metadata {
 }
 
 // Returns the header of a file, a directory or a symbolic link.
-fn header_of(rt: &HostRuntime, name: &str, found: &fs::Metadata) -> Result<Header, Fault> {
+fn header_of(rt: &HostRuntime, name: &str, found: &fs::Metadata) -> Result<Header, AddError> {
     let metadata = described(found);
     let made = if found.is_symlink() {
         match rt.read_link(rt.alloc(), name) {
             Ok(target) => Header::symlink(name.as_bytes(), target.as_os_str().as_bytes(), metadata),
-            Err(e) => return Err(Fault::System(e)),
+            Err(e) => return Err(AddError::System(e)),
         }
     } else if found.is_dir() {
         Header::directory(name.as_bytes(), metadata)
     } else {
         Header::file(name.as_bytes(), found.len(), metadata)
     };
-    made.map_err(Fault::Member)
+    made.map_err(AddError::Member)
 }
 
 // Appends the bytes of a file. What it lacks is filled with zeros.
-fn add_body(archive: &mut Archive<'_>, file: Patient<fs::File>) -> Result<(), Fault> {
+fn add_body(archive: &mut Archive<'_>, file: Patient<fs::File>) -> Result<(), AddError> {
     let mut body = BufReader::<_, BUFFER>::new(file);
     let Err(fault) = archive.append_body(&mut body) else {
         return Ok(());
@@ -77,12 +77,12 @@ fn add_body(archive: &mut Archive<'_>, file: Patient<fs::File>) -> Result<(), Fa
         Err(_) => false,
     };
     if has_more && archive.body_left() > 0 {
-        return Err(Fault::Output(fault));
+        return Err(AddError::Output(fault));
     }
     let mut zeros = repeat(0, archive.body_left());
     match archive.append_body(&mut zeros) {
-        Ok(()) => Err(Fault::Member(fault)),
-        Err(e) => Err(Fault::Output(e)),
+        Ok(()) => Err(AddError::Member(fault)),
+        Err(e) => Err(AddError::Output(e)),
     }
 }
 
@@ -92,20 +92,20 @@ fn add_file(
     archive: &mut Archive<'_>,
     name: &str,
     header: &Header,
-) -> Result<(), Fault> {
-    let file = open(rt, name).map_err(Fault::System)?;
-    archive.append_header(header).map_err(Fault::Output)?;
+) -> Result<(), AddError> {
+    let file = open(rt, name).map_err(AddError::System)?;
+    archive.append_header(header).map_err(AddError::Output)?;
     add_body(archive, file)
 }
 
 // Appends a member, and returns why it is not what it should be, if so.
-fn add(rt: &HostRuntime, archive: &mut Archive<'_>, name: &str) -> Result<(), Fault> {
-    let found = fs::symlink_metadata(rt, name).map_err(Fault::System)?;
+fn add(rt: &HostRuntime, archive: &mut Archive<'_>, name: &str) -> Result<(), AddError> {
+    let found = fs::symlink_metadata(rt, name).map_err(AddError::System)?;
     let header = header_of(rt, name, &found)?;
     if found.is_file() {
         return add_file(rt, archive, name, &header);
     }
-    archive.append_header(&header).map_err(Fault::Output)
+    archive.append_header(&header).map_err(AddError::Output)
 }
 
 // Adds the members with these names, and returns whether all are what they should be. Stops if standard output fails.
@@ -120,12 +120,12 @@ fn add_all(
         let name = name.as_str();
         match add(rt, archive, name) {
             Ok(()) => {}
-            Err(Fault::Output(e)) => return Err(e),
-            Err(Fault::Member(e)) => {
+            Err(AddError::Output(e)) => return Err(e),
+            Err(AddError::Member(e)) => {
                 let _ = eprintln!(rt; "tar_make: {name}: {e}");
                 whole = false;
             }
-            Err(Fault::System(e)) => {
+            Err(AddError::System(e)) => {
                 let _ = eprintln!(rt; "tar_make: {name}: {e}");
                 whole = false;
             }

@@ -1,8 +1,8 @@
 -- For `play`: what it writes, and which calls its tower made of the device.
 use Rattle.no_std_io2.proofs.Words.{CallOf, Vec, told_out, arith, common_steps, ◌≡◌, ℕ, List, [], ◌∷◌, ◌++◌, subst, ap, ap₂, refl}
-use Rattle.no_std_io2.proofs.Words.{append_assoc, Ok, Err, Result, IfOk, ◌∙◌, error_kind, Told, Moves, MovesFront, Writer, WriteCall}
-use Rattle.no_std_io2.proofs.{Words.{ByCalls, InnerCalls, with_buffer, Through}, MovesLemmas.{Moves-ends}, FaultLemmas.{may_fail}}
-use Rattle.no_std_io2.specs.{declared.io.Error.{Error}, Faults.{MayFail}}
+use Rattle.no_std_io2.proofs.Words.{append_assoc, Ok, Err, Result, IfOk, ◌∙◌, error_kind, WriterState, Moves, MovesFront, Writer, WriteCall}
+use Rattle.no_std_io2.proofs.{Words.{ByCalls, InnerCalls, with_buffer, LevelCalls}, MovesLemmas.{Moves-ends}, FaultLemmas.{may_fail}}
+use Rattle.no_std_io2.specs.{declared.io.Error.{Error}, PlayErrors.{MayFail}}
 use Rattle.io_bench.specs.{declared.{faulty.{Act.{Act}, Faulty.{Faulty}}, runs.Op.{Op}}, Faulty.{acts_left, faulty_inner, with_acts}}
 use Rattle.io_bench.specs.Runs.{Ran, RunBelow}
 use Rattle.io_bench.proofs.RunLemmas.{below_first, below_map, below_more}
@@ -62,10 +62,11 @@ module _ {W : Type 0} (I : Writer (Faulty W)) (none : (w : Faulty W) → (I.told
   -- a run on one level
   pub one_level : {B : Type 0} {K : Writer B} (inner : B → Faulty W) (buffer : B → List ℕ) (level : Level) → Each I K inner buffer level
       → ((b : B) → K.told b ≡ with_buffer (I.told (inner b)) (buffer b))
-      → ((calls below : List WriteCall) (held : List ℕ) → Through level [] calls below held → TowerCalls shape calls below held)
+      → ((calls below : List WriteCall) (held : List ℕ) → LevelCalls level [] calls below held → TowerCalls shape calls below held)
       → (old : B) → inner old ≡ base → buffer old ≡ [] → ShowsRun K old ops text → Shows I shape acts ops text
   one_level inner buffer level each told is old at empty run = shows inner buffer told old at empty run
-      (below_map I ops run.replies (λ calls below t. is calls below _ (subst (λ h. Through level h calls below (buffer run.new)) empty t))
+      (below_map I ops run.replies (λ calls below t. is calls below _
+          (subst (λ h. LevelCalls level h calls below (buffer run.new)) empty t))
       (below_first I inner buffer level each ops run.replies run.law.calls))
 
   -- a run on a level over a buffer
@@ -84,14 +85,14 @@ module _ {W : Type 0} (I : Writer (Faulty W)) (none : (w : Faulty W) → (I.told
         mid,
         above run.new,
         buffer (outer run.new),
-        subst (λ h. Through level h calls mid (above run.new)) empty' upper,
-        subst (λ h. Through (InnerCalls 8) h mid below (buffer (outer run.new))) empty lower,
+        subst (λ h. LevelCalls level h calls mid (above run.new)) empty' upper,
+        subst (λ h. LevelCalls (InnerCalls 8) h mid below (buffer (outer run.new))) empty lower,
         refl,
       )) (below_more I inner buffer (InnerCalls 8) each ops run.replies
       (below_first J outer above level each' ops run.replies run.law.calls)))
 
 -- one text is written and flushed
-pub writes_text : {P : List ℕ → Type 0} {a b c : Told} {x shown : List ℕ} → P x → shown ≡ x
+pub writes_text : {P : List ℕ → Type 0} {a b c : WriterState} {x shown : List ℕ} → P x → shown ≡ x
     → MovesFront a shown (Ok tt) b → Moves b [] [] c → c.held ≡ [] → WritesText P a c
 writes_text {a = a} {b} {x = x} is same wrote flushed empty = record {
   text = x;
@@ -101,9 +102,10 @@ writes_text {a = a} {b} {x = x} is same wrote flushed empty = record {
 }
 
 -- the writer failed in the text
-pub write_failed : {a b : Told} {x : List ℕ} {e : Error} → MovesFront a x (Err e) b → MayFail a e
+pub write_failed : {a b : WriterState} {x : List ℕ} {e : Error} → MovesFront a x (Err e) b → MayFail a e
 write_failed wrote = may_fail wrote.moves
 
 -- it failed in the flush after the text
-pub flush_failed : {a b c : Told} {x : List ℕ} {e : Error} → MovesFront a x (Ok tt) b → Moves b [] (error_kind e ∷ []) c → MayFail a e
+pub flush_failed : {a b c : WriterState} {x : List ℕ} {e : Error} → MovesFront a x (Ok tt) b → Moves b [] (error_kind e ∷ []) c
+    → MayFail a e
 flush_failed wrote flushed = may_fail (Moves-ends wrote.moves flushed)

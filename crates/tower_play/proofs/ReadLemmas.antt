@@ -4,7 +4,7 @@ use Rattle.no_std_io2.proofs.Words.{arith, length, length-append, map, Result, O
 use Rattle.no_std_io2.proofs.Words.{IsFault, IsOutOfMemory, Event, byte, fails, first_fault, HasNoFault, Made, Reader, tells, split_delim}
 use Rattle.no_std_io2.proofs.{Words.{split_reader, to_come, without, Bool, error_kind, if◌then◌else◌}, CallsLemmas.{made_more}}
 use Rattle.std.specs.{Prelude.{min}, Option.{IfSome}}
-use Rattle.no_std_io2.specs.{declared.io.{Error.{Error}, Split.{Split}}, Pieces.{split_is_ended}, Faults.{HasFirstFault}}
+use Rattle.no_std_io2.specs.{declared.io.{Error.{Error}, Split.{Split}}, Pieces.{split_is_ended}, PlayErrors.{HasFirstFault}}
 use Rattle.no_std_io2.specs.Errors.{is_interruption}
 use Rattle.io_bench.specs.PieceRuns.{AllPieces, GathersPieces, RunsNexts}
 use Rattle.io_bench.proofs.PieceRunLemmas.{run_gathers, split_next, split_takes}
@@ -12,8 +12,8 @@ use Rattle.tower_play.specs.{declared.script.Script.{Script}, Reading.{Adds, Add
 use Rattle.tower_play.specs.Reading.{IsRead}
 
 -- so many lines were read, and made the script, unless one of them was bad: then its number is known
-pub record ReadSoFar {S T : Type 0} (next : S → Option (Result T Error) → S → Type 0) (view : T → List ℕ) (old : S) (number : ℕ)
-    (bad : Option ℕ) (script : Script) (now : S) : Type 0 where
+pub record ReadSoFar {X T : Type 0} (next : X → Option (Result T Error) → X → Type 0) (view : T → List ℕ) (old : X) (number : ℕ)
+    (bad : Option ℕ) (script : Script) (now : X) : Type 0 where
   pub items : List T
   pub made : Made (λ s x t. next s (Some (Ok x)) t) old items now
   pub lines : List (List ℕ)
@@ -68,7 +68,7 @@ first_here lines line n next start script fresh adds is count more = record {
 pub is_none : (o : Option ℕ) → is_some o ≡ false → o ≡ None
 is_none o none = grind (arith, common_steps)
 
-module _ {S T : Type 0} {next : S → Option (Result T Error) → S → Type 0} {view : T → List ℕ} {old mid now : S} {number number' : ℕ}
+module _ {X T : Type 0} {next : X → Option (Result T Error) → X → Type 0} {view : T → List ℕ} {old mid now : X} {number number' : ℕ}
     {bad bad' : Option ℕ} {script : Script} (script' : Script) (item : T) (so : ReadSoFar next view old number bad script mid)
     (gave : next mid (Some (Ok item)) now) (count : number' ≡ min (number + 1) (2 ^ 64 - 1)) where
   -- one line more was read

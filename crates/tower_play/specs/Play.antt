@@ -1,26 +1,26 @@
 -- The calls of a play, and what it prints.
 use Rattle.std.specs.Prelude.{◌≡◌, ℕ, List, [], ◌++◌, Option, IfSome}
-use Rattle.no_std_io2.specs.{Writers.{Writer}, Write.{Told, Moves, told_out, WriteCall}, BufWriter.{with_buffer, InnerCalls}}
-use Rattle.no_std_io2.specs.{LineWriter.{LineCalls}, Towers.{Through}, Events.{Event}, Pieces.{newline}}
+use Rattle.no_std_io2.specs.{Writers.{Writer}, Write.{WriterState, Moves, told_out, WriteCall}, BufWriter.{with_buffer, InnerCalls}}
+use Rattle.no_std_io2.specs.{LineWriter.{LineCalls}, Towers.{LevelCalls}, Events.{Event}, Pieces.{newline}}
 use Rattle.io_bench.specs.{declared.{faulty.{Act.{Act}, Faulty.{Faulty}}, runs.{Op.{Op}, Reply.{Reply}}}, Faulty.{with_acts, acts_left}}
 use Rattle.io_bench.specs.Runs.{Ran, RunBelow, RunLaw}
 use Rattle.tower_play.specs.declared.{playing.Shape.{Shape, TheVariants.{Buf, Line, BufBuf, LineBuf}}, script.Script.{Script}}
 use Rattle.tower_play.specs.{Calls.{AreCalls}, Reading.{IsRead}, Report.{printed_report}}
 
 -- what a tower with empty buffers tells over an empty vector with these acts in front
-abbrev pub fresh_told : List Act → Told
+abbrev pub fresh_told : List Act → WriterState
 fresh_told acts = with_acts (told_out []) acts
 
 -- the calls of a level above a buffer of 8 bytes were these calls of the device below both; these bytes are held afterwards, the inner
 -- level's first
 abbrev pub TwoLevels : (List ℕ → WriteCall → List WriteCall → List ℕ → Type 0) → List WriteCall → List WriteCall → List ℕ → Type 0
 TwoLevels outer calls below held = (mid : List WriteCall) × (above : List ℕ) × (inner : List ℕ)
-    × Through outer [] calls mid above × Through (InnerCalls 8) [] mid below inner × (held ≡ inner ++ above)
+    × LevelCalls outer [] calls mid above × LevelCalls (InnerCalls 8) [] mid below inner × (held ≡ inner ++ above)
 
 -- the calls of a tower of this shape were these calls of the device
 abbrev pub TowerCalls : Shape → List WriteCall → List WriteCall → List ℕ → Type 0
-TowerCalls Buf calls below held = Through (InnerCalls 8) [] calls below held
-TowerCalls Line calls below held = Through (LineCalls 8) [] calls below held
+TowerCalls Buf calls below held = LevelCalls (InnerCalls 8) [] calls below held
+TowerCalls Line calls below held = LevelCalls (LineCalls 8) [] calls below held
 TowerCalls BufBuf calls below held = TwoLevels (InnerCalls 8) calls below held
 TowerCalls LineBuf calls below held = TwoLevels (LineCalls 8) calls below held
 
@@ -52,7 +52,7 @@ pub record IsPlay {W : Type 0} (I : Writer (Faulty W)) (shape : Shape) (events :
   pub shows : Shows I shape script.acts.items ops text
 
 -- From old to new a writer accepted a text for which P holds, and nothing is held.
-pub record WritesText (P : List ℕ → Type 0) (old new : Told) : Type 0 where
+pub record WritesText (P : List ℕ → Type 0) (old new : WriterState) : Type 0 where
   pub text : List ℕ
   pub is : P text
   pub moves : Moves old text [] new

@@ -2,9 +2,9 @@
 ghost use Rattle.no_std_io2.specs.BufReader.{BufReaderFits};
 ghost use Rattle.std.specs.Prelude.{◌≡◌, ◌++◌, ◌⊎◌, Some, IfSome, IfOk, IfErr};
 ghost use Rattle.no_std_io2.specs.Errors.{IsOutOfMemory};
-ghost use Rattle.tower_play.specs.declared.playing.Fault.TheVariants.{Io};
-ghost use Rattle.no_std_io2.specs.Faults.{IsFaultOf};
-ghost use Rattle.tower_play.specs.Faults.{fault_display, IfIo, IfLine};
+ghost use Rattle.tower_play.specs.declared.playing.PlayError.TheVariants.{Io};
+ghost use Rattle.no_std_io2.specs.PlayErrors.{IsFaultOf};
+ghost use Rattle.tower_play.specs.PlayErrors.{fault_display, IfIo, IfLine};
 ghost use Rattle.no_std_io2.specs.Takes.{to_come};
 ghost use Rattle.no_std_io2.specs.Read.{tells};
 ghost use Rattle.no_std_io2.specs.Pieces.{newline};
@@ -34,36 +34,36 @@ pub enum Shape {
 
 /// The reason why a script was not played.
 #[derive(Debug, Drop)]
-pub enum Fault {
+pub enum PlayError {
     /// A fault of the input or output, or a failed allocation.
     Io(Error),
     /// The script has bad lines; this is the number of the first, from 1.
     Line(u64),
 }
 
-impl From<Error> for Fault {
+impl From<Error> for PlayError {
     ghost from_gives = { λ e fault. fault ≡ Io e };
 
-    fn from(error: Error) -> Fault {
+    fn from(error: Error) -> PlayError {
         Self::Io(error)
     }
 }
 
-impl From<Refused> for Fault {
+impl From<Refused> for PlayError {
     ghost from_gives = { λ _ fault. IfIo IsOutOfMemory fault × IfLine (λ _. ⊥) fault };
 
-    fn from(_refused: Refused) -> Fault {
-        Fault::Io(Error::from(ErrorKind::OutOfMemory))
+    fn from(_refused: Refused) -> PlayError {
+        PlayError::Io(Error::from(ErrorKind::OutOfMemory))
     }
 }
 
-impl fmt::Display for Fault {
+impl fmt::Display for PlayError {
     ghost output = { λ fault. Some (fault_display fault) };
 
     fn fmt<W: fmt::Write>(&self, f: &mut fmt::Formatter<W>) -> fmt::Result {
         match self {
-            Fault::Io(error) => write!(f, "{error}"),
-            Fault::Line(number) => write!(f, "bad line {number}"),
+            PlayError::Io(error) => write!(f, "{error}"),
+            PlayError::Line(number) => write!(f, "bad line {number}"),
         }
     }
 }
@@ -139,7 +139,7 @@ pub fn play<R: Read + Drop, W: Write + Drop>(
     input: R,
     mut output: W,
     shape: Shape,
-) -> Result<W, Fault>
+) -> Result<W, PlayError>
     requires reader_fits { BufReaderFits R.row 64 }
     // The tower has this shape: the device got the calls that such a tower makes.
     // The script is the text that the input tells.

@@ -2,28 +2,28 @@
 ghost use Rattle.std.specs.Prelude.{◌≡◌, ℕ, ◌+◌, ◌-◌, ◌≤◌, List, [], ◌∷◌, ◌++◌, take, drop, IfSome, IfNone, None, ◌<◌, OnOk, OnErr};
 ghost use Rattle.std.specs.Prelude.{IfOk, IfErr, length, vec_len, vec_capacity, true, false, ◌⊎◌};
 ghost use Rattle.no_std_io2.specs.Errors.{IsOutOfMemory};
-ghost use Rattle.no_std_io2.specs.Faults.{HasFirstFault};
-ghost use Rattle.tower_play.specs.Faults.{IsNumbered, IfIo, IfLine};
+ghost use Rattle.no_std_io2.specs.PlayErrors.{HasFirstFault};
+ghost use Rattle.tower_play.specs.PlayErrors.{IsNumbered, IfIo, IfLine};
 ghost use Rattle.tower_play.specs.Script.{kind_name, IsCount, IsTextArgument, unescaped, IsAppended};
 ghost use Rattle.tower_play.specs.Calls.{IsNext, AreCalls, AddsText, IsFull};
 ghost use Rattle.no_std_io2.specs.Takes.{to_come};
 ghost use Rattle.no_std_io2.specs.Read.{tells};
 ghost use Rattle.tower_play.specs.Reading.{Adds, IsBadLine, IsRead, IsBadAt, LineLacksRoom};
 ghost use Rattle.no_std_io2.specs.Pieces.{split_reader, split_delim, split_is_ended};
-ghost use Rattle.tower_play.specs.declared.script.Line.{Line as Said};
-ghost use Rattle.tower_play.specs.declared.script.Line.TheVariants.{Bad};
+ghost use Rattle.tower_play.specs.declared.script.ScriptLine.{ScriptLine as Said};
+ghost use Rattle.tower_play.specs.declared.script.ScriptLine.TheVariants.{Bad};
 ghost use Rattle.tower_play.specs.Lines.{Says, IsGood, text_step};
 ghost use Rattle.no_std_io2.specs.declared.io.ErrorKind.{ErrorKind as Kind};
 
 use crate::memory::{Refused, reserve};
-use crate::playing::Fault;
+use crate::playing::PlayError;
 use io_bench::{Act, Op};
 use no_std_io2::io::{BufRead, ErrorKind, Split};
 use std::alloc::Global;
 
 /// What a line of a script says. Its text is still escaped.
 #[derive(Clone, Copy)]
-enum Line<'a> {
+enum ScriptLine<'a> {
     Empty,
     Act(Act),
     Write(&'a [u8]),
@@ -63,7 +63,7 @@ impl Script {
     /// # Errors
     /// Returns a fault of the reader, `OutOfMemory` if an allocation failed, or the number of the
     /// first bad line, from 1.
-    pub fn read<R: BufRead + Drop>(alloc: Global, lines: Split<R>) -> Result<Script, Fault>
+    pub fn read<R: BufRead + Drop>(alloc: Global, lines: Split<R>) -> Result<Script, PlayError>
         ensures numbered { IfErr result IsNumbered }
         // It reads every line, and the script has what each line says.
         ensures read { split_is_ended lines ≡ false → IfOk result (λ script. IfSome (to_come (tells R.Read (split_reader lines)))
@@ -92,7 +92,7 @@ impl Script {
             }
         }
         match bad {
-            Some(number) => Err(Fault::Line(number)),
+            Some(number) => Err(PlayError::ScriptLine(number)),
             None => Ok(script),
         }
     }
@@ -106,15 +106,15 @@ impl Script {
         ensures full { OnErr result ((said : Said) × Says line.now said × LineLacksRoom said self.old) }
     {
         match parse_line(line) {
-            Line::Empty => Ok(true),
-            Line::Act(act) => self.add_act(act),
-            Line::Write(text) => self.calls.add_text(text, false),
-            Line::WriteAll(text) => self.calls.add_text(text, true),
-            Line::Flush => {
+            ScriptLine::Empty => Ok(true),
+            ScriptLine::Act(act) => self.add_act(act),
+            ScriptLine::Write(text) => self.calls.add_text(text, false),
+            ScriptLine::WriteAll(text) => self.calls.add_text(text, true),
+            ScriptLine::Flush => {
                 self.calls.add_step(Step::Flush)?;
                 Ok(true)
             }
-            Line::Bad => Ok(false),
+            ScriptLine::Bad => Ok(false),
         }
     }
 
@@ -236,33 +236,33 @@ fn unescape(text: &[u8], bytes: &mut Vec<u8>) -> bool
     !is_escaped
 }
 
-fn parse_line(line: &[u8]) -> Line<'_>
+fn parse_line(line: &[u8]) -> ScriptLine<'_>
     ensures says { Says line.now result }
     ensures bad { result ≡ Bad → IsGood line.now → ⊥ }
 {
     let Some((letter, rest)) = line.split_first() else {
-        return Line::Empty;
+        return ScriptLine::Empty;
     };
     match *letter {
         b't' => match argument(rest).and_then(parse_count) {
-            Some(count) => Line::Act(Act::Take(count)),
-            None => Line::Bad,
+            Some(count) => ScriptLine::Act(Act::Take(count)),
+            None => ScriptLine::Bad,
         },
-        b'z' if rest.is_empty() => Line::Act(Act::Zero),
+        b'z' if rest.is_empty() => ScriptLine::Act(Act::Zero),
         b'e' => match argument(rest).and_then(parse_kind) {
-            Some(kind) => Line::Act(Act::Fail(kind)),
-            None => Line::Bad,
+            Some(kind) => ScriptLine::Act(Act::Fail(kind)),
+            None => ScriptLine::Bad,
         },
         b'w' => match text_argument(rest) {
-            Some(text) => Line::Write(text),
-            None => Line::Bad,
+            Some(text) => ScriptLine::Write(text),
+            None => ScriptLine::Bad,
         },
         b'a' => match text_argument(rest) {
-            Some(text) => Line::WriteAll(text),
-            None => Line::Bad,
+            Some(text) => ScriptLine::WriteAll(text),
+            None => ScriptLine::Bad,
         },
-        b'f' if rest.is_empty() => Line::Flush,
-        _ => Line::Bad,
+        b'f' if rest.is_empty() => ScriptLine::Flush,
+        _ => ScriptLine::Bad,
     }
 }
 

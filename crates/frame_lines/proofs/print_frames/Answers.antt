@@ -1,5 +1,5 @@
 -- The prover does not find which frames were taken before the last `next`.
-use Rattle.no_std_io2.proofs.Words.{[], ◌∷◌, ◌++◌, List, ℕ, take, None, Result, Ok, Err, inl, inr, err_from_is_err_and, Reader, Told}
+use Rattle.no_std_io2.proofs.Words.{[], ◌∷◌, ◌++◌, List, ℕ, take, None, Result, Ok, Err, inl, inr, err_from_is_err_and, Reader, WriterState}
 use Rattle.no_std_io2.specs.declared.io.Error.{Error}
 use Rattle.framing.specs.{declared.reader.FrameReader.{FrameReader}, Taking.{TakesFrame}}
 use Rattle.line_log.specs.declared.LineLog.{LineLog}
@@ -16,7 +16,8 @@ frames-preserved g c = record {
 }
 
 -- frames were printed, and then it ended so
-printed : {R W : Type 0} {I : Reader R} {told : W → Told} {from mid new : FrameReader R 512} {room held : List ℕ} {to log : LineLog W 16386}
+printed : {R W : Type 0} {I : Reader R} {told : W → WriterState} {from mid new : FrameReader R 512} {room held : List ℕ}
+    {to log : LineLog W 16386}
     {payloads : List (List ℕ)} {reply : Result (Unit {0}) Error} → PrintsEach I told from room to payloads mid held log
     → PrintEnds I mid held reply new → PrintsFrames I told from room to reply new
 printed prints ends = record { payloads = _; mid = _; held = _; log = _; prints = prints; ends = ends }

@@ -44,7 +44,7 @@ use std::fmt::{Debug, Formatter};
 /// assert!(rt; w.get_ref().as_slice() == b"abcdefghi".as_slice());
 /// ```
 pub struct BufWriter<W: Write + Drop, const S: usize> {
-    core: Sender<W, S>,
+    sender: Sender<W, S>,
 }
 
 impl<W: Write + Drop, const S: usize> BufWriter<W, S> {
@@ -60,7 +60,7 @@ impl<W: Write + Drop, const S: usize> BufWriter<W, S> {
         ensures empty { writer_buffer result ≡ [] }
     {
         BufWriter {
-            core: Sender::new(inner),
+            sender: Sender::new(inner),
         }
     }
 
@@ -68,7 +68,7 @@ impl<W: Write + Drop, const S: usize> BufWriter<W, S> {
     pub fn get_ref(&self) -> &W
         ensures { result.now ≡ writer_inner self.now }
     {
-        self.core.get_ref()
+        self.sender.get_ref()
     }
 
     /// Gets a mutable reference to the inner writer. The buffer stays. Bytes that are written here go
@@ -77,7 +77,7 @@ impl<W: Write + Drop, const S: usize> BufWriter<W, S> {
         ensures value { result.now ≡ writer_inner self.old }
         ensures* writes_back { sem 𝓛 (Lends (writer-row W.row S.row) W.row self.entry result (writer_with_inner self.old)) }
     {
-        self.core.get_mut()
+        self.sender.get_mut()
     }
 
     /// Returns the held bytes, at most `S`. Follows `std::io::BufWriter::buffer`.
@@ -85,7 +85,7 @@ impl<W: Write + Drop, const S: usize> BufWriter<W, S> {
         ensures value { result.now ≡ writer_buffer self.now }
         ensures bound { length result.now ≤ S }
     {
-        self.core.buffer()
+        self.sender.buffer()
     }
 
     /// Returns how many bytes can be held: `S`. Follows `std::io::BufWriter::capacity`.
@@ -97,7 +97,7 @@ impl<W: Write + Drop, const S: usize> BufWriter<W, S> {
     pub fn capacity(&self) -> usize
         ensures { result ≡ S }
     {
-        self.core.capacity()
+        self.sender.capacity()
     }
 
     /// Returns the inner writer and the bytes that were held for it, and sends
@@ -114,8 +114,8 @@ impl<W: Write + Drop, const S: usize> BufWriter<W, S> {
         ensures inner { result.0 ≡ writer_inner self }
         ensures unsent { unsent_bytes result.1 ≡ writer_buffer self }
     {
-        let BufWriter { core } = self;
-        core.into_parts()
+        let BufWriter { sender } = self;
+        sender.into_parts()
     }
 
     /// Sends the held bytes and returns the inner writer, which is not flushed. If nothing is held,
@@ -129,12 +129,12 @@ impl<W: Write + Drop, const S: usize> BufWriter<W, S> {
     pub fn into_inner(self) -> std::result::Result<W, IntoInnerError<BufWriter<W, S>>>
         ensures law { Unwraps W.Write writer_inner writer_buffer self result }
     {
-        let BufWriter { core } = self;
-        match core.into_inner() {
+        let BufWriter { sender } = self;
+        match sender.into_inner() {
             Ok(inner) => Ok(inner),
             Err(e) => {
-                let (error, core) = e.into_parts();
-                Err(IntoInnerError::new(BufWriter { core }, error))
+                let (error, sender) = e.into_parts();
+                Err(IntoInnerError::new(BufWriter { sender }, error))
             }
         }
     }
@@ -144,8 +144,8 @@ impl<W: Write + Drop, const S: usize> BufWriter<W, S> {
 impl<W: Write + Drop, const S: usize> Drop for BufWriter<W, S> {
     #[inline(never)]
     fn drop(self) {
-        let BufWriter { core } = self;
-        core.send_last();
+        let BufWriter { sender } = self;
+        sender.send_last();
     }
 }
 
@@ -180,7 +180,7 @@ impl<W: Write + Drop, const S: usize> Write for BufWriter<W, S> {
 
         ensures buffer { Buffers W.Write S writer_inner writer_buffer self.old buf.now result self.new }
     {
-        self.core.write(buf)
+        self.sender.write(buf)
     }
 
     /// Sends the held bytes, then flushes the inner writer.
@@ -192,7 +192,7 @@ impl<W: Write + Drop, const S: usize> Write for BufWriter<W, S> {
         ensures law { FlushOf ⟦<Self as Write>⟧ self.old result self.new }
         ensures unheld { OnOk result (writer_buffer self.new ≡ []) }
     {
-        self.core.flush()
+        self.sender.flush()
     }
 
     /// Holds `buf` if it is shorter than `S`, and passes it to the inner `write_all` if it is not. If
@@ -208,6 +208,6 @@ impl<W: Write + Drop, const S: usize> Write for BufWriter<W, S> {
 
         ensures buffer { BuffersAll W.Write S writer_inner writer_buffer self.old buf.now result self.new }
     {
-        self.core.write_all(buf)
+        self.sender.write_all(buf)
     }
 }

@@ -228,7 +228,7 @@ impl<const S: usize> Buffer<S> {
         ensures start { self.new.start ≡ 0 }
     {
         if self.start > 0 {
-            self.make_room();
+            self.move_held();
         }
     }
 
@@ -262,7 +262,7 @@ impl<const S: usize> Buffer<S> {
     // Moves the held bytes to the front.
     #[cold]
     #[inline(never)]
-    fn make_room(&mut self)
+    fn move_held(&mut self)
         ensures same { buffer_held self.new ≡ buffer_held self.old }
         ensures start { self.new.start ≡ 0 }
         ensures room { S - self.new.end ≡ S - length (buffer_held self.new) }
@@ -292,7 +292,7 @@ impl<const S: usize> Buffer<S> {
         ensures unmoved { length more.now ≤ S - self.old.end → self.new.start ≡ self.old.start }
     {
         if more.len() > S - self.end {
-            self.make_room();
+            self.move_held();
         }
         self.append(more);
     }

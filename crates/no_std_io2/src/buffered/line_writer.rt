@@ -38,7 +38,7 @@ use std::fmt;
 /// assert!(rt; w.get_ref().as_slice() == b"one\ntwo\n".as_slice());
 /// ```
 pub struct LineWriter<W: Write + Drop, const S: usize> {
-    core: LineSender<W, S>,
+    sender: LineSender<W, S>,
 }
 
 impl<W: Write + Drop, const S: usize> LineWriter<W, S> {
@@ -48,7 +48,7 @@ impl<W: Write + Drop, const S: usize> LineWriter<W, S> {
         ensures empty { line_buffer result ≡ [] }
     {
         LineWriter {
-            core: LineSender::new(Sender::new(inner)),
+            sender: LineSender::new(Sender::new(inner)),
         }
     }
 
@@ -56,7 +56,7 @@ impl<W: Write + Drop, const S: usize> LineWriter<W, S> {
     pub fn get_ref(&self) -> &W
         ensures { result.now ≡ line_inner self.now }
     {
-        self.core.buffered.get_ref()
+        self.sender.buffered.get_ref()
     }
 
     /// Gets a mutable reference to the inner writer. The buffer stays. Bytes that are written here go
@@ -71,7 +71,7 @@ impl<W: Write + Drop, const S: usize> LineWriter<W, S> {
         ensures value { result.now ≡ line_inner self.old }
         ensures* writes_back { sem 𝓛 (Lends (line-row W.row S.row) W.row self.entry result (line_with_inner self.old)) }
     {
-        self.core.get_mut()
+        self.sender.get_mut()
     }
 
     /// Returns the held bytes, at most `S`. They have no newline, or end in one. Follows
@@ -81,7 +81,7 @@ impl<W: Write + Drop, const S: usize> LineWriter<W, S> {
         ensures bound { length result.now ≤ S }
         ensures line { IsLineState result.now }
     {
-        self.core.buffered.buffer()
+        self.sender.buffered.buffer()
     }
 
     /// Sends the held bytes and returns the inner writer, which is not flushed. If nothing is held,
@@ -97,14 +97,14 @@ impl<W: Write + Drop, const S: usize> LineWriter<W, S> {
         // The bytes that are still held have no newline, or end in one.
         ensures line { IfErr result (λ e. IsLineState (line_buffer (into_inner_error_writer e))) }
     {
-        let LineWriter { core } = self;
-        let LineSender { buffered } = core;
+        let LineWriter { sender } = self;
+        let LineSender { buffered } = sender;
         match buffered.into_inner() {
             Ok(inner) => Ok(inner),
             Err(e) => {
                 let (error, buffered) = e.into_parts();
-                let core = LineSender { buffered };
-                Err(IntoInnerError::new(LineWriter { core }, error))
+                let sender = LineSender { buffered };
+                Err(IntoInnerError::new(LineWriter { sender }, error))
             }
         }
     }
@@ -114,8 +114,8 @@ impl<W: Write + Drop, const S: usize> LineWriter<W, S> {
 impl<W: Write + Drop, const S: usize> Drop for LineWriter<W, S> {
     #[inline(never)]
     fn drop(self) {
-        let LineWriter { core } = self;
-        core.buffered.send_last();
+        let LineWriter { sender } = self;
+        sender.buffered.send_last();
     }
 }
 
@@ -158,7 +158,7 @@ impl<W: Write + Drop, const S: usize> Write for LineWriter<W, S> {
             → line_buffer self.new ≡ line_buffer_filled S (line_buffer self.old) buf.now }
         ensures inner { TakesAll W.Write (line_inner self.old) → TakesAll W.Write (line_inner self.new) × IsOk result }
     {
-        steps::write(&mut self.core.buffered, buf)
+        steps::write(&mut self.sender.buffered, buf)
     }
 
     /// Sends the held bytes, then flushes the inner writer.
@@ -170,7 +170,7 @@ impl<W: Write + Drop, const S: usize> Write for LineWriter<W, S> {
         ensures law { FlushOf ⟦<Self as Write>⟧ self.old result self.new }
         ensures unheld { OnOk result (line_buffer self.new ≡ []) }
     {
-        self.core.buffered.flush()
+        self.sender.buffered.flush()
     }
 
     /// Writes all of `buf`. If `buf` has no newline, it is written as by [`LineWriter::write`]. If it has
@@ -192,6 +192,6 @@ impl<W: Write + Drop, const S: usize> Write for LineWriter<W, S> {
         ensures fits { HoldsShort self.old buf.now result self.new }
         ensures inner { TakesAll W.Write (line_inner self.old) → TakesAll W.Write (line_inner self.new) × IsOk result }
     {
-        steps::write_all(&mut self.core.buffered, buf)
+        steps::write_all(&mut self.sender.buffered, buf)
     }
 }

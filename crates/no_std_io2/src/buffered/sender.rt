@@ -6,7 +6,7 @@ ghost use Rattle.std.specs.Prelude.{◌≡◌, ◌+◌, ◌<◌, ◌≤◌, [], 
 ghost use Rattle.std.specs.Bool.{OnTrue, OnFalse};
 ghost use Rattle.std.specs.Borrow.{Lends, sem};
 ghost use Rattle.no_std_io2.specs.contracts.buffered.sender.Sender.{the_row as sender-row};
-ghost use Rattle.no_std_io2.specs.BufWriter.{sender_inner, sender_buffer, TakesStep, SendCalls, WayCalls};
+ghost use Rattle.no_std_io2.specs.BufWriter.{sender_inner, sender_buffer, TakesStep, SendCalls, RoomCalls};
 ghost use Rattle.no_std_io2.specs.BufWriter.{WriteCalls, WriteAllCalls, FlushCalls, Unwraps};
 ghost use Rattle.no_std_io2.specs.Unsent.{unsent_bytes};
 
@@ -146,8 +146,8 @@ impl<W: Write + Drop, const S: usize> Sender<W, S> {
     /// # Errors
     /// Returns the error of `send`.
     #[inline(always)]
-    pub(crate) fn make_room(&mut self, more: usize, is_cold: bool) -> Result<()>
-        ensures { TakesStep W.Write sender_inner sender_buffer (WayCalls S more) self.old result self.new }
+    pub(crate) fn send_for_room(&mut self, more: usize, is_cold: bool) -> Result<()>
+        ensures { TakesStep W.Write sender_inner sender_buffer (RoomCalls S more) self.old result self.new }
     {
         if more <= S - self.buffer.len() {
             return Ok(());
@@ -207,7 +207,7 @@ impl<W: Write + Drop, const S: usize> Sender<W, S> {
     fn write_cold(&mut self, buf: &[u8]) -> Result<usize>
         ensures { TakesStep W.Write sender_inner sender_buffer (WriteCalls S buf.now) self.old result self.new }
     {
-        self.make_room(buf.len(), S > SMALL)?;
+        self.send_for_room(buf.len(), S > SMALL)?;
         if buf.len() >= S {
             return self.inner.write(buf);
         }
@@ -251,7 +251,7 @@ impl<W: Write + Drop, const S: usize> Sender<W, S> {
     fn write_all_cold(&mut self, buf: &[u8]) -> Result<()>
         ensures { TakesStep W.Write sender_inner sender_buffer (WriteAllCalls S buf.now) self.old result self.new }
     {
-        self.make_room(buf.len(), S > SMALL)?;
+        self.send_for_room(buf.len(), S > SMALL)?;
         if buf.len() >= S {
             return self.inner.write_all(buf);
         }

@@ -41,13 +41,13 @@ impl<W> Began<W> for Brand {
 
 // A borrowed writer. It is passed by value, so its reference keeps its name.
 #[derive(Drop)]
-pub(super) struct Lent<'a, W> {
+pub(super) struct LentWriter<'a, W> {
     pub inner: &'a mut W,
 }
 
 // A writer that is given back, with its result and the result of the text's own `fmt`.
 #[derive(Drop)]
-pub(super) struct Printed<'a, W> {
+pub(super) struct PrintedWriter<'a, W> {
     pub inner: &'a mut W,
     pub met: Result<()>,
     pub formatted: fmt::Result,
@@ -92,15 +92,15 @@ impl<W: Write, K: Began<W>> fmt::Write for Adapter<'_, W, K> {
 
 // Prints a text, and gives the writer back under the same name.
 pub(super) fn print_to<'a, W: Write, D: Display + Drop, K: Began<W>>(
-    lent: Lent<'a, W>,
+    lent: LentWriter<'a, W>,
     text: D,
-) -> Printed<'a, W>
+) -> PrintedWriter<'a, W>
     requires began { K.at lent.inner.now lent.inner.ghost_name }
     ensures prints { ∥ ((old : W) × (shown : List ℕ) × (K.at old result.inner.ghost_name
         × PrintsOf W.Write old shown result.met result.inner.now)
         × (IsOk result.formatted → IfSome (D.output text) (λ bs. shown ≡ bs))) ∥₁ }
 {
-    let Lent { inner } = lent;
+    let LentWriter { inner } = lent;
     let mut adapter = Adapter::<W, K> {
         inner,
         met: Ok(()),
@@ -109,7 +109,7 @@ pub(super) fn print_to<'a, W: Write, D: Display + Drop, K: Began<W>>(
     // The formatter has a reference, and not the adapter itself: so LLVM knows its options, and drops the code for others.
     let formatted = fmt::Write::write(&mut adapter, text);
     let Adapter { inner, met, .. } = adapter;
-    Printed {
+    PrintedWriter {
         inner,
         met,
         formatted,

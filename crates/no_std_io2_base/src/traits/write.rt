@@ -2,9 +2,9 @@
 ghost use Rattle.std.specs.Prelude.{◌≡◌, ◌+◌, [], Ok, OnOk, length};
 ghost use Rattle.no_std_io2_base.specs.Write.{WriteLaw, FlushLaw, WriteAllLaw, WriteRestLaw};
 ghost use Rattle.no_std_io2_base.specs.Text.{WriteFmtLaw};
-ghost use Rattle.no_std_io2_base.specs.Write.{Told, Sends, WriteCall};
+ghost use Rattle.no_std_io2_base.specs.Write.{WriterState, Sends, WriteCall};
 
-use super::text::{Answers, Lent, Printed, answer_of, print_to};
+use super::text::{Answers, LentWriter, PrintedWriter, answer_of, print_to};
 use crate::error::{ErrorKind, Result, failed_to_write};
 use std::fmt::Display;
 use std::marker::Brand;
@@ -31,7 +31,7 @@ use std::marker::Brand;
 pub trait Write {
     // What the writer tells: the bytes out and held, the mishaps to come, and the turns. A writer of
     // your own has to define only this member.
-    ghost told: { Self → Told };
+    ghost told: { Self → WriterState };
 
     // Whether the writer accepts every write whole from now on, and never fails, if it tells that no
     // mishap is to come. By default it claims nothing.
@@ -153,11 +153,11 @@ pub trait Write {
         ensures law { WriteFmtLaw told takes_all may self.old (D.output text)
             (⟦<ErrorKind as Answers<E>>⟧.seen result) self.new }
     {
-        let Printed {
+        let PrintedWriter {
             inner,
             met,
             formatted,
-        } = print_to::<Self, D, Brand>(Lent { inner: self }, text);
+        } = print_to::<Self, D, Brand>(LentWriter { inner: self }, text);
         // No effect at run time: the proof reads what the writer tells from this use.
         let _ = &*inner;
         <ErrorKind as Answers<E>>::answer(answer_of(formatted, met))

@@ -1,5 +1,5 @@
 -- The vector has what the encoder was to have passed on, which is the encoding of what was written.
-use Rattle.no_std_io2.proofs.Words.{◌≡◌, ℕ, [], ◌++◌, Vec, sym, ap, subst, ◌∙◌, append-nil, Told, told_out}
+use Rattle.no_std_io2.proofs.Words.{◌≡◌, ℕ, [], ◌++◌, Vec, sym, ap, subst, ◌∙◌, append-nil, WriterState, told_out}
 use Rattle.std.proofs.Common.{Global}
 use Rattle.base64.specs.GeneralPurpose.{encode_of}
 use Rattle.base64_stream.specs.Encoder.{Encodes64, encoder_engine, encoder_inner}
@@ -9,7 +9,7 @@ use Rattle.base64_stream.proofs.encoder.encoded.Goals as goal
 
 pub returns-in-Ok : goal.returns-in-Ok
 returns-in-Ok c =
-    let told : Vec ℕ Global → Told = λ v. told_out v.items in
+    let told : Vec ℕ Global → WriterState = λ v. told_out v.items in
     let w0 = c.new-w.result in
     let w1 = c.write_all.new.self in
     let x = c.args.bytes.now in

@@ -1,5 +1,5 @@
 -- The vector has what the encoder wrote.
-use Rattle.no_std_io2.proofs.Words.{◌≡◌, ℕ, [], ◌++◌, Vec, sym, ap, ◌∙◌, append-nil, Told, told_out}
+use Rattle.no_std_io2.proofs.Words.{◌≡◌, ℕ, [], ◌++◌, Vec, sym, ap, ◌∙◌, append-nil, WriterState, told_out}
 use Rattle.std.proofs.Common.{Global}
 use Rattle.examples.specs.Hex.{hex, hex_inner}
 use Rattle.no_std_io2.proofs.{CallsLemmas.{law_may}, CallsAdd.{all_adds}}
@@ -8,7 +8,7 @@ use Rattle.examples.proofs.hex.hex_of.Goals as goal
 
 pub returns : goal.returns
 returns c =
-    let told : Vec ℕ Global → Told = λ v. told_out v.items in
+    let told : Vec ℕ Global → WriterState = λ v. told_out v.items in
     let made = c.in_ok-write_all.ensures.law.calls in
     let wrote = all_adds (encodes_join told) (law_may _) made.calls _ _ c.new-w.result c.write_all.new.self made.made made.are in
     let flushed = c.in_ok-flush.ensures.law in

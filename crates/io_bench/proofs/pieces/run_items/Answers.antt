@@ -11,7 +11,7 @@ items-preserved g c =
     let I = g.I.Iterator in
     let item = c.in-Some-Ok.item in
     let is : c.next.result ≡ Some (Ok item) = c.in-Some-Ok.is ∙ ap Some c.in-Some-Ok.field-0-is in
-    let pushed = c.push_reserved.ensures.items ∙ ap (λ l. l ++ item ∷ []) c.make_room.ensures.items in
+    let pushed = c.push_reserved.ensures.items ∙ ap (λ l. l ++ item ∷ []) c.reserve_one.ensures.items in
     let now = c.next.new.self in
     let goes = subst (λ r. OnSome r (I.can_next now × IsFinite (I.remaining now)
     × (size (I.remaining now) < size (I.remaining c.items.iter))))
@@ -26,23 +26,23 @@ items-preserved g c =
 pub returns-in-None-clause-calls : goal.returns-in-None-clause-calls
 returns-in-None-clause-calls g c = (
   c.items.iter,
-  still_yielded g.I.Iterator.next_gives _ _ _ c.make_room.ensures.items c.items.invariant.calls,
+  still_yielded g.I.Iterator.next_gives _ _ _ c.reserve_one.ensures.items c.items.invariant.calls,
   subst (λ r. g.I.Iterator.next_gives c.items.iter r c.next.new.self) c.in-None.is c.next.ensures.steps,
 )
 
 pub returns-in-Some-Err-clause-calls : goal.returns-in-Some-Err-clause-calls
 returns-in-Some-Err-clause-calls g c = (
   c.items.iter,
-  still_yielded g.I.Iterator.next_gives _ _ _ c.make_room.ensures.items c.items.invariant.calls,
+  still_yielded g.I.Iterator.next_gives _ _ _ c.reserve_one.ensures.items c.items.invariant.calls,
   inl (subst (λ r. g.I.Iterator.next_gives c.items.iter r c.next.new.self) (c.in-Some-Err.is ∙ ap Some c.in-Some-Err.field-0-is)
       c.next.ensures.steps),
 )
 
-pub returns-in_err-make_room-clause-calls : goal.returns-in_err-make_room-clause-calls
-returns-in_err-make_room-clause-calls g c =
+pub returns-in_err-reserve_one-clause-calls : goal.returns-in_err-reserve_one-clause-calls
+returns-in_err-reserve_one-clause-calls g c =
     let p = err_from_is_err_and c.from_residual.result c.from_residual.ensures.1 in
     rw (p.1, p.2) (
       c.items.iter,
-      still_yielded g.I.Iterator.next_gives _ _ _ c.make_room.ensures.items c.items.invariant.calls,
-      inr (c.in_err-make_room.ensures.refused, c.in_err-make_room.ensures.full, refl),
+      still_yielded g.I.Iterator.next_gives _ _ _ c.reserve_one.ensures.items c.items.invariant.calls,
+      inr (c.in_err-reserve_one.ensures.refused, c.in_err-reserve_one.ensures.full, refl),
     )

@@ -26,7 +26,7 @@ impl<W: Write + Seek + Drop, const S: usize> Seek for BufWriter<W, S> {
 
         ensures seeks { SeeksSent W.Write W.Seek writer_inner writer_buffer self.old pos result self.new }
     {
-        self.core.send()?;
-        self.core.get_mut().seek(pos)
+        self.sender.send()?;
+        self.sender.get_mut().seek(pos)
     }
 }

@@ -2,7 +2,7 @@
 ghost use Rattle.std.specs.Prelude.{◌+◌, ◌<◌, ◌≤◌, ◌++◌, [], length, OnOk};
 ghost use Rattle.no_std_io2_base.specs.Errors.{IsNoInterruption};
 ghost use Rattle.no_std_io2_base.specs.Write.{Moves, call_mishap};
-ghost use Rattle.no_std_io2.specs.BufWriter.{writer_inner, writer_buffer, writer_told, TakesStep, WayCalls, Puts};
+ghost use Rattle.no_std_io2.specs.BufWriter.{writer_inner, writer_buffer, writer_told, TakesStep, RoomCalls, Puts};
 
 use super::BufWriter;
 use no_std_io2_base::error::Result;
@@ -17,12 +17,12 @@ impl<W: Write + Drop, const S: usize> BufWriter<W, S> {
     /// Bytes that were not sent are still held. Never returns `Interrupted`.
     #[inline(always)]
     pub fn make_room(&mut self, n: usize) -> Result<()>
-        ensures calls { TakesStep W.Write writer_inner writer_buffer (WayCalls S n) self.old result self.new }
+        ensures calls { TakesStep W.Write writer_inner writer_buffer (RoomCalls S n) self.old result self.new }
         ensures moves { Moves (writer_told W.told self.old) [] (call_mishap result) (writer_told W.told self.new) }
         ensures never_interrupted { IsNoInterruption result }
         ensures room { n ≤ S → OnOk result (length (writer_buffer self.new) + n ≤ S) }
     {
-        self.core.make_room(n, false)
+        self.sender.send_for_room(n, false)
     }
 
     /// Writes a record, `head` followed by `tail`, which has to be shorter than `S`. After `Ok` all of it
@@ -45,8 +45,8 @@ impl<W: Write + Drop, const S: usize> BufWriter<W, S> {
         ensures puts { Puts W.Write writer_inner writer_buffer S (head.now ++ tail.now) self.old result self.new }
     {
         self.make_room(head.len() + tail.len())?;
-        self.core.hold(head);
-        self.core.hold(tail);
+        self.sender.hold(head);
+        self.sender.hold(tail);
         Ok(())
     }
 }

@@ -1,16 +1,16 @@
 -- Room was there, or was made by a sending.
-use Rattle.no_std_io2.proofs.Words.{ℕ, ◌+◌, ◌≤◌, List, length, Result, OnOk, arith, common_steps, WriteCall, WayCalls}
+use Rattle.no_std_io2.proofs.Words.{ℕ, ◌+◌, ◌≤◌, List, length, Result, OnOk, arith, common_steps, WriteCall, RoomCalls}
 use Rattle.no_std_io2_base.specs.declared.error.Error.{Error}
 use Rattle.no_std_io2_base.proofs.CallsLemmas.{writes_whole}
-use Rattle.no_std_io2.proofs.{StepLemmas.{does}, BufWriterCalls.{way_does}}
+use Rattle.no_std_io2.proofs.{StepLemmas.{effect_of}, BufWriterCalls.{room_does}}
 use Rattle.no_std_io2.proofs.buffered.buf_writer.BufWriter.make_room.Goals as goal
 
-way_fits : (S n : ℕ) {held left : List ℕ} {C : List WriteCall} {reply : Result (Unit {0}) Error} → n ≤ S → WayCalls S n held C reply left
+room_fits : (S n : ℕ) {held left : List ℕ} {C : List WriteCall} {reply : Result (Unit {0}) Error} → n ≤ S → RoomCalls S n held C reply left
     → OnOk reply (length left + n ≤ S)
-way_fits S n {reply = reply} short way = grind (arith, common_steps, writes_whole)
+room_fits S n {reply = reply} short way = grind (arith, common_steps, writes_whole)
 
 pub returns : goal.returns
 returns g c =
-    let calls = c.make_room.ensures in
-    let told = (does (way_does g.W.Write g.row.S c.args.n) calls).tells in
-    record { calls = calls; moves = told.1; never_interrupted = told.0; room = λ h. way_fits g.row.S c.args.n h calls.are }
+    let calls = c.send_for_room.ensures in
+    let told = (effect_of (room_does g.W.Write g.row.S c.args.n) calls).tells in
+    record { calls = calls; moves = told.1; never_interrupted = told.0; room = λ h. room_fits g.row.S c.args.n h calls.are }

@@ -1,11 +1,11 @@
 -- The law, by lemmas about the inner calls: the search does not apply these to a whole step.
-use Rattle.no_std_io2.proofs.{BufWriterLemmas.{buffer_none}, StepLemmas.{does}, BufWriterCalls.{flush_empty, flush_does}}
+use Rattle.no_std_io2.proofs.{BufWriterLemmas.{buffer_none}, StepLemmas.{effect_of}, BufWriterCalls.{flush_empty, flush_does}}
 use Rattle.no_std_io2.proofs.buffered.buf_writer.BufWriterWrite.flush.Goals as goal
 
 pub returns : goal.returns
 returns g c =
     let calls = c.flush.ensures in
-    let done = does (flush_does g.W.Write) calls in
+    let done = effect_of (flush_does g.W.Write) calls in
     let empty = flush_empty g.W.Write calls in
     record {
       law = record { empty = empty; moves = done.tells; all = λ t. (done.counts t).0; call = calls };

@@ -1,13 +1,13 @@
 -- The law and the clause, by lemmas about the inner calls: the search does not apply these to a whole step.
 use Rattle.no_std_io2.proofs.Words.{writer_inner, writer_buffer}
-use Rattle.no_std_io2.proofs.{StepLemmas.{does}, BufWriterCalls.{write_does, write_bound, write_takes, buffers_of}}
+use Rattle.no_std_io2.proofs.{StepLemmas.{effect_of}, BufWriterCalls.{write_does, write_bound, write_takes, buffers_of}}
 use Rattle.no_std_io2.proofs.buffered.buf_writer.BufWriterWrite.write.Goals as goal
 
 pub returns : goal.returns
 returns g c =
     let I = g.W.Write in
     let calls = c.write.ensures in
-    let done = does (write_does I g.row.S c.args.buf.now) calls in
+    let done = effect_of (write_does I g.row.S c.args.buf.now) calls in
     record {
       law = record {
         bound = write_bound I g.row.S calls;

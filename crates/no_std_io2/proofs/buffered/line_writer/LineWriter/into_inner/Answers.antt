@@ -5,5 +5,5 @@ use Rattle.no_std_io2.proofs.buffered.line_writer.LineWriter.into_inner.Goals as
 pub invariant_of-core : goal.invariant_of-core
 invariant_of-core g c =
     record {
-      line = rw c.into_parts-buffered.ensures.writer (state_end (writes_end c.in-Err.ensures.calls.are) c.args.self.core.line);
+      line = rw c.into_parts-buffered.ensures.writer (state_end (writes_end c.in-Err.ensures.calls.are) c.args.self.sender.line);
     }

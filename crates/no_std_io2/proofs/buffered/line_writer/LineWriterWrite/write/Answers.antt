@@ -4,7 +4,7 @@ use Rattle.no_std_io2.proofs.{LineWriterStates.{line_write_fits}, LineWriterCall
 use Rattle.no_std_io2.proofs.buffered.line_writer.LineWriterWrite.write.Goals as goal
 
 pub invariant_of-self : goal.invariant_of-self
-invariant_of-self g c = record { line = line_write_state g.row.S c.write.ensures.are c.args.self.now.core.line }
+invariant_of-self g c = record { line = line_write_state g.row.S c.write.ensures.are c.args.self.now.sender.line }
 
 pub returns : goal.returns
 returns g c =
@@ -18,6 +18,6 @@ returns g c =
           let fits = line_write_fits S calls.are short plain room in
           let inner = sender_inner c.write.new.w in
           (fits.1, subst (λ C. Made (CallOf g.W.Write) (line_inner c.args.self.now) C inner) fits.0 calls.made, fits.2);
-      held = done.filled c.args.self.now.core.line;
+      held = done.filled c.args.self.now.sender.line;
       inner = λ t. let k = done.keeps t in (k.0, k.1);
     }

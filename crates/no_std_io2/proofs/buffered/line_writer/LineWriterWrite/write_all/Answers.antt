@@ -5,7 +5,7 @@ use Rattle.no_std_io2_base.proofs.CallsLemmas.{own_law}
 use Rattle.no_std_io2.proofs.buffered.line_writer.LineWriterWrite.write_all.Goals as goal
 
 pub invariant_of-self : goal.invariant_of-self
-invariant_of-self g c = record { line = (line_write_all_state g.row.S c.write_all.ensures.are c.args.self.now.core.line).0 }
+invariant_of-self g c = record { line = (line_write_all_state g.row.S c.write_all.ensures.are c.args.self.now.sender.line).0 }
 
 pub returns : goal.returns
 returns g c =
@@ -15,8 +15,8 @@ returns g c =
     record {
       law = own_law (calls, done.tells.0, done.tells.1, λ no. absurd no.0);
       calls = calls;
-      no_newline_held = (line_write_all_state S calls.are c.args.self.now.core.line).1;
-      held = done.leaves c.args.self.now.core.line;
+      no_newline_held = (line_write_all_state S calls.are c.args.self.now.sender.line).1;
+      held = done.leaves c.args.self.now.sender.line;
       fits = λ short plain room.
           let fits = line_write_all_fits S calls.are short plain room in
           let by : List WriteCall → Type 0 = λ C. Made (CallOf g.W.Write) (line_inner c.args.self.now) C (sender_inner c.write_all.new.w) in

@@ -1,5 +1,6 @@
 -- Sending: each turn moves a front of what is held from the buffer to what was sent.
-use Rattle.no_std_io2.proofs.Words.{CallOf, Told, Moves, Wrote, none as no_write, took, again, stuck, fault, common_steps, nil_from_length}
+use Rattle.no_std_io2.proofs.Words.{CallOf, WriterState, Moves, Wrote, none as no_write, took, again, stuck, fault, common_steps}
+use Rattle.no_std_io2.proofs.Words.{nil_from_length}
 use Rattle.no_std_io2.proofs.Words.{◌≡◌, ℕ, ◌+◌, ◌<◌, ◌≤◌, List, ◌∷◌, length, drop, Result, Ok, Err, refl, sym, ap, subst, ◌∙◌, arith, []}
 use Rattle.no_std_io2.proofs.Words.{sender_buffer, SendCalls}
 use Rattle.no_std_io2_base.specs.{declared.error.Error.{Error}, declared.error.ErrorKind.{ErrorKind}}
@@ -21,7 +22,7 @@ sends-preserved-in-Ok g c =
     }
 
 -- fewer turns and bytes are left after a write that took some
-fewer_left : {a b : Told} {y : List ℕ} {k : List ErrorKind} (x : List ℕ) {held next : List ℕ} {n : ℕ} → Moves a y k b → (n ≡ 0 → ⊥)
+fewer_left : {a b : WriterState} {y : List ℕ} {k : List ErrorKind} (x : List ℕ) {held next : List ℕ} {n : ℕ} → Moves a y k b → (n ≡ 0 → ⊥)
     → n ≤ length x → x ≡ held → next ≡ drop n held → b.turns + length next < a.turns + length held
 fewer_left x {held = held} {n = n} moves some within given rest = grind (arith, common_steps)
 

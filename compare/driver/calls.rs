@@ -1,4 +1,4 @@
-//! The work of each case over the streams of the module beside, as `bench/calls` does it over this library's.
+//! The work of each case over the streams of the module beside, as `compare/calls` does it over this library's.
 use super::often::*;
 use super::streams::*;
 use crate::cases::{FAILED, sample};
