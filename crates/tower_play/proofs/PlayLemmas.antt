@@ -2,7 +2,7 @@
 use Rattle.no_std_io2.proofs.Words.{CallOf, Vec, told_out, arith, common_steps, ◌≡◌, ℕ, List, [], ◌∷◌, ◌++◌, subst, ap, ap₂, refl}
 use Rattle.no_std_io2.proofs.Words.{append_assoc, Ok, Err, Result, IfOk, ◌∙◌, error_kind, WriterState, Moves, MovesFront, Writer, WriteCall}
 use Rattle.no_std_io2.proofs.{Words.{ByCalls, InnerCalls, with_buffer, LevelCalls}, MovesLemmas.{Moves-ends}, FaultLemmas.{may_fail}}
-use Rattle.no_std_io2.specs.{declared.io.Error.{Error}, PlayErrors.{MayFail}}
+use Rattle.no_std_io2.specs.{declared.io.Error.{Error}, Faults.{MayFail}}
 use Rattle.io_bench.specs.{declared.{faulty.{Act.{Act}, Faulty.{Faulty}}, runs.Op.{Op}}, Faulty.{acts_left, faulty_inner, with_acts}}
 use Rattle.io_bench.specs.Runs.{Ran, RunBelow}
 use Rattle.io_bench.proofs.RunLemmas.{below_first, below_map, below_more}

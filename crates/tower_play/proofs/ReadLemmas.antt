@@ -4,7 +4,7 @@ use Rattle.no_std_io2.proofs.Words.{arith, length, length-append, map, Result, O
 use Rattle.no_std_io2.proofs.Words.{IsFault, IsOutOfMemory, Event, byte, fails, first_fault, HasNoFault, Made, Reader, tells, split_delim}
 use Rattle.no_std_io2.proofs.{Words.{split_reader, to_come, without, Bool, error_kind, if◌then◌else◌}, CallsLemmas.{made_more}}
 use Rattle.std.specs.{Prelude.{min}, Option.{IfSome}}
-use Rattle.no_std_io2.specs.{declared.io.{Error.{Error}, Split.{Split}}, Pieces.{split_is_ended}, PlayErrors.{HasFirstFault}}
+use Rattle.no_std_io2.specs.{declared.io.{Error.{Error}, Split.{Split}}, Pieces.{split_is_ended}, Faults.{HasFirstFault}}
 use Rattle.no_std_io2.specs.Errors.{is_interruption}
 use Rattle.io_bench.specs.PieceRuns.{AllPieces, GathersPieces, RunsNexts}
 use Rattle.io_bench.proofs.PieceRunLemmas.{run_gathers, split_next, split_takes}

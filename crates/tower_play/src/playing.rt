@@ -3,7 +3,7 @@ ghost use Rattle.no_std_io2.specs.BufReader.{BufReaderFits};
 ghost use Rattle.std.specs.Prelude.{◌≡◌, ◌++◌, ◌⊎◌, Some, IfSome, IfOk, IfErr};
 ghost use Rattle.no_std_io2.specs.Errors.{IsOutOfMemory};
 ghost use Rattle.tower_play.specs.declared.playing.PlayError.TheVariants.{Io};
-ghost use Rattle.no_std_io2.specs.PlayErrors.{IsFaultOf};
+ghost use Rattle.no_std_io2.specs.Faults.{IsFaultOf};
 ghost use Rattle.tower_play.specs.PlayErrors.{fault_display, IfIo, IfLine};
 ghost use Rattle.no_std_io2.specs.Takes.{to_come};
 ghost use Rattle.no_std_io2.specs.Read.{tells};

@@ -2,7 +2,7 @@
 ghost use Rattle.std.specs.Prelude.{◌≡◌, ℕ, ◌+◌, ◌-◌, ◌≤◌, List, [], ◌∷◌, ◌++◌, take, drop, IfSome, IfNone, None, ◌<◌, OnOk, OnErr};
 ghost use Rattle.std.specs.Prelude.{IfOk, IfErr, length, vec_len, vec_capacity, true, false, ◌⊎◌};
 ghost use Rattle.no_std_io2.specs.Errors.{IsOutOfMemory};
-ghost use Rattle.no_std_io2.specs.PlayErrors.{HasFirstFault};
+ghost use Rattle.no_std_io2.specs.Faults.{HasFirstFault};
 ghost use Rattle.tower_play.specs.PlayErrors.{IsNumbered, IfIo, IfLine};
 ghost use Rattle.tower_play.specs.Script.{kind_name, IsCount, IsTextArgument, unescaped, IsAppended};
 ghost use Rattle.tower_play.specs.Calls.{IsNext, AreCalls, AddsText, IsFull};
