@@ -11,6 +11,7 @@ pub use Rattle.std.proofs.lemmas.Grind.{common_steps}
 pub use Rattle.std.proofs.lemmas.Int.{to_z-of_z}
 pub use Rattle.std.proofs.lemmas.List.{nil_from_length, take-append-le, take-take, take_more}
 pub use Rattle.std.proofs.lemmas.Result.{err_from_is_err_and}
+pub use Rattle.no_std_io2_base.proofs.QuestionMark.{returned_err}
 pub use Rattle.std.specs.Cmp.Lexicographic.{same_text}
 pub use Rattle.std.specs.Int.{w64}
 pub use Rattle.std.specs.List.{concat, sum}
