@@ -46,6 +46,7 @@ module _ {X A : Type 0} {R : Reader X} {key : List ℕ} {old : ReaderState} {mid
     gives = pieces_more before.gives law some;
     first = is ∙ sym (first_value-last key before.lines (bytes law.taken) before.none);
     all = λ none. cc;
+    needed = (before.lines, bytes law.taken, refl, before.none);
   }
 
   -- no line has it
@@ -55,13 +56,14 @@ module _ {X A : Type 0} {R : Reader X} {key : List ℕ} {old : ReaderState} {mid
     gives = ended.0;
     first = sym before.none;
     all = λ none. ended.1;
+    needed = tt;
   }
 
   -- the reader failed, or an allocation for the line
   pub misses_reading : {e : Error} → ReadUntilLaw R mid newline buf (Err e) buf' new → MissesSetting key e old (tells R new)
-  misses_reading law = record { lines = before.lines; none = before.none; stops = stops_reading before.gives law }
+  misses_reading law = record { lines = before.lines; none = before.none; part = _; stops = stops_reading before.gives law }
 
   -- an allocation for the value failed
   pub misses_copying : {n : ℕ} {e : Error} → ReadUntilLaw R mid newline buf (Ok n) buf' new → IsOutOfMemory e
       → MissesSetting key e old (tells R new)
-  misses_copying law refused = record { lines = before.lines; none = before.none; stops = stops_copying before.gives law refused }
+  misses_copying law refused = record { lines = before.lines; none = before.none; part = _; stops = stops_copying before.gives law refused }

@@ -1,5 +1,6 @@
 -- What a setting is, and which one a reader gives.
-use Rattle.std.specs.Prelude.{◌≡◌, ◌-◌, nat_eq, ℕ, List, [], ◌∷◌, length, take, drop, Option, None, Some, option_map, if◌then◌else◌}
+use Rattle.std.specs.Prelude.{◌≡◌, ◌-◌, nat_eq, ℕ, List, [], ◌∷◌, ◌++◌, length, take, drop, Option, None, Some, IfSome, option_map}
+use Rattle.std.specs.Prelude.{if◌then◌else◌}
 use Rattle.std.specs.Cmp.Lexicographic.{pointwise}
 use Rattle.no_std_io2.specs.{Pieces.{newline, GivesPieces, AreAllPieces}, PieceStops.{StopsAfter}, Takes.{ReaderState}}
 use Rattle.no_std_io2.specs.declared.io.Error.{Error}
@@ -37,9 +38,12 @@ pub record FindsSetting (key : List ℕ) (old : ReaderState) (found : Option (Li
   pub gives : GivesPieces newline old lines new
   pub first : found ≡ first_value key lines
   pub all : found ≡ None → AreAllPieces newline old lines None
+  -- no line came after the one that has it
+  pub needed : IfSome found (λ v. (front : List (List ℕ)) × (last : List ℕ) × (lines ≡ front ++ last ∷ []) × (first_value key front ≡ None))
 
--- Lines without the key came, and then the error e.
+-- Lines without the key came, then a part of one more, and then the error e.
 pub record MissesSetting (key : List ℕ) (e : Error) (old new : ReaderState) : Type 0 where
   pub lines : List (List ℕ)
   pub none : first_value key lines ≡ None
-  pub stops : StopsAfter newline e old lines new
+  pub part : List ℕ
+  pub stops : StopsAfter newline e old lines part new

@@ -74,13 +74,12 @@ module _ {X A : Type 0} {R : Reader X} {d : ℕ} {a : ReaderState} {ps : List (L
             (rest ++ bytes_to_fault after, parted d n E F after ps _ part rest (sym same ∙ is) first next)
         by (Some E) m u first next = grind (arith, common_steps)
 
-    -- a `read_until` failed: behind the pieces so far a part was taken
-    pub stops_reading : {e : Error} → ReadUntilLaw R mid d buf (Err e) buf' new → StopsAfter d e a ps (tells R new)
+    -- a `read_until` failed: behind the pieces so far these bytes were taken
+    pub stops_reading : {e : Error} (law : ReadUntilLaw R mid d buf (Err e) buf' new) → StopsAfter d e a ps (bytes law.taken) (tells R new)
     stops_reading {e} law = elim law.ends.1 [
       | inl fault ↦ record {
         mid = tells R mid;
         gives = gives;
-        part = bytes law.taken;
         how = Err e;
         took = record { taken = law.taken; takes = law.takes; are = refl; ends = fault };
         whose = inl refl;
@@ -88,7 +87,6 @@ module _ {X A : Type 0} {R : Reader X} {d : ℕ} {a : ReaderState} {ps : List (L
       | inr refused ↦ record {
         mid = tells R mid;
         gives = gives;
-        part = bytes law.taken;
         how = Ok true;
         took = record { taken = law.taken; takes = law.takes; are = refl; ends = refused.0 };
         whose = inr (refl, refused.1);
@@ -96,11 +94,11 @@ module _ {X A : Type 0} {R : Reader X} {d : ℕ} {a : ReaderState} {ps : List (L
     ]
 
     -- an allocation failed for what is made of a piece
-    pub stops_copying : {n : ℕ} {e : Error} → ReadUntilLaw R mid d buf (Ok n) buf' new → IsOutOfMemory e → StopsAfter d e a ps (tells R new)
+    pub stops_copying : {n : ℕ} {e : Error} (law : ReadUntilLaw R mid d buf (Ok n) buf' new) → IsOutOfMemory e
+        → StopsAfter d e a ps (bytes law.taken) (tells R new)
     stops_copying law refused = record {
       mid = tells R mid;
       gives = gives;
-      part = bytes law.taken;
       how = Ok true;
       took = record { taken = law.taken; takes = law.takes; are = refl; ends = law.ends.0 };
       whose = inr (refl, refused);

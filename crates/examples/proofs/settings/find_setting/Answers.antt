@@ -1,5 +1,5 @@
 -- One line more, an early success, and an error inside a line are joined to the lines before by lemmas, which the search does not try.
-use Rattle.no_std_io2.proofs.Words.{◌≡◌, ◌∙◌, ap, List, ℕ, Some, bytes, err_from_is_err_and, [], ◌∷◌}
+use Rattle.no_std_io2.proofs.Words.{◌≡◌, ◌∙◌, ap, List, ℕ, Some, bytes, err_from_is_err_and, returned_err, [], ◌∷◌}
 use Rattle.no_std_io2.proofs.PiecesSoFar.{pieces_none, piece_alone}
 use Rattle.examples.specs.Settings.{setting_in}
 use Rattle.examples.proofs.SettingLemmas.{without_more, finds_here, finds_none, misses_reading, misses_copying}
@@ -7,8 +7,7 @@ use Rattle.examples.proofs.settings.find_setting.Goals as goal
 
 pub returns-in_err-read_until-clause-stops : goal.returns-in_err-read_until-clause-stops
 returns-in_err-read_until-clause-stops g c =
-    let p = err_from_is_err_and c.from_residual.result c.from_residual.ensures.1 in
-    rw (p.1, p.2) (misses_reading c.lines.invariant c.in_err-read_until.ensures.law)
+    rw (returned_err c.from_residual.ensures) (misses_reading c.lines.invariant c.in_err-read_until.ensures.law)
 
 pub returns-then-branch-eq0-clause-found : goal.returns-then-branch-eq0-clause-found
 returns-then-branch-eq0-clause-found g c = finds_none c.lines.invariant c.in_ok-read_until.ensures.law c.if-branch-eq0.true
