@@ -1,11 +1,10 @@
 -- What a read of a number shows.
 use Rattle.no_std_io2.proofs.Words.{◌≡◌, ℕ, ◌+◌, ◌<◌, List, ◌++◌, length, take, drop, Some, Result, Ok, Err, refl, sym, ap, subst}
 use Rattle.no_std_io2.proofs.Words.{◌∙◌, arith, true≢false, append-nil, [], Event, events_of, Reader, tells, to_come}
-use Rattle.no_std_io2.proofs.Words.{length-take-le, take-append-drop}
 use Rattle.std.proofs.{Common.{set, take_all}, lemmas.List.{length-set, take_more_set, drop-set-lt, drop-drop}}
 use Rattle.no_std_io2.specs.declared.io.Error.{Error}
 use Rattle.no_std_io2.proofs.KnownBytes.{exact_known}
-use Rattle.numbers.specs.Numbers.{ReadsValue, AreRead, no_number, one_more, ReadsInto}
+use Rattle.numbers.specs.Numbers.{ReadsValue, AreRead, no_number, one_more}
 
 -- if its bytes are known to come next, the number is read
 pub value_back : {V X : Type 0} {R : Reader V} {value : List ℕ → X} {n : ℕ} {old new : V} (reply : Result X Error) (x : X)
@@ -48,16 +47,3 @@ module _ {V X : Type 0} {R : Reader V} {value : List ℕ → X} {n : ℕ} {old :
   pub into_all : (start dst : List X) (i : ℕ) {now : V} → i ≡ length dst → ReadSoFar R value n old start i dst now
       → AreRead R value n old dst now
   into_all start dst i {now} all before = subst (λ l. AreRead R value n old l now) (take_all i dst (omega (arith, all))) before.are
-
-  -- the next one failed
-  pub into_stops : (start dst : List X) (i : ℕ) {e : Error} {mid new : V} → i < length dst → ReadSoFar R value n old start i dst mid
-      → ReadsValue R value n mid (Err e) new → ReadsInto R value n old start (Err e) dst new
-  into_stops start dst i {mid = mid} within before reads =
-      let few : length (take i dst) ≡ i = length-take-le i dst (omega (arith, within)) in (
-        take i dst,
-        mid,
-        before.are,
-        omega (arith, few, within, before.long),
-        sym (take-append-drop i dst) ∙ ap (λ l. take i dst ++ l) (before.rest ∙ ap (λ k. drop k start) (sym few)),
-        reads,
-      )

@@ -1,9 +1,9 @@
--- The numbers so far, and one more or its error; the search does not join them, and does not see that a signed number is
+-- The numbers so far, and one more; the search does not join them, and does not see that a signed number is
 -- stored as it is.
-use Rattle.no_std_io2.proofs.Words.{arith, rules, err_from_is_err_and, to_z-of_z}
+use Rattle.no_std_io2.proofs.Words.{arith, rules, to_z-of_z}
 use Rattle.std.proofs.Common.{FitsSigned}
 use Rattle.std.specs.Int.{w8}
-use Rattle.numbers.proofs.NumberLemmas.{into_none, into_more, into_all, into_stops}
+use Rattle.numbers.proofs.NumberLemmas.{into_none, into_more, into_all}
 use Rattle.numbers.proofs.reading.ReadBytesExt.read_i8_into.Goals as goal
 
 pub numbers-init : goal.numbers-init
@@ -15,11 +15,6 @@ numbers-preserved g c =
     let fits : FitsSigned w8 x = search rules in
     rw (to_z-of_z w8 x fits)
     (into_more c.args.dst.now c.numbers.dst c.numbers.i x (omega arith) c.numbers.invariant c.in_ok-dst.ensures.reads)
-
-pub returns-in_err-dst : goal.returns-in_err-dst
-returns-in_err-dst g c =
-    let p = err_from_is_err_and c.from_residual.result c.from_residual.ensures.1 in
-    rw (p.1, p.2) (into_stops c.args.dst.now c.numbers.dst c.numbers.i (omega arith) c.numbers.invariant c.in_err-dst.ensures.reads)
 
 pub returns : goal.returns
 returns g c = into_all c.args.dst.now c.numbers.dst c.numbers.i (omega arith) c.numbers.invariant

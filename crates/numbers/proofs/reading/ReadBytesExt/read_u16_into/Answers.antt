@@ -1,6 +1,6 @@
--- The numbers so far, and one more or its error; the search does not join them.
-use Rattle.no_std_io2.proofs.Words.{arith, err_from_is_err_and}
-use Rattle.numbers.proofs.NumberLemmas.{into_none, into_more, into_all, into_stops}
+-- The numbers so far, and one more; the search does not join them.
+use Rattle.no_std_io2.proofs.Words.{arith}
+use Rattle.numbers.proofs.NumberLemmas.{into_none, into_more, into_all}
 use Rattle.numbers.proofs.reading.ReadBytesExt.read_u16_into.Goals as goal
 
 pub numbers-init : goal.numbers-init
@@ -9,11 +9,6 @@ numbers-init g c = into_none c.args.dst.now
 pub numbers-preserved : goal.numbers-preserved
 numbers-preserved g c =
     into_more c.args.dst.now c.numbers.dst c.numbers.i c.in_ok-dst.field-0 (omega arith) c.numbers.invariant c.in_ok-dst.ensures.reads
-
-pub returns-in_err-dst : goal.returns-in_err-dst
-returns-in_err-dst g c =
-    let p = err_from_is_err_and c.from_residual.result c.from_residual.ensures.1 in
-    rw (p.1, p.2) (into_stops c.args.dst.now c.numbers.dst c.numbers.i (omega arith) c.numbers.invariant c.in_err-dst.ensures.reads)
 
 pub returns : goal.returns
 returns g c = into_all c.args.dst.now c.numbers.dst c.numbers.i (omega arith) c.numbers.invariant
