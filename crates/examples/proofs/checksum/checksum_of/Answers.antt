@@ -1,5 +1,5 @@
 -- The law of a call of an object is named whole; the search does not join its turns of the loop.
-use Rattle.no_std_io2.proofs.Words.{common_steps, ◌+◌, ◌%◌, ◌^◌, ◌∙◌, ap, arith, refl, ◌++◌, err_from_is_err_and, sum, bytes}
+use Rattle.no_std_io2.proofs.Words.{common_steps, ◌+◌, ◌%◌, ◌^◌, ◌∙◌, ap, arith, refl, ◌++◌, returned_err, sum, bytes}
 use Rattle.no_std_io2.proofs.{GivenPieces.{piece_spends}, TookLemmas.{Took-then}}
 use Rattle.examples.proofs.ChecksumLemmas.{sums_none, sums_more}
 use Rattle.examples.proofs.checksum.checksum_of.Goals as goal
@@ -43,8 +43,7 @@ returns-then-filled-buf g c =
 pub returns-in_err-read_full : goal.returns-in_err-read_full
 returns-in_err-read_full g c =
     let law = c.in_err-read_full.ensures in
-    let p = err_from_is_err_and c.from_residual.result c.from_residual.ensures.1 in
-    rw (p.1, p.2) (record {
+    rw (returned_err c.from_residual.ensures) (record {
       all = tt;
       fault = (
         _,

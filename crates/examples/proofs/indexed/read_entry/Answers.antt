@@ -1,5 +1,5 @@
 -- Three reads are joined by a lemma with the places between them, which the search does not choose.
-use Rattle.no_std_io2.proofs.Words.{◌≡◌, ◌+◌, ◌*◌, Ok, negsuc, arith, subst, ⊤, err_from_is_err_and}
+use Rattle.no_std_io2.proofs.Words.{◌≡◌, ◌+◌, ◌*◌, Ok, negsuc, arith, subst, ⊤, returned_err}
 use Rattle.no_std_io2.proofs.Readers.{reader, seeker}
 use Rattle.no_std_io2.specs.{ReadAt.{ReadAtLaw}, declared.io.SeekFrom.TheVariants.{Start, End}}
 use Rattle.examples.specs.Indexed.{IsNumberAt, ReadsNumber, no_index, found}
@@ -30,20 +30,17 @@ returns-clause-reads g c =
 
 pub returns-in_err-index-clause-reads : goal.returns-in_err-index-clause-reads
 returns-in_err-index-clause-reads g c =
-    let p = err_from_is_err_and c.from_residual.result c.from_residual.ensures.1 in
-    rw (p.1, p.2) (no_index c.in_err-index.ensures.reads)
+    rw (returned_err c.from_residual.ensures) (no_index c.in_err-index.ensures.reads)
 
 pub returns-in_err-place-clause-store : goal.returns-in_err-place-clause-store
 returns-in_err-place-clause-store g c =
     let store = g.R.Stored.store in
-    let p = err_from_is_err_and c.from_residual-in_err-place.result c.from_residual-in_err-place.ensures.1 in
-    rw (p.1)
+    rw (returned_err c.from_residual-in_err-place.ensures)
     (content_stays (λ s. IsNumberAt s (End (negsuc 3)) c.in_ok-index.index) (λ s. ⊤) (store c.args.r.now) (store c.read_u32_at.new.r)
     (store c.read_u32_at-2.new.r) c.in_ok-index.ensures.store c.in_err-place.ensures.store)
 
 pub returns-in_err-place-clause-reads : goal.returns-in_err-place-clause-reads
 returns-in_err-place-clause-reads g c =
-    let p = err_from_is_err_and c.from_residual-in_err-place.result c.from_residual-in_err-place.ensures.1 in
-    rw (p.1, p.2)
+    rw (returned_err c.from_residual-in_err-place.ensures)
     (no_place_at c.in_ok-index.index (c.from.result + 4 * c.from-2.result) c.read_u32_at.new.r
     (omega (arith, c.from.ensures, c.from-2.ensures)) c.in_ok-index.ensures.reads c.in_err-place.ensures.reads)

@@ -1,5 +1,5 @@
 -- What a `fill_buf` did is known only when its borrow ends, and each path joins that with the records so far.
-use Rattle.no_std_io2.proofs.Words.{sym, ◌∙◌, err_from_is_err_and}
+use Rattle.no_std_io2.proofs.Words.{sym, ◌∙◌, returned_err}
 use Rattle.no_std_io2.proofs.{WriteExits.{is_empty, not_empty}, PieceLoop.{filled_law}}
 use Rattle.examples.proofs.RecordLemmas.{records_none, records_waited, records_end, records_fault, records_more, records_cut}
 use Rattle.examples.proofs.lengths.pass_records.Goals as goal
@@ -14,10 +14,9 @@ returns-then-is_empty g c =
 
 pub returns-in_err-skip-in-Ok : goal.returns-in_err-skip-in-Ok
 returns-in_err-skip-in-Ok g c =
-    let p = err_from_is_err_and c.from_residual.result c.from_residual.ensures.1 in
     let filled = filled_law c.in-Ok.is c.fill_buf.ensures.law c.fill_buf.follows.holds-at-none in
     let some = not_empty _ _ c.is_empty.ensures c.if-is_empty.false in
-    rw (p.1, p.2) (records_cut c.records.invariant filled some c.from-left.ensures c.consume.ensures.law c.in_err-skip-in-Ok.ensures)
+    rw (returned_err c.from_residual.ensures) (records_cut c.records.invariant filled some c.from-left.ensures c.consume.ensures.law c.in_err-skip-in-Ok.ensures)
 
 pub returns-in-Err-2 : goal.returns-in-Err-2
 returns-in-Err-2 g c =

@@ -1,5 +1,5 @@
 -- One line more, or an error inside a line, is joined to the lines before by a lemma, which the search does not try.
-use Rattle.no_std_io2.proofs.Words.{inl, inr, ⊎_elim, err_from_is_err_and}
+use Rattle.no_std_io2.proofs.Words.{inl, inr, ⊎_elim, returned_err}
 use Rattle.no_std_io2.proofs.MovesLemmas.{MovesFront-next, MovesFront-stop}
 use Rattle.examples.specs.Readings.{reading}
 use Rattle.examples.proofs.readings.write_readings.Goals as goal
@@ -11,6 +11,5 @@ values-preserved g c = ⊎_elim
 
 pub returns-in_err-write_reading : goal.returns-in_err-write_reading
 returns-in_err-write_reading g c =
-    let p = err_from_is_err_and c.from_residual.result c.from_residual.ensures.1 in
     let stop = MovesFront-stop (reading c.args.name.now) c.args.values.now c.values.value-index 0 c.values-test.true c.values.invariant in
-    rw (p.1, p.2) (record { lines = ⊎_elim (λ moves. inl (stop moves)) inr c.in_err-write_reading.ensures.line })
+    rw (returned_err c.from_residual.ensures) (record { lines = ⊎_elim (λ moves. inl (stop moves)) inr c.in_err-write_reading.ensures.line })

@@ -1,5 +1,5 @@
 -- The payload goes through the borrow of a vector, and the search does not join the two calls.
-use Rattle.no_std_io2.proofs.Words.{◌≡◌, ◌≤◌, ◌++◌, length, take, drop, sym, ap, ◌∙◌, arith, length-drop, refl, ap₂, err_from_is_err_and}
+use Rattle.no_std_io2.proofs.Words.{◌≡◌, ◌≤◌, ◌++◌, length, take, drop, sym, ap, ◌∙◌, arith, length-drop, refl, ap₂, returned_err}
 use Rattle.no_std_io2.proofs.Words.{events_of, take-append_seam, reader_held}
 use Rattle.no_std_io2.proofs.{EventLemmas.{bytes-append, bytes-events_of}, TakesLemmas.{takes_then}, BufReaderThrough.{gives_held}}
 use Rattle.no_std_io2.proofs.LostBytes.{takes_loses}
@@ -15,8 +15,7 @@ returns-in_err-read_exact-clause-held g c = λ enough.
 
 pub returns-in_err-read_exact-clause-failed : goal.returns-in_err-read_exact-clause-failed
 returns-in_err-read_exact-clause-failed g c =
-    let p = err_from_is_err_and c.from_residual-in_err-read_exact.result c.from_residual-in_err-read_exact.ensures.1 in
-    rw p.1 (_, takes_loses _ (takes_then c.consume.ensures.law.takes c.in_err-read_exact.ensures.law.takes) refl)
+    rw (returned_err c.from_residual-in_err-read_exact.ensures) (_, takes_loses _ (takes_then c.consume.ensures.law.takes c.in_err-read_exact.ensures.law.takes) refl)
 
 pub returns-clause-held : goal.returns-clause-held
 returns-clause-held g c = λ enough.
