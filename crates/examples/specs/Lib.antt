@@ -1,10 +1,10 @@
 pub mod Checksum
-pub mod Head
 pub mod Headers
 pub mod Hex
 pub mod Inbox
 pub mod Indexed
 pub mod Lengths
+pub mod Lines
 pub mod Messages
 pub mod Readings
 pub mod Serial

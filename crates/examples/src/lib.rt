@@ -1,4 +1,4 @@
-//! First proofs and devices to copy, which the gate proves. Only `counted` and `indexed` use another crate than
+//! First proofs and devices to copy, which the gate proves. Only `counted`, `greps` and `indexed` use another crate than
 //! `no_std_io2`.
 //! PROVING and the CALLING pages of `no_std_io2` and `system_streams` show or name all modules except `records`.
 #![tactic(auto)]
@@ -11,6 +11,7 @@ mod broken;
 mod checksum;
 mod counted;
 mod flash;
+mod greps;
 mod heads;
 mod hex;
 mod inbox;
@@ -33,6 +34,7 @@ pub use broken::Broken;
 pub use checksum::checksum_of;
 pub use counted::count_reads;
 pub use flash::{Flash, FlashFile};
+pub use greps::grep;
 pub use heads::head;
 pub use hex::{Hex, hex_of, write_hex};
 pub use inbox::{Inbox, Source};

@@ -1,6 +1,6 @@
 // The examples in the comments of `framing`, `line_log`, `system_streams` and `io_bench`, one function for each of
 // their modules.
-use examples::{checksum_of, entry_of_file, head, save};
+use examples::{checksum_of, entry_of_file, grep, head, save};
 use framing::{FrameReader, FrameWriter};
 use io_bench::{Act, Event, Faulty, Feed, Op, Reply, joined};
 use line_log::LineLog;
@@ -158,6 +158,18 @@ fn lines(rt: &(impl Abort + AllocGlobal)) -> Result<(), Fail> {
     Ok(())
 }
 
+// A line too many or too few, or one without the word; the line behind the last one that was wanted.
+fn lines_with_a_word(rt: &(impl Abort + AllocGlobal)) -> Result<(), Fail> {
+    let mut r = Cursor::new(*b"a key\nkeen\nkey\nno\nkeys");
+    let mut out = Vec::<u8>::new(rt.alloc());
+    assert!(rt; grep(rt.alloc(), &mut r, &mut out, b"key", 2)? == 2);
+    assert!(rt; out.as_slice() == b"a key\nkey\n".as_slice());
+    assert!(rt; r.position() == 15);
+    assert!(rt; grep(rt.alloc(), &mut r, &mut out, b"key", 2)? == 1);
+    assert!(rt; out.as_slice() == b"a key\nkey\nkeys".as_slice());
+    Ok(())
+}
+
 // The test of CALLING.md of `io_bench`.
 // The device takes three bytes, and then fails twice: no byte is lost, and none is sent again.
 #[test]
@@ -216,6 +228,7 @@ fn each_example(rt: HostRuntime) -> Result<(), Fail> {
     saved(rt)?;
     checksum(rt)?;
     lines(rt)?;
+    lines_with_a_word(rt)?;
     indexed(rt)?;
     Ok(())
 }
