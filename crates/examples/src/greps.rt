@@ -21,7 +21,13 @@ fn is_in(word: &[u8], line: &[u8]) -> bool
 /// Returns the reader's first fault, and `OutOfMemory` if an allocation failed; the writer has then accepted the lines
 /// before that have the word, and the part of a line before the fault is lost. Returns the writer's fault, and
 /// `WriteZero` if the writer takes no byte; the writer has then accepted some front of the lines that have the word.
-pub fn grep<B: BufRead, W: Write>(alloc: Global, r: &mut B, w: &mut W, word: &[u8], wanted: u64) -> Result<u64>
+pub fn grep<B: BufRead, W: Write>(
+    alloc: Global,
+    r: &mut B,
+    w: &mut W,
+    word: &[u8],
+    wanted: u64,
+) -> Result<u64>
     ensures passes { IfOk result (PassesLines (lines_with word.now) wanted (tells B.Read r.old) (tells B.Read r.new)
         (W.told w.old) (W.told w.new)) }
     ensures stops { IfErr result (λ e. StopsReading (lines_with word.now) e (tells B.Read r.old) (tells B.Read r.new)

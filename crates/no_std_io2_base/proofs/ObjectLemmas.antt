@@ -17,15 +17,6 @@ object_given G C e same x = e.0.coded.inj _ _ (carried_sameᵐ G C e e same Gv (
 pub row_back : {X : Type 0} (R : RattleType) (F : R.Denot → X) (w y : R.Denot) → R.coded.code w ≡ R.coded.code y → F y ≡ F w
 row_back R F w y codes = ap F (sym (R.coded.inj w y codes))
 
--- The value that comes back is the one behind the object. In an answer: `grind (arith, append-nil, object_given, comes_back R)`, with the
--- row R of what was lent.
-pub comes_back : (R : RattleType) (w y : R.Denot) → R.coded.code w ≡ R.coded.code y → y ≡ w
-comes_back R w y codes = sym (R.coded.inj w y codes)
-
--- a cursor over this
-abbrev pub cursor_over : RattleType → RattleType
-cursor_over R = cursor-row R
-
 -- a vector of bytes
 abbrev pub vec : RattleType
 vec = vec-row u8 global-row ghosts
