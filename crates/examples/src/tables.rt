@@ -1,9 +1,9 @@
 //! [`print_table`], a loop over a writer whose type is known only at run time, and its callers, each over a writer of
 //! another type.
-ghost use Rattle.std.specs.Prelude.{◌≡◌, ◌⊎◌, ◌++◌, IfOk, IsErrAnd, OnOk};
+ghost use Rattle.std.specs.Prelude.{◌≡◌, [], ◌++◌, IfOk, IfErr, OnOk};
 ghost use Rattle.no_std_io2.specs.Cursor.{cursor_out};
-ghost use Rattle.no_std_io2.specs.Write.{MovesFront};
-ghost use Rattle.examples.specs.Tables.{table, IsTextRefused};
+ghost use Rattle.no_std_io2.specs.Write.{Moves};
+ghost use Rattle.examples.specs.Tables.{table, StopsTable};
 
 use no_std_io2::io::{BufWriter, Cursor, LineWriter, Result, Write, print_to_object};
 use std::alloc::Global;
@@ -11,12 +11,14 @@ use std::alloc::Global;
 /// Prints a line `ID=VALUE` for each of these rows, each by one `write_all`. It allocates nothing.
 ///
 /// # Errors
-/// Returns the error of the writer behind the object, which then has accepted some front of the table. Its contract also
-/// allows that a line is refused; then the writer gets none of it.
+/// Returns the error of the writer behind the object, which then has accepted some front of the table. No line is too
+/// long for the 32 bytes. The contract of a number's `fmt` does not say when that fails; then the writer has accepted the
+/// lines before.
 pub fn print_table(w: &mut dyn Write, rows: &[(u32, u32)]) -> Result<()>
-    ensures { MovesFront (told w.old) (table rows.now) result (told w.new) ⊎ IsErrAnd result IsTextRefused }
+    ensures all { OnOk result (Moves (told w.old) (table rows.now) [] (told w.new)) }
+    ensures stops { IfErr result (λ e. StopsTable (told w.old) rows.now e (told w.new)) }
 {
-    'rows: for (id, value) in rows {
+    'rows: for &(id, value) in rows {
         print_to_object::<_, _, 32>(w, format_args!("{id}={value}\n"))?;
     }
     Ok(())
