@@ -25,13 +25,15 @@ pub returns-in_err-write_all-in-Ok-clause-stops : goal.returns-in_err-write_all-
 returns-in_err-write_all-in-Ok-clause-stops g c =
     let law = c.in-Ok.ensures.law in
     let line = piece_alone law c.clear.ensures.items c.deref.ensures.value in
-    rw (returned_err c.from_residual.ensures) (inr (stops_writing c.lines.invariant law c.in-Ok.field-0-test.1 refl line c.in_err-write_all-in-Ok.ensures.law.moves))
+    rw (returned_err c.from_residual.ensures)
+    (inr (stops_writing c.lines.invariant law c.in-Ok.field-0-test.1 refl line c.in_err-write_all-in-Ok.ensures.law.moves))
 
 pub returns-in_err-write_all-in-Err-clause-stops : goal.returns-in_err-write_all-in-Err-clause-stops
 returns-in_err-write_all-in-Err-clause-stops g c =
     let law = c.in-Err.ensures.law in
     let line = piece_alone law c.clear.ensures.items c.deref-in-Err.ensures.value in
-    rw (returned_err c.from_residual-in_err-write_all-in-Err.ensures) (inl (stops_at_part (Err _) c.lines.invariant law line c.in_err-write_all-in-Err.ensures.law.moves refl))
+    rw (returned_err c.from_residual-in_err-write_all-in-Err.ensures)
+    (inl (stops_at_part (Err _) c.lines.invariant law line c.in_err-write_all-in-Err.ensures.law.moves refl))
 
 pub returns-in-Err-clause-stops : goal.returns-in-Err-clause-stops
 returns-in-Err-clause-stops g c =

@@ -16,7 +16,8 @@ pub returns-in_err-skip-in-Ok : goal.returns-in_err-skip-in-Ok
 returns-in_err-skip-in-Ok g c =
     let filled = filled_law c.in-Ok.is c.fill_buf.ensures.law c.fill_buf.follows.holds-at-none in
     let some = not_empty _ _ c.is_empty.ensures c.if-is_empty.false in
-    rw (returned_err c.from_residual.ensures) (records_cut c.records.invariant filled some c.from-left.ensures c.consume.ensures.law c.in_err-skip-in-Ok.ensures)
+    rw (returned_err c.from_residual.ensures)
+    (records_cut c.records.invariant filled some c.from-left.ensures c.consume.ensures.law c.in_err-skip-in-Ok.ensures)
 
 pub returns-in-Err-2 : goal.returns-in-Err-2
 returns-in-Err-2 g c =

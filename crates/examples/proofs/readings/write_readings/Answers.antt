@@ -12,4 +12,5 @@ values-preserved g c = ⊎_elim
 pub returns-in_err-write_reading : goal.returns-in_err-write_reading
 returns-in_err-write_reading g c =
     let stop = MovesFront-stop (reading c.args.name.now) c.args.values.now c.values.value-index 0 c.values-test.true c.values.invariant in
-    rw (returned_err c.from_residual.ensures) (record { lines = ⊎_elim (λ moves. inl (stop moves)) inr c.in_err-write_reading.ensures.line })
+    rw (returned_err c.from_residual.ensures)
+    (record { lines = ⊎_elim (λ moves. inl (stop moves)) inr c.in_err-write_reading.ensures.line })

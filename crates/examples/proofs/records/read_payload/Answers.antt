@@ -15,7 +15,8 @@ returns-in_err-read_exact-clause-held g c = λ enough.
 
 pub returns-in_err-read_exact-clause-failed : goal.returns-in_err-read_exact-clause-failed
 returns-in_err-read_exact-clause-failed g c =
-    rw (returned_err c.from_residual-in_err-read_exact.ensures) (_, takes_loses _ (takes_then c.consume.ensures.law.takes c.in_err-read_exact.ensures.law.takes) refl)
+    rw (returned_err c.from_residual-in_err-read_exact.ensures)
+    (_, takes_loses _ (takes_then c.consume.ensures.law.takes c.in_err-read_exact.ensures.law.takes) refl)
 
 pub returns-clause-held : goal.returns-clause-held
 returns-clause-held g c = λ enough.

@@ -24,4 +24,5 @@ returns-in_err-payload-clause-failed g c =
     let between = tells (buf_reader (reader g.R.Stored g.R.Read)) c.peek_header.new.r in
     let after = tells (buf_reader (reader g.R.Stored g.R.Read)) c.read_payload.new.r in
     let failed = c.in_err-payload.ensures.failed in
-    rw (returned_err c.from_residual-in_err-payload.ensures) (failed.0, loses_then before between after [] failed.0 c.in_ok-tag.ensures.stays failed.1)
+    rw (returned_err c.from_residual-in_err-payload.ensures)
+    (failed.0, loses_then before between after [] failed.0 c.in_ok-tag.ensures.stays failed.1)

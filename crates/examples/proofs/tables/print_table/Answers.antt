@@ -8,4 +8,6 @@ rows-preserved g c = row_more c.args.rows.now c.rows.id-index c.rows-test.true c
 
 pub returns-in_err-print_to_object-clause-stops : goal.returns-in_err-print_to_object-clause-stops
 returns-in_err-print_to_object-clause-stops g c =
-    rw (returned_err c.from_residual.ensures) (row_stops c.args.rows.now c.rows.id-index c.rows-test.true c.rows.invariant (search rules) (search rules) c.in_err-print_to_object.ensures.prints)
+    rw (returned_err c.from_residual.ensures)
+    (row_stops c.args.rows.now c.rows.id-index c.rows-test.true c.rows.invariant (search rules) (search rules)
+    c.in_err-print_to_object.ensures.prints)
