@@ -1,6 +1,6 @@
 // The `read_to_end` of the trait objects. The checker leaves no method with a type parameter to its
 // trait at a trait object, and such a method can't call a function over `Read`. So this function is
-// over a trait that has only the object's `read`.
+// over a trait that has only the object's `read`. A queue calls it too, once it has made room.
 ghost use Rattle.no_std_io2_base.specs.Read.{Reader, ReadLaw, ReadToEndLaw};
 
 use crate::error::Result;

@@ -1,5 +1,5 @@
 // A `VecDeque<u8>`: a reader of its front, and a writer at its back.
-ghost use Rattle.std.specs.Prelude.{◌≡◌, ◌+◌, ◌-◌, ◌<◌, ◌≤◌, ◌++◌, length, drop, Some, IsOkAnd, OnErr, IfErr};
+ghost use Rattle.std.specs.Prelude.{◌≡◌, ◌+◌, ◌-◌, ◌<◌, ◌≤◌, ◌++◌, [], length, drop, None, Some, IsOkAnd, OnErr, IfErr};
 ghost use Rattle.std.specs.VecDeque.{deque_len, deque_capacity};
 ghost use Rattle.no_std_io2_base.specs.Errors.{IsOutOfMemory};
 ghost use Rattle.no_std_io2_base.specs.Events.{events_of};
@@ -10,6 +10,8 @@ ghost use Rattle.no_std_io2_base.specs.Writers.{WriteAllOf};
 ghost use Rattle.no_std_io2_base.specs.Appends.{AppendsMay, AppendsWhole};
 
 use super::copying::copy_prefix;
+use super::dyn_read_to_end::{ReadObject, drain};
+use super::slices::reserve_ahead;
 use crate::error::Result;
 use crate::traits::{Read, Stored, Write};
 use core::mem::replace_with;
@@ -22,9 +24,24 @@ const FEW: usize = 8;
 // At least so many held bytes are moved in the time that it takes to push one.
 const MOVED: usize = 16;
 
-// Drops the first `n` bytes of the queue. It is not inlined, because `rotate_left` of a queue takes much code.
-#[inline(never)]
+// Drops the first `n` bytes of the queue. If these are all, no byte has to move.
+#[inline(always)]
 fn drop_front<A: Allocator>(queue: &mut VecDeque<u8, A>, n: usize)
+    requires { n ≤ deque_len queue.old }
+    ensures items { queue.new.items ≡ drop n queue.old.items }
+    ensures room { deque_capacity queue.new ≡ deque_capacity queue.old }
+{
+    if n == queue.len() {
+        queue.clear();
+        return;
+    }
+    turn_out(queue, n);
+}
+
+// Drops the first `n` bytes, behind which there are others. It is not inlined, because `rotate_left` of a queue takes
+// much code.
+#[inline(never)]
+fn turn_out<A: Allocator>(queue: &mut VecDeque<u8, A>, n: usize)
     requires { n ≤ deque_len queue.old }
     ensures items { queue.new.items ≡ drop n queue.old.items }
     ensures room { deque_capacity queue.new ≡ deque_capacity queue.old }
@@ -101,6 +118,26 @@ impl<A: Allocator> Read for VecDeque<u8, A> {
         let n = copy_prefix(front, buf);
         drop_front(self, n);
         Ok(n)
+    }
+
+    // It makes room for all bytes at once, and then reads as every reader does.
+    fn read_to_end<B: Allocator>(&mut self, buf: &mut Vec<u8, B>) -> Result<usize> {
+        reserve_ahead(buf, self.len());
+        drain(self, buf)
+    }
+}
+
+impl<A: Allocator> ReadObject for VecDeque<u8, A> {
+    ghost reader = { record {
+      store = λ q. None;
+      turns = λ q. length q.items;
+      events = λ q. Some (events_of q.items);
+      may = GivesFront (λ q. q.items);
+      held = λ q. [];
+    } };
+
+    fn read_object(&mut self, buf: &mut [u8]) -> Result<usize> {
+        self.read(buf)
     }
 }
 

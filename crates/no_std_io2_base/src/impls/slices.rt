@@ -13,7 +13,7 @@ use std::alloc::Allocator;
 
 // Makes room for the `coming` bytes and 32 more at once if the vector would otherwise grow twice. If the allocation
 // fails, the vector is as it was.
-fn reserve_ahead<A: Allocator>(buf: &mut Vec<u8, A>, coming: usize)
+pub(super) fn reserve_ahead<A: Allocator>(buf: &mut Vec<u8, A>, coming: usize)
     ensures items { buf.new.items ≡ buf.old.items }
     ensures len { vec_len buf.new ≡ vec_len buf.old }
     ensures grows { vec_capacity buf.old ≤ vec_capacity buf.new }

@@ -116,7 +116,7 @@ pub trait Read: Stored {
 
     /// Appends all remaining bytes to `buf`, and returns their number. It ignores interruptions.
     /// Before its first read, and whenever no room is left, it makes room for at least 32 bytes; a
-    /// slice and a cursor make room for all of their rest and 32 bytes. The first growth is by
+    /// slice, a cursor and a queue make room for all of their rest and 32 bytes. The first growth is by
     /// these bytes alone, unless `buf` had far more bytes before; the next ones double the
     /// capacity. If `buf` has room for the bytes before the first fault and for 32 more,
     /// `read_to_end` never fails for lack of memory. If the length is known,
