@@ -10,7 +10,7 @@ use Rattle.no_std_io2.proofs.StepLemmas.{no_ok, then_goes_on, then_does, effect_
 use Rattle.no_std_io2.proofs.StepLemmas.{Sending}
 use Rattle.no_std_io2.proofs.StepLemmas.{StepsJoin}
 use Rattle.no_std_io2_base.specs.{declared.error.Error.{Error}, Errors.{IsNoInterruption}, Write.{taken, write_mishap}}
-use Rattle.std.proofs.{Common.{take_all, nat_le}, lemmas.Result.{on_ok_weaker}}
+use Rattle.std.proofs.{Common.{take_all, nat_le, eq-zero-or-pos}, lemmas.Result.{on_ok_weaker}}
 use Rattle.no_std_io2_base.proofs.{MovesLemmas.{IsFront-refl, Moves-then, zero_write-whole}, CallsLemmas.{by_are, by_call, made_split}}
 use Rattle.no_std_io2_base.proofs.{CallsLemmas.{writes_whole}, WritesFacts.{writes_fault, writes_sends}, AllFacts.{all_calls, call_steady}}
 use Rattle.no_std_io2_base.proofs.MeterLemmas.{writes_count, all_count}
@@ -44,6 +44,15 @@ module _ {W : Type 0} {I : Writer W} {S : ℕ} where
     pub passes : {held left : List ℕ} {reply : Result A Error} {a b : W} → S ≤ length x → held ≡ [] → left ≡ []
         → ByCalls (CallOf I) a (λ C. past C reply) b → Stepped I (PutCalls S x v past) a held reply left b
     passes long none empty calls = by_are calls (λ C is. inr (long, (none, empty, is)))
+
+-- a `write_all` of nothing, if nothing is held, makes no call
+pub nothing_put : {W : Type 0} {I : Writer W} (S : ℕ) (a : W) → Stepped I (WriteAllCalls S []) a [] (Ok tt) [] a
+nothing_put S a = elim (eq-zero-or-pos S) [
+  | inl zero ↦
+      then_goes_on _ (room_kept 0 (omega arith)) (passes [] (λ C. AllCalls C []) (omega (arith, zero)) refl refl
+      (record { calls = []; made = refl; are = inr ([], no_write) }))
+  | inr some ↦ then_goes_on _ (room_kept 0 (omega arith)) (puts [] (λ C. AllCalls C []) some refl refl)
+]
 
 -- past a buffer with nothing held
 pub buffered_past : {W A : Type 0} {S : ℕ} {I : Writer W} {old mid : Sender W S} {inner : W} (x : List ℕ) (v : A)
@@ -168,7 +177,7 @@ module _ {W : Type 0} (I : Writer W) where
           (λ held. room_calls S held (length x) + past_calls S (length x) m)
       buffered_does follows a b held left C reply write made =
           let both = effect_by
-              (then_does (RoomCalls S (length x)) (PutCalls S x v past) follows (room_does S (length x)) put_does) write made in
+          (then_does (RoomCalls S (length x)) (PutCalls S x v past) follows (room_does S (length x)) put_does) write made in
           record { tells = both.tells; leaves = grind (arith, common_steps, on_ok_weaker, both.leaves); counts = both.counts }
 
   -- `write(x)`,

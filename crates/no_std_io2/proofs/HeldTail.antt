@@ -1,7 +1,7 @@
 -- The bytes that a line writer holds of those that its inner writer left (`held_tail`). For the `write` of a `LineWriter`.
 use Rattle.no_std_io2.proofs.Words.{common_steps, ◌≡◌, ℕ, ◌+◌, ◌-◌, ◌<◌, ◌≤◌, List, ◌++◌, length, take, drop, refl, ap, ◌∙◌, arith}
 use Rattle.no_std_io2.proofs.Words.{length-take, length-drop, length-append, subst, take-append-drop, nat_tests, newline, IsLineState}
-use Rattle.no_std_io2.proofs.Words.{lines_len, lines_of, unfinished_line}
+use Rattle.no_std_io2.proofs.Words.{lines_len, lines_of, unfinished_line, [], ◌⊎◌}
 use Rattle.std.proofs.lemmas.List.{take_min}
 use lib.Seq.{take-add}
 use Rattle.no_std_io2_base.specs.Pieces.{Lacks, ends_in}
@@ -26,6 +26,10 @@ rest_state : (x : List ℕ) (n : ℕ) → 0 < lines_len x → IsLineState (drop 
 rest_state x n some =
     let lines = lines_of x in
     state_rest (take n lines) (drop n lines) (λ has. ap (ends_in newline) (take-append-drop n lines) ∙ lines_end x some)
+
+-- nothing is held if none were taken, or all bytes
+pub tail_none : (S : ℕ) (x : List ℕ) (n : ℕ) → n ≡ 0 ⊎ n ≡ length x → held_tail S x n ≡ []
+tail_none S x n ends = grind (arith, nat_tests, common_steps, lines_bound x)
 
 -- the lines among the first S bytes, or all of these, are a front
 or_all_front : (S : ℕ) (l : List ℕ) → take (length (lines_or_all (take S l))) l ≡ lines_or_all (take S l)

@@ -140,7 +140,7 @@ flush_state (stops sent) line = state_end (writes_end sent) line
 flush_state (goes_on {left = left} sent past) line = nothing_state past.1
 
 -- after `Ok` of lines that are passed on, nothing is held
-send_lines_leaves : (S : ℕ) (y : List ℕ) {held left : List ℕ} {C : List WriteCall} {reply : Result (Unit {0}) Error}
+pub send_lines_leaves : (S : ℕ) (y : List ℕ) {held left : List ℕ} {C : List WriteCall} {reply : Result (Unit {0}) Error}
     → SendLinesCalls S y held C reply left → OnOk reply (left ≡ [])
 send_lines_leaves S y {reply = reply} sends = grind (arith, common_steps, after_ok, writes_whole)
 

@@ -19,15 +19,15 @@ const TEXT_ROOM: usize = 64;
 /// The number of bytes that are compared in one step.
 pub const STEP: usize = 16;
 
-/// Returns whether the byte is among the next `STEP`. It compares all of them, so that one vector
+/// Returns whether the byte is among the next `N`. It compares all of them, so that one vector
 /// instruction does it.
 #[inline(always)]
-pub fn stands_in_step(bytes: &[u8], at: usize, wanted: u8) -> bool
-    requires { at + 16 ≤ length bytes.now }
-    ensures { result ≡ false → AllWithin (λ b. b ≢ wanted) bytes.now at (at + 16) }
+pub fn stands_among<const N: usize>(bytes: &[u8], at: usize, wanted: u8) -> bool
+    requires { at + N ≤ length bytes.now }
+    ensures { result ≡ false → AllWithin (λ b. b ≢ wanted) bytes.now at (at + N) }
 {
     let mut stands = false;
-    'bytes: for i in 0..STEP {
+    'bytes: for i in 0..N {
         stands |= bytes[at + i] == wanted;
     }
     stands
@@ -40,7 +40,7 @@ pub fn skip_steps(bytes: &[u8], wanted: u8) -> usize
     ensures lacks { AllWithin (λ b. b ≢ wanted) bytes.now 0 result }
 {
     let mut at = 0;
-    'steps: while bytes.len() - at >= STEP && !stands_in_step(bytes, at, wanted) {
+    'steps: while bytes.len() - at >= STEP && !stands_among::<STEP>(bytes, at, wanted) {
         at += STEP;
     }
     at

@@ -1,25 +1,51 @@
 // The steps of the calls of a `LineWriter`.
-ghost use Rattle.std.specs.Prelude.{◌≡◌, ◌≢◌, ◌+◌, ◌<◌, ◌≤◌, true, length, slice_range};
+ghost use Rattle.std.specs.Prelude.{◌≡◌, ◌≢◌, ◌+◌, ◌-◌, ◌<◌, ◌≤◌, true, length, slice_range};
 ghost use Rattle.std.specs.List.{AllWithin};
 ghost use Rattle.no_std_io2_base.specs.Lines.{IsLineState, lines_len};
 ghost use Rattle.no_std_io2_base.specs.Pieces.{ends_in, newline};
 ghost use Rattle.no_std_io2.specs.LineWriter.{held_tail, SendLineCalls, SendLinesCalls, LineWriteCalls, LineWriteAllCalls};
-ghost use Rattle.no_std_io2.specs.BufWriter.{sender_inner, sender_buffer, TakesStep};
+ghost use Rattle.no_std_io2.specs.BufWriter.{sender_inner, sender_buffer, TakesStep, Then, WriteAllCalls};
 
 use crate::buffered::buffer::SMALL;
 use crate::buffered::sender::Sender;
 use memchr::memrchr;
 use no_std_io2_base::error::Result;
-use no_std_io2_base::internal::{STEP, skip_steps, stands_in_step};
+use no_std_io2_base::internal::{STEP, skip_steps, stands_among};
 use no_std_io2_base::traits::Write;
 
-// Returns whether none of these bytes, of which there are at least `STEP`, is this one.
-fn lacks_byte(bytes: &[u8], wanted: u8) -> bool
-    requires { 16 ≤ length bytes.now }
+// Returns `true` only if none of these bytes, of which there are N to 2 N, is this one.
+#[inline(always)]
+fn lacks_by_ends<const N: usize>(bytes: &[u8], wanted: u8) -> bool
+    requires least { N ≤ length bytes.now }
+    requires most { length bytes.now ≤ N + N }
     ensures { result ≡ true → AllWithin (λ b. b ≢ wanted) bytes.now 0 (length bytes.now) }
 {
+    !stands_among::<N>(bytes, 0, wanted) && !stands_among::<N>(bytes, bytes.len() - N, wanted)
+}
+
+// Returns `true` only if none of these bytes, of which there are at least four, is this one.
+#[inline(always)]
+fn lacks_byte(bytes: &[u8], wanted: u8) -> bool
+    requires { 4 ≤ length bytes.now }
+    ensures { result ≡ true → AllWithin (λ b. b ≢ wanted) bytes.now 0 (length bytes.now) }
+{
+    if bytes.len() < 8 {
+        return lacks_by_ends::<4>(bytes, wanted);
+    }
+    if bytes.len() < STEP {
+        return lacks_by_ends::<8>(bytes, wanted);
+    }
     let lacking = skip_steps(bytes, wanted);
-    bytes.len() - lacking < STEP && !stands_in_step(bytes, bytes.len() - STEP, wanted)
+    bytes.len() - lacking < STEP && !stands_among::<STEP>(bytes, bytes.len() - STEP, wanted)
+}
+
+// Returns `true` only if none of the bytes before the last is this one. The last byte is not looked at: the compiler knows
+// it in `lines_len`, and would take the vector that has it apart.
+#[inline(always)]
+fn lacks_before_last(bytes: &[u8], wanted: u8) -> bool
+    ensures { result ≡ true → AllWithin (λ b. b ≢ wanted) bytes.now 0 (length bytes.now - 1) }
+{
+    bytes.len() > 4 && lacks_byte(&bytes[..bytes.len() - 1], wanted)
 }
 
 // Returns whether the last byte is a newline.
@@ -39,11 +65,11 @@ fn lines_len(x: &[u8]) -> usize
     if ends_in_newline(x) {
         return x.len();
     }
+    if x.len() < 64 && lacks_before_last(x, b'\n') {
+        return 0;
+    }
     if x.len() < STEP {
         return lines_len_by_one(x);
-    }
-    if x.len() < 64 && lacks_byte(x, b'\n') {
-        return 0;
     }
     match memrchr(b'\n', x) {
         Some(at) => at + 1,
@@ -112,8 +138,8 @@ fn write_lines<W: Write + Drop, const S: usize>(
 {
     w.send()?;
     let n = w.inner.write(&x[..len])?;
-    if n == 0 {
-        return Ok(0);
+    if n == 0 || n == x.len() {
+        return Ok(n);
     }
     let end = tail_end(x, len, n, S);
     w.hold(&x[n..end]);
@@ -161,6 +187,9 @@ fn write_all_lines<W: Write + Drop, const S: usize>(
     ensures { TakesStep W.Write sender_inner sender_buffer (LineWriteAllCalls S x.now) w.old result w.new }
 {
     send_lines(w, &x[..len])?;
+    if len == x.len() {
+        return Ok(());
+    }
     w.write_all(&x[len..])
 }
 
@@ -188,6 +217,17 @@ fn write_all_apart<W: Write + Drop, const S: usize>(w: &mut Sender<W, S>, x: &[u
     w.write_all(&x[len..])
 }
 
+// Writes all of x, which has no newline, after the held bytes, which are sent first if they end in one.
+#[cold]
+#[inline(never)]
+fn write_all_behind<W: Write + Drop, const S: usize>(w: &mut Sender<W, S>, x: &[u8]) -> Result<()>
+    requires { IsLineState (sender_buffer w.old) }
+    ensures { TakesStep W.Write sender_inner sender_buffer (Then SendLineCalls (WriteAllCalls S x.now)) w.old result w.new }
+{
+    send_line(w)?;
+    w.write_all(x)
+}
+
 // Writes all of x.
 #[inline]
 pub(super) fn write_all<W: Write + Drop, const S: usize>(
@@ -204,6 +244,8 @@ pub(super) fn write_all<W: Write + Drop, const S: usize>(
     if len > 0 {
         return write_all_lines(w, x, len);
     }
-    send_line(w)?;
-    w.write_all(x)
+    if !ends_in_newline(w.buffer()) {
+        return w.write_all(x);
+    }
+    write_all_behind(w, x)
 }

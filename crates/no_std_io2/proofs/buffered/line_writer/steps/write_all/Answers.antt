@@ -1,15 +1,21 @@
 -- A text without a newline is the first case of the step: the search does not join its two calls.
-use Rattle.no_std_io2.proofs.{Words.{arith, inl, err_from_is_err_and}, StepLemmas.{then_stops, then_goes_on}}
-use Rattle.no_std_io2_base.proofs.{CallsLemmas.{by_are}, LineLemmas.{lacks_lines}}
+use Rattle.no_std_io2.proofs.{Words.{ap, arith, inl, newline, refl, sym, ◌∙◌, [], Ok, Stepped, sender_inner, sender_buffer}, StepLemmas.{then_goes_on}}
+use Rattle.no_std_io2_base.specs.Pieces.{ends_in}
+use Rattle.no_std_io2_base.proofs.{CallsLemmas.{by_are}, LineLemmas.{lacks_lines, unended_lacks}}
+use Rattle.no_std_io2.specs.LineWriter.{SendLineCalls}
 use Rattle.no_std_io2.proofs.buffered.line_writer.steps.write_all.Goals as goal
 
-pub returns-in_err-send_line : goal.returns-in_err-send_line
-returns-in_err-send_line g c =
-    let p = err_from_is_err_and c.from_residual.result c.from_residual.ensures.1 in
+-- no line is held, so none is sent
+pub returns-then-not-ends_in_newline : goal.returns-then-not-ends_in_newline
+returns-then-not-ends_in_newline g c =
     let plain = lacks_lines c.args.x.now (omega (arith, c.lines_len-len.ensures.lines)) in
-    rw (p.1, p.2) (by_are (then_stops c.in_err-send_line.ensures) (λ C stopped. inl (plain, stopped)))
+    let other = ap (ends_in newline) (sym c.buffer.ensures.value) ∙ sym c.ends_in_newline.ensures ∙ c.if-not-ends_in_newline.true in
+    let w = c.args.w.now in
+    let unsent : Stepped g.W.Write SendLineCalls (sender_inner w) (sender_buffer w) (Ok tt) (sender_buffer w) (sender_inner w) =
+    record { calls = []; made = refl; are = inl (unended_lacks _ c.requires other, refl, refl, refl) } in
+    by_are (then_goes_on {first = SendLineCalls} _ unsent c.write_all.ensures) (λ C went. inl (plain, went))
 
 pub returns : goal.returns
 returns g c =
     let plain = lacks_lines c.args.x.now (omega (arith, c.lines_len-len.ensures.lines)) in
-    by_are (then_goes_on _ c.in_ok-send_line.ensures c.write_all.ensures) (λ C went. inl (plain, went))
+    by_are c.write_all_behind.ensures (λ C went. inl (plain, went))

@@ -1,10 +1,9 @@
 -- A failed sending, a failed write, no byte taken, and a tail: the search does not join the calls of these ends.
 use Rattle.no_std_io2.proofs.Words.{common_steps, ◌≡◌, ◌+◌, ◌-◌, ◌++◌, Ok, length, arith, ◌∙◌, sym, refl, ap, inr, length-take, length-drop}
-use Rattle.no_std_io2.proofs.Words.{drop, err_from_is_err_and, sender_buffer}
+use Rattle.no_std_io2.proofs.Words.{drop, rules, err_from_is_err_and, sender_buffer}
 use Rattle.std.specs.List.{slice_range}
 use Rattle.no_std_io2_base.proofs.{CallsLemmas.{by_are, writes_whole}, LineLemmas.{contains_lines}}
-use Rattle.no_std_io2.specs.LineWriter.{held_tail}
-use Rattle.no_std_io2.proofs.{StepLemmas.{then_stops, then_goes_on}, LineWriterStates.{wrote_lines}}
+use Rattle.no_std_io2.proofs.{StepLemmas.{then_stops, then_goes_on}, LineWriterStates.{wrote_lines}, HeldTail.{tail_none}}
 use Rattle.no_std_io2.proofs.buffered.line_writer.steps.write_lines.Goals as goal
 
 pub returns-in_err-send : goal.returns-in_err-send
@@ -22,15 +21,16 @@ returns-in_err-n g c =
     (wrote_lines g.row.S _ c.requires.lines c.in_err-n.ensures.law none (none, refl)) in
     rw (p.1, p.2) (by_are went (λ C calls. inr (contains_lines _ c.requires.lines c.requires.some, calls)))
 
--- none of them were taken
+-- none of them were taken, or all bytes were
 pub returns-then-n-eq0 : goal.returns-then-n-eq0
 returns-then-n-eq0 g c =
+    let x = c.args.x.now in
     let none = writes_whole c.in_ok-send.ensures.calls.are in
-    let empty = none ∙ sym (ap (held_tail g.row.S c.args.x.now) c.if-n-eq0.true) in
-    let zero = ap Ok (let sum : 0 ≡ c.in_ok-n.n + length (sender_buffer c.send.new.self) = omega
-    (arith, c.if-n-eq0.true, ap length none) in sum) in
+    let empty = none ∙ sym (tail_none g.row.S x c.in_ok-n.n (search rules)) in
+    let count = ap Ok
+    (let sum : c.in_ok-n.n ≡ c.in_ok-n.n + length (sender_buffer c.send.new.self) = omega (arith, ap length none) in sum) in
     let went = then_goes_on _ c.in_ok-send.ensures.calls
-    (wrote_lines g.row.S _ c.requires.lines c.in_ok-n.ensures.law none (empty, zero)) in
+    (wrote_lines g.row.S _ c.requires.lines c.in_ok-n.ensures.law none (empty, count)) in
     by_are went (λ C calls. inr (contains_lines _ c.requires.lines c.requires.some, calls))
 
 pub hold-requires : goal.hold-requires

@@ -1,6 +1,0 @@
-use Rattle.std.proofs.Common.{◌≡◌, ◌+◌, false}
-use Rattle.std.specs.List.{AllWithin}
-use Rattle.no_std_io2_base.proofs.traits.pieces.stands_in_step.Given as goal
-
-abbrev pub invariant-bytes : goal.invariant-bytes
-invariant-bytes l = l.stands ≡ false → AllWithin (λ b. b ≡ l.wanted → ⊥) l.bytes l.at (l.at + l.i)
