@@ -1,1 +1,4 @@
 pub mod EncoderLemmas
+pub mod DecodingLemmas
+pub mod DecoderLemmas
+pub mod ExactLemmas
