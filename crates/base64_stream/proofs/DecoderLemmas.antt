@@ -9,16 +9,17 @@ use Rattle.no_std_io2.proofs.Words.{Reader, ReadLaw, tells, Takes, to_come, IsAt
 use Rattle.no_std_io2.proofs.Words.{nat_lt, cases_lt}
 use Rattle.no_std_io2.specs.declared.io.{Error.{Error}, ErrorKind.{ErrorKind, TheVariants.{InvalidData}}}
 use Rattle.no_std_io2.specs.Errors.{error_kind, error_of, error_text}
-use Rattle.no_std_io2.specs.Read.{ReadToEndLaw}
+use Rattle.no_std_io2.specs.{Read.{FullCalls, ReadCallLaw, ReadFullLaw, ReadToEndLaw}, Write.{ByCalls}}
+use Rattle.no_std_io2.proofs.{CallsLemmas.{by_are}, Words.{Result, ◌-◌}}
 use Rattle.no_std_io2.proofs.{Words.{Vec}, TakesLemmas.{left_of}}
 use Rattle.base64.specs.declared.engine.general_purpose.GeneralPurpose.{GeneralPurpose}
 use Rattle.std.specs.Option.{IfSome, option_map}
-use Rattle.no_std_io2.proofs.{EventLemmas.{bytes-append, events_of-append, length-events_of}, TakesLemmas.{takes_none}}
+use Rattle.no_std_io2.proofs.{EventLemmas.{bytes-append, bytes-cut, events_of-append, length-events_of}, TakesLemmas.{takes_none}}
 use Rattle.base64_stream.specs.declared.decoder.DecoderReader.{DecoderReader}
 use Rattle.base64_stream.specs.Decoding.{closed_after, decoded_events, decoded_group, group_events}
 use Rattle.base64_stream.specs.FewBytes.{few_items}
-use Rattle.base64_stream.specs.Decoder.{Decodes, goes_on, cut_off, DecoderMay, FillsWaiting, GathersGroup, decoder_closed}
-use Rattle.base64_stream.specs.Decoder.{decoder_engine}
+use Rattle.base64_stream.specs.Decoder.{Decodes, goes_on, cut_off, DecoderMay, FillsWaiting, GathersGroup, KeepsState, TakesText}
+use Rattle.base64_stream.specs.Decoder.{decoder_closed, decoder_engine}
 use Rattle.base64_stream.specs.Decoder.{decoder_events, decoder_gives, decoder_inner, decoder_text, decoder_turns, decoder_waiting}
 use Rattle.base64_stream.proofs.DecodingLemmas.{collects, completes, passes_fault, last_group_given, group_given, closed_by}
 
@@ -41,7 +42,7 @@ module _ {R : Type 0} (I : Reader R) where
 
   -- nothing
   pub decodes_nothing : (r : DecoderReader R) → Decodes I r [] r
-  decodes_nothing r = goes_on [] (takes_none (tells I r.inner)) (λ E. refl)
+  decodes_nothing r = goes_on [] (record { takes = takes_none (tells I r.inner); reads = inl (refl, refl) }) (λ E. refl)
 
   -- what is told is what is given, and then the rest
   gives_told : (old new : Option (List Event)) (P given : List Event) (f g : List Event → List Event) → AreTaken old P new
@@ -64,13 +65,13 @@ module _ {R : Type 0} (I : Reader R) where
       → Takes (tells decoder_reader old) given (tells decoder_reader new)
   decodes_takes {old} {new} {given} (goes_on P takes gives) turns = record {
     events = gives_told (to_come (tells I old.inner)) (to_come (tells I new.inner)) P given (decoder_gives old)
-        (decoder_gives new) takes.events gives;
+        (decoder_gives new) takes.takes.events gives;
     store = tt;
     turns = turns;
   }
   decodes_takes {old} {new} {given} (cut_off P takes end gives) turns = record {
     events = gives_last (to_come (tells I old.inner)) (to_come (tells I new.inner)) P given (decoder_gives old)
-        (decoder_gives new) takes.events end gives;
+        (decoder_gives new) takes.takes.events end gives;
     store = tt;
     turns = turns;
   }
@@ -79,9 +80,9 @@ module _ {R : Type 0} (I : Reader R) where
   pub decodes_given : {a b c : DecoderReader R} (x : List ℕ) → Decodes I a [] b → decoder_inner c ≡ decoder_inner b
       → ((E : List Event) → decoder_gives b E ≡ events_of x ++ decoder_gives c E) → Decodes I a (events_of x) c
   decodes_given {a} {b} {c} x (goes_on P takes gives) same is =
-      goes_on P (subst (λ i. Takes (tells I a.inner) P (tells I i)) (sym same) takes) (λ E. gives E ∙ is E)
+      goes_on P (subst (λ i. TakesText I a P i) (sym same) takes) (λ E. gives E ∙ is E)
   decodes_given {a} {b} {c} x (cut_off P takes end gives) same is =
-      cut_off P (subst (λ i. Takes (tells I a.inner) P (tells I i)) (sym same) takes) (subst (λ i. IsAtEnd (tells I i)) (sym same) end)
+      cut_off P (subst (λ i. TakesText I a P i) (sym same) takes) (subst (λ i. IsAtEnd (tells I i)) (sym same) end)
       (gives ∙ is [])
 
   -- bytes that wait come first
@@ -101,6 +102,52 @@ module _ {R : Type 0} (I : Reader R) where
 
   waiting_short : (r : DecoderReader R) → length (decoder_waiting r) ≤ 3
   waiting_short r = omega (arith, length-take r.waiting.len r.waiting.bytes, r.waiting.within)
+
+  -- no more bytes come than there was room for
+  full_within : {old new : R} {buf buf' : List ℕ} {k n : ℕ} {u : Unit {0}} (law : ReadFullLaw I old buf k (Ok u) buf' n new)
+      → length (bytes law.taken) ≤ length buf - k
+  full_within {buf = buf} {k = k} law =
+      let room = length buf - k in
+      omega (arith, ap (λ l. length (bytes l)) law.ends.1, ap length (bytes-cut room law.taken), length-take room (bytes law.taken))
+
+  -- the reads that a `read_full` of what is missing makes
+  missing : {old new : R} {buf buf' : List ℕ} {k n m : ℕ} {reply : Result (Unit {0}) Error}
+      (law : ReadFullLaw I old buf k reply buf' n new) → length buf ≡ 4 → k ≡ m
+      → ByCalls (ReadCallLaw I) old (λ C. FullCalls C (4 - m) (bytes law.taken) reply) new
+  missing {reply = reply} law long count =
+      by_are law.calls (λ C are. subst (λ room. FullCalls C room (bytes law.taken) reply) (ap₂ (λ a b. a - b) long count) are)
+
+  -- the rest of a group was read, or the text has ended
+  pub gathers_all : {old new : DecoderReader R} {buf buf' : List ℕ} {k n : ℕ} {u : Unit {0}}
+      → ReadFullLaw I (decoder_inner old) buf k (Ok u) buf' n (decoder_inner new) → k ≡ length (decoder_text old)
+      → take k buf ≡ decoder_text old → length buf ≡ 4 → decoder_text new ≡ [] → KeepsState old new → GathersGroup I old buf' (Ok n) new
+  gathers_all {old} {new} {buf} {buf'} {k} {n} {u} law count front long empty keeps =
+      let more = full_within law in
+      record {
+        taken = law.taken;
+        text = record { takes = law.takes; reads = inr (Ok u, law.ends.0, missing law long count) };
+        ends = (
+          law.ends.0,
+          law.fills ∙ ap (λ l. l ++ bytes law.taken) front,
+          law.counts ∙ ap (λ m. m + length (bytes law.taken)) count,
+          omega (arith, law.counts, more, long, count, decoder_short old),
+          λ few. law.ends.2 (omega (arith, law.counts, long, few)),
+          empty,
+        );
+        keeps = keeps;
+      }
+
+  -- a fault came before
+  pub gathers_some : {old new : DecoderReader R} {buf buf' : List ℕ} {k n : ℕ} {e : Error}
+      → ReadFullLaw I (decoder_inner old) buf k (Err e) buf' n (decoder_inner new) → k ≡ length (decoder_text old)
+      → take k buf ≡ decoder_text old → length buf ≡ 4 → decoder_text new ≡ take n buf' → KeepsState old new
+      → GathersGroup I old buf' (Err e) new
+  gathers_some {e = e} law count front long kept keeps = record {
+    taken = law.taken;
+    text = record { takes = law.takes; reads = inr (Err e, law.ends.0, missing law long count) };
+    ends = (law.ends.0, kept ∙ law.fills ∙ ap (λ l. l ++ bytes law.taken) front);
+    keeps = keeps;
+  }
 
   -- if no bytes wait, the text is next
   pub text_next : (r : DecoderReader R) (E : List Event) → decoder_waiting r ≡ []
@@ -128,8 +175,8 @@ module _ {R : Type 0} (I : Reader R) where
       ∙ ap₂ (λ s t. decoded_events old.engine old.closed (s ++ t) E) no_text no_bytes
       ∙ ap₂ (λ e c. decoded_events e c [] E) (sym engine) (sym closed)
       ∙ sym (group_next mid E empty ∙ ap (λ l. events_of l ++ decoded_events mid.engine mid.closed [] E) idle) in (
-        goes_on P gathers.takes gives,
-        omega (arith, gathers.takes.turns, ap length empty, ap length idle),
+        goes_on P gathers.text gives,
+        omega (arith, gathers.text.takes.turns, ap length empty, ap length idle),
         λ w. (end (omega (arith, zero)), empty),
       )
 
@@ -171,9 +218,9 @@ module _ {R : Type 0} (I : Reader R) where
       let after : closed_after old.closed (decoded_group old.engine old.closed (take n buf)) ≡ new.closed =
       ap (closed_after old.closed) same ∙ closed_by old.closed x some ∙ sym closed in
       let texts = group_text gathers none in
-      let takes = subst (λ i. Takes (tells I old.inner) P (tells I i)) (sym inner) gathers.takes in
+      let takes = subst (λ i. TakesText I old P i) (sym inner) gathers.text in
       let turns : decoder_turns I.turns new ≤ decoder_turns I.turns old =
-      omega (arith, takes.turns, not_zero, long, bytes_fewer P, ap length open_text, ap length none, waiting_short new) in (
+      omega (arith, takes.takes.turns, not_zero, long, bytes_fewer P, ap length open_text, ap length none, waiting_short new) in (
         elim (cases_lt n 4) [
           | inl few ↦ cut_off P takes (subst (λ i. IsAtEnd (tells I i)) (sym inner) (end few))
               (texts.1 (omega (arith, not_zero)) few ∙ given ∙ sym (group_next new [] open_text ∙ append-nil (events_of x)))
@@ -204,11 +251,11 @@ module _ {R : Type 0} (I : Reader R) where
       let rest = λ (E : List Event). group_next mid E empty ∙ ap (λ l. events_of l ++ decoded_events mid.engine mid.closed [] E) idle in
       let texts = group_text gathers none in
       let turns : decoder_turns I.turns mid < decoder_turns I.turns old =
-      omega (arith, gathers.takes.turns, not_zero, long, bytes_fewer P, ap length empty, ap length none, ap length idle) in (
+      omega (arith, gathers.text.takes.turns, not_zero, long, bytes_fewer P, ap length empty, ap length none, ap length idle) in (
         elim (cases_lt n 4) [
-          | inl few ↦ cut_off P gathers.takes (end few)
+          | inl few ↦ cut_off P gathers.text (end few)
               (texts.1 (omega (arith, not_zero)) few ∙ given ∙ ap (λ l. fails e ∷ l) (sym (rest [])))
-          | inr full ↦ goes_on P gathers.takes (λ E. texts.0 (omega (arith, full, most)) E
+          | inr full ↦ goes_on P gathers.text (λ E. texts.0 (omega (arith, full, most)) E
               ∙ ap₂ (λ l c. l ++ decoded_events old.engine c [] E) given after
               ∙ ap (λ g. fails e ∷ decoded_events g mid.closed [] E) (sym engine_kept)
               ∙ ap (λ l. fails e ∷ l) (sym (rest E)))
@@ -230,13 +277,13 @@ module _ {R : Type 0} (I : Reader R) where
       let few : length (decoder_text old) + length (bytes Q) < 4 =
       omega (arith, ap length kept, length-append (decoder_text old) (bytes Q), decoder_short mid) in
       let some : 0 < length P = omega (arith, ap length split, length-append Q (fails e ∷ [])) in (
-        goes_on P gathers.takes (λ E. text_next old (P ++ E) none
+        goes_on P gathers.text (λ E. text_next old (P ++ E) none
             ∙ ap (λ l. decoded_events old.engine old.closed (decoder_text old) (l ++ E)) split
             ∙ passes_fault old.engine old.closed (decoder_text old) Q E free fault few
             ∙ ap₂ (λ g c. fails e ∷ decoded_events g c (decoder_text old ++ bytes Q) E) (sym engine_kept) (sym closed_kept)
             ∙ ap (λ t. fails e ∷ decoded_events mid.engine mid.closed t E) (sym kept)
             ∙ ap (λ l. fails e ∷ l) (sym (text_next mid E idle))),
-        omega (arith, gathers.takes.turns, some, ap length none, ap length idle),
+        omega (arith, gathers.text.takes.turns, some, ap length none, ap length idle),
       )
 
   -- bytes wait

@@ -8,6 +8,9 @@ use Rattle.no_std_io2.proofs.EventLemmas.{bytes-events_of, bytes-behind, HasNoFa
 use Rattle.base64.specs.{declared.decode.DecodeError.{DecodeError}, declared.engine.general_purpose.GeneralPurpose.{GeneralPurpose}}
 use Rattle.base64.specs.{GeneralPurpose.{IsBytes, IsStrict, decode_of, encode_of}, Rfc4648.{encode_symbols}}
 use Rattle.base64.proofs.{EngineFacts.{decode_of_strict, encode_of-append, encode_of-nil, front_bytes}, RoundTrip.{length-encode_symbols}}
+use Rattle.no_std_io2.proofs.Words.{⊤, ◌⊎◌, Bool, Event, byte, fails, Some, Vec, append_assoc, Reader, tells, to_come, IsOutOfMemory}
+use Rattle.no_std_io2.proofs.TakesLemmas.{left_of}
+use Rattle.no_std_io2.specs.{declared.io.{Error.{Error}, ErrorKind.TheVariants.{InvalidData}}, Errors.{error_of}, Read.{ReadToEndLaw}}
 use Rattle.base64_stream.specs.Decoding.{closed_after, decoded_events, decoded_group, group_events, or_no_bytes}
 use Rattle.base64_stream.proofs.DecodingLemmas.{below_is_true, above_is_false, closed_by}
 
@@ -86,3 +89,52 @@ module _ (engine : GeneralPurpose) (strict : IsStrict engine) where
             ap (λ l. head ++ l) rest ∙ ap₂ (λ l m. l ++ encode_of engine (bytes m)) first same
             ∙ sym (encode_of-append engine x (bytes E) whole) ∙ ap (encode_of engine) (sym both)
       ]
+
+-- every error among these events is that of a refused group
+abbrev Refusals : List Event → Type 0
+Refusals [] = ⊤
+Refusals (byte b ∷ E) = Refusals E
+Refusals (fails e ∷ E) = (e ≡ error_of InvalidData) × Refusals E
+
+refusals_joined : (P Q : List Event) → Refusals P → Refusals Q → Refusals (P ++ Q)
+refusals_joined [] Q p q = q
+refusals_joined (byte b ∷ P) Q p q = refusals_joined P Q p q
+refusals_joined (fails e ∷ P) Q p q = (p.0, refusals_joined P Q p.1 q)
+
+refusal_at : (P Q : List Event) {e : Error} → Refusals (P ++ fails e ∷ Q) → e ≡ error_of InvalidData
+refusal_at [] Q all = all.0
+refusal_at (byte b ∷ P) Q all = refusal_at P Q all
+refusal_at (fails e ∷ P) Q all = refusal_at P Q all.1
+
+bytes_refuse_none : (x : List ℕ) → Refusals (events_of x)
+bytes_refuse_none [] = tt
+bytes_refuse_none (b ∷ x) = bytes_refuse_none x
+
+group_refuses : (x : List ℕ) → Refusals (group_events x)
+group_refuses [] = (refl, tt)
+group_refuses (b ∷ x) = bytes_refuse_none x
+
+-- the errors of a text are refusals
+pub text_refuses : (engine : GeneralPurpose) (closed : Bool) (text s : List ℕ) → Refusals (decoded_events engine closed text (events_of s))
+text_refuses engine closed [] [] = tt
+text_refuses engine closed (b ∷ text) [] = group_refuses (decoded_group engine closed (b ∷ text))
+text_refuses engine closed text (b ∷ s) = elim (cases_lt (length text) 3) [
+  | inl less ↦ rw (below_is_true (length text) 3 less) (text_refuses engine closed (text ++ b ∷ []) s)
+  | inr full ↦
+      let x = decoded_group engine closed (text ++ b ∷ []) in
+      rw (above_is_false (length text) 3 full)
+      (refusals_joined (group_events x) (decoded_events engine (closed_after closed x) [] (events_of s)) (group_refuses x)
+      (text_refuses engine (closed_after closed x) [] s))
+]
+
+-- a `read_to_end` of them fails by one, or since an allocation failed
+pub drained_error : {S A : Type 0} {R : Reader S} {old new : S} {buf buf' : Vec ℕ A} {e : Error} (E : List Event)
+    → ReadToEndLaw R old buf (Err e) buf' new → to_come (tells R old) ≡ Some E → Refusals E → IsOutOfMemory e ⊎ (e ≡ error_of InvalidData)
+drained_error {e = e} E law told all = elim law.ends [
+  | inl fault ↦
+      let (after, still, split) = left_of law.takes told in
+      let (Q, is, free, no_interruption) = fault in
+      let whole : E ≡ Q ++ fails e ∷ after = split ∙ ap (λ l. l ++ after) is ∙ append_assoc Q (fails e ∷ []) after in
+      inr (refusal_at Q after (subst Refusals whole all))
+  | inr refused ↦ inl refused.1
+]

@@ -1,10 +1,17 @@
 -- What a decoder holds, tells and gives. I are the ghost members of the reader below.
-use Rattle.std.specs.Prelude.{◌≡◌, ℕ, ◌+◌, ◌*◌, ◌<◌, ◌≤◌, min, Bool, List, [], ◌∷◌, ◌++◌, length, take, Option, Result, Ok, Err}
+use Rattle.std.specs.Prelude.{◌≡◌, ◌⊎◌, ℕ, ◌+◌, ◌-◌, ◌*◌, ◌<◌, ◌≤◌, min, Bool, List, [], ◌∷◌, ◌++◌, length, take, Option, Result, Ok, Err}
 use Rattle.std.specs.Option.{option_map}
 use Rattle.base64.specs.declared.engine.general_purpose.GeneralPurpose.{GeneralPurpose}
 use Rattle.no_std_io2.specs.{declared.io.Error.{Error}, Events.{Event, fails, events_of, bytes, HasNoFault, EndsInFault}}
-use Rattle.no_std_io2.specs.{Takes.{ReaderState, Takes, to_come, IsAtEnd}, Read.{Reader, ReadCall, Gave, tells, answered}}
+use Rattle.no_std_io2.specs.{Takes.{ReaderState, Takes, to_come, IsAtEnd}, Read.{Reader, ReadCall, ReadCallLaw, FullCalls, Gave}}
+use Rattle.no_std_io2.specs.Read.{tells, answered}
+use Rattle.no_std_io2.specs.Write.{ByCalls}
 use Rattle.base64_stream.specs.{declared.decoder.DecoderReader.{DecoderReader}, FewBytes.{few_items}, Decoding.{decoded_events}}
+
+-- the events that a `read_full` took, by how it ended: a fault is the last one
+abbrev FullEnds : Result (Unit {0}) Error → List Event → Type 0
+FullEnds (Ok u) taken = HasNoFault taken
+FullEnds (Err e) taken = EndsInFault taken e
 
 module _ {R : Type 0} where
   -- the reader below
@@ -39,13 +46,24 @@ module _ {R : Type 0} where
   abbrev pub decoder_turns : (R → ℕ) → DecoderReader R → ℕ
   decoder_turns turns r = 4 * turns r.inner + 3 * min 1 (length (decoder_text r)) + length (decoder_waiting r)
 
+  -- no call was made, or these events came from the reads of one `read_full` of what is missing of the group
+  abbrev ReadsRest : Reader R → DecoderReader R → List Event → R → Type 0
+  ReadsRest I old taken below = ((taken ≡ []) × (below ≡ decoder_inner old))
+      ⊎ ((reply : Result (Unit {0}) Error) × FullEnds reply taken × ByCalls (ReadCallLaw I) (decoder_inner old)
+      (λ C. FullCalls C (4 - length (decoder_text old)) (bytes taken) reply) below)
+
+  -- the reader below gave these events, and is now this
+  pub record TakesText (I : Reader R) (old : DecoderReader R) (taken : List Event) (below : R) : Type 0 where
+    pub takes : Takes (tells I (decoder_inner old)) taken (tells I below)
+    pub reads : ReadsRest I old taken below
+
   -- From old to new it gave these events. The reader below gave `taken`, of which they are the decoding.
   pub data Decodes (I : Reader R) (old : DecoderReader R) (given : List Event) (new : DecoderReader R) : Type 0 where
     -- whatever comes next
-    goes_on : (taken : List Event) → Takes (tells I (decoder_inner old)) taken (tells I (decoder_inner new))
+    goes_on : (taken : List Event) → TakesText I old taken (decoder_inner new)
         → ((E : List Event) → decoder_gives old (taken ++ E) ≡ given ++ decoder_gives new E) → Decodes I old given new
     -- the end came in the middle of a group
-    cut_off : (taken : List Event) → Takes (tells I (decoder_inner old)) taken (tells I (decoder_inner new))
+    cut_off : (taken : List Event) → TakesText I old taken (decoder_inner new)
         → IsAtEnd (tells I (decoder_inner new)) → decoder_gives old taken ≡ given ++ decoder_gives new [] → Decodes I old given new
 
   -- a read gives the decoding of what it took
@@ -68,7 +86,7 @@ module _ {R : Type 0} where
   pub record GathersGroup (I : Reader R) (old : DecoderReader R) (buf : List ℕ) (reply : Result ℕ Error)
       (new : DecoderReader R) : Type 0 where
     pub taken : List Event
-    pub takes : Takes (tells I (decoder_inner old)) taken (tells I (decoder_inner new))
+    pub text : TakesText I old taken (decoder_inner new)
     pub ends : GroupEnds I old taken buf reply new
     pub keeps : KeepsState old new
 

@@ -1,8 +1,8 @@
 // [`DecoderReader`], which decodes base64.
-ghost use Rattle.std.specs.Prelude.{◌≡◌, ◌<◌, ◌≤◌, ℕ, List, true, false, [], ◌∷◌, length, IfOk, IfErr, Some};
+ghost use Rattle.std.specs.Prelude.{◌≡◌, ◌⊎◌, ◌<◌, ◌≤◌, ℕ, List, true, false, [], ◌∷◌, length, IfOk, IfErr, Some};
 ghost use Rattle.base64.specs.GeneralPurpose.{encode_of, IsBytes, IsConsistent};
 ghost use Rattle.base64.specs.Engines.{standard};
-ghost use Rattle.no_std_io2.specs.Errors.{IsOutOfMemory};
+ghost use Rattle.no_std_io2.specs.Errors.{IsOutOfMemory, error_of};
 ghost use Rattle.no_std_io2.specs.Events.{events_of};
 ghost use Rattle.no_std_io2.specs.Read.{tells};
 ghost use Rattle.no_std_io2.specs.Takes.{to_come};
@@ -97,8 +97,7 @@ impl<R: Read> DecoderReader<R> {
         ensures { GathersGroup R.Read self.old group.new result self.new }
     {
         let mut len = self.text.put_into(group);
-        let read = self.inner.read_full(group, &mut len);
-        match read {
+        match self.inner.read_full(group, &mut len) {
             Ok(()) => {
                 self.text = FewBytes::new();
                 Ok(len)
@@ -174,6 +173,7 @@ pub fn decoded(alloc: Global, text: &[u8]) -> Result<Vec<u8>>
     ensures back { (x : List ℕ) → IsBytes x → text.now ≡ encode_of standard x
         → IfOk result (λ v. v.items ≡ x) × IfErr result IsOutOfMemory }
     ensures exact { IfOk result (λ v. text.now ≡ encode_of standard v.items) }
+    ensures err { IfErr result (λ e. IsOutOfMemory e ⊎ (e ≡ error_of ErrorKind.InvalidData)) }
 {
     let mut r = DecoderReader::new(text, STANDARD);
     let mut bytes = Vec::new(alloc);

@@ -3,7 +3,7 @@ use Rattle.no_std_io2.proofs.Words.{[], false, Some, ◌++◌, sym, ap, subst, r
 use Rattle.no_std_io2.proofs.{InMemoryReads.{slice_reader}, KnownBytes.{to_end_known}}
 use Rattle.base64.specs.GeneralPurpose.{IsStrict, encode_of}
 use Rattle.base64_stream.specs.{Decoder.{decoder_engine}, Decoding.{decoded_events}}
-use Rattle.base64_stream.proofs.{DecoderLemmas.{drained_whole, starts_decoding}, ExactLemmas.{only_encoding}}
+use Rattle.base64_stream.proofs.{DecoderLemmas.{drained_whole, starts_decoding}, ExactLemmas.{drained_error, only_encoding, text_refuses}}
 use Rattle.base64_stream.proofs.decoder.decoded.Goals as goal
 
 pub returns-in_err-read_to_end-clause-back : goal.returns-in_err-read_to_end-clause-back
@@ -31,3 +31,13 @@ returns-clause-exact c =
     only_encoding engine strict s (λ i. let f = c.type_inv.text i in omega arith) whole.0
     ∙ ap (encode_of engine) (sym (whole.1 ∙ ap (λ l. l ++ bytes E) c.new-bytes.ensures.items))
     ∙ ap (λ e. encode_of e c.read_to_end.new.buf.items) new.engine
+
+pub returns-in_err-read_to_end-clause-err : goal.returns-in_err-read_to_end-clause-err
+returns-in_err-read_to_end-clause-err c =
+    let s = c.args.text.now in
+    let p = err_from_is_err_and c.from_residual.result c.from_residual.ensures.1 in
+    let new = c.new-r.ensures in
+    let engine = decoder_engine c.new-r.result in
+    let told = starts_decoding slice_reader c.new-r.result engine (events_of s) refl new.closed new.text new.waiting
+    (ap (λ r. Some (events_of r.now)) new.inner) in
+    rw (p.1, p.2) (drained_error _ c.in_err-read_to_end.ensures.law told (text_refuses engine false [] s))
