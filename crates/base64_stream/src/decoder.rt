@@ -1,5 +1,5 @@
 // [`DecoderReader`], which decodes base64.
-ghost use Rattle.std.specs.Prelude.{◌≡◌, ◌⊎◌, ◌<◌, ◌≤◌, ℕ, List, true, false, [], ◌∷◌, length, IfOk, IfErr, Some};
+ghost use Rattle.std.specs.Prelude.{◌≡◌, ◌⊎◌, ◌<◌, ◌≤◌, ℕ, List, false, [], length, IfOk, IfErr, Some};
 ghost use Rattle.base64.specs.GeneralPurpose.{encode_of, IsBytes, IsConsistent};
 ghost use Rattle.base64.specs.Engines.{standard};
 ghost use Rattle.no_std_io2.specs.Errors.{IsOutOfMemory, error_of};
