@@ -6,6 +6,8 @@
 
 mod rows;
 mod samples;
+mod texts;
 
 pub use rows::write_row;
 pub use samples::{read_sample, write_sample};
+pub use texts::{read_encoded, write_encoded};
