@@ -66,7 +66,7 @@ module _ {W : Type 0} (I : Writer (Faulty W)) (none : (w : Faulty W) → (I.told
       → (old : B) → inner old ≡ base → buffer old ≡ [] → ShowsRun K old ops text → Shows I shape acts ops text
   one_level inner buffer level each told is old at empty run = shows inner buffer told old at empty run
       (below_map I ops run.replies (λ calls below t. is calls below _
-          (subst (λ h. LevelCalls level h calls below (buffer run.new)) empty t))
+      (subst (λ h. LevelCalls level h calls below (buffer run.new)) empty t))
       (below_first I inner buffer level each ops run.replies run.law.calls))
 
   -- a run on a level over a buffer

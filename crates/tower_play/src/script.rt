@@ -92,7 +92,7 @@ impl Script {
             }
         }
         match bad {
-            Some(number) => Err(PlayError::ScriptLine(number)),
+            Some(number) => Err(PlayError::Line(number)),
             None => Ok(script),
         }
     }
