@@ -1,8 +1,8 @@
-// The examples in the comments of `no_std_io2`, one function for each of its modules.
-use examples::Narrow;
+// The examples in the comments of `no_std_io2`, one function for each of its modules; that of `IntoInnerError` is in
+// `client_tests`.
 use no_std_io2::io::{
-    BufRead, BufReader, BufWriter, CopyError, Cursor, ErrorKind, LineWriter, Read, Seek, SeekFrom,
-    Write, copy, copy_lent, copy_sided, copy_with, flush_with_retries, read_exact_at, skip,
+    BufRead, BufReader, BufWriter, CopyError, Cursor, LineWriter, Read, Seek, SeekFrom, Write,
+    copy, copy_lent, copy_sided, copy_with, flush_with_retries, read_exact_at, skip,
     write_with_retries,
 };
 use std::process::Abort;
@@ -134,29 +134,6 @@ fn sides(rt: &(impl Abort + AllocGlobal)) -> Result<(), Fail> {
     Ok(())
 }
 
-fn into_inner_error(rt: &(impl Abort + AllocGlobal)) -> Result<(), Fail> {
-    let taken = Vec::new(rt.alloc());
-    let mut w = BufWriter::<_, 8>::new(Narrow { taken, most: 0 }); // a device that takes no byte
-    w.write_all(b"abc")?;
-    if let Err(failed) = w.into_inner() {
-        assert!(rt; failed.error().kind() == ErrorKind::WriteZero);
-        let w = failed.into_inner();
-        assert!(rt; w.buffer() == b"abc".as_slice());
-    } else {
-        return Err(Fail::new("sent"));
-    }
-
-    let taken = Vec::new(rt.alloc());
-    let mut w = BufWriter::<_, 8>::new(Narrow { taken, most: 0 }); // a device that takes no byte
-    w.write_all(b"abc")?;
-    if let Err(failed) = w.into_inner() {
-        let (error, w) = failed.into_parts();
-        assert!(rt; error.kind() == ErrorKind::WriteZero);
-        assert!(rt; w.buffer() == b"abc".as_slice());
-    }
-    Ok(())
-}
-
 fn retries(rt: &(impl Abort + AllocGlobal)) -> Result<(), Fail> {
     let mut w = BufWriter::<Vec<u8>, 64>::new(Vec::new(rt.alloc()));
     let mut rest = b"abc".as_slice();
@@ -187,7 +164,6 @@ fn each_example(rt: HostRuntime) -> Result<(), Fail> {
     buf_reader(rt)?;
     util(rt)?;
     sides(rt)?;
-    into_inner_error(rt)?;
     retries(rt)?;
     read_at(rt)?;
     Ok(())

@@ -1,6 +1,6 @@
 // The examples in the comments of `framing`, `line_log`, `system_streams` and `io_bench`, one function for each of
-// their modules.
-use examples::{checksum_of, entry_of_file, grep, head, save};
+// their modules, and those of `IntoInnerError`, over a device of `examples`.
+use examples::{Narrow, checksum_of, entry_of_file, grep, head, save};
 use framing::{FrameReader, FrameWriter};
 use io_bench::{Act, Event, Faulty, Feed, Op, Reply, joined};
 use line_log::LineLog;
@@ -170,6 +170,29 @@ fn lines_with_a_word(rt: &(impl Abort + AllocGlobal)) -> Result<(), Fail> {
     Ok(())
 }
 
+fn into_inner_error(rt: &(impl Abort + AllocGlobal)) -> Result<(), Fail> {
+    let taken = Vec::new(rt.alloc());
+    let mut w = BufWriter::<_, 8>::new(Narrow { taken, most: 0 }); // a device that takes no byte
+    w.write_all(b"abc")?;
+    if let Err(failed) = w.into_inner() {
+        assert!(rt; failed.error().kind() == ErrorKind::WriteZero);
+        let w = failed.into_inner();
+        assert!(rt; w.buffer() == b"abc".as_slice());
+    } else {
+        return Err(Fail::new("sent"));
+    }
+
+    let taken = Vec::new(rt.alloc());
+    let mut w = BufWriter::<_, 8>::new(Narrow { taken, most: 0 }); // a device that takes no byte
+    w.write_all(b"abc")?;
+    if let Err(failed) = w.into_inner() {
+        let (error, w) = failed.into_parts();
+        assert!(rt; error.kind() == ErrorKind::WriteZero);
+        assert!(rt; w.buffer() == b"abc".as_slice());
+    }
+    Ok(())
+}
+
 // The test of CALLING.md of `io_bench`.
 // The device takes three bytes, and then fails twice: no byte is lost, and none is sent again.
 #[test]
@@ -225,6 +248,7 @@ fn each_example(rt: HostRuntime) -> Result<(), Fail> {
     patient(rt)?;
     streams(rt)?;
     accepted(rt)?;
+    into_inner_error(rt)?;
     saved(rt)?;
     checksum(rt)?;
     lines(rt)?;

@@ -1,0 +1,18 @@
+//! Tests of the clients, of devices and of the system's streams: what no clause and no row of a table can show. The
+//! comment above each names the mistake that it would find.
+//!
+//! And the examples in comments of the clients, one function for each module, in `clients`. One test plays them.
+#![tactic(auto)]
+
+#[cfg(test)]
+mod archives;
+#[cfg(test)]
+mod clients;
+#[cfg(test)]
+mod limits;
+#[cfg(test)]
+mod ports;
+#[cfg(test)]
+mod tables;
+#[cfg(test)]
+mod whole;
