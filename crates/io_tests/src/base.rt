@@ -1,4 +1,4 @@
-// The examples in the comments of `no_std_io2_base`, one function for each of its modules.
+// The examples in the comments of `no_std_io2_base`, a function for each.
 use no_std_io2::ghost_bytes::GhostBytes;
 use no_std_io2::io::{
     AsSlice, BufRead, BufWriter, Cursor, Error, ErrorKind, Read, Seek, SeekFrom, Write, copy,
@@ -7,7 +7,7 @@ use no_std_io2::io::{
 use std::process::Abort;
 use std::test::Fail;
 
-fn error(rt: &impl Abort) -> Result<(), Fail> {
+fn error_new(rt: &impl Abort) {
     let e = Error::new(ErrorKind::InvalidData, "no header");
     assert!(rt; e.kind() == ErrorKind::InvalidData);
     assert!(rt; e.get_ref().is_some());
@@ -15,17 +15,20 @@ fn error(rt: &impl Abort) -> Result<(), Fail> {
     assert!(rt; e.get_ref().is_none());
     let e = Error::other("no carrier");
     assert!(rt; e.kind() == ErrorKind::Other);
+}
 
+fn error_into_inner(rt: &impl Abort) {
     let e = Error::other("no carrier");
     assert!(rt; e.get_ref().is_some());
     assert!(rt; e.into_inner() == Some("no carrier"));
-
-    assert!(rt; Error::from(ErrorKind::Interrupted).is_interrupted());
-    assert!(rt; !Error::from(ErrorKind::TimedOut).is_interrupted());
-    Ok(())
 }
 
-fn cursor(rt: &(impl Abort + AllocGlobal)) -> Result<(), Fail> {
+fn error_is_interrupted(rt: &impl Abort) {
+    assert!(rt; Error::from(ErrorKind::Interrupted).is_interrupted());
+    assert!(rt; !Error::from(ErrorKind::TimedOut).is_interrupted());
+}
+
+fn cursor_new(rt: &(impl Abort + AllocGlobal)) -> Result<(), Fail> {
     let mut c = Cursor::new(Vec::<u8>::new(rt.alloc()));
     c.write_all(b"abc")?;
     assert!(rt; c.position() == 3);
@@ -33,54 +36,78 @@ fn cursor(rt: &(impl Abort + AllocGlobal)) -> Result<(), Fail> {
     let mut rest = [0u8; 2];
     c.read_exact(&mut rest)?;
     assert!(rt; rest == *b"bc");
+    Ok(())
+}
 
+fn cursor_set_position(rt: &impl Abort) {
     let mut c = Cursor::new(*b"abc");
     c.set_position(7); // past the end too
     assert!(rt; c.position() == 7);
+}
 
+fn cursor_get_mut(rt: &impl Abort) {
     let mut c = Cursor::new(*b"abc");
     c.get_mut()[0] = b'x';
     assert!(rt; *c.get_ref() == *b"xbc");
     assert!(rt; c.into_inner() == *b"xbc");
+}
 
+fn cursor_clone(rt: &impl Abort) -> Result<(), Fail> {
     let mut c = Cursor::new(*b"abc");
     let start = c.clone()?;
     c.set_position(3);
     assert!(rt; start.position() == 0);
-
-    assert!(rt; AsSlice::as_slice(b"abc") == b"abc".as_slice());
     Ok(())
 }
 
-fn write(rt: &(impl Abort + AllocGlobal)) -> Result<(), Fail> {
+fn as_slice(rt: &impl Abort) {
+    assert!(rt; AsSlice::as_slice(b"abc") == b"abc".as_slice());
+}
+
+fn write_and_flush(rt: &(impl Abort + AllocGlobal)) -> Result<(), Fail> {
     let mut device = Vec::<u8>::new(rt.alloc());
     device.write_all(b"hello ")?;
     device.write_all(b"world")?;
     device.flush()?;
     assert!(rt; device.as_slice() == b"hello world".as_slice());
+    Ok(())
+}
 
+fn writer_by_ref(rt: &(impl Abort + AllocGlobal)) -> Result<(), Fail> {
     let mut device = Vec::<u8>::new(rt.alloc());
     let mut w = BufWriter::<&mut Vec<u8>, 8>::new(device.by_ref());
     w.write_all(b"abc")?;
     drop(w); // sends `abc`
     assert!(rt; device.as_slice() == b"abc".as_slice());
+    Ok(())
+}
 
+fn write_some(rt: &impl Abort) -> Result<(), Fail> {
     let mut room = [0u8; 4];
     let mut w = Cursor::new(&mut room[..]);
     assert!(rt; w.write(b"abc")? == 3);
     assert!(rt; w.write(b"def")? == 1); // `ef` was not accepted
+    Ok(())
+}
 
+fn write_all_of_it(rt: &impl Abort) -> Result<(), Fail> {
     let mut room = [0u8; 4];
     let mut w = Cursor::new(&mut room[..]);
     w.write_all(b"abcd")?;
     assert!(rt; w.write_all(b"e").is_err()); // no room: `WriteZero`
+    Ok(())
+}
 
+fn flush(rt: &(impl Abort + AllocGlobal)) -> Result<(), Fail> {
     let mut w = BufWriter::<Vec<u8>, 8>::new(Vec::new(rt.alloc()));
     w.write_all(b"abc")?;
     assert!(rt; w.get_ref().is_empty()); // `abc` is held
     w.flush()?;
     assert!(rt; w.get_ref().as_slice() == b"abc".as_slice());
+    Ok(())
+}
 
+fn write_fmt(rt: &(impl Abort + AllocGlobal)) -> Result<(), Fail> {
     let mut device = Vec::<u8>::new(rt.alloc());
     let n = 3;
     write!(device, "n is {n}\n")?;
@@ -88,7 +115,7 @@ fn write(rt: &(impl Abort + AllocGlobal)) -> Result<(), Fail> {
     Ok(())
 }
 
-fn object_text(rt: &(impl Abort + AllocGlobal)) -> Result<(), Fail> {
+fn print_object(rt: &(impl Abort + AllocGlobal)) -> Result<(), Fail> {
     let mut device = Vec::<u8>::new(rt.alloc());
     let n = 3;
     print_to_object::<_, _, 64>(&mut device, format_args!("n is {n}\n"))?;
@@ -96,39 +123,57 @@ fn object_text(rt: &(impl Abort + AllocGlobal)) -> Result<(), Fail> {
     Ok(())
 }
 
-fn read(rt: &(impl Abort + AllocGlobal)) -> Result<(), Fail> {
+fn read_some(rt: &impl Abort) -> Result<(), Fail> {
     let mut r = Cursor::new(*b"abc");
     let mut buf = [0u8; 2];
     assert!(rt; r.read(&mut buf)? == 2); // `ab`
     assert!(rt; r.read(&mut buf)? == 1); // `c`
     assert!(rt; r.read(&mut buf)? == 0); // the end
+    Ok(())
+}
 
+fn read_exact(rt: &impl Abort) -> Result<(), Fail> {
     let mut r = Cursor::new(*b"abcde");
     let mut header = [0u8; 4];
     r.read_exact(&mut header)?;
     assert!(rt; header == *b"abcd");
     assert!(rt; r.read_exact(&mut header).is_err()); // one byte is left: `UnexpectedEof`
+    Ok(())
+}
 
+fn read_full(rt: &impl Abort) -> Result<(), Fail> {
     let mut r = Cursor::new(*b"abcde");
     let mut buf = [0u8; 8];
     let mut filled = 0;
     r.read_full(&mut buf, &mut filled)?;
     assert!(rt; &buf[..filled] == b"abcde".as_slice()); // fewer than 8: the end
+    Ok(())
+}
 
+fn read_to_end(rt: &(impl Abort + AllocGlobal)) -> Result<(), Fail> {
     let mut r = Cursor::new(*b"abcde");
     let mut content = Vec::<u8>::new(rt.alloc());
     assert!(rt; r.read_to_end(&mut content)? == 5);
     assert!(rt; content.as_slice() == b"abcde".as_slice());
+    Ok(())
+}
 
+fn reader_by_ref(rt: &(impl Abort + AllocGlobal)) -> Result<(), Fail> {
     let mut r = Cursor::new(*b"abcde");
     let mut head = Vec::<u8>::new(rt.alloc());
     Read::by_ref(&mut r).take(2).read_to_end(&mut head)?;
     assert!(rt; r.position() == 2); // `r` continues after `ab`
+    Ok(())
+}
 
+fn take_some(rt: &(impl Abort + AllocGlobal)) -> Result<(), Fail> {
     let mut r = Cursor::new(*b"abcde").take(2);
     let mut content = Vec::<u8>::new(rt.alloc());
     assert!(rt; r.read_to_end(&mut content)? == 2);
+    Ok(())
+}
 
+fn read_to_string(rt: &(impl Abort + AllocGlobal)) -> Result<(), Fail> {
     let mut r = Cursor::new(*b"abc");
     let mut text = String::new(rt.alloc());
     assert!(rt; r.read_to_string(rt.alloc(), &mut text)? == 3);
@@ -150,13 +195,19 @@ fn chain(rt: &(impl Abort + AllocGlobal)) -> Result<(), Fail> {
     let mut content = Vec::<u8>::new(rt.alloc());
     r.read_to_end(&mut content)?;
     assert!(rt; content.as_slice() == b"abcd".as_slice());
+    Ok(())
+}
 
+fn chain_get_mut(rt: &(impl Abort + AllocGlobal)) -> Result<(), Fail> {
     let mut r = Cursor::new(*b"ab").chain(Cursor::new(*b"cd"));
     let (_, second) = r.get_mut();
     second.set_position(1); // without its `c`
     let mut content = Vec::<u8>::new(rt.alloc());
     assert!(rt; r.read_to_end(&mut content)? == 3);
+    Ok(())
+}
 
+fn chain_get_ref(rt: &impl Abort) -> Result<(), Fail> {
     let mut r = Cursor::new(*b"ab").chain(Cursor::new(*b"cd"));
     let mut three = [0u8; 3];
     r.read_exact(&mut three)?;
@@ -167,7 +218,7 @@ fn chain(rt: &(impl Abort + AllocGlobal)) -> Result<(), Fail> {
     Ok(())
 }
 
-fn take(rt: &impl Abort) -> Result<(), Fail> {
+fn take_set_limit(rt: &impl Abort) -> Result<(), Fail> {
     let mut r = Cursor::new(*b"abcde").take(2);
     let mut two = [0u8; 2];
     r.read_exact(&mut two)?;
@@ -175,7 +226,10 @@ fn take(rt: &impl Abort) -> Result<(), Fail> {
     r.set_limit(2);
     r.read_exact(&mut two)?;
     assert!(rt; two == *b"cd");
+    Ok(())
+}
 
+fn take_get_mut(rt: &impl Abort) -> Result<(), Fail> {
     let mut r = Cursor::new(*b"abcde").take(2);
     let mut two = [0u8; 2];
     r.read_exact(&mut two)?;
@@ -184,7 +238,10 @@ fn take(rt: &impl Abort) -> Result<(), Fail> {
     assert!(rt; r.limit() == 0); // the limit stays
     let inner = r.into_inner();
     assert!(rt; inner.position() == 0);
+    Ok(())
+}
 
+fn take_seek(rt: &impl Abort) -> Result<(), Fail> {
     let mut r = Cursor::new(*b"-abc-").take(4);
     r.seek_relative(1)?;
     let mut two = [0u8; 2];
@@ -195,34 +252,49 @@ fn take(rt: &impl Abort) -> Result<(), Fail> {
     Ok(())
 }
 
-fn buf_read(rt: &(impl Abort + AllocGlobal)) -> Result<(), Fail> {
+fn fill_buf(rt: &impl Abort) -> Result<(), Fail> {
     let mut r = Cursor::new(*b"abc");
     assert!(rt; r.fill_buf()? == b"abc".as_slice());
     r.consume(1);
     assert!(rt; r.fill_buf()? == b"bc".as_slice());
+    Ok(())
+}
 
+fn read_until(rt: &(impl Abort + AllocGlobal)) -> Result<(), Fail> {
     let mut r = Cursor::new(*b"key=value");
     let mut key = Vec::<u8>::new(rt.alloc());
     assert!(rt; r.read_until(b'=', &mut key)? == 4);
     assert!(rt; key.as_slice() == b"key=".as_slice());
+    Ok(())
+}
 
+fn skip_until(rt: &impl Abort) -> Result<(), Fail> {
     let mut r = Cursor::new(*b"key=value");
     assert!(rt; r.skip_until(b'=')? == 4);
     assert!(rt; r.fill_buf()? == b"value".as_slice());
+    Ok(())
+}
 
+fn read_line(rt: &(impl Abort + AllocGlobal)) -> Result<(), Fail> {
     let mut r = Cursor::new(*b"one\ntwo");
     let mut line = String::new(rt.alloc());
     assert!(rt; r.read_line(rt.alloc(), &mut line)? == 4);
     assert!(rt; line.as_str() == "one\n");
     assert!(rt; r.read_line(rt.alloc(), &mut line)? == 3);
     assert!(rt; line.as_str() == "one\ntwo");
+    Ok(())
+}
 
+fn split(rt: &(impl Abort + AllocGlobal)) -> Result<(), Fail> {
     let mut lens = Vec::<usize>::new(rt.alloc());
     'pieces: for piece in Cursor::new(*b"ab,,c").split(rt.alloc(), b',') {
         lens.push(piece?.len())?;
     }
     assert!(rt; lens.as_slice() == [2, 0, 1].as_slice());
+    Ok(())
+}
 
+fn lines(rt: &(impl Abort + AllocGlobal)) -> Result<(), Fail> {
     let mut text = String::new(rt.alloc());
     'lines: for line in Cursor::new(*b"one\r\ntwo\n").lines(rt.alloc()) {
         text.push_str(line?.as_str())?;
@@ -237,19 +309,28 @@ fn seek(rt: &impl Abort) -> Result<(), Fail> {
     assert!(rt; r.seek(SeekFrom::Current(2))? == 3);
     assert!(rt; r.seek(SeekFrom::End(-1))? == 4);
     assert!(rt; r.seek(SeekFrom::Current(-5)).is_err()); // before the start: it stays at 4
+    Ok(())
+}
 
+fn seek_target(rt: &impl Abort) -> Result<(), Fail> {
     assert!(rt; SeekFrom::Start(9).target(5, 2)? == 9); // past the end
     assert!(rt; SeekFrom::End(-1).target(5, 2)? == 4);
     assert!(rt; SeekFrom::Current(1).target(5, 2)? == 3);
     assert!(rt; SeekFrom::Current(-3).target(5, 2).is_err());
+    Ok(())
+}
 
+fn stream_position(rt: &impl Abort) -> Result<(), Fail> {
     let mut r = Cursor::new(*b"abcde");
     r.seek(SeekFrom::Start(3))?;
     assert!(rt; r.stream_position()? == 3);
     assert!(rt; r.stream_len()? == 5);
     r.rewind()?;
     assert!(rt; r.stream_position()? == 0);
+    Ok(())
+}
 
+fn seek_relative(rt: &impl Abort) -> Result<(), Fail> {
     let mut r = Cursor::new(*b"abcde");
     r.seek_relative(3)?;
     assert!(rt; r.position() == 3);
@@ -263,14 +344,20 @@ fn ghost_bytes() {
     taken.add(b"ab"); // for contracts `taken.bytes` is `ab` now
 }
 
-fn makers(rt: &(impl Abort + AllocGlobal)) -> Result<(), Fail> {
+fn empty_reader(rt: &impl Abort) -> Result<(), Fail> {
     let mut nothing = empty();
     assert!(rt; nothing.read(&mut [0u8; 4])? == 0);
+    Ok(())
+}
 
+fn repeat_reader(rt: &(impl Abort + AllocGlobal)) -> Result<(), Fail> {
     let mut file = Vec::<u8>::new(rt.alloc());
     assert!(rt; copy::<_, _, 64>(&mut repeat(b' ', 100), &mut file)? == 100);
     assert!(rt; file.len() == 100);
+    Ok(())
+}
 
+fn sink_writer(rt: &impl Abort) -> Result<(), Fail> {
     let mut from = Cursor::new(*b"abcde");
     assert!(rt; copy::<_, _, 64>(&mut from, &mut sink())? == 5);
     Ok(())
@@ -280,17 +367,48 @@ fn makers(rt: &(impl Abort + AllocGlobal)) -> Result<(), Fail> {
 #[test]
 fn each_example(rt: HostRuntime) -> Result<(), Fail> {
     let rt = &rt;
-    error(rt)?;
-    cursor(rt)?;
-    write(rt)?;
-    object_text(rt)?;
-    read(rt)?;
+    error_new(rt);
+    error_into_inner(rt);
+    error_is_interrupted(rt);
+    cursor_new(rt)?;
+    cursor_set_position(rt);
+    cursor_get_mut(rt);
+    cursor_clone(rt)?;
+    as_slice(rt);
+    write_and_flush(rt)?;
+    writer_by_ref(rt)?;
+    write_some(rt)?;
+    write_all_of_it(rt)?;
+    flush(rt)?;
+    write_fmt(rt)?;
+    print_object(rt)?;
+    read_some(rt)?;
+    read_exact(rt)?;
+    read_full(rt)?;
+    read_to_end(rt)?;
+    reader_by_ref(rt)?;
+    take_some(rt)?;
+    read_to_string(rt)?;
     bytes(rt)?;
     chain(rt)?;
-    take(rt)?;
-    buf_read(rt)?;
+    chain_get_mut(rt)?;
+    chain_get_ref(rt)?;
+    take_set_limit(rt)?;
+    take_get_mut(rt)?;
+    take_seek(rt)?;
+    fill_buf(rt)?;
+    read_until(rt)?;
+    skip_until(rt)?;
+    read_line(rt)?;
+    split(rt)?;
+    lines(rt)?;
     seek(rt)?;
+    seek_target(rt)?;
+    stream_position(rt)?;
+    seek_relative(rt)?;
     ghost_bytes();
-    makers(rt)?;
+    empty_reader(rt)?;
+    repeat_reader(rt)?;
+    sink_writer(rt)?;
     Ok(())
 }

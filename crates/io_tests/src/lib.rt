@@ -1,8 +1,8 @@
 //! Tests of what no clause and no row of a table can show: printed texts, kinds as keys. The comment above each names
 //! the mistake that it would find. Those of clients, devices and files are in `client_tests`.
 //!
-//! And the examples in comments of the library, one function for each module, in `base` and `buffers`. One test in each
-//! of these files plays its functions.
+//! And the examples in comments of the library, a function for each, in `base` and `buffers`. One test in each of these
+//! files plays its functions.
 #![tactic(auto)]
 
 #[cfg(test)]
