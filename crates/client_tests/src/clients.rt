@@ -1,5 +1,5 @@
-// The examples in the comments of `framing`, `line_log`, `system_streams` and `io_bench`, one function for each of
-// their modules, and those of `IntoInnerError`, over a device of `examples`.
+// The examples in the comments of `framing`, `line_log`, `system_streams` and `io_bench`, a function for each, and those
+// of `IntoInnerError`, over a device of `examples`.
 use examples::{Narrow, checksum_of, entry_of_file, grep, head, save};
 use framing::{FrameReader, FrameWriter};
 use io_bench::{Act, Event, Faulty, Feed, Op, Reply, joined};
@@ -52,7 +52,7 @@ fn frame_reader(rt: &impl Abort) -> Result<(), Fail> {
     Ok(())
 }
 
-fn line_log(rt: &(impl Abort + AllocGlobal)) -> Result<(), Fail> {
+fn log_lines(rt: &(impl Abort + AllocGlobal)) -> Result<(), Fail> {
     let mut log = LineLog::<Vec<u8>, 64>::new(Vec::new(rt.alloc()));
     log.log("started")?;
     assert!(rt; log.get_ref().as_slice() == b"started\n".as_slice());
@@ -63,7 +63,10 @@ fn line_log(rt: &(impl Abort + AllocGlobal)) -> Result<(), Fail> {
     log.flush_with_retries(3)?; // tries again after each of the first three faults
     let device = log.into_inner()?;
     assert!(rt; device.len() == 17);
+    Ok(())
+}
 
+fn fall_behind(rt: &impl Abort) -> Result<(), Fail> {
     let mut room = [0u8; 4];
     let mut log = LineLog::<_, 16>::new(Cursor::new(&mut room[..]));
     log.log("started")?; // the device has room for `star` alone
@@ -80,32 +83,41 @@ fn copy(rt: &(impl Abort + AllocGlobal)) -> Result<(), Fail> {
     Ok(())
 }
 
-fn patient(rt: &impl Abort) -> Result<(), Fail> {
+fn patient_turns(rt: &impl Abort) -> Result<(), Fail> {
     let mut p = Patient::new(&b"abcdef"[..], 3);
     let mut buf = [0u8; 4];
     assert!(rt; p.read(&mut buf)? == 4);
     assert!(rt; p.read(&mut buf)? == 2);
     assert!(rt; p.read(&mut buf).is_err()); // no turns left
     assert!(rt; p.read(&mut buf)? == 0);
+    Ok(())
+}
 
+fn patient_get_mut(rt: &impl Abort) -> Result<(), Fail> {
     let mut p = Patient::new(&b"abcdef"[..], 3);
     p.read(&mut [0u8; 4])?;
     assert!(rt; *p.get_ref() == b"ef".as_slice());
     *p.get_mut() = &b"xyz"[..];
     assert!(rt; p.read(&mut [0u8; 4])? == 3);
+    Ok(())
+}
 
+fn patient_into_inner(rt: &impl Abort) -> Result<(), Fail> {
     let mut p = Patient::new(&b"abcdef"[..], 3);
     p.read(&mut [0u8; 4])?;
     assert!(rt; p.into_inner() == b"ef".as_slice());
     Ok(())
 }
 
-fn streams(rt: &(impl Abort + Files)) -> Result<(), Fail> {
+fn read_a_file(rt: &(impl Abort + Files)) -> Result<(), Fail> {
     let mut program = open(rt, "/proc/self/exe")?;
     let mut magic = [0u8; 4];
     read_exact_at(&mut program, SeekFrom::Start(0), &mut magic)?;
     assert!(rt; magic == *b"\x7fELF");
+    Ok(())
+}
 
+fn reason_of_a_fault(rt: &(impl Abort + Files)) -> Result<(), Fail> {
     let mut folder = open(rt, ".")?;
     let fault = folder.read(&mut [0u8; 4]).err().ok_or("no fault")?; // `device fault`
     assert!(rt; folder.reason(fault).kind() == io::ErrorKind::IsADirectory);
@@ -136,14 +148,17 @@ fn checksum(rt: &(impl Abort + AllocGlobal)) -> Result<(), Fail> {
 }
 
 // The loop of PROVING.md over lines. A line too many or too few; the part of a line before a fault, which is lost.
-fn lines(rt: &(impl Abort + AllocGlobal)) -> Result<(), Fail> {
+fn lines_of_a_text(rt: &(impl Abort + AllocGlobal)) -> Result<(), Fail> {
     let mut r = Cursor::new(*b"a\nbc\nd");
     let mut out = Vec::<u8>::new(rt.alloc());
     assert!(rt; head(rt.alloc(), &mut r, &mut out, 2)? == 2);
     assert!(rt; out.as_slice() == b"a\nbc\n".as_slice());
     assert!(rt; head(rt.alloc(), &mut r, &mut out, 2)? == 1);
     assert!(rt; out.as_slice() == b"a\nbc\nd".as_slice());
+    Ok(())
+}
 
+fn lines_before_a_fault(rt: &(impl Abort + AllocGlobal)) -> Result<(), Fail> {
     let fault = Event::Fail(ErrorKind::WouldBlock);
     let events = vec![in rt.alloc();
         Event::Byte(b'a'),
@@ -170,7 +185,7 @@ fn lines_with_a_word(rt: &(impl Abort + AllocGlobal)) -> Result<(), Fail> {
     Ok(())
 }
 
-fn into_inner_error(rt: &(impl Abort + AllocGlobal)) -> Result<(), Fail> {
+fn failed_into_inner(rt: &(impl Abort + AllocGlobal)) -> Result<(), Fail> {
     let taken = Vec::new(rt.alloc());
     let mut w = BufWriter::<_, 8>::new(Narrow { taken, most: 0 }); // a device that takes no byte
     w.write_all(b"abc")?;
@@ -181,7 +196,10 @@ fn into_inner_error(rt: &(impl Abort + AllocGlobal)) -> Result<(), Fail> {
     } else {
         return Err(Fail::new("sent"));
     }
+    Ok(())
+}
 
+fn failed_into_parts(rt: &(impl Abort + AllocGlobal)) -> Result<(), Fail> {
     let taken = Vec::new(rt.alloc());
     let mut w = BufWriter::<_, 8>::new(Narrow { taken, most: 0 }); // a device that takes no byte
     w.write_all(b"abc")?;
@@ -209,6 +227,14 @@ fn a_record_outlives_faults(rt: HostRuntime) -> Result<(), Fail> {
     Ok(())
 }
 
+// Returns why an entry of the file is not read.
+fn refusal_of(rt: &impl Files, i: u32) -> Result<io::ErrorKind, Fail> {
+    match entry_of_file(rt, "entries", i, &mut [0u8; 3]) {
+        Ok(()) => Err(Fail::new("found")),
+        Err(e) => Ok(e.kind()),
+    }
+}
+
 // The example of `indexed` of `examples`, over a file with three entries and their index. An entry of another place;
 // one that is not there, or cut off, taken for one; an error of the system without its kind.
 fn indexed(rt: &(impl Abort + Files)) -> Result<(), Fail> {
@@ -219,20 +245,11 @@ fn indexed(rt: &(impl Abort + Files)) -> Result<(), Fail> {
     assert!(rt; entry == *b"two");
     entry_of_file(rt, "entries", 2, &mut entry)?;
     assert!(rt; entry == *b"six");
-    let absent = entry_of_file(rt, "entries", 5, &mut entry)
-        .err()
-        .ok_or("found")?;
-    assert!(rt; absent.kind() == io::ErrorKind::UnexpectedEof);
+    assert!(rt; refusal_of(rt, 5)? == io::ErrorKind::UnexpectedEof);
     create(rt, "entries")?.write_all(&file[..20])?;
-    let cut = entry_of_file(rt, "entries", 1, &mut entry)
-        .err()
-        .ok_or("found")?;
-    assert!(rt; cut.kind() == io::ErrorKind::UnexpectedEof);
+    assert!(rt; refusal_of(rt, 1)? == io::ErrorKind::UnexpectedEof);
     remove_file(rt, "entries")?;
-    let missing = entry_of_file(rt, "entries", 1, &mut entry)
-        .err()
-        .ok_or("found")?;
-    assert!(rt; missing.kind() == io::ErrorKind::NotFound);
+    assert!(rt; refusal_of(rt, 1)? == io::ErrorKind::NotFound);
     Ok(())
 }
 
@@ -243,15 +260,21 @@ fn each_example(rt: HostRuntime) -> Result<(), Fail> {
     framing(rt)?;
     frame_writer(rt)?;
     frame_reader(rt)?;
-    line_log(rt)?;
+    log_lines(rt)?;
+    fall_behind(rt)?;
     copy(rt)?;
-    patient(rt)?;
-    streams(rt)?;
+    patient_turns(rt)?;
+    patient_get_mut(rt)?;
+    patient_into_inner(rt)?;
+    read_a_file(rt)?;
+    reason_of_a_fault(rt)?;
     accepted(rt)?;
-    into_inner_error(rt)?;
+    failed_into_inner(rt)?;
+    failed_into_parts(rt)?;
     saved(rt)?;
     checksum(rt)?;
-    lines(rt)?;
+    lines_of_a_text(rt)?;
+    lines_before_a_fault(rt)?;
     lines_with_a_word(rt)?;
     indexed(rt)?;
     Ok(())
