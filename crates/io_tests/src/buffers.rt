@@ -1,5 +1,4 @@
-// The examples in the comments of `no_std_io2`, one function for each of its modules; that of `IntoInnerError` is in
-// `client_tests`.
+// The examples in the comments of `no_std_io2`, a function for each; those of `IntoInnerError` are in `client_tests`.
 use no_std_io2::io::{
     BufRead, BufReader, BufWriter, CopyError, Cursor, LineWriter, Read, Seek, SeekFrom, Write,
     copy, copy_lent, copy_sided, copy_with, flush_with_retries, read_exact_at, skip,
@@ -8,7 +7,7 @@ use no_std_io2::io::{
 use std::process::Abort;
 use std::test::Fail;
 
-fn buf_writer(rt: &(impl Abort + AllocGlobal)) -> Result<(), Fail> {
+fn buffered_write(rt: &(impl Abort + AllocGlobal)) -> Result<(), Fail> {
     let mut w = BufWriter::<Vec<u8>, 8>::new(Vec::new(rt.alloc()));
     w.write_all(b"abc")?;
     w.write_all(b"def")?;
@@ -17,26 +16,38 @@ fn buf_writer(rt: &(impl Abort + AllocGlobal)) -> Result<(), Fail> {
     assert!(rt; w.get_ref().as_slice() == b"abcdef".as_slice());
     w.flush()?;
     assert!(rt; w.get_ref().as_slice() == b"abcdefghi".as_slice());
+    Ok(())
+}
 
+fn get_mut_of_a_writer(rt: &(impl Abort + AllocGlobal)) -> Result<(), Fail> {
     let mut w = BufWriter::<_, 8>::new(Cursor::new(Vec::<u8>::new(rt.alloc())));
     w.write_all(b"abc")?;
     assert!(rt; w.buffer() == b"abc".as_slice());
     assert!(rt; w.get_ref().position() == 0);
     w.get_mut().set_position(2);
     assert!(rt; w.buffer() == b"abc".as_slice()); // what is held stays
+    Ok(())
+}
 
+fn into_inner(rt: &(impl Abort + AllocGlobal)) -> Result<(), Fail> {
     let mut w = BufWriter::<Vec<u8>, 8>::new(Vec::new(rt.alloc()));
     assert!(rt; w.capacity() == 8);
     w.write_all(b"abc")?;
     let device = w.into_inner()?; // sends `abc`
     assert!(rt; device.as_slice() == b"abc".as_slice());
+    Ok(())
+}
 
+fn into_parts(rt: &(impl Abort + AllocGlobal)) -> Result<(), Fail> {
     let mut w = BufWriter::<Vec<u8>, 8>::new(Vec::new(rt.alloc()));
     w.write_all(b"abc")?;
     let (device, unsent) = w.into_parts();
     assert!(rt; device.is_empty());
     assert!(rt; unsent.as_slice() == b"abc".as_slice());
+    Ok(())
+}
 
+fn write_whole(rt: &(impl Abort + AllocGlobal)) -> Result<(), Fail> {
     let mut w = BufWriter::<Vec<u8>, 8>::new(Vec::new(rt.alloc()));
     w.write_whole(b"abc", b"def")?;
     w.write_whole(b"gh", b"i")?; // does not fit beside them: they are sent first
@@ -49,14 +60,17 @@ fn buf_writer(rt: &(impl Abort + AllocGlobal)) -> Result<(), Fail> {
     Ok(())
 }
 
-fn line_writer(rt: &(impl Abort + AllocGlobal)) -> Result<(), Fail> {
+fn line_by_line(rt: &(impl Abort + AllocGlobal)) -> Result<(), Fail> {
     let mut w = LineWriter::<Vec<u8>, 16>::new(Vec::new(rt.alloc()));
     w.write_all(b"one\ntw")?;
     assert!(rt; w.get_ref().as_slice() == b"one\n".as_slice());
     assert!(rt; w.buffer() == b"tw".as_slice());
     w.write_all(b"o\n")?;
     assert!(rt; w.get_ref().as_slice() == b"one\ntwo\n".as_slice());
+    Ok(())
+}
 
+fn get_mut_of_a_line_writer(rt: &(impl Abort + AllocGlobal)) -> Result<(), Fail> {
     let mut w = LineWriter::<Vec<u8>, 16>::new(Vec::new(rt.alloc()));
     w.write_all(b"one\ntw")?;
     w.get_mut().clear(); // forgets `one\n`; `tw` is still held
@@ -65,7 +79,7 @@ fn line_writer(rt: &(impl Abort + AllocGlobal)) -> Result<(), Fail> {
     Ok(())
 }
 
-fn buf_reader(rt: &impl Abort) -> Result<(), Fail> {
+fn buffered_read(rt: &impl Abort) -> Result<(), Fail> {
     let mut r = BufReader::<_, 4>::new(Cursor::new(*b"abcdefgh"));
     let mut two = [0u8; 2];
     r.read_exact(&mut two)?; // one inner read, of four bytes
@@ -73,24 +87,36 @@ fn buf_reader(rt: &impl Abort) -> Result<(), Fail> {
     assert!(rt; r.behind() == b"ab".as_slice());
     r.seek_relative(-1)?; // inside the buffer: the inner reader is left alone
     assert!(rt; r.buffer() == b"bcd".as_slice());
+    Ok(())
+}
 
+fn get_mut_of_a_reader(rt: &impl Abort) -> Result<(), Fail> {
     let mut r = BufReader::<_, 4>::new(Cursor::new(*b"abcdefgh"));
     assert!(rt; r.capacity() == 4);
     r.read_exact(&mut [0u8; 2])?;
     assert!(rt; r.get_ref().position() == 4); // ahead by the two bytes held
     r.get_mut().set_position(6);
     assert!(rt; r.buffer() == b"cd".as_slice()); // what is held stays
+    Ok(())
+}
 
+fn into_inner_of_a_reader(rt: &impl Abort) -> Result<(), Fail> {
     let mut r = BufReader::<_, 4>::new(Cursor::new(*b"abcdefgh"));
     r.read_exact(&mut [0u8; 2])?;
     let inner = r.into_inner(); // `cd`, which was held, is lost
     assert!(rt; inner.position() == 4);
+    Ok(())
+}
 
+fn position(rt: &impl Abort) -> Result<(), Fail> {
     let mut r = BufReader::<_, 4>::new(Cursor::new(*b"abcdefgh"));
     r.read_exact(&mut [0u8; 3])?;
     assert!(rt; r.position()? == 3);
     assert!(rt; r.buffer() == b"d".as_slice());
+    Ok(())
+}
 
+fn fill_to(rt: &impl Abort) -> Result<(), Fail> {
     let mut r = BufReader::<_, 4>::new(Cursor::new(*b"abcde"));
     assert!(rt; r.fill_to(2)?);
     assert!(rt; r.buffer() == b"abcd".as_slice()); // one inner read, of four bytes
@@ -100,12 +126,15 @@ fn buf_reader(rt: &impl Abort) -> Result<(), Fail> {
     Ok(())
 }
 
-fn util(rt: &(impl Abort + AllocGlobal)) -> Result<(), Fail> {
+fn copied(rt: &(impl Abort + AllocGlobal)) -> Result<(), Fail> {
     let mut from = Cursor::new(*b"abcde");
     let mut to = Vec::<u8>::new(rt.alloc());
     assert!(rt; copy::<_, _, 64>(&mut from, &mut to)? == 5);
     assert!(rt; to.as_slice() == b"abcde".as_slice());
+    Ok(())
+}
 
+fn skipped(rt: &impl Abort) -> Result<(), Fail> {
     let mut r = Cursor::new(*b"abcde");
     skip(&mut r, &mut 3)?;
     assert!(rt; r.fill_buf()? == b"de".as_slice());
@@ -115,18 +144,23 @@ fn util(rt: &(impl Abort + AllocGlobal)) -> Result<(), Fail> {
     Ok(())
 }
 
-fn sides(rt: &(impl Abort + AllocGlobal)) -> Result<(), Fail> {
+fn copy_to_a_full_writer(rt: &impl Abort) {
     let mut from = Cursor::new(*b"abcde");
     let mut full = Cursor::new([0u8; 2]);
     let side = copy_sided::<_, _, 64>(&mut from, &mut full);
     assert!(rt; matches!(side, Err(CopyError::Write(_)))); // two of the five bytes fit
+}
 
+fn copy_in_a_room(rt: &(impl Abort + AllocGlobal)) -> Result<(), Fail> {
     let mut room = [0u8; 64];
     let mut device = Vec::<u8>::new(rt.alloc());
     copy_with(&mut Cursor::new(*b"abc"), &mut device, &mut room)?;
     copy_with(&mut Cursor::new(*b"de"), &mut device, &mut room)?;
     assert!(rt; device.as_slice() == b"abcde".as_slice());
+    Ok(())
+}
 
+fn copy_what_is_lent(rt: &(impl Abort + AllocGlobal)) -> Result<(), Fail> {
     let mut from = Cursor::new(*b"abcde");
     let mut to = Vec::<u8>::new(rt.alloc());
     assert!(rt; copy_lent(&mut from, &mut to)? == 5);
@@ -134,12 +168,15 @@ fn sides(rt: &(impl Abort + AllocGlobal)) -> Result<(), Fail> {
     Ok(())
 }
 
-fn retries(rt: &(impl Abort + AllocGlobal)) -> Result<(), Fail> {
+fn write_retried(rt: &(impl Abort + AllocGlobal)) -> Result<(), Fail> {
     let mut w = BufWriter::<Vec<u8>, 64>::new(Vec::new(rt.alloc()));
     let mut rest = b"abc".as_slice();
     write_with_retries(&mut w, &mut rest, 3)?; // tries again after each of the first three faults
     assert!(rt; w.get_ref().as_slice() == b"abc".as_slice());
+    Ok(())
+}
 
+fn flush_retried(rt: &(impl Abort + AllocGlobal)) -> Result<(), Fail> {
     let mut w = BufWriter::<Vec<u8>, 64>::new(Vec::new(rt.alloc()));
     w.write_all(b"abc")?;
     flush_with_retries(&mut w, 3)?; // tries again after each of the first three faults
@@ -159,12 +196,25 @@ fn read_at(rt: &impl Abort) -> Result<(), Fail> {
 #[test]
 fn each_example(rt: HostRuntime) -> Result<(), Fail> {
     let rt = &rt;
-    buf_writer(rt)?;
-    line_writer(rt)?;
-    buf_reader(rt)?;
-    util(rt)?;
-    sides(rt)?;
-    retries(rt)?;
+    buffered_write(rt)?;
+    get_mut_of_a_writer(rt)?;
+    into_inner(rt)?;
+    into_parts(rt)?;
+    write_whole(rt)?;
+    line_by_line(rt)?;
+    get_mut_of_a_line_writer(rt)?;
+    buffered_read(rt)?;
+    get_mut_of_a_reader(rt)?;
+    into_inner_of_a_reader(rt)?;
+    position(rt)?;
+    fill_to(rt)?;
+    copied(rt)?;
+    skipped(rt)?;
+    copy_to_a_full_writer(rt);
+    copy_in_a_room(rt)?;
+    copy_what_is_lent(rt)?;
+    write_retried(rt)?;
+    flush_retried(rt)?;
     read_at(rt)?;
     Ok(())
 }
