@@ -1,3 +1,4 @@
 pub mod CopyLemmas
 pub mod PatientLemmas
 mod KnownLemmas
+pub mod FilesLemmas

@@ -3,3 +3,4 @@ pub mod Patient
 pub mod ToStd
 pub mod Copies
 pub mod About
+pub mod Files

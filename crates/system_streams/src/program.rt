@@ -1,9 +1,18 @@
-// What a program says of itself.
-ghost use Rattle.std.specs.Prelude.{IfSome, IfNone};
-ghost use Rattle.system_streams.specs.About.{AsksAbout};
+// What a program says of itself, what it is called with, and how it ends.
+ghost use Rattle.std.specs.Prelude.{◌≡◌, ◌≢◌, Ok, None, Some, drop, IfErr, IfNone, IfOk, IfSome, IsErrAnd, OnErr, OnOk};
+ghost use Rattle.std.specs.IoError.{error_kind as std_error_kind};
+ghost use Rattle.std.specs.Process.{exit_status};
+ghost use Rattle.std.specs.Vec.Iter.{into_iter_items};
+ghost use Rattle.no_std_io2.specs.Errors.{IsOutOfMemory};
+ghost use Rattle.system_streams.specs.About.{AsksAbout, TellsLine, error_line};
 
-use crate::streams::report;
+use crate::system::SystemMessages;
+use no_std_io2::io::{Error, ErrorKind};
+use std::alloc::Global;
+use std::fmt::Display;
+use std::io::ErrorKind as SystemKind;
 use std::process::ExitCode;
+use std::{env, io};
 
 /// The version of this library, and of the programs that come with it.
 pub const VERSION: &str = "1.0.0";
@@ -22,4 +31,75 @@ pub fn about<R: Print + Eprint>(rt: &R, program: &str, help: &str, word: &str) -
     } else {
         None
     }
+}
+
+/// Returns the arguments that `std::env::args` found, or `None` if one of them is not UTF-8. Rust's std has no such call.
+///
+/// # Errors
+/// Returns `OutOfMemory` if the arguments did not fit in memory.
+pub fn arguments(found: io::Result<env::Args>) -> no_std_io2::io::Result<Option<env::Args>>
+    ensures found { IfOk found (λ words. result ≡ Ok (Some words)) }
+    ensures memory { IfErr found (λ e. std_error_kind e ≡ SystemKind.OutOfMemory → IsErrAnd result IsOutOfMemory) }
+    ensures text { IfErr found (λ e. std_error_kind e ≢ SystemKind.OutOfMemory → result ≡ Ok None) }
+{
+    match found {
+        Ok(words) => Ok(Some(words)),
+        Err(e) if e.kind() == SystemKind::OutOfMemory => {
+            Err(Error::from(ErrorKind::OutOfMemory))
+        }
+        Err(_) => Ok(None),
+    }
+}
+
+/// Returns the arguments after the program's name. Rust's std has no such call.
+///
+/// # Errors
+/// Returns `OutOfMemory` if they do not fit in memory once more.
+pub fn named(alloc: Global, mut words: env::Args) -> io::Result<Vec<String>>
+    ensures { IfOk result (λ names. names.items ≡ drop 1 (into_iter_items words)) }
+{
+    let _program = words.next();
+    let mut names = Vec::new(alloc);
+    'words: while let Some(word) = words.next() {
+        names.push(word)?;
+    }
+    Ok(names)
+}
+
+/// Returns the status of a program's run: 0 after `Ok`, and 1 after `Err`. Prints an error to standard error, after the
+/// program's name; if that fails, nothing more is done. Rust's std has no such call.
+///
+/// ```rust
+/// Ok(Some(command)) => report(&rt, "iotower", run(&rt, command)),
+/// ```
+pub fn report<R: SystemMessages, E: Display + Drop>(
+    rt: &R,
+    program: &str,
+    answer: Result<(), E>,
+) -> ExitCode
+    ensures done { OnOk answer (exit_status result ≡ 0) }
+    ensures failed { OnErr answer (exit_status result ≡ 1) }
+    ensures told { IfErr answer (λ e. TellsLine R.may_tell rt.now (error_line program.now (E.output e))) }
+{
+    match answer {
+        Ok(()) => ExitCode::SUCCESS,
+        Err(fault) => {
+            let _ = rt.tell(format_args!("{program}: {fault}"));
+            ExitCode::FAILURE
+        }
+    }
+}
+
+/// Prints to standard error how a program is called, and returns the status of a wrong call, which is 2. If the printing
+/// fails, nothing more is done. Rust's std has no such call.
+///
+/// ```rust
+/// Ok(None) => usage(&rt, USAGE),
+/// ```
+pub fn usage<R: SystemMessages>(rt: &R, text: &str) -> ExitCode
+    ensures status { exit_status result ≡ 2 }
+    ensures told { TellsLine R.may_tell rt.now (Some text.now) }
+{
+    let _ = rt.tell(text);
+    ExitCode::from(2)
 }

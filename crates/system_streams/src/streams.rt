@@ -1,16 +1,12 @@
-// Standard input, standard output and files, as streams with more turns than a program can use up; and a
-// program's status.
-ghost use Rattle.std.specs.Prelude.{◌≡◌, IfOk, OnOk, OnErr};
-ghost use Rattle.std.specs.Process.{exit_status};
+// Standard input, standard output and files, as streams with more turns than a program can use up.
+ghost use Rattle.std.specs.Prelude.{IfOk};
 ghost use Rattle.system_streams.specs.Patient.{IsFresh};
 
 use crate::patient::Patient;
-use std::fmt::Display;
 use std::fs::File;
 use std::io;
 use std::io::Input;
 use std::path::AsPath;
-use std::process::ExitCode;
 use std::rt::Files;
 
 /// Returns standard input. It has no buffer: put a `BufReader` in front for small reads. Follows `std::io::stdin`.
@@ -56,27 +52,4 @@ pub fn create<R: Files, P: AsPath>(rt: &R, path: P) -> io::Result<Patient<R::Fil
     ensures { IfOk result IsFresh }
 {
     Ok(Patient::new(File::create(rt, path)?, u64::MAX))
-}
-
-/// Returns the status of a program's run: 0 after `Ok`, and 1 after `Err`. Prints an error to standard error, after the
-/// program's name; if that fails, nothing more is done. Rust's std has no such call.
-///
-/// ```rust
-/// Ok(Some(command)) => report(&rt, "iotower", run(&rt, command)),
-/// ```
-pub fn report<R: Eprint, E: Display + Drop>(
-    rt: &R,
-    program: &str,
-    answer: Result<(), E>,
-) -> ExitCode
-    ensures done { OnOk answer (exit_status result ≡ 0) }
-    ensures failed { OnErr answer (exit_status result ≡ 1) }
-{
-    match answer {
-        Ok(()) => ExitCode::SUCCESS,
-        Err(fault) => {
-            let _ = eprintln!(rt; "{program}: {fault}");
-            ExitCode::FAILURE
-        }
-    }
 }
