@@ -8,19 +8,22 @@
 //! If the first argument is `--help` or `--version`, it prints that, and reads no file.
 #![tactic(auto)]
 
-ghost use Rattle.std.specs.Prelude.{◌≢◌, [], ◌∷◌, IfOk, drop, map, codes, string_bytes};
+ghost use Rattle.std.specs.Prelude.{◌≡◌, ◌≢◌, Ok, true, [], ◌∷◌, length, IfErr, IfOk, drop, map, codes, string_bytes};
 ghost use Rattle.std.specs.Vec.Iter.{into_iter_items};
-ghost use Rattle.std.specs.Prelude.{◌≡◌};
-ghost use Rattle.std.specs.Bool.{OnTrue, OnFalse};
 ghost use Rattle.std.specs.Process.{exit_status};
+ghost use Rattle.std.specs.IoError.{error_kind as std_error_kind};
+ghost use Rattle.mycat.specs.Passing.{Passes, WritesFile, TellsSome};
 
-use no_std_io2::io::{CopyError, copy_with};
+use no_std_io2::io::{CopyError, Read, Write, copy_with};
 use std::alloc::Global;
-use std::io::Input;
+use std::io::{ErrorKind, Input};
 use std::process::ExitCode;
 use std::rt::{Env, Files};
 use std::{env, io};
-use system_streams::{Patient, SystemRead, SystemWrite, about, open, report, stdin, stdout};
+use system_streams::{
+    FileFault, Patient, PerFile, SystemMessages, SystemRead, SystemWrite, about, each_file, named,
+    open, report, stdin, stdout,
+};
 
 // What `--help` prints.
 const HELP: &str = "\
@@ -36,41 +39,19 @@ With no FILE, or if FILE is -, it writes standard input.
 // The size of the buffer, in bytes.
 const ROOM: usize = 131_072;
 
-// Why a file was not written, with the system's reason.
-#[derive(Drop)]
-enum CatError {
-    // The file could not be opened or read.
-    Input(io::Error),
-    // Standard output failed.
-    Output(io::Error),
-}
-
 // Writes all of one stream to another, through this buffer.
 fn pass<D: SystemRead, E: SystemWrite>(
     input: &mut Patient<D>,
     out: &mut Patient<E>,
     room: &mut [u8],
-) -> Result<u64, CatError> {
+) -> Result<(), FileFault<io::Error>>
+    ensures { Passes ⟦<Patient<D> as Read>⟧ ⟦<Patient<E> as Write>⟧ (length room.old) input.old out.old
+        result input.new out.new }
+{
     match copy_with(input, out, room) {
-        Ok(count) => Ok(count),
-        Err(CopyError::Read(e)) => Err(CatError::Input(input.reason(e))),
-        Err(CopyError::Write(e)) => Err(CatError::Output(out.reason(e))),
-    }
-}
-
-// Writes the file with this name.
-fn print_file<R: Files + Input, E: SystemWrite>(
-    rt: &R,
-    name: &str,
-    out: &mut Patient<E>,
-    room: &mut [u8],
-) -> Result<u64, CatError> {
-    if name == "-" {
-        return pass(&mut stdin(rt), out, room);
-    }
-    match open(rt, name) {
-        Ok(mut file) => pass(&mut file, out, room),
-        Err(e) => Err(CatError::Input(e)),
+        Ok(_) => Ok(()),
+        Err(CopyError::Read(e)) => Err(FileFault::File(input.reason(e))),
+        Err(CopyError::Write(e)) => Err(FileFault::Output(out.reason(e))),
     }
 }
 
@@ -79,39 +60,45 @@ fn shown(name: &str) -> &str {
     if name.is_empty() { "''" } else { name }
 }
 
-// Writes the files with these names, and returns whether nothing failed.
-fn print_files<R: Files + Input + Print + Eprint>(rt: &R, names: &[String]) -> bool {
-    let mut out = stdout(rt);
-    let mut room = [0u8; ROOM];
-    let mut whole = true;
-    'names: for name in names {
-        match print_file(rt, name.as_str(), &mut out, &mut room) {
-            Ok(_) => {}
-            Err(CatError::Input(e)) => {
-                let _ = eprintln!(rt; "mycat: {}: {e}", shown(name.as_str()));
-                whole = false;
-            }
-            Err(CatError::Output(e)) => {
-                if e.kind() != io::ErrorKind::BrokenPipe {
-                    let _ = eprintln!(rt; "mycat: write error: {e}");
-                }
-                return false;
-            }
+// A run: where the files are, where they go, and the buffer between.
+#[derive(Drop)]
+struct Run<'a, R, E> {
+    rt: &'a R,
+    out: Patient<E>,
+    room: [u8; ROOM],
+}
+
+impl<R: Files + Input + SystemMessages, E: SystemWrite> PerFile for Run<'_, R, E> {
+    type Reason = io::Error;
+
+    // The file is written, or standard input if its name is `-`.
+    ghost may_try = { λ old name reply new. WritesFile ⟦<Patient<R::Reader> as Read>⟧ ⟦<Patient<R::File> as Read>⟧
+        ⟦<Patient<E> as Write>⟧ (length old.room) name old.out reply new.out };
+
+    // A line goes to standard error, and nothing to standard output.
+    ghost may_tell_of = { λ old _ _ new. (new ≡ old) × TellsSome R.may_tell old.rt.now };
+
+    fn try_file(&mut self, name: &str) -> Result<(), FileFault<io::Error>> {
+        if name == "-" {
+            return pass(&mut stdin(self.rt), &mut self.out, &mut self.room);
+        }
+        match open(self.rt, name) {
+            Ok(mut file) => pass(&mut file, &mut self.out, &mut self.room),
+            Err(e) => Err(FileFault::File(e)),
         }
     }
-    whole
+
+    fn tell_of(&mut self, name: &str, why: io::Error) {
+        let _ = self.rt.tell(format_args!("mycat: {}: {why}", shown(name)));
+    }
 }
 
 // Returns the arguments after the program's name, and `-` if there are none.
-fn named(alloc: Global, mut words: env::Args) -> io::Result<Vec<String>>
+fn files(alloc: Global, words: env::Args) -> io::Result<Vec<String>>
     ensures given { IfOk result (λ names. drop 1 (into_iter_items words) ≢ [] → names.items ≡ drop 1 (into_iter_items words)) }
     ensures none { IfOk result (λ names. drop 1 (into_iter_items words) ≡ [] → map string_bytes names.items ≡ codes "-" ∷ []) }
 {
-    let _program = words.next();
-    let mut names = Vec::new(alloc);
-    'words: while let Some(word) = words.next() {
-        names.push(word)?;
-    }
+    let mut names = named(alloc, words)?;
     if names.is_empty() {
         names.push(String::from_str(alloc, "-")?)?;
     }
@@ -119,7 +106,17 @@ fn named(alloc: Global, mut words: env::Args) -> io::Result<Vec<String>>
 }
 
 fn names<R: Env + Alloc<A = Global>>(rt: &R) -> io::Result<Vec<String>> {
-    named(rt.alloc(), env::args(rt)?)
+    files(rt.alloc(), env::args(rt)?)
+}
+
+// Writes the files with these names, and returns whether none failed.
+fn write_files(rt: &HostRuntime, names: &[String]) -> io::Result<bool> {
+    let mut run = Run {
+        rt,
+        out: stdout(rt),
+        room: [0; ROOM],
+    };
+    each_file(&mut run, names)
 }
 
 // Answers the first argument, if it asks for the help or the version.
@@ -127,24 +124,30 @@ fn told<R: Print + Eprint>(rt: &R, names: &[String]) -> Option<ExitCode> {
     about(rt, "mycat", HELP, names.first()?.as_str())
 }
 
+// Returns the status of a run. If standard output failed, it tells why, unless it is a pipe that nobody reads any more.
+fn status<R: SystemMessages>(rt: &R, ran: io::Result<bool>) -> ExitCode
+    ensures done { ran ≡ Ok true → exit_status result ≡ 0 }
+    ensures failed { ran ≢ Ok true → exit_status result ≡ 1 }
+    ensures told { IfErr ran (λ e. std_error_kind e ≢ ErrorKind.BrokenPipe → TellsSome R.may_tell rt.now) }
+{
+    match ran {
+        Ok(true) => ExitCode::SUCCESS,
+        Ok(false) => ExitCode::FAILURE,
+        Err(e) => {
+            if e.kind() != ErrorKind::BrokenPipe {
+                let _ = rt.tell(format_args!("mycat: write error: {e}"));
+            }
+            ExitCode::FAILURE
+        }
+    }
+}
+
 fn main(rt: HostRuntime) -> ExitCode {
     match names(&rt) {
         Ok(names) => match told(&rt, names.as_slice()) {
             Some(told) => told,
-            None => status(print_files(&rt, names.as_slice())),
+            None => status(&rt, write_files(&rt, names.as_slice())),
         },
         Err(e) => report(&rt, "mycat", Err(e)),
-    }
-}
-
-// Returns the status of a run.
-fn status(whole: bool) -> ExitCode
-    ensures done { OnTrue whole (exit_status result ≡ 0) }
-    ensures failed { OnFalse whole (exit_status result ≡ 1) }
-{
-    if whole {
-        ExitCode::SUCCESS
-    } else {
-        ExitCode::FAILURE
     }
 }
