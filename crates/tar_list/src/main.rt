@@ -15,10 +15,10 @@ use no_std_io2::io::{
     BufRead, BufReader, BufWriter, Error, ErrorKind, Read, Result, Take, Write, copy,
 };
 use std::alloc::Global;
+use std::env;
 use std::process::ExitCode;
 use std::rt::Env;
-use std::{env, io};
-use system_streams::{about, report, stdin, stdout};
+use system_streams::{about, arguments, report, stdin, stdout, usage};
 use tar_reader::{Archive, Header, Kind};
 
 const USAGE: &str = "usage: tar_list [NAME]";
@@ -61,13 +61,10 @@ fn command_of(mut words: env::Args) -> Option<Command>
 }
 
 // Returns the command, or `None` if the arguments are no command or not UTF-8.
-fn parse_words<R: Env + Alloc<A = Global>>(rt: &R) -> Result<Option<Command>> {
-    match env::args(rt) {
-        Ok(words) => Ok(command_of(words)),
-        Err(e) if e.kind() == io::ErrorKind::OutOfMemory => {
-            Err(Error::from(ErrorKind::OutOfMemory))
-        }
-        Err(_) => Ok(None),
+fn asked<R: Env + Alloc<A = Global>>(rt: &R) -> Result<Option<Command>> {
+    match arguments(env::args(rt))? {
+        Some(words) => Ok(command_of(words)),
+        None => Ok(None),
     }
 }
 
@@ -131,15 +128,12 @@ fn told<R: Print + Eprint>(rt: &R, command: &Command) -> Option<ExitCode> {
 }
 
 fn main(rt: HostRuntime) -> ExitCode {
-    match parse_words(&rt) {
+    match asked(&rt) {
         Ok(Some(command)) => match told(&rt, &command) {
             Some(told) => told,
             None => report(&rt, "tar_list", run(&rt, command)),
         },
-        Ok(None) => {
-            let _ = eprintln!(rt; "{USAGE}");
-            ExitCode::from(2)
-        }
+        Ok(None) => usage(&rt, USAGE),
         Err(error) => report(&rt, "tar_list", Err(error)),
     }
 }
