@@ -7,18 +7,22 @@
 #![tactic(auto)]
 
 ghost use Rattle.std.specs.Prelude.{◌≡◌, [], OnOk, replicate};
+ghost use Rattle.std.specs.Vec.Iter.{into_iter_items};
 ghost use Rattle.line_log.specs.Log.{log_tells};
+ghost use Rattle.frame_lines.specs.Asking.{AsksFor};
 ghost use Rattle.frame_lines.specs.Printing.{PrintsPayload, PrintsFrames};
 ghost use Rattle.frame_lines.specs.Fits.{FramesFit, LogFits};
 
 use framing::FrameReader;
 use line_log::LineLog;
-use no_std_io2::io::{Error, ErrorKind, Read, Result, Write};
+use no_std_io2::io::{Read, Result, Write};
 use std::alloc::Global;
+use std::env;
 use std::process::ExitCode;
 use std::rt::Env;
-use std::{env, io};
-use system_streams::{about, report, stdin, stdout};
+use system_streams::{about, arguments, report, stdin, stdout, usage};
+
+const USAGE: &str = "usage: frame_lines";
 
 // What `--help` prints.
 const HELP: &str = "\
@@ -45,24 +49,24 @@ enum Command {
     Print,
     // The first argument after the program's name.
     Word(String),
-    // An argument is not UTF-8.
-    Unknown,
 }
 
 // Returns what the arguments ask for.
-fn command_of<R: Env + Alloc<A = Global>>(rt: &R) -> Result<Command> {
-    match env::args(rt) {
-        Ok(mut words) => {
-            let _program = words.next();
-            match words.next() {
-                Some(word) => Ok(Command::Word(word)),
-                None => Ok(Command::Print),
-            }
-        }
-        Err(e) if e.kind() == io::ErrorKind::OutOfMemory => {
-            Err(Error::from(ErrorKind::OutOfMemory))
-        }
-        Err(_) => Ok(Command::Unknown),
+fn command_of(mut words: env::Args) -> Command
+    ensures { AsksFor result (into_iter_items words) }
+{
+    let _program = words.next();
+    match words.next() {
+        Some(word) => Command::Word(word),
+        None => Command::Print,
+    }
+}
+
+// Returns the command, or `None` if an argument is not UTF-8.
+fn asked<R: Env + Alloc<A = Global>>(rt: &R) -> Result<Option<Command>> {
+    match arguments(env::args(rt))? {
+        Some(words) => Ok(Some(command_of(words))),
+        None => Ok(None),
     }
 }
 
@@ -104,20 +108,14 @@ fn run(rt: &HostRuntime) -> Result<()> {
     print_frames(&mut frames, &mut lines)
 }
 
-// Prints how the program is called, and returns the status of a wrong call.
-fn usage<R: Eprint>(rt: &R) -> ExitCode {
-    let _ = eprintln!(rt; "usage: frame_lines");
-    ExitCode::from(2)
-}
-
 fn main(rt: HostRuntime) -> ExitCode {
-    match command_of(&rt) {
-        Ok(Command::Print) => report(&rt, "frame_lines", run(&rt)),
-        Ok(Command::Word(word)) => match about(&rt, "frame_lines", HELP, word.as_str()) {
+    match asked(&rt) {
+        Ok(Some(Command::Print)) => report(&rt, "frame_lines", run(&rt)),
+        Ok(Some(Command::Word(word))) => match about(&rt, "frame_lines", HELP, word.as_str()) {
             Some(told) => told,
-            None => usage(&rt),
+            None => usage(&rt, USAGE),
         },
-        Ok(Command::Unknown) => usage(&rt),
+        Ok(None) => usage(&rt, USAGE),
         Err(error) => report(&rt, "frame_lines", Err(error)),
     }
 }
