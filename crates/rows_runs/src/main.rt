@@ -1,6 +1,6 @@
 //! Plays the rows of what no clause says of the clients: the calls of a `Patient`, of `copy` and of `copy_through`, what
-//! a drop sends, printed readings, runs of base64 and of numbers, and two runs of frames, of lines of a log and of
-//! `joined`.
+//! a drop sends, printed readings, runs of base64 and of numbers, records that become lines of a log, and two runs of
+//! frames, of lines of a log and of `joined`.
 #![tactic(auto)]
 
 mod copies;
@@ -9,6 +9,7 @@ mod frames;
 mod joined;
 mod patience;
 mod readings;
+mod records;
 
 use rows_play::fault::Made;
 use rows_play::files::play_files;
@@ -26,6 +27,7 @@ impl Streams for RunTables {
             "joined" => joined::lend(player),
             "write_readings" => readings::lend(words, player),
             "copy" => copies::lend_plain(words, player),
+            "LineSink" => records::lend(words, player),
             "EncoderWriter" | "WriteBytesExt" | "ReadBytesExt" => {
                 encoding::lend(name, words, player)
             }

@@ -1,0 +1,134 @@
+// Records of the crate `log`, of which a sink makes lines of a log, over a device that notes its calls, through 32 bytes.
+//
+// A row is a record, `LEVEL TEXT`, or a call; then the error that was taken, or whether the unwrapped log is behind, how
+// many records are lost, the bytes out and the calls that reached the device. `pairs TEXT` and `span TEXT` have a pair and
+// a span too. The value of `broken` fails as it is printed, and that of `nested` logs a record meanwhile.
+use line_log::LineLog;
+use log::{Level, Log, info};
+use log_sink::LineSink;
+use rows_play::calls::{Call, new_journal, show_calls, show_out};
+use rows_play::fault::{Fault, Made};
+use rows_play::journal::Journal;
+use rows_play::line::Line;
+use rows_play::player::{Player, Stream};
+use rows_play::recorder::{ReaderName, Recorder};
+use std::alloc::Global;
+use std::cell::RefCell;
+use std::fmt;
+use std::rc::Rc;
+
+type Sink = LineSink<Recorder, 32>;
+
+// A value that prints a part, and then fails.
+#[derive(Drop)]
+struct Broken;
+
+impl fmt::Display for Broken {
+    fn fmt<W: fmt::Write>(&self, f: &mut fmt::Formatter<W>) -> fmt::Result {
+        f.write_str("ab")?;
+        Err(fmt::Error)
+    }
+}
+
+// A value that logs a record as it is printed.
+#[derive(Drop)]
+struct Nested<'a>(&'a Sink);
+
+impl<'a> fmt::Display for Nested<'a> {
+    fn fmt<W: fmt::Write>(&self, f: &mut fmt::Formatter<W>) -> fmt::Result {
+        info!(self.0; target: "io", "inner");
+        f.write_str("outer")
+    }
+}
+
+// Logs a record whose value logs one to the inner sink.
+fn log_nested(sink: &Sink, inner: &Sink) {
+    info!(sink; target: "io", "{}", Nested(inner));
+}
+
+// Logs the record of a row. The word is a level, or one of those above.
+fn log_record(sink: &Sink, call: &Call<'_>, text: &str, line: &mut Line) {
+    match call.word {
+        "pairs" => info!(sink; target: "io", n = 5; "{text}"),
+        "span" => info!(sink.span("job").with("id", 7u32); target: "io", "{text}"),
+        "broken" => info!(sink; target: "io", "{}", Broken),
+        "nested" => log_nested(sink, sink),
+        word => match word.parse::<Level>() {
+            Ok(level) => log::log!(sink; target: "io", level, "{text}"),
+            Err(_) => line.tell(Fault::NoCall),
+        },
+    }
+}
+
+// Prints the error that is kept, or a dash.
+fn show_error(sink: &Sink, line: &mut Line) {
+    match sink.take_error() {
+        Some(e) => line.error(&e),
+        None => line.word("-"),
+    }
+}
+
+fn make_call(sink: &Sink, call: &Call<'_>, line: &mut Line) {
+    if call.word == "take_error" {
+        show_error(sink, line);
+        return;
+    }
+    match std::str::from_utf8(&call.bytes) {
+        Ok(_) if call.word == "flush" => sink.flush(),
+        Ok(text) => log_record(sink, call, text, line),
+        Err(_) => line.tell(Fault::NoWord),
+    }
+    line.word("-");
+}
+
+// A sink until it is dropped or unwrapped, and the journal of its device.
+#[derive(Drop)]
+struct Recording {
+    sink: Option<Sink>,
+    journal: Rc<RefCell<Journal>>,
+}
+
+impl Recording {
+    // Prints the columns after the first.
+    fn show(&self, lost: u64, line: &mut Line) {
+        line.column();
+        line.number(lost);
+        show_out(&self.journal, line);
+        show_calls(&self.journal, line);
+    }
+}
+
+impl Stream for Recording {
+    fn play(&mut self, _alloc: Global, call: &Call<'_>, line: &mut Line) {
+        let Some(sink) = self.sink.take() else {
+            line.tell(Fault::NotReady);
+            return;
+        };
+        match call.word {
+            "drop" => {
+                let lost = sink.lost();
+                drop(sink);
+                line.word("-");
+                self.show(lost, line);
+            }
+            "into_inner" => {
+                let lost = sink.lost();
+                let lines = sink.into_inner();
+                line.word(if lines.is_behind() { "behind" } else { "-" });
+                self.show(lost, line);
+            }
+            _ => {
+                make_call(&sink, call, line);
+                self.show(sink.lost(), line);
+                self.sink = Some(sink);
+            }
+        }
+    }
+}
+
+pub fn lend(words: &str, player: &mut Player<'_, '_>) -> Made<()> {
+    let journal = new_journal(player.alloc, words)?;
+    let device = Recorder::new(player.alloc, journal.clone()?, ReaderName::Only);
+    let sink = Some(LineSink::new(LineLog::new(device)));
+    player.play(&mut Recording { sink, journal })
+}
