@@ -4,6 +4,7 @@
 #![tactic(auto)]
 
 mod copies;
+mod decoding;
 mod encoding;
 mod frames;
 mod joined;
@@ -27,6 +28,7 @@ impl Streams for RunTables {
             "joined" => joined::lend(player),
             "write_readings" => readings::lend(words, player),
             "copy" => copies::lend_plain(words, player),
+            "DecoderReader" => decoding::lend(words, player),
             "LineSink" => records::lend(words, player),
             "EncoderWriter" | "WriteBytesExt" | "ReadBytesExt" => {
                 encoding::lend(name, words, player)
