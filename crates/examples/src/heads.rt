@@ -7,8 +7,8 @@ use no_std_io2::io::{BufRead, Result, Write};
 use std::alloc::Global;
 
 /// Writes the first `wanted` lines of a reader to a writer, and returns their number. It is lower only at the end of
-/// the reader. A line ends in a newline, except the last if the reader has none there. The lines after them stay to be
-/// read.
+/// the reader. A line ends in a newline, except the last if the reader has none there. The lines after them can still
+/// be read.
 ///
 /// # Errors
 /// Returns the reader's first fault, and `OutOfMemory` if an allocation failed; the writer has then accepted every byte

@@ -13,7 +13,7 @@ module _ {W : Type 0} (I : Writer W) where
   -- A step costs what its calls count as.
   pub step_cost : {A B : Type 0} (cost : W → ℕ) → IsMeter I.may cost → (inner : B → W) (buffer : B → List ℕ) {step : Step A}
       {R : WriterState → Result A Error → WriterState → Type 0} {F : List ℕ → List ℕ → Type 0} {n : List ℕ → ℕ} → Always I step R F n
-          → (old new : B)
+      → (old new : B)
       {reply : Result A Error} → TakesStep I inner buffer step old reply new → TakesAll I (inner old)
       → TakesAll I (inner new) × IsOk reply × (cost (inner new) ≡ cost (inner old) + n (buffer old))
   step_cost cost meter inner buffer always old new takes all =

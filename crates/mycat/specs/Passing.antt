@@ -13,7 +13,7 @@ Blames (Err (Read e)) reply = (why : Std.Error) × (reply ≡ Err (File why))
 Blames (Err (Write e)) reply = (why : Std.Error) × (reply ≡ Err (Output why))
 
 -- A stream was copied to standard output, through a buffer of `room` bytes. K are the ghost members of the stream, I those of the output.
-pub record Passes {X W : Type 0} (K : Reader X) (I : Writer W) (room : ℕ) (from : X) (old : W)
+pub record PassesStream {X W : Type 0} (K : Reader X) (I : Writer W) (room : ℕ) (from : X) (old : W)
     (reply : Result (Unit {0}) (FileFault Std.Error))
     (to : X) (new : W) : Type 0 where
   pub copied : Result ℕ CopyError
@@ -22,7 +22,7 @@ pub record Passes {X W : Type 0} (K : Reader X) (I : Writer W) (room : ℕ) (fro
 
 -- a stream that was just opened was copied
 abbrev PassesFresh : {D W : Type 0} → Reader (Patient D) → Writer W → ℕ → W → Result (Unit {0}) (FileFault Std.Error) → W → Type 0
-PassesFresh {D = D} K I room old reply new = (from to : Patient D) × IsFresh from × Passes K I room from old reply to new
+PassesFresh {D = D} K I room old reply new = (from to : Patient D) × IsFresh from × PassesStream K I room from old reply to new
 
 -- The file of this name was written, or standard input if the name is `-`. If the file could not be opened, the output got no call.
 abbrev pub WritesFile : {D F W : Type 0} → Reader (Patient D) → Reader (Patient F) → Writer W → ℕ → List ℕ → W

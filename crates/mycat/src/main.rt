@@ -12,7 +12,7 @@ ghost use Rattle.std.specs.Prelude.{◌≡◌, ◌≢◌, Ok, true, [], ◌∷�
 ghost use Rattle.std.specs.Vec.Iter.{into_iter_items};
 ghost use Rattle.std.specs.Process.{exit_status};
 ghost use Rattle.std.specs.IoError.{error_kind as std_error_kind};
-ghost use Rattle.mycat.specs.Passing.{Passes, WritesFile, TellsSome};
+ghost use Rattle.mycat.specs.Passing.{PassesStream, WritesFile, TellsSome};
 
 use no_std_io2::io::{CopyError, Read, Write, copy_with};
 use std::alloc::Global;
@@ -45,7 +45,7 @@ fn pass<D: SystemRead, E: SystemWrite>(
     out: &mut Patient<E>,
     room: &mut [u8],
 ) -> Result<(), FileFault<io::Error>>
-    ensures { Passes ⟦<Patient<D> as Read>⟧ ⟦<Patient<E> as Write>⟧ (length room.old) input.old out.old
+    ensures { PassesStream ⟦<Patient<D> as Read>⟧ ⟦<Patient<E> as Write>⟧ (length room.old) input.old out.old
         result input.new out.new }
 {
     match copy_with(input, out, room) {

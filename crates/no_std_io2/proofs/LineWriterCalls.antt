@@ -143,7 +143,7 @@ module _ {W : Type 0} (I : Writer W) where
     line_write_does S {x} {reply} p = elim p.are [
       | inl plain ↦
           let both = effect_by
-              (then_does SendLineCalls (WriteCalls S x) (writing_joins x) send_line_does (write_does I S x)) plain.1 p.made in
+          (then_does SendLineCalls (WriteCalls S x) (writing_joins x) send_line_does (write_does I S x)) plain.1 p.made in
           record {
             tells = both.tells;
             keeps = λ t. let c = both.counts t in (c.0, c.1, omega (arith, c.2, line_write_few S held x));

@@ -123,7 +123,9 @@ pub fn lend_bytes(tower: &str, devices: &Devices<'_>, player: &mut Player<'_, '_
     match tower {
         "Device" => play_bytes(devices.first()?, devices, player),
         "Chain" => {
-            let both = devices.first()?.chain(devices.recorder(ReaderName::Second)?);
+            let both = devices
+                .first()?
+                .chain(devices.recorder(ReaderName::Second)?);
             play_bytes(both, devices, player)
         }
         _ => Err(Fault::NoStream),

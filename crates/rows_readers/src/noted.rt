@@ -29,7 +29,10 @@ pub fn lend(name: &str, devices: &Devices<'_>, player: &mut Player<'_, '_>) -> M
         "BufReader 4" => play_seeking(BufReader::<Device, 4>::new(device), 0, devices, player),
         "Take" => play_seeking(device.take(2), 0, devices, player),
         "Chain" => {
-            let second = Noted::new(devices.recorder(ReaderName::Second)?, devices.journal.clone()?);
+            let second = Noted::new(
+                devices.recorder(ReaderName::Second)?,
+                devices.journal.clone()?,
+            );
             play_chain(device, second, devices, player)
         }
         "Tally" => play_reading(Tally::new(device), devices, player),

@@ -15,7 +15,8 @@ module _ {X N E : Type 0} {Try : X → N → Result (Unit {0}) (FileFault E) →
     (names : List N) (i : ℕ) (name : N) (within : i < length names) (is : name ≡ get_or names i name) where
   pub tries_done : {whole : Bool} {mid new : X} {u : Unit {0}} → TriesEach Try Tell old (take i names) whole mid → Try mid name (Ok u) new
       → TriesEach Try Tell old (take (i + 1) names) whole new
-  tries_done {whole} {new = new} so_far done = subst (λ l. TriesEach Try Tell old l whole new) (sym (with_one names i name within is)) (then_done name so_far done)
+  tries_done {whole} {new = new} so_far done =
+      subst (λ l. TriesEach Try Tell old l whole new) (sym (with_one names i name within is)) (then_done name so_far done)
 
   pub tries_told : {whole : Bool} {mid tried new : X} {why : E} → TriesEach Try Tell old (take i names) whole mid
       → Try mid name (Err (File why)) tried → Tell tried name why new → TriesEach Try Tell old (take (i + 1) names) false new
