@@ -1,13 +1,15 @@
--- What a sending leaves.
-use Rattle.no_std_io2.proofs.Words.{common_steps, ◌≡◌, ℕ, ◌+◌, ◌-◌, ◌<◌, ◌⊎◌, List, [], ◌++◌, length, drop, Result, OnOk, sym, ap}
-use Rattle.no_std_io2.proofs.Words.{◌∙◌, subst, arith, append_assoc, length-append, min, take, ◌∷◌, WriteCall, Made, Writes}
-use Rattle.no_std_io2.proofs.Words.{CallOf}
-use Rattle.std.proofs.lemmas.List.{length-take}
-use Rattle.no_std_io2.specs.{declared.io.Error.{Error}, Writers.{WriteRestOf}}
-use Rattle.no_std_io2.proofs.WritesFacts.{writes_left}
+-- What a sending leaves, and the text of one value more.
+use Rattle.no_std_io2.proofs.Words.{common_steps, ◌≡◌, ℕ, ◌+◌, ◌-◌, ◌<◌, ◌⊎◌, List, [], ◌++◌, length, drop, Result, OnOk, sym, ap, ◌∙◌}
+use Rattle.no_std_io2.proofs.Words.{subst, arith, append_assoc, length-append, min, take, ◌∷◌, WriteCall, Made, Writes, CallOf, zero, suc}
+use Rattle.no_std_io2.proofs.{Words.{Ok, Err, inl, inr, WriterState, Moves, MovesFront, call_mishap}, MovesLemmas.{writes_left, Moves-then}}
+use Rattle.no_std_io2.proofs.MovesLemmas.{Moves-ends, MovesFront-whole}
+use Rattle.std.proofs.{lemmas.List.{length-take}, Common.{slice_index, IsErrAnd}}
+use Rattle.no_std_io2.specs.{declared.io.Error.{Error}, Writers.{WriteRestOf}, Text.{IsTextError}}
 use Rattle.bare.specs.{declared.queue.Queue.{Queue}, Queue.{waiting, capacity}, Status.{done, kept}, Kept.{Resumes, resume_status}}
-use Rattle.bare.specs.{Log.{line}}
-use Rattle.bare.proofs.FullLemmas.{queue, blocked}
+use Rattle.bare.specs.{Log.{line}, Report.{texts_from}}
+use Rattle.bare.proofs.QueueLemmas.{queue, blocked}
+
+-- What a sending leaves.
 
 -- the status says how it ended
 ends : (r : Result (Unit {0}) Error) {text : List ℕ} {C : List WriteCall} {x left : List ℕ} (a b : Queue) → OnOk r (left ≡ [])
@@ -45,3 +47,30 @@ pub line_put : (before mid after text : List ℕ) (n m : ℕ) → length before 
     → m ≡ min 1 (capacity - length mid) → after ≡ mid ++ take m (10 ∷ []) → after ≡ before ++ line text
 line_put before mid after text n m fits first text_put second newline_put =
     grind (arith, common_steps, length-append, length-take, append_assoc)
+
+-- The text of one value more.
+
+pub texts_more : (text : ℕ → ℕ → List ℕ) (i : ℕ) (xs : List ℕ) (k j : ℕ) → k < length xs → j ≡ i + k
+    → texts_from text i (take (k + 1) xs) ≡ texts_from text i (take k xs) ++ text j (slice_index xs k)
+texts_more text i (x ∷ xs) zero j within at = grind (arith, common_steps)
+texts_more text i (x ∷ xs) (suc k) j within at =
+    let rest = texts_more text (i + 1) xs k j (omega (arith, within)) (omega (arith, at)) in
+    ap (λ n. texts_from text i (take n (x ∷ xs))) (let one : suc k + 1 ≡ suc (k + 1) = omega arith in one)
+    ∙ ap (λ l. text i x ++ l) rest ∙ sym (append_assoc (text i x) (texts_from text (i + 1) (take k xs)) _)
+texts_more text i _ k j within at = grind arith
+
+-- a front of the texts was printed, and then the next text
+pub printed_more : (text : ℕ → ℕ → List ℕ) (xs : List ℕ) (k : ℕ) {a b c : WriterState} {r : Result (Unit {0}) Error} {u : Unit {0}}
+    → k < length xs
+    → r ≡ Ok u → Moves a (texts_from text 0 (take k xs)) [] b
+    → MovesFront b (text k (slice_index xs k)) r c ⊎ IsErrAnd r IsTextError → Moves a (texts_from text 0 (take (k + 1) xs)) [] c
+printed_more text xs k {u = u} within is so_far (inl next) =
+    rw (texts_more text 0 xs k k within (omega arith)) (Moves-then so_far (MovesFront-whole (text k (slice_index xs k)) u (rw is at next)))
+printed_more text xs k within is so_far (inr failed) = absurd (rw is at failed)
+
+-- all texts were printed, and then the writer was flushed
+pub printed_all : (text : ℕ → ℕ → List ℕ) (xs : List ℕ) (k : ℕ) {a b c : WriterState} (r : Result (Unit {0}) Error) → take k xs ≡ xs
+    → Moves a (texts_from text 0 (take k xs)) [] b → Moves b [] (call_mishap r) c → OnOk r (Moves a (texts_from text 0 xs) [] c)
+printed_all text xs k {a = a} {b = b} (Ok u) whole so_far flushed =
+    Moves-ends (subst (λ l. Moves a (texts_from text 0 l) [] b) whole so_far) flushed
+printed_all text xs k (Err e) whole so_far flushed = tt

@@ -11,10 +11,9 @@ use Rattle.no_std_io2.specs.declared.io.{Error.{Error}, ErrorKind.{ErrorKind, Th
 use Rattle.no_std_io2.specs.Errors.{error_kind, error_of, error_text}
 use Rattle.no_std_io2.specs.{Read.{FullCalls, ReadCallLaw, ReadFullLaw, ReadToEndLaw}, Write.{ByCalls}}
 use Rattle.no_std_io2.proofs.{CallsLemmas.{by_are}, Words.{Result, ◌-◌}}
-use Rattle.no_std_io2.proofs.{Words.{Vec}, TakesLemmas.{left_of}}
 use Rattle.base64.specs.declared.engine.general_purpose.GeneralPurpose.{GeneralPurpose}
 use Rattle.std.specs.Option.{IfSome, option_map}
-use Rattle.no_std_io2.proofs.{EventLemmas.{bytes-append, bytes-cut, events_of-append, length-events_of}, TakesLemmas.{takes_none}}
+use Rattle.no_std_io2.proofs.{TakesLemmas.{bytes-append, bytes-cut, events_of-append, length-events_of, takes_none, left_of}, Words.{Vec}}
 use Rattle.base64_stream.specs.declared.decoder.DecoderReader.{DecoderReader}
 use Rattle.base64_stream.specs.Decoding.{closed_after, decoded_events, decoded_group, group_events}
 use Rattle.base64_stream.specs.FewBytes.{few_items}

@@ -4,7 +4,7 @@ use Rattle.no_std_io2.proofs.Words.{nat_lt}
 use Rattle.no_std_io2.proofs.Words.{refl, sym, ap, ◌∙◌, arith, inl, inr, append_assoc, append-nil, length-append, cases_lt}
 use Rattle.no_std_io2.proofs.Words.{nat_tests}
 use Rattle.no_std_io2.proofs.Words.{nil_from_length, Event, byte, fails, events_of, bytes, HasNoFault, IsFault}
-use Rattle.no_std_io2.proofs.EventLemmas.{events_of-append, bytes-events_of, HasNoFault-events_of}
+use Rattle.no_std_io2.proofs.TakesLemmas.{events_of-append, bytes-events_of, HasNoFault-events_of}
 use Rattle.no_std_io2.specs.declared.io.Error.{Error}
 use Rattle.base64.specs.declared.engine.general_purpose.GeneralPurpose.{GeneralPurpose}
 use Rattle.base64.specs.GeneralPurpose.{IsBytes, IsConsistent, decode_of, encode_of}

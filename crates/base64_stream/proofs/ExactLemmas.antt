@@ -4,12 +4,11 @@ use Rattle.no_std_io2.proofs.Words.{Err}
 use Rattle.no_std_io2.proofs.Words.{refl, sym, ap, ap₂, subst, ◌∙◌, arith, inl, inr, nat_lt, true≢false, append-nil, length-append}
 use Rattle.no_std_io2.proofs.Words.{cases_lt}
 use Rattle.no_std_io2.proofs.Words.{nil_from_length, events_of, bytes, HasNoFault}
-use Rattle.no_std_io2.proofs.EventLemmas.{bytes-events_of, bytes-behind, HasNoFault-front, HasNoFault-behind}
+use Rattle.no_std_io2.proofs.TakesLemmas.{bytes-events_of, bytes-behind, HasNoFault-front, HasNoFault-behind, left_of}
 use Rattle.base64.specs.{declared.decode.DecodeError.{DecodeError}, declared.engine.general_purpose.GeneralPurpose.{GeneralPurpose}}
 use Rattle.base64.specs.{GeneralPurpose.{IsBytes, IsStrict, decode_of, encode_of}, Rfc4648.{encode_symbols}}
 use Rattle.base64.proofs.{EngineFacts.{decode_of_strict, encode_of-append, encode_of-nil, front_bytes}, RoundTrip.{length-encode_symbols}}
 use Rattle.no_std_io2.proofs.Words.{⊤, ◌⊎◌, Bool, Event, byte, fails, Some, Vec, append_assoc, Reader, tells, to_come, IsOutOfMemory}
-use Rattle.no_std_io2.proofs.TakesLemmas.{left_of}
 use Rattle.no_std_io2.specs.{declared.io.{Error.{Error}, ErrorKind.TheVariants.{InvalidData}}, Errors.{error_of}, Read.{ReadToEndLaw}}
 use Rattle.base64_stream.specs.Decoding.{closed_after, decoded_events, decoded_group, group_events, or_no_bytes}
 use Rattle.base64_stream.proofs.DecodingLemmas.{below_is_true, above_is_false, closed_by}

@@ -5,7 +5,7 @@ use Rattle.no_std_io2.proofs.Words.{true, false, common_steps}
 use Rattle.std.proofs.lemmas.List.{Folds.{concat-append}, Elements.{filter-append}}
 use Rattle.std.specs.Result.{result_and}
 use Rattle.no_std_io2.specs.{BufRead.{ReadUntilLaw}, declared.io.Error.{Error}}
-use Rattle.no_std_io2.proofs.{PiecesSoFar.{pieces_none, pieces_more, pieces_end, stops_reading}}
+use Rattle.no_std_io2.proofs.GivenPieces.{pieces_none, pieces_more, pieces_end, stops_reading}
 use Rattle.no_std_io2.proofs.MovesLemmas.{Moves-refl, Moves-piece, MovesFront-all, MovesFront-join}
 use Rattle.examples.specs.Lines.{LinesPassed, PassesLines, StopsWriting, StopsReading, StopsAtPart, every_line, has_word, lines_with}
 

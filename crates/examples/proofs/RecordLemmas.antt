@@ -1,9 +1,127 @@
+-- A look at a header, records that are skipped, and a message that is known to come next.
+use Rattle.no_std_io2.proofs.Words.{◌≡◌, ℕ, ◌+◌, ◌≤◌, List, [], ◌∷◌, ◌++◌, length, take, Bool, true, false, Option, None, Some, Result, Ok}
+use Rattle.no_std_io2.proofs.Words.{Err, refl, sym, ap, subst, ◌∙◌, arith, inl, inr, IsSomeAnd, append_assoc, append-nil, length-append}
+use Rattle.no_std_io2.proofs.Words.{if◌then◌else◌, drop, take-append_seam, drop-append_seam, common_steps, reader_held, reader_inner}
+use Rattle.no_std_io2.proofs.Words.{behind_held, Event, fails, bytes, events_of, bytes_to_fault, first_fault, Reader, tells, ReaderState}
+use Rattle.no_std_io2.proofs.Words.{Takes, AreTaken, to_come, IsFront, ◌<◌, get_or, IsInterruption, IsFault, ◌^◌, IsOk}
+use Rattle.no_std_io2.proofs.{BufferedReads.{buf_reader, told_behind}, TakesLemmas.{bytes-append, bytes-behind, bytes-events_of}}
+use Rattle.no_std_io2.proofs.{TakesLemmas.{HasNoFault-append, HasNoFault-events_of, events_of-append}, GivenPieces.{first_fault-append}}
+use Rattle.no_std_io2.proofs.{GivenPieces.{bytes_to_fault-append}, ReadsLemmas.{Reads-takes, Took-none, Took-then, Took-again, Took-end}}
+use Rattle.no_std_io2.proofs.{ReadsLemmas.{Took-fault}, FillToLemmas.{fills_lose}, KnownBytes.{exact_known}}
+use Rattle.std.proofs.{Common.{slice_index_or, IfSome}, lemmas.Nat.{from_be_bytes-to_be_bytes_2}}
+use Rattle.no_std_io2.specs.{declared.{io.Error.{Error}, buffered.buf_reader.BufReader.{BufReader}}, Errors.{IsUnexpectedEnd}}
+use Rattle.no_std_io2.specs.{BufReader.{HasTo}, FillTo.{FillsTo}, Reads.{GathersTo, Took}, Lost.{LosesFirst}, Read.{FilledLaw, ConsumeLaw}}
+use Rattle.no_std_io2.specs.{Read.{ReadExactLaw}, Passing.{Skipped}}
+use Rattle.examples.specs.{Headers.{LooksAhead, SeesHeader, PeeksAt}, Lengths.{AreRecords, none, more, IsCutOff, SkipsRecords}}
+use Rattle.examples.specs.Messages.{message}
+use Rattle.std.specs.Int.{w16, to_be_bytes, from_be_bytes}
+
+-- A look at a header: no byte is lost, and it is the next two bytes.
+
+-- what a buffer in front of a reader tells to come
+told_of : {R : Type 0} {S : ℕ} (K : Reader R) (r : BufReader R S)
+    → to_come (tells (buf_reader K) r) ≡ behind_held (reader_held r) (to_come (tells K (reader_inner r)))
+told_of {S = room} K r = told_behind room (reader_held r) (tells K (reader_inner r))
+
+-- what the look returns, by how the `fill_to` ended
+peeks_at : (how : Result Bool Error) (reply : Result (ℕ × ℕ) Error) (held given : List ℕ) (P E' : List Event) (now : ReaderState)
+    → SeesHeader how reply (held ++ given) → HasTo 2 how (length (held ++ given)) → bytes P ≡ given → GathersTo P how now
+    → to_come now ≡ Some E' → PeeksAt (events_of held ++ (P ++ E')) reply
+peeks_at (Ok true) (Ok header) held given P E' now sees enough is ends told =
+    let whole : bytes (events_of held ++ (P ++ E')) ≡ (header.0 ∷ header.1 ∷ sees.0) ++ bytes E' =
+    grind (arith, append_assoc, bytes-append, bytes-behind, is, sees.1) in
+    sym (ap (take 2) whole)
+peeks_at (Ok false) (Err e) held given P E' now sees few is ends told =
+    let nothing : E' ≡ [] = subst (λ o. IfSome o (λ l. l ≡ [])) told ends.1 in
+    let clean = HasNoFault-append (events_of held) (P ++ []) (HasNoFault-events_of held) (HasNoFault-append P [] ends.0 tt) in
+    let read : bytes_to_fault (events_of held ++ (P ++ [])) ≡ bytes (events_of held ++ (P ++ [])) =
+    ap bytes_to_fault (sym (append-nil (events_of held ++ (P ++ []))))
+    ∙ bytes_to_fault-append (events_of held ++ (P ++ [])) [] clean ∙ append-nil _ in
+    let all : bytes (events_of held ++ (P ++ [])) ≡ held ++ given =
+    ap (λ l. bytes (events_of held ++ l)) (append-nil P) ∙ bytes-behind held P ∙ ap (λ l. held ++ l) is in
+    rw nothing (omega (arith, few, ap length (read ∙ all)), inl (sees, clean))
+peeks_at (Err fault) (Err e) held given P E' now sees few is ends told =
+    let (Q, split, clean, real) = ends in
+    let front = HasNoFault-append (events_of held) Q (HasNoFault-events_of held) clean in
+    let order : events_of held ++ (P ++ E') ≡ (events_of held ++ Q) ++ fails fault ∷ E' = rw split (grind (arith, append_assoc)) in
+    let given_is : bytes Q ≡ given = grind (arith, common_steps, bytes-append, ap bytes split, is) in
+    let mine : first_fault (fails fault ∷ E') ≡ Some fault = ap (λ t. if t then first_fault E' else Some fault) real in
+    let gone : bytes_to_fault (fails fault ∷ E') ≡ [] = ap (λ t. if t then bytes_to_fault E' else []) real in
+    rw (sees, order) (
+      omega (
+        arith,
+        few,
+        ap length (bytes_to_fault-append (events_of held ++ Q) (fails fault ∷ E') front),
+        ap length gone,
+        ap length (bytes-append (events_of held) Q),
+        ap length (bytes-events_of held),
+        ap length given_is,
+        length-append held given,
+        length-append (bytes (events_of held ++ Q)) (bytes_to_fault (fails fault ∷ E')),
+        length-append (bytes (events_of held)) (bytes Q),
+      ),
+      inr (first_fault-append (events_of held ++ Q) (fails fault ∷ E') front ∙ mine),
+    )
+peeks_at _ _ held given P E' now sees few is ends told = absurd sees
+
+-- what a look sees, by how the `fill_to` ended: the first two bytes of those that are shown; the end; or its fault
+pub sees_two : {how : Result Bool Error} (held shown : List ℕ) → how ≡ Ok true → HasTo 2 how (length held) → shown ≡ held
+    → SeesHeader how (Ok (slice_index_or shown 0 0, slice_index_or shown 1 0)) held
+sees_two held shown is enough same = rw (is, same) (by held (rw is at enough))
+  where
+    by : (held : List ℕ) → 2 ≤ length held → IsFront (slice_index_or held 0 0 ∷ slice_index_or held 1 0 ∷ []) held
+    by (a ∷ b ∷ rest) enough = (rest, refl)
+    by (a ∷ []) enough = absurd (omega (arith, enough))
+    by [] enough = absurd (omega (arith, enough))
+
+pub sees_end : {how : Result Bool Error} (e : Error) (held : List ℕ) → how ≡ Ok false → IsUnexpectedEnd e → SeesHeader how (Err e) held
+sees_end e held is end = rw is end
+
+pub sees_fault : {how : Result Bool Error} (e : Error) (held : List ℕ) → how ≡ Err e → SeesHeader how (Err e) held
+sees_fault e held is = rw is refl
+
+module _ {R : Type 0} {S : ℕ} (K : Reader R) {old new : BufReader R S} (small : 2 ≤ S) (filled : Result Bool Error)
+    (fills : FillsTo K 2 old filled new) where
+  took : Took (tells K (reader_inner old)) fills.given filled (tells K (reader_inner new))
+  took = Reads-takes (λ at room asks. omega (arith, asks.0, asks.1, small)) filled fills.reads
+
+  -- a look loses no byte
+  pub look_stays : LosesFirst (tells (buf_reader K) old) [] (tells (buf_reader K) new)
+  look_stays = fills_lose K filled small fills
+
+  -- it returned the next two bytes, or there are none
+  pub look_told : (reply : Result (ℕ × ℕ) Error) → SeesHeader filled reply (reader_held new)
+      → IfSome (to_come (tells (buf_reader K) old)) (λ E. PeeksAt E reply)
+  look_told reply sees = rw (told_of K old)
+      (by (to_come (tells K (reader_inner old))) (to_come (tells K (reader_inner new))) took.takes.events refl)
+    where
+      by : (E E' : Option (List Event)) → AreTaken E took.taken E' → to_come (tells K (reader_inner new)) ≡ E'
+          → IfSome (behind_held (reader_held old) E) (λ F. PeeksAt F reply)
+      by None E' are told = tt
+      by (Some E) None are told = absurd are
+      by (Some E) (Some E') are told = rw are (peeks_at filled reply (reader_held old) fills.given took.taken E' _
+          (rw fills.holds at sees) (rw fills.holds at fills.enough) took.are took.ends told)
+
+-- a record that is held whole, after a look at its header
+record_held : (payload rest held : List ℕ) (wanted tag len : ℕ) → held ≡ wanted ∷ length payload ∷ payload ++ rest
+    → IsFront (tag ∷ len ∷ []) held → (2 + len ≤ length held) × (take len (drop 2 held) ≡ payload) × (drop len (drop 2 held) ≡ rest)
+record_held payload rest held wanted tag len is front = grind (arith, common_steps, take-append_seam, drop-append_seam)
+
+pub record_seen : {R : Type 0} {S : ℕ} {K : Reader R} {old new : BufReader R S} {tag len : ℕ} (payload rest : List ℕ) (wanted : ℕ)
+    → LooksAhead K old (Ok (tag, len)) new → reader_held old ≡ wanted ∷ length payload ∷ payload ++ rest
+    → (new ≡ old) × (2 + len ≤ length (reader_held new)) × (take len (drop 2 (reader_held new)) ≡ payload)
+    × (drop len (drop 2 (reader_held new)) ≡ rest)
+record_seen {old = old} {new} {tag} {len} payload rest wanted look is =
+    let same = look.fills.still (omega (arith, ap length is)) in
+    let held = record_held payload rest (reader_held new) wanted tag len (ap reader_held same ∙ is) (by look.filled look.sees) in
+    (same, held.0, held.1, held.2)
+  where
+    by : (how : Result Bool Error) → SeesHeader how (Ok (tag, len)) (reader_held new) → IsFront (tag ∷ len ∷ []) (reader_held new)
+    by (Ok true) sees = sees
+    by (Ok false) sees = absurd sees
+    by (Err e) sees = absurd sees
+
 -- Records that are skipped one after another.
-use Rattle.no_std_io2.proofs.Words.{common_steps, ◌≡◌, ℕ, ◌<◌, List, [], ◌∷◌, ◌++◌, length, take, get_or, Ok, Err, true, refl, sym, arith}
-use Rattle.no_std_io2.proofs.{Words.{false, inl, inr, append-nil, IsInterruption, IsFault, bytes, Reader, tells}, TookLemmas.{Took-none}}
-use Rattle.no_std_io2.proofs.TookLemmas.{Took-then, Took-again, Took-end, Took-fault}
-use Rattle.no_std_io2.specs.{declared.io.Error.{Error}, Reads.{Took}, Read.{FilledLaw, ConsumeLaw}, Passing.{Skipped}}
-use Rattle.examples.specs.Lengths.{AreRecords, none, more, IsCutOff, SkipsRecords}
 
 -- whole records were skipped so far
 pub record RecordsTaken {X : Type 0} (R : Reader X) (old now : X) : Type 0 where
@@ -70,3 +188,20 @@ module _ {X : Type 0} {R : Reader X} {old now after : X} (before : RecordsTaken 
                   inr (Took-then before.took (Took-then length_taken rest), end.0, cut)
             ],
           )
+
+-- A message that is known to come next.
+
+-- the two bytes of a length determine it
+pub same_length : (n m : ℕ) → n < 2 ^ 16 → m < 2 ^ 16 → to_be_bytes w16 n ≡ to_be_bytes w16 m → n ≡ m
+same_length n m small small' same =
+    sym (from_be_bytes-to_be_bytes_2 n small) ∙ ap (from_be_bytes w16) same ∙ from_be_bytes-to_be_bytes_2 m small'
+
+-- the length comes first
+pub prefix_known : {X : Type 0} {R : Reader X} {old new : X} {buf buf' : List ℕ} {reply : Result (Unit {0}) Error} (payload : List ℕ)
+    (rest : List Event) → ReadExactLaw R old buf reply buf' new → length buf' ≡ 2
+    → to_come (tells R old) ≡ Some (events_of (message payload) ++ rest)
+    → IsOk reply × (buf' ≡ to_be_bytes w16 (length payload)) × (to_come (tells R new) ≡ Some (events_of payload ++ rest))
+prefix_known payload rest law two told =
+    let prefix = to_be_bytes w16 (length payload) in
+    let first = ap (λ l. l ++ rest) (events_of-append prefix payload) ∙ append_assoc (events_of prefix) (events_of payload) rest in
+    exact_known prefix (events_of payload ++ rest) law (sym two) (told ∙ ap Some first)

@@ -2,7 +2,7 @@
 use Rattle.no_std_io2.proofs.Words.{◌≡◌, ℕ, List, [], ◌∷◌, ◌++◌, Option, None, Some, Ok, Err, refl, sym, ap, ◌∙◌, Vec, bytes, newline}
 use Rattle.no_std_io2.proofs.Words.{Reader, tells, ReaderState}
 use Rattle.no_std_io2.specs.{BufRead.{ReadUntilLaw}, Errors.{IsOutOfMemory}, Pieces.{GivesPieces}, declared.io.Error.{Error}}
-use Rattle.no_std_io2.proofs.PiecesSoFar.{pieces_more, pieces_end, stops_reading, stops_copying}
+use Rattle.no_std_io2.proofs.GivenPieces.{pieces_more, pieces_end, stops_reading, stops_copying}
 use Rattle.examples.specs.Settings.{first_of_two, first_value, setting_in, FindsSetting, MissesSetting}
 
 first_of_two-none : (v : Option (List ℕ)) → first_of_two v None ≡ v

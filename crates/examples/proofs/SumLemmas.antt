@@ -1,9 +1,11 @@
--- A sum of no bytes is nothing, and a sum of bytes and then others is that of both.
-use Rattle.no_std_io2.proofs.Words.{◌^◌, Ok, refl, sum, Reader, ReadCall, Gave, GaveAll, Filled, ReadCallLaw}
+-- Sums of bytes, and what was summed up so far.
+use Rattle.no_std_io2.proofs.Words.{◌^◌, Ok, refl, sum, Reader, ReadCall, Gave, GaveAll, Filled, ReadCallLaw, ◌≡◌, ◌+◌, ◌%◌, ℕ, List, []}
+use Rattle.no_std_io2.proofs.{Words.{◌++◌, true, arith, ReaderState}, CallsAdd.{Joins, joins_modulo, EachAdds}, ReadsLemmas.{Took-none}}
 use Rattle.std.proofs.lemmas.List.Sums.{sum_by-append}
-use Rattle.no_std_io2.specs.Read.{GaveExactly}
-use Rattle.no_std_io2.proofs.{CallsAdd.{Joins, joins_modulo}, ReadsAdd.{EachAdds}}
+use Rattle.no_std_io2.specs.{Read.{GaveExactly}, Reads.{Took}}
 use Rattle.examples.specs.{declared.summed.Summed.{Summed}, Summed.{summed_sum, Sums, ReadSums}}
+
+-- A sum of no bytes is nothing, and a sum of bytes and then others is that of both.
 
 -- sums modulo 2^64 join
 pub sums_join : {W : Type 0} → Joins {W = Summed W} Sums
@@ -20,3 +22,20 @@ reads_sum R sums = record {
   lent = λ a b answer law. absurd (sums a b (Filled answer) law.call);
   took = λ a b c x n law next within. absurd (sums a b (Filled (Ok x)) law.call);
 }
+
+-- What was summed up so far.
+
+-- these bytes were taken, without a fault, and s is their sum
+pub record SumsSoFar (old now : ReaderState) (s : ℕ) : Type 0 where
+  pub bytes : List ℕ
+  pub took : Took old bytes (Ok true) now
+  pub is : s % 2 ^ 64 ≡ sum bytes % 2 ^ 64
+
+-- at the start none
+pub sums_none : {old : ReaderState} → SumsSoFar old old 0
+sums_none {old} = record { bytes = []; took = Took-none old; is = refl }
+
+-- and then these
+pub sums_more : {old now : ReaderState} {s : ℕ} (t : ℕ) (x : List ℕ) (before : SumsSoFar old now s) → t % 2 ^ 64 ≡ (s + sum x) % 2 ^ 64
+    → t % 2 ^ 64 ≡ sum (before.bytes ++ x) % 2 ^ 64
+sums_more {s = s} t x before next = omega (arith, before.is, next, sum_by-append (λ b. b) before.bytes x)

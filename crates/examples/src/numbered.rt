@@ -29,7 +29,7 @@ impl<W: Write> Write for Numbered<W> {
         self.stream.flush()
     }
 
-    #[tactic(auto, using(no_std_io2::proofs::Wrappers::passes_on))]
+    #[tactic(auto, using(no_std_io2::proofs::ObjectRules::passes_on))]
     fn write_all(&mut self, buf: &[u8]) -> Result<()> {
         self.stream.write_all(buf)
     }
@@ -52,12 +52,12 @@ impl<R: Read> Read for Numbered<R> {
         self.stream.read(buf)
     }
 
-    #[tactic(auto, using(no_std_io2::proofs::Wrappers::passes_on))]
+    #[tactic(auto, using(no_std_io2::proofs::ObjectRules::passes_on))]
     fn read_exact(&mut self, buf: &mut [u8]) -> Result<()> {
         self.stream.read_exact(buf)
     }
 
-    #[tactic(auto, using(no_std_io2::proofs::Wrappers::passes_on))]
+    #[tactic(auto, using(no_std_io2::proofs::ObjectRules::passes_on))]
     fn read_to_end<A: Allocator>(&mut self, buf: &mut Vec<u8, A>) -> Result<usize> {
         self.stream.read_to_end(buf)
     }

@@ -1,23 +1,85 @@
--- For `run_reads` over a filling reader: no ask fails, each takes its step, and the inner reads are few.
-use Rattle.no_std_io2.proofs.Words.{◌≡◌, ℕ, ◌+◌, ◌-◌, ◌/◌, ◌<◌, ◌≤◌, min, nat_eq, nat_lt, Bool, true, false, if◌then◌else◌, List, [], ◌∷◌}
-use Rattle.no_std_io2.proofs.Words.{◌++◌, length, take, drop, Some, Result, Ok, Err, refl, sym, ap, ap₂, subst, ◌∙◌, arith, ⊎_elim, inl}
-use Rattle.no_std_io2.proofs.Words.{inr, length-append, length-drop, length-take-le, le_refl, drop-append_seam, common_steps}
-use Rattle.no_std_io2.proofs.Words.{nil_from_length, cases_lt, nat_tests, Event, fails, events_of, bytes, AreTaken, Takes, to_come, IsAtEnd}
-use Rattle.no_std_io2.proofs.Words.{tells, ReadCall, bytes_given, GaveLaw, ReadCallLaw, Gathers, no_read, and_gave, and_again, ExactCalls}
-use Rattle.no_std_io2.proofs.Words.{FillsRoom, IsReadMeter, bytes_left, Made, reader_held, reader_behind, reader_inner, behind_held}
-use Rattle.no_std_io2.proofs.Words.{PassesOn, Reader, ReadsBelow, of_held, went_past, was_filled, FillsBelow, lent_held, lent_read}
-use Rattle.no_std_io2.proofs.{TakesLemmas.{stays_at_end, left_of}, EventLemmas.{bytes-append, bytes-events_of, events_of-append}}
-use Rattle.no_std_io2.proofs.{CallsLemmas.{made_split}, BufReaderRoom.{some_room, held-le}, BufferedReads.{told_behind}}
-use Rattle.no_std_io2.proofs.BufReaderCalls.{buf_reader}
+-- For `run_reads`: what its asks take, and how many reads they make.
+use Rattle.std.proofs.{lemmas.{Grind.{common_steps}, Nat.{le-div}}, Common.{◌&&◌, IfSome, is_err, add-zero, drop_of_length-le}}
+use Rattle.no_std_io2.proofs.Words.{ℕ, zero, suc, ◌<◌, Bool, List, [], ◌∷◌, ◌++◌, length, get_or, Result, arith, Event, Takes, Reader}
+use Rattle.no_std_io2.proofs.Words.{tells, ◌≡◌, ◌+◌, ◌-◌, ◌*◌, ◌/◌, ◌≤◌, ⊎_elim, cases_lt, min, nat_eq, nat_lt, true, false, if◌then◌else◌}
+use Rattle.no_std_io2.proofs.Words.{take, drop, Some, Ok, Err, refl, sym, ap, ap₂, subst, ◌∙◌, inl, inr, length-append, length-drop}
+use Rattle.no_std_io2.proofs.Words.{length-take-le, le_refl, drop-append_seam, nil_from_length, nat_tests, fails, events_of, bytes}
+use Rattle.no_std_io2.proofs.Words.{AreTaken, to_come, IsAtEnd, ReadCall, bytes_given, GaveLaw, ReadCallLaw, Gathers, no_read, and_gave}
+use Rattle.no_std_io2.proofs.Words.{and_again, ExactCalls, FillsRoom, IsReadMeter, bytes_left, Made, reader_held, reader_behind}
+use Rattle.no_std_io2.proofs.Words.{reader_inner, behind_held, PassesOn, ReadsBelow, of_held, went_past, was_filled, FillsBelow, lent_held}
+use Rattle.no_std_io2.proofs.{Words.{lent_read}, TakesLemmas.{takes_none, takes_then, made_takes, stays_at_end, left_of, bytes-append}}
+use Rattle.no_std_io2.proofs.{TakesLemmas.{bytes-events_of, events_of-append}, CallsLemmas.{made_split}, BufferedReads.{some_room, held-le}}
+use Rattle.no_std_io2.proofs.{BufferedReads.{told_behind, buf_reader}, InMemoryReads.{drawn, fills_told}}
 use Rattle.no_std_io2.specs.{declared.{io.Error.{Error}, buffered.buf_reader.BufReader.{BufReader}}, Read.{FilledLaw, ConsumeLaw}}
 use Rattle.no_std_io2.specs.Read.{ReadExactLaw}
-use Rattle.std.proofs.Common.{◌&&◌, IfSome, is_err, add-zero, drop_of_length-le}
-use Rattle.no_std_io2.proofs.FillsRoomLemmas.{drawn, fills_told}
-use Rattle.io_bench.proofs.{RunLemmas.{made_one}, ReadsPaid.{ReadsPaid, OneCall, no_read as no_inner_read}}
-use Rattle.io_bench.proofs.ReadsPaid.{one_read, paid_none, paid_held, paid_call, paid_bound}
-use Rattle.io_bench.specs.{declared.asks.Ask.{Ask, TheVariants.{Read, Exact, Fill}}, Asks.{read_answer, end_or_error, exact_answer}}
-use Rattle.io_bench.specs.Asks.{fill_answer, fill_calls, Answered, CameTo, left_behind, DropsFront, AskStep, meets_end, Steps, no_step}
-use Rattle.io_bench.specs.Asks.{next_step, no_ask, next_ask}
+use Rattle.io_bench.specs.{declared.asks.Ask.{Ask}, Asks.{Fits, AllFit, Answered, CameTo, no_ask, next_ask, read_answer, end_or_error}}
+use Rattle.io_bench.specs.Asks.{exact_answer, fill_answer, fill_calls, left_behind, DropsFront, AskStep, meets_end, Steps, no_step}
+use Rattle.io_bench.specs.{Asks.{next_step}, declared.asks.Ask.TheVariants.{Read, Exact, Fill}}
+use Rattle.io_bench.proofs.RunLemmas.{made_one}
+
+-- For `run_reads`: asks in a row, and what they take.
+
+-- if a buffer has room for each ask of a list, it has room for the one at i
+pub fits_at : (room : ℕ) (asks : List Ask) (i : ℕ) (d : Ask) → i < length asks → AllFit room asks → Fits room (get_or asks i d)
+fits_at room [] i d h f = absurd (omega arith)
+fits_at room (ask ∷ asks) zero d h f = f.0
+fits_at room (ask ∷ asks) (suc i) d h f = fits_at room asks i d (omega arith) f.1
+
+module _ {B : Type 0} (L : Reader B) where
+  -- what one ask takes
+  answered_takes : (ask : Ask) (a b : B) (answer : Result Bool Error) → Answered L ask a answer b
+      → (P : List Event) × Takes (tells L a) P (tells L b)
+  answered_takes ask a b answer answered = grind (arith, common_steps, made_takes)
+
+  -- what asks in a row take
+  pub came_takes : {asks : List Ask} {a b : B} {at_end failed : ℕ} → CameTo L asks a at_end failed b
+      → (P : List Event) × Takes (tells L a) P (tells L b)
+  came_takes (no_ask {r = r}) = ([], takes_none (tells L r))
+  came_takes (next_ask {mid = mid} {new = new} ask answer before now _ _) =
+      let first = came_takes before in
+      let last = answered_takes ask mid new answer now in (first.0 ++ last.0, takes_then first.1 last.1)
+
+-- For `run_reads`, the count of inner reads: all but one get S bytes at least, or find the end.
+
+-- Of N bytes h are held, and e are still to come from the inner reader. It made c reads, and z asks met the end: f
+-- reads got at least S bytes each, and either no other read got a byte, or one did, and no byte is to come.
+pub data ReadsPaid (S N c z h e : ℕ) : Type 0 where
+  full : (f : ℕ) → c ≤ f + z → f * S + e ≤ N → ReadsPaid S N c z h e
+  partial : (f : ℕ) → c ≤ f + 1 + z → f * S + h ≤ N → e ≡ 0 → ReadsPaid S N c z h e
+
+-- What one call does to h and e, and how many reads it makes: none if bytes are held; else one, which gets t bytes,
+-- fewer than S only if these are all.
+pub data OneCall (S h e h' e' : ℕ) : ℕ → Type 0 where
+  no_inner_read : 0 < h → h' ≤ h → e' ≡ e → OneCall S h e h' e' 0
+  one_read : (t : ℕ) → h ≡ 0 → e ≡ e' + t → h' ≤ t → (t < S → e' ≡ 0) → OneCall S h e h' e' 1
+
+-- at the start no read was made
+pub paid_none : (S h e : ℕ) → ReadsPaid S (h + e) 0 0 h e
+paid_none S h e = full 0 (omega arith) (omega arith)
+
+-- held bytes are dropped
+pub paid_held : {S N c z h e h' e' : ℕ} → h' ≤ h → e' ≡ e → ReadsPaid S N c z h e → ReadsPaid S N c z h' e'
+paid_held fits same (full f a b) = full f a (omega arith)
+paid_held fits same (partial f a b none) = partial f a (omega arith) (omega arith)
+
+-- one call more: with nothing to come, it meets the end
+pub paid_call : {S N c z z' h e h' e' r : ℕ} → z ≤ z' → (h + e ≡ 0 → z < z') → OneCall S h e h' e' r → ReadsPaid S N c z h e
+    → ReadsPaid S N (c + r) z' h' e'
+paid_call more end (no_inner_read some fits same) (full f a b) = full f (omega arith) (omega arith)
+paid_call more end (no_inner_read some fits same) (partial f a b none) = partial f (omega arith) (omega arith) (omega arith)
+paid_call {S} more end (one_read t none split kept short) (full f a b) = ⊎_elim
+    (λ few. partial f (omega arith) (omega arith) (short few))
+    (λ many. full (f + 1) (omega arith) (omega arith))
+    (cases_lt t S)
+paid_call more end (one_read t none split kept short) (partial f a b over) = partial f (omega arith) (omega arith) (omega arith)
+
+-- the bound
+pub paid_bound : (S N : ℕ) {c z h e : ℕ} → 0 < S → h ≤ S → ReadsPaid S N c z h e → c ≤ (N - (h + e)) / S + 1 + z
+paid_bound S N some fits (full zero a b) = omega arith
+paid_bound S N {h = h} {e} some fits (full (suc f) a b) = let q = le-div f (N - (h + e)) S some (omega arith) in omega arith
+paid_bound S N {h = h} {e} some fits (partial f a b none) = let q = le-div f (N - (h + e)) S some (omega arith) in omega arith
+
+-- For `run_reads` over a filling reader: no ask fails, each takes its step, and the inner reads are few.
 
 -- no error is among bytes
 none_fails : (x : List ℕ) (e : Error) (rest : List Event) → events_of x ≡ fails e ∷ rest → ⊥

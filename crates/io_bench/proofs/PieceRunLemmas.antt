@@ -9,7 +9,7 @@ use Rattle.no_std_io2.specs.{declared.io.Error.{Error}, Errors.{is_interruption}
 use Rattle.no_std_io2.specs.{Pieces.{split_is_ended, lines_reader, lines_is_ended}, BufRead.{NextPieceLaw}, declared.io.Split.{Split}}
 use Rattle.no_std_io2.specs.declared.io.Lines.{Lines}
 use Rattle.io_bench.specs.{Appended.{appended}, PieceRuns.{AllPieces, GathersPieces, RunsNexts}}
-use Rattle.io_bench.proofs.AppendedLemmas.{appended-one}
+use Rattle.io_bench.proofs.RunLemmas.{appended-one}
 
 -- the first pieces were gathered, trimmed, and the others are to come
 record GatheredSoFar (trim : List ℕ → List ℕ) (d : ℕ) (E : List Event) (items : List (List ℕ)) (after : List Event) : Type 0 where

@@ -1,13 +1,81 @@
--- For `run_writes`: the law of a run follows from its calls. And runs through buffers.
-use Rattle.no_std_io2.proofs.Words.{CallOf, TakesAll, Writer, ◌≡◌, List, [], ◌∷◌, ◌++◌, ℕ, refl, sym, ap, ◌∙◌, append_assoc, append-nil}
-use Rattle.no_std_io2.proofs.{Words.{common_steps, arith, Moves, WriteCall, Made, ByCalls, LevelCalls, take}, AllFacts.{all_calls}}
-use Rattle.no_std_io2.proofs.{CallsLemmas.{by_are, by_then, made_split}, TowerCalls.{through}, MovesLemmas.{Moves-refl, Moves-steady}}
-use Rattle.no_std_io2.proofs.MovesLemmas.{Moves-trans}
+-- For `run_writes`: one item more, how many calls failed, its law, and replies that say what was accepted.
+use Rattle.no_std_io2.proofs.Words.{common_steps, arith, [], ◌≡◌, List, ◌∷◌, ◌++◌, ℕ, true, if◌then◌else◌, length, Option, Some, refl}
+use Rattle.no_std_io2.proofs.Words.{Moves, WriterState, CallOf, TakesAll, Writer, sym, ap, ◌∙◌, append_assoc, append-nil, WriteCall, Made}
+use Rattle.no_std_io2.proofs.Words.{ByCalls, LevelCalls, take, zero, suc, ◌+◌, ◌<◌, ◌≤◌, get_or, ap₂, subst, inl, inr, take_more}
+use Rattle.no_std_io2.proofs.{Words.{nil_from_length}, MovesLemmas.{all_calls, Moves-refl, Moves-steady, Moves-trans}, CallsLemmas.{by_are}}
+use Rattle.no_std_io2.proofs.{CallsLemmas.{by_then, made_split}, BufWriterLemmas.{through}}
+use Rattle.io_bench.specs.{Appended.{appended}, declared.runs.{Op.{Op}, Reply.{Reply}}, Runs.{EndsFlushed, HasFewer, IsShorterBy, Ran, Run}}
+use Rattle.io_bench.specs.Runs.{failures, failures_of, is_failure, mishap_of, mishaps_of, Accepts, AreWhole, IsFlushed, IsWhole, JoinsEach}
+use Rattle.io_bench.specs.{Runs.{OpCalls, RunBelow, RunCalls, RunLaw}, declared.runs.Op.TheVariants.{Write, WriteAll, Flush}}
+use Rattle.io_bench.specs.{declared.runs.Reply.TheVariants.{Took, Done, Failed}, Joined.{IsClear, AreClear, IsJoined, HasIdleFailure}}
+use Rattle.std.proofs.{Common.{count_by, take_all}, lemmas.List.{length-append, append_cancel_left, Sums.{sum_by-cons}}}
+use Rattle.no_std_io2.specs.{declared.io.ErrorKind.{ErrorKind}, Write.{HasSpent}}
 use Rattle.std.specs.List.{AllZip}
-use Rattle.io_bench.specs.declared.runs.{Op.{Op, TheVariants.{Write, WriteAll, Flush}}, Reply.{Reply, TheVariants.{Took, Done, Failed}}}
-use Rattle.io_bench.specs.Runs.{Accepts, AreWhole, EndsFlushed, IsFlushed, IsWhole, JoinsEach, OpCalls, Ran, RunBelow, RunCalls, RunLaw}
-use Rattle.io_bench.specs.Runs.{mishap_of}
-use Rattle.io_bench.proofs.FailureLemmas.{ran_by}
+
+-- For `run_writes` and `run_items`: one more item is appended.
+
+-- at first none is appended
+pub appended-none : {X : Type 0} {old new : List X} → new ≡ old → appended old new ≡ []
+appended-none {old = old} is = grind (arith, common_steps)
+
+-- an item that is pushed follows those that were appended before
+pub appended-one : {X : Type 0} (old mid new : List X) (x : X) → mid ≡ old ++ appended old mid → new ≡ mid ++ x ∷ []
+    → appended old new ≡ appended old mid ++ x ∷ []
+appended-one old mid new x h is = grind (arith, common_steps)
+
+-- the list still begins with the old items
+pub appended-more : {X : Type 0} (old : List X) {mid new : List X} (x : X) → mid ≡ old ++ appended old mid → new ≡ mid ++ x ∷ []
+    → new ≡ old ++ appended old new
+appended-more old {mid} {new} x h is = grind (arith, common_steps)
+
+-- For `run_writes`: at most as many calls of a run failed as mishaps were told.
+
+-- if every element is counted, the count is the length
+count_by-all : {X : Type 0} (xs : List X) → count_by (λ _. true) xs ≡ length xs
+count_by-all [] = refl
+count_by-all (x ∷ xs) = omega (arith, sum_by-cons (λ _. 1) x xs, count_by-all xs)
+
+-- a call has one mishap if it failed, and else none
+length-mishap_of : (op : Op) (reply : Reply) → length (mishap_of op reply) ≡ (if is_failure op reply then 1 else 0)
+length-mishap_of op reply = grind (arith, common_steps)
+
+-- as many calls of a run failed as it had mishaps
+pub failures-length : (ops : List Op) (replies : List Reply) → failures ops replies ≡ length (mishaps_of ops replies)
+failures-length (op ∷ ops) (reply ∷ replies) =
+    omega (arith, failures-length ops replies, length-mishap_of op reply, length-append (mishap_of op reply) (mishaps_of ops replies))
+failures-length _ _ = refl
+
+-- told mishaps stay told, and there are fewer of them by at least as many as happened
+shorter : (old : Option (List ErrorKind)) (happened : List ErrorKind) (new : Option (List ErrorKind))
+    → HasSpent old happened new → IsShorterBy (length happened) old new
+shorter old happened new h = grind (arith, common_steps, count_by-all)
+
+-- so there are fewer of them by at least as many as calls of a run failed
+failures_told : (ops : List Op) (replies : List Reply) (old new : Option (List ErrorKind))
+    → HasSpent old (mishaps_of ops replies) new → IsShorterBy (failures ops replies) old new
+failures_told ops replies old new h = grind (arith, common_steps, failures-length, shorter)
+
+-- an empty list of mishaps can become shorter by 0 only
+none_left : (n : ℕ) (new : Option (List ErrorKind)) → IsShorterBy n (Some []) new → n ≡ 0
+none_left n new h = grind (arith, common_steps)
+
+-- and of each kind there are fewer to come by those that failed with it
+fewer_of : (kind : ErrorKind) (ops : List Op) (replies : List Reply) (old new : Option (List ErrorKind))
+    → HasSpent old (mishaps_of ops replies) new
+    → HasFewer kind (failures_of kind ops replies) old new
+fewer_of kind ops replies old new h = grind (arith, common_steps)
+
+-- these facts are enough for a run
+pub ran_by : {old new : WriterState} {ops : List Op} {replies : List Reply} (accepted : List ℕ) → Run ops replies accepted
+    → Moves old accepted (mishaps_of ops replies) new → (EndsFlushed ops replies → new.held ≡ []) → Ran old ops replies new
+ran_by accepted run moves flushed = grind (arith, common_steps, failures_told, fewer_of)
+
+-- over no mishap to come no call fails
+pub none_failed : {old new : WriterState} {ops : List Op} {replies : List Reply} → Ran old ops replies new → old.mishaps ≡ Some []
+    → failures ops replies ≡ 0
+none_failed {new = new} ran none = grind (arith, common_steps, none_left, ran.failed, none)
+
+-- For `run_writes`: the law of a run follows from its calls. And runs through buffers.
 
 -- one call more
 pub JoinsEach-more : {A : Type 0} (gives : Op → Reply → List A → Type 0) (ops : List Op) (replies : List Reply) (xs : List A)
@@ -149,3 +217,68 @@ pub below_map : {W : Type 0} (I : Writer W) {tower tower' : List WriteCall → L
     (replies : List Reply) → ((calls below : List WriteCall) → tower calls below → tower' calls below) → RunBelow I tower a ops replies b
     → RunBelow I tower' a ops replies b
 below_map I ops replies each r = by_are r (λ below (calls, joined, is). (calls, joined, each calls below is))
+
+-- For `joined`: a run whose replies say what was accepted, call by call.
+
+-- a reply that says what was accepted says one list
+accepted_once : (op : Op) (reply : Reply) (xs ys : List ℕ) → IsClear op reply → Accepts op reply xs → Accepts op reply ys → ys ≡ xs
+accepted_once op reply xs ys c a b = grind (arith, common_steps)
+
+-- so do those of a run
+pub run_once : (ops : List Op) (replies : List Reply) (xs ys : List ℕ) → AreClear ops replies → Run ops replies xs → Run ops replies ys
+    → ys ≡ xs
+run_once [] [] xs ys c a b = b ∙ sym a
+run_once (op ∷ ops) (reply ∷ replies) xs ys c a b =
+    b.4 ∙ ap₂ (λ l m. l ++ m) (accepted_once op reply a.0 b.0 c.0 a.2 b.2) (run_once ops replies a.1 b.1 c.1 a.3 b.3) ∙ sym a.4
+run_once _ _ xs ys c a b = absurd c
+
+-- if all replies are clear, each reply is
+pub clear_at : (ops : List Op) (replies : List Reply) (i : ℕ) (p : Op) (q : Reply)
+    → i < length ops → AreClear ops replies → IsClear (get_or ops i p) (get_or replies i q)
+clear_at (op ∷ ops) (reply ∷ replies) zero p q h c = c.0
+clear_at (op ∷ ops) (reply ∷ replies) (suc i) p q h c = clear_at ops replies i p q (omega (arith, h)) c.1
+clear_at _ _ i p q h c = grind arith
+
+-- what holds of the calls gone through and of the next holds of one more
+pub one_more : (P : List Op → List Reply → Type 0) (ops : List Op) (replies : List Reply) {i : ℕ} (p : Op) (q : Reply)
+    → i < length ops → length ops ≡ length replies
+    → P (take i ops ++ get_or ops i p ∷ []) (take i replies ++ get_or replies i q ∷ []) → P (take (i + 1) ops) (take (i + 1) replies)
+one_more P ops replies {i} p q h e more = rw (take_more ops i p h, take_more replies i q (omega (arith, h, e))) more
+
+-- what holds of the calls gone through holds of all, once all are
+pub all_through : (P : List Op → List Reply → Type 0) (ops : List Op) (replies : List Reply) (i : ℕ)
+    → length ops ≤ i → length ops ≡ length replies → P (take i ops) (take i replies) → P ops replies
+all_through P ops replies i h e p = grind (arith, common_steps, take_all)
+
+-- without its first call a run that accepted one list still did
+rest_joined : (op : Op) (reply : Reply) (ops : List Op) (replies : List Reply) (b : List ℕ)
+    (j : IsJoined (op ∷ ops) (reply ∷ replies) b) → IsJoined ops replies j.0.1
+rest_joined op reply ops replies b j = (
+  j.0.3,
+  λ other r. append_cancel_left j.0.0 other j.0.1 (j.1 (j.0.0 ++ other) (j.0.0, other, j.0.2, r, refl) ∙ j.0.4),
+)
+
+-- if some reply does not say what was accepted, different lists fit the replies or none does, except for a failed
+-- `write_all` of no bytes
+pub unclear : (ops : List Op) (replies : List Reply) (b : List ℕ)
+    → IsJoined ops replies b → (AreClear ops replies → ⊥) → HasIdleFailure ops replies
+unclear (WriteAll x ∷ ops) (Failed e ∷ replies) b j n =
+    let whole = j.1 (x.now ++ j.0.1) (x.now, j.0.1, ([], sym (append-nil x.now)), j.0.3, refl) in
+    let none = j.1 j.0.1 ([], j.0.1, (x.now, refl), j.0.3, refl) in
+    inl (nil_from_length x.now (omega (arith, ap length (whole ∙ sym none), length-append x.now j.0.1)))
+unclear (op ∷ ops) (reply ∷ replies) b j n =
+    let said = j.0.2 in
+    inr (unclear ops replies j.0.1 (rest_joined op reply ops replies b j) (λ c. n (grind (arith, said), c)))
+unclear [] [] b j n = absurd (n tt)
+unclear _ _ b j n = absurd j.0
+
+-- a call that accepted some bytes is in no run that accepted none
+pub some_accepted : (ops : List Op) (replies : List Reply) (i : ℕ) (p : Op) (q : Reply) (xs : List ℕ) → i < length ops
+    → IsClear (get_or ops i p) (get_or replies i q) → Accepts (get_or ops i p) (get_or replies i q) xs → 0 < length xs
+    → Run ops replies [] → ⊥
+some_accepted (op ∷ ops) (reply ∷ replies) zero p q xs h clear accepts some r =
+    omega (arith, some, ap length (accepted_once op reply xs r.0 clear accepts r.2), ap length r.4, length-append r.0 r.1)
+some_accepted (op ∷ ops) (reply ∷ replies) (suc i) p q xs h clear accepts some r =
+    some_accepted ops replies i p q xs (omega (arith, h)) clear accepts some
+    (subst (Run ops replies) (nil_from_length r.1 (omega (arith, ap length r.4, length-append r.0 r.1))) r.3)
+some_accepted _ _ i p q xs h clear accepts some r = grind arith

@@ -3,8 +3,8 @@ use Rattle.no_std_io2.proofs.Words.{Some, nil_from_length, ◌≡◌, ℕ, ◌+�
 use Rattle.no_std_io2.proofs.Words.{Writer, error_kind, Moves, WriteCall, call_mishap, none as no_write, writer_inner, writer_buffer}
 use Rattle.no_std_io2.proofs.Words.{writer_told, TakesStep, RoomCalls, SendCalls}
 use Rattle.no_std_io2.specs.{declared.io.Error.{Error}, declared.io.BufWriter.{BufWriter}, BufWriter.{Puts}}
-use Rattle.no_std_io2.proofs.{CallsLemmas.{by_are}, MovesLemmas.{Moves-ends, Moves-steady}, WritesFacts.{writes_left}}
-use Rattle.no_std_io2.proofs.StepLemmas.{then_stops, then_goes_on}
+use Rattle.no_std_io2.proofs.{CallsLemmas.{by_are}, MovesLemmas.{Moves-ends, Moves-steady, writes_left}, BufWriterLemmas.{then_stops}}
+use Rattle.no_std_io2.proofs.BufWriterLemmas.{then_goes_on}
 use Rattle.line_log.specs.Log.{Logs, IsLogged}
 
 -- to make room for a whole buffer is to send

@@ -1,12 +1,17 @@
--- What a buffer in front of a writer tells. For both buffered writers, and for callers with a new buffer in front of a device.
+-- What a buffer in front of a writer tells, and how its steps follow one another.
 use Rattle.no_std_io2.proofs.Words.{common_steps, nil_from_length, ◌≡◌, ℕ, ◌-◌, ◌≤◌, length-take, length-append, Result, Ok, Err, OnOk, []}
 use Rattle.no_std_io2.proofs.Words.{List, ◌++◌, length, drop, sym, ap, subst, ◌∙◌, arith, append_assoc, append-nil, WriterState, Moves}
-use Rattle.no_std_io2.proofs.Words.{MovesFront}
-use Rattle.no_std_io2.proofs.Words.{with_buffer, writer_inner, writer_buffer, writer_told, line_inner, line_buffer, IsSuffix}
-use Rattle.no_std_io2_base.specs.{declared.error.ErrorKind.{ErrorKind}, declared.error.Error.{Error}}
-use Rattle.no_std_io2.specs.{declared.buffered.buf_writer.BufWriter.{BufWriter}, declared.buffered.line_writer.LineWriter.{LineWriter}}
-use Rattle.no_std_io2.specs.{LineWriter.{line_told}}
-use Rattle.no_std_io2_base.proofs.MovesLemmas.{MovesFront-whole}
+use Rattle.no_std_io2.proofs.Words.{MovesFront, with_buffer, writer_inner, writer_buffer, writer_told, line_inner, line_buffer, IsSuffix}
+use Rattle.no_std_io2.proofs.Words.{TakesAll, CallOf, Writer, WriteCall, Made, call_mishap, charges, false, true, ◌+◌, IsOk, Step, Stepped}
+use Rattle.no_std_io2.proofs.Words.{Then, stops, goes_on, nat_tests, FlushCalls, ◌∷◌, refl, LevelCalls}
+use Rattle.no_std_io2_base.specs.{declared.error.{ErrorKind.{ErrorKind}, Error.{Error}}, Errors.{IsNoInterruption}, Write.{ByCalls}}
+use Rattle.no_std_io2_base.specs.Write.{CallAdds, RestAdds}
+use Rattle.no_std_io2.specs.declared.buffered.{buf_writer.BufWriter.{BufWriter}, line_writer.LineWriter.{LineWriter}}
+use Rattle.no_std_io2.specs.LineWriter.{line_told}
+use Rattle.no_std_io2_base.proofs.{MovesLemmas.{MovesFront-whole, charges-append, after_ok}, CallsLemmas.{by_are, by_then, made_split}}
+use Rattle.no_std_io2_base.proofs.{CallsLemmas.{law_may}, CallsAdd.{Joins, writes_add}}
+
+-- What a buffer in front of a writer tells. For both buffered writers, and for callers with a new buffer in front of a device.
 
 -- What the inner writer accepted, x, came from the front of the buffer and of what was given, y.
 pub Moves-buffered : {a b : WriterState} {x : List ℕ} {k : List ErrorKind} (old new y : List ℕ) → Moves a x k b
@@ -84,3 +89,118 @@ pub Moves-line_device : {W : Type 0} {S : ℕ} {a : WriterState} {b : WriterStat
     (w : LineWriter W S) (device : W) → line_inner w ≡ device → line_buffer w ≡ [] → a ≡ line_told told w → Moves a x k b
     → Moves (told device) x k b
 Moves-line_device {b = b} {x = x} {k = k} told w device inner none is m = grind (arith, common_steps)
+
+-- Steps of a writer with a buffer: what two steps do, they do one after another. For the lemmas of both buffered writers.
+
+-- no error is `Ok`
+pub no_ok : {T : Type 0} → false ≡ true → T
+no_ok h = absurd (let no : ⊥ = cc in no)
+
+module _ {W A : Type 0} {I : Writer W} {first : Step (Unit {0})} {next : Step A} where
+  -- the first step failed, and its error is the result
+  pub then_stops : {held left : List ℕ} {e : Error} {a b : W} → Stepped I first a held (Err e) left b
+      → Stepped I (Then first next) a held (Err e) left b
+  then_stops p = by_are p (λ C f. stops f)
+
+  -- it did not, and the next one followed
+  pub then_goes_on : {held left : List ℕ} {reply : Result A Error} {a m b : W} (mid : List ℕ)
+      → Stepped I first a held (Ok tt) mid m → Stepped I next m mid reply left b → Stepped I (Then first next) a held reply left b
+  then_goes_on mid p q = by_then p q (λ C D f g. goes_on f g)
+
+-- how a step with its result changes what is told
+abbrev pub Effect : Type 0 → Type 1
+Effect A = WriterState → Result A Error → WriterState → Type 0
+
+-- What a step does, from the inner writer a with `held` to b with `left`, by the calls C.
+pub record StepEffect {W A : Type 0} (I : Writer W) (R : Effect A) (F : List ℕ → List ℕ → Type 0)
+    (n : List ℕ → ℕ) (a : W) (held : List ℕ) (C : List WriteCall) (reply : Result A Error) (left : List ℕ) (b : W) : Type 0 where
+  -- how it changes what is told
+  pub tells : R (with_buffer (I.told a) held) reply (with_buffer (I.told b) left)
+  -- what is held after an `Ok`
+  pub leaves : OnOk reply (F held left)
+  -- over an inner writer that takes all: it still does, there is no error, and so many calls are counted
+  pub counts : TakesAll I a → TakesAll I b × IsOk reply × (charges C ≡ n held)
+
+-- however a step is taken, it does that
+abbrev pub Always : {W A : Type 0} → Writer W → Step A → Effect A → (List ℕ → List ℕ → Type 0)
+    → (List ℕ → ℕ) → Type 0
+Always {W} {A} I step R F n = (a b : W) (held left : List ℕ) (C : List WriteCall) (reply : Result A Error) → step held C reply left
+    → Made (CallOf I) a C b → StepEffect I R F n a held C reply left b
+
+module _ {W A : Type 0} {I : Writer W} {step : Step A} {R : Effect A} {F : List ℕ → List ℕ → Type 0} {n : List ℕ → ℕ} {a b : W} where
+  -- also by these calls,
+  pub effect_by : {held left : List ℕ} {C : List WriteCall} {reply : Result A Error} → Always I step R F n → step held C reply left
+      → Made (CallOf I) a C b → StepEffect I R F n a held C reply left b
+  effect_by always is made = always _ _ _ _ _ _ is made
+
+  -- and this time
+  pub effect_of : {held left : List ℕ} {reply : Result A Error} → Always I step R F n → (p : Stepped I step a held reply left b)
+      → StepEffect I R F n a held p.calls reply left b
+  effect_of always p = effect_by always p.are p.made
+
+-- exactly this is held then,
+abbrev pub Exactly : (List ℕ → List ℕ) → List ℕ → List ℕ → Type 0
+Exactly f held left = left ≡ f held
+
+-- or nothing
+abbrev pub Emptied : List ℕ → List ℕ → Type 0
+Emptied held left = left ≡ []
+
+-- no byte is accepted, and an error is a mishap and no interruption
+abbrev pub Sending : Effect (Unit {0})
+Sending old reply new = IsNoInterruption reply × Moves old [] (call_mishap reply) new
+
+-- What P tells of a first step and Q of the next, R tells of both.
+pub record StepsJoin {A : Type 0} (P : Effect (Unit {0})) (Q R : Effect A) : Type 0 where
+  -- the first failed
+  pub fails : (s t : WriterState) (e : Error) → P s (Err e) t → R s (Err e) t
+  -- it did not, and the next one followed
+  pub joins : (s m t : WriterState) (reply : Result A Error) → P s (Ok tt) m → Q m reply t → R s reply t
+
+-- `first?; next`
+pub then_does : {W A : Type 0} {I : Writer W} {P : Effect (Unit {0})}
+    {Q R : Effect A} (first : Step (Unit {0})) (next : Step A) {f : List ℕ → List ℕ} {n : List ℕ → ℕ}
+    {G : List ℕ → List ℕ → Type 0} {k : List ℕ → ℕ}
+    → StepsJoin P Q R → Always I first P (Exactly f) n → Always I next Q G k
+    → Always I (Then first next) R (λ held. G (f held)) (λ held. n held + k (f held))
+then_does first next follows one two a b held left _ _ (stops p) made =
+    let x = effect_by one p made in
+    record { tells = follows.fails _ _ _ x.tells; leaves = tt; counts = λ t. no_ok (x.counts t).1 }
+then_does {I} first next {G = G} {k = k} follows one two a b held left _ reply (goes_on {C = C} {D = D} p q) made =
+    let parts = made_split (CallOf I) C a D b made in
+    let x = effect_by one p parts.1 in
+    let y = effect_by two q parts.2 in
+    record {
+      tells = follows.joins _ _ _ reply x.tells y.tells;
+      leaves = subst (λ l. OnOk reply (G l left)) x.leaves y.leaves;
+      counts = λ t. let c = x.counts t in let d = y.counts c.0 in
+          (d.0, d.1, omega (arith, charges-append C D, c.2, d.2, ap k x.leaves));
+    }
+
+-- What each inner call adds to an inner writer's own state, the calls of a buffer in front of it add together.
+
+module _ {W : Type 0} {may : W → WriteCall → W → Type 0} {Adds : W → List ℕ → W → Type 0} (joins : Joins Adds) where
+  module _ (each : (a b : W) (call : WriteCall) → may a call b → CallAdds Adds a call b) where
+    -- those of a `flush`: the bytes that are no longer held were added, after `Ok` all held bytes
+    flushed_adds : {C : List WriteCall} {held left : List ℕ} {reply : Result (Unit {0}) Error} → FlushCalls held C reply left
+        → (a b : W) → Made may a C b → RestAdds Adds a held reply b left
+    flushed_adds = grind (arith, nat_tests, writes_add, made_split, after_ok, append-nil)
+
+    -- The calls of a `flush` add the bytes that the buffer no longer holds, after `Ok` all that it held.
+    pub flush_adds : {held left : List ℕ} {reply : Result (Unit {0}) Error} {a b : W} → ByCalls may a (λ C. FlushCalls held C reply left) b
+        → RestAdds Adds a held reply b left
+    flush_adds {a = a} {b} calls = flushed_adds calls.are a b calls.made
+
+-- The calls of a tower are calls of the device below it. For callers over towers.
+
+-- if each call makes such inner calls, calls one after another do
+pub through : {W B : Type 0} (I : Writer W) (K : Writer B) (inner : B → W) (buffer : B → List ℕ)
+    (level : List ℕ → WriteCall → List WriteCall → List ℕ → Type 0)
+    → ((a b : B) (call : WriteCall) → K.may a call b
+    → ByCalls (CallOf I) (inner a) (λ D. level (buffer a) call D (buffer b)) (inner b))
+    → (C : List WriteCall) (a b : B) → Made (CallOf K) a C b
+    → ByCalls (CallOf I) (inner a) (λ D. LevelCalls level (buffer a) C D (buffer b)) (inner b)
+through I K inner buffer level each [] a b made = record { calls = []; made = ap inner made; are = (refl, ap buffer made) }
+through I K inner buffer level each (call ∷ C) a b made =
+    let one = each a made.0 call (law_may K a made.0 call made.1) in
+    by_then one (through I K inner buffer level each C made.0 b made.2) (λ D E f g. (buffer made.0, D, E, f, g, refl))

@@ -1,17 +1,88 @@
--- What a buffer in front of a reader tells, and what it takes.
-use Rattle.no_std_io2.proofs.Words.{common_steps, ◌≡◌, ℕ, ℤ, pos, negsuc, zero, suc, ◌+◌, ◌-◌, ◌*◌, ◌≤◌, min, Bool, true, false, true≢false}
-use Rattle.no_std_io2.proofs.Words.{List, [], ◌++◌, length, take, drop, refl, sym, ap, ap₂, subst, ◌∙◌, arith, append_assoc, append-nil}
-use Rattle.no_std_io2.proofs.Words.{length-append, take-append-drop, Option, None, Some, Result, Ok, Err, IfOk, ◌<◌, drop-append_seam}
-use Rattle.no_std_io2.proofs.Words.{Event, events_of, bytes, Store, ReaderState, Takes, AreTaken, KeepsContent, to_come, IsAtEnd, answered}
-use Rattle.no_std_io2.proofs.Words.{bytes_given, behind_held, step_back, store_if, store_before, IsCutOn}
-use Rattle.std.proofs.{Common.{IfSome}, Math.Nat.{mul-le-mul_left, mul-suc}, Math.Seq.{drop-append-add}}
-use Rattle.std.proofs.{lemmas.List.{drop-drop, drop-append-le}, lemmas.Bool.Decides.{Decides-and}, lemmas.Bool.{leb-true, le-leb}}
-use Rattle.std.specs.{Bool.{Decides}}
+-- What a buffer in front of a reader tells and takes, and the calls of a `BufReader`.
+use Rattle.no_std_io2.proofs.Words.{◌≡◌, ℕ, ◌-◌, ◌<◌, ◌≤◌, ◌^◌, length, drop, ap, ◌∙◌, arith, length-take, reader_held, common_steps, ℤ}
+use Rattle.no_std_io2.proofs.Words.{pos, ◌+◌, List, ◌++◌, take, sym, take-take, IsCutOn, negsuc, zero, suc, ◌*◌, min, Bool, true, false}
+use Rattle.no_std_io2.proofs.Words.{true≢false, [], refl, ap₂, subst, append_assoc, append-nil, length-append, take-append-drop, Option}
+use Rattle.no_std_io2.proofs.Words.{None, Some, Result, Ok, Err, IfOk, drop-append_seam, Event, events_of, bytes, Store, ReaderState, Takes}
+use Rattle.no_std_io2.proofs.Words.{AreTaken, KeepsContent, to_come, IsAtEnd, answered, bytes_given, behind_held, step_back, store_if}
+use Rattle.no_std_io2.proofs.Words.{store_before, Reader, tells, ReadCallLaw, ReadLaw, Gave, reader_behind, reader_inner, PassesOn}
+use Rattle.no_std_io2.proofs.Words.{ReadsBelow, of_held, was_filled}
+use Rattle.std.proofs.{Math.Bridge.{le_prop}, Common.{◌+ℤ◌, IfSome}, lemmas.List.{drop-take, drop-drop, drop-append-le, length-take-le}}
+use Rattle.std.proofs.{Math.{Seq.{take-add, drop-append-add}, Nat.{mul-le-mul_left, mul-suc}}, lemmas.Slice.{take-put_mid}}
+use Rattle.std.proofs.lemmas.Bool.{Decides.{Decides-and}, leb-true, le-leb}
+use Rattle.no_std_io2.specs.{declared.buffered.{buffer.Buffer.{Buffer}, buf_reader.BufReader.{BufReader}}, BufReader.{is_before}}
+use Rattle.no_std_io2.specs.BufReader.{reader_told, AreBefore, TakesOver, reader_events, reader_store, reader_turns, ReaderMay}
+use Rattle.no_std_io2.specs.Buffer.{IsInBuffer}
+use Rattle.std.specs.{List.{slice_range}, Bool.{Decides}}
+use borrow.Rule.Slice.PartMut.{put_mid}
+use Rattle.no_std_io2_base.specs.{Seek.{IsAtOffset}, declared.error.Error.{Error}, Events.{BeginsWith}, Takes.{events_by}, Read.{fault_of}}
 use lib.Pointwise.{pointwise, bytes_decides}
-use Rattle.no_std_io2_base.specs.{declared.error.Error.{Error}, Events.{BeginsWith}, Takes.{events_by}, Read.{fault_of}}
-use Rattle.no_std_io2_base.proofs.{EventLemmas.{bytes-append, bytes-events_of, length-events_of, events_of-append}}
-use Rattle.no_std_io2_base.proofs.{TakesLemmas.{takes_none}}
-use Rattle.no_std_io2.specs.{BufReader.{is_before, reader_told, AreBefore, TakesOver}, Buffer.{IsInBuffer}}
+use Rattle.no_std_io2_base.proofs.TakesLemmas.{bytes-append, bytes-events_of, length-events_of, events_of-append, takes_none}
+
+-- How much a `BufReader` holds.
+
+-- it has some room
+pub some_room : {R : Type 0} {S : ℕ} (r : BufReader R S) → 0 < S
+some_room r = r.some_room
+
+-- and holds no more than that
+pub held-le : {R : Type 0} {S : ℕ} (r : BufReader R S) → length (reader_held r) ≤ S
+held-le r = let a = r.buffer in omega (arith, length-take (a.end - a.start) (drop a.start a.bytes), a.in_range)
+
+-- a reader whose buffer stays the same is the same
+pub same_buffer : {R : Type 0} {S : ℕ} (r : BufReader R S) (buffer : Buffer S) (room : 0 < S) (memory : S < 2 ^ 63) → buffer ≡ r.buffer
+    → record { inner = r.inner; buffer = buffer; some_room = room; in_memory = memory } ≡ r
+same_buffer {S = S} r buffer room memory same =
+    ap (λ (p : 0 < S). record { inner = r.inner; buffer = buffer; some_room = p; in_memory = memory }) (le_prop room r.some_room)
+    ∙ ap (λ (p : S < 2 ^ 63). record { inner = r.inner; buffer = buffer; some_room = r.some_room; in_memory = p })
+    (le_prop memory r.in_memory)
+    ∙ ap (λ b. record r { buffer = b }) same
+
+-- Windows of a list, after their front is dropped, and after a write past their end. For the held bytes of `Buffer`.
+
+-- a window is also the rest of a front
+range_as_rest : (xs : List ℕ) (s e : ℕ) → s ≤ e → slice_range xs s e ≡ drop s (take e xs)
+range_as_rest xs s e h = sym (ap (λ k. drop s (take k xs)) (let k : e ≡ s + (e - s) = omega arith in k) ∙ drop-take s (e - s) xs)
+
+-- if ys is written right after a window, the window that includes ys is the old window followed by ys
+range_put : (xs ys : List ℕ) (s e k : ℕ) → s ≤ e → e ≤ length xs
+    → slice_range (put_mid e k xs ys) s (e + length ys) ≡ slice_range xs s e ++ ys
+range_put xs ys s e k h g = grind (arith, common_steps, range_as_rest, put_mid, take-put_mid, drop-append-le, length-take-le)
+
+-- the same, with a list that equals the one written
+pub range_more : (xs ys zs : List ℕ) (s e k : ℕ) → s ≤ e → e ≤ length xs → ys ≡ zs
+    → slice_range (put_mid e k xs ys) s (e + length zs) ≡ slice_range xs s e ++ zs
+range_more xs ys zs s e k h g same = grind (arith, common_steps, put_mid, range_put)
+
+-- a window without its first n bytes
+pub range_rest : (l : List ℕ) (start end n : ℕ) → n ≤ end - start
+    → take (end - (start + n)) (drop (start + n) l) ≡ drop n (take (end - start) (drop start l))
+range_rest l start end n fits =
+    let split : end - start ≡ n + (end - (start + n)) = omega arith in
+    sym
+    (ap (λ k. drop n (take k (drop start l))) split ∙ drop-take n (end - (start + n)) (drop start l)
+    ∙ ap (take (end - (start + n))) (drop-drop n start l))
+
+-- these lie before it then, after those that did
+pub front_more : (l : List ℕ) (start end n : ℕ) → n ≤ end - start
+    → take (start + n) l ≡ take start l ++ take n (take (end - start) (drop start l))
+front_more l start end n fits = grind (arith, common_steps, take-add, take-take)
+
+-- the bytes up to the end are those before the window, and then those in it
+pub whole : (l : List ℕ) (start end : ℕ) → start ≤ end → take start l ++ take (end - start) (drop start l) ≡ take end l
+whole l start end ordered =
+    let split : end ≡ start + (end - start) = omega arith in
+    sym (ap (λ n. take n l) split ∙ take-add start (end - start) l)
+
+-- a number that is a sum with an offset
+at_offset_sum : (base : ℕ) (o : ℤ) (n : ℕ) → pos n ≡ pos base +ℤ o → IsAtOffset base o n
+at_offset_sum = grind (arith, common_steps)
+
+-- the border moved inside the same bytes
+pub cut_on : (l : List ℕ) (o : ℤ) (start end at : ℕ) → start ≤ end → at ≤ end → end ≤ length l → pos at ≡ pos start +ℤ o
+    → IsCutOn o (take start l) (take (end - start) (drop start l)) (take at l) (take (end - at) (drop at l))
+cut_on l o start end at ordered within room is = grind (arith, common_steps, length-take-le, whole, at_offset_sum)
+
+-- What a buffer in front of a reader tells, and what it takes.
 
 -- these bytes are those of the content right before its position
 abbrev pub IsBefore : List ℕ → Store → Type 0
@@ -211,3 +282,47 @@ begins_lent room {held} t is =
 pub begins_filled : {a b : ReaderState} (x : List ℕ) → Takes a [] b → IfSome (to_come b) (λ E. BeginsWith E x)
     → IfSome (to_come a) (λ E. BeginsWith E x)
 begins_filled {a} {b} x takes begins = grind (arith, common_steps, to_come)
+
+-- The calls of a `BufReader`, by what they did to its buffer.
+
+-- a `BufReader` in front of a reader
+abbrev pub buf_reader : {R : Type 0} {S : ℕ} → Reader R → Reader (BufReader R S)
+buf_reader K = record {
+  store = reader_store K.store;
+  turns = reader_turns K.turns;
+  events = reader_events (tells K);
+  may = ReaderMay K;
+  held = reader_held;
+}
+
+-- Of the bytes that were held after those behind, as many were given as fit. They lie behind now.
+hands_part_on : {R : Type 0} {S : ℕ} (new : BufReader R S) (n room : ℕ) (behind held shown : List ℕ) → n ≡ min (length held) room
+    → take n shown ≡ take n held → reader_behind new ≡ behind ++ take n shown → reader_held new ≡ drop n held
+    → PassesOn behind (Ok held) room (Ok (take n shown)) new
+hands_part_on new n room behind held shown is gave front left = grind (arith, common_steps)
+
+-- the held bytes are those that were given, and then those that are held
+pub split_held : (n : ℕ) (held shown : List ℕ) {held' : List ℕ} → take n shown ≡ take n held → held' ≡ drop n held
+    → held ≡ take n shown ++ held'
+split_held n held shown gave left = grind (arith, common_steps, take-append-drop)
+
+module _ {R : Type 0} {S : ℕ} {inner : Reader R} {old new : BufReader R S} where
+  -- bytes were held
+  pub by_held : (n : ℕ) (buf shown : List ℕ) → length shown ≡ length buf → 0 < length (reader_held old)
+      → reader_inner new ≡ reader_inner old → n ≡ min (length (reader_held old)) (length buf) → take n shown ≡ take n (reader_held old)
+      → reader_behind new ≡ reader_behind old ++ take n shown → reader_held new ≡ drop n (reader_held old)
+      → ReadLaw (buf_reader inner) old buf (Ok n) shown new
+  by_held n buf shown long some same is gave front left = record {
+    bound = omega (arith, is, long);
+    takes = rw same (takes_held S (reader_held old) _ (take n shown) _ (split_held n (reader_held old) shown gave left) (held-le old));
+    end = λ none room. absurd (omega (arith, none, room, is, long, some));
+    call = of_held some
+        (same, hands_part_on new n (length shown) (reader_behind old) (reader_held old) shown (omega (arith, is, long)) gave front left);
+  }
+
+  -- the buffer was filled, and gave these bytes
+  pub by_filled : (n room : ℕ) (mid shown : List ℕ) → reader_held old ≡ [] → room < S
+      → ReadCallLaw inner (reader_inner old) (Gave S (Ok mid)) (reader_inner new) → n ≡ min (length mid) room → take n shown ≡ take n mid
+      → reader_behind new ≡ take n shown → reader_held new ≡ drop n mid → ReadsBelow inner old room (Ok (take n shown)) new
+  by_filled n room mid shown none small law is gave front left =
+      was_filled none small (Ok mid) law (hands_part_on new n room [] mid shown is gave front left)

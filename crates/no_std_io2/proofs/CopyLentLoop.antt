@@ -5,8 +5,8 @@ use Rattle.no_std_io2.proofs.Words.{Consumed, Reader, ReadCallLaw, tells, WriteC
 use Rattle.no_std_io2.proofs.CopyLoop.{Took-last}
 use Rattle.no_std_io2_base.specs.{declared.error.Error.{Error}, Read.{FilledLaw, ConsumeLaw}, Reads.{Took}, Writers.{WriteAllOf}}
 use Rattle.std.proofs.Common.{take_all}
-use Rattle.no_std_io2_base.proofs.{CallsLemmas.{made_then}, MovesLemmas.{Moves-refl, Moves-then}, TookLemmas.{Took-none, Took-then}}
-use Rattle.no_std_io2_base.proofs.TookLemmas.{Took-bytes, Took-again, Took-end, Took-fault}
+use Rattle.no_std_io2_base.proofs.{CallsLemmas.{made_then}, MovesLemmas.{Moves-refl, Moves-then}, ReadsLemmas.{Took-none, Took-then}}
+use Rattle.no_std_io2_base.proofs.ReadsLemmas.{Took-bytes, Took-again, Took-end, Took-fault}
 use Rattle.no_std_io2.specs.{Copy.{counted}, CopyLent.{HandsLent, LentCopied, lends_none, lends_fault, again_lent, piece_lent}}
 use Rattle.no_std_io2.specs.{CopyLent.{piece_refused}, declared.util.sides.CopyError.{CopyError, TheVariants.{Read, Write}}}
 

@@ -1,15 +1,19 @@
--- The loop of `copy_with`, and so of `copy_sided` and `copy`: it passes on what it reads, piece by piece.
+-- The loop of a copy, and what follows from its law.
 use Rattle.no_std_io2.proofs.Words.{common_steps, ◌≡◌, ℕ, ◌+◌, ◌-◌, ◌^◌, ◌<◌, ◌≤◌, min, List, [], ◌∷◌, ◌++◌, Result, Ok, Err, true, length}
 use Rattle.no_std_io2.proofs.Words.{take, refl, sym, ap, subst, ◌∙◌, arith, append_assoc, append-nil, length-append, length-take-le, concat}
 use Rattle.no_std_io2.proofs.Words.{IsInterruption, IsFault, bytes, ReaderState, Bool, Reader, Gave, ReadLaw, GaveLaw, ReadCallLaw, tells}
-use Rattle.no_std_io2.proofs.Words.{no_read, and_gave, and_again, WriteCall, Made, AllCalls, Moves, Writer, CallOf, TakesAll}
-use Rattle.std.proofs.lemmas.List.Folds.{concat-append}
-use Rattle.no_std_io2_base.specs.{declared.error.Error.{Error}, Read.{gave}, Reads.{Took}, Writers.{WriteAllOf}}
-use Rattle.no_std_io2_base.proofs.{CallsLemmas.{made_more, made_then}, EventLemmas.{length-events_of}, MovesLemmas.{Moves-refl, Moves-then}}
-use Rattle.no_std_io2_base.proofs.{ReadExactExits.{some_bytes}, TakesLemmas.{read_law, nothing_read}, TookLemmas.{Took-none, Took-then}}
-use Rattle.no_std_io2_base.proofs.TookLemmas.{Took-bytes, Took-again, Took-fault}
-use Rattle.no_std_io2.specs.Copy.{Handed, nothing, piece, refused, HandsOn, counted, SidesCopied}
-use Rattle.no_std_io2.specs.declared.util.sides.CopyError.TheVariants.{Read, Write}
+use Rattle.no_std_io2.proofs.Words.{no_read, and_gave, and_again, WriteCall, Made, AllCalls, Moves, Writer, CallOf, TakesAll, Option, None}
+use Rattle.no_std_io2.proofs.Words.{Some, Event, byte, fails, HasNoFault, ReadCall, Takes, to_come, IsAtEnd, WriterState, Copied}
+use Rattle.std.proofs.lemmas.List.{Folds.{concat-append}, Sums.{sum_by-cons}}
+use Rattle.no_std_io2_base.specs.{declared.error.{Error.{Error}, ErrorKind.{ErrorKind}}, Read.{gave}, Reads.{Took}, Writers.{WriteAllOf}}
+use Rattle.no_std_io2_base.specs.{Events.{EndsInFault}, Write.{HasSpent}}
+use Rattle.no_std_io2_base.proofs.{CallsLemmas.{made_more, made_then}, TakesLemmas.{length-events_of, read_law, nothing_read}}
+use Rattle.no_std_io2_base.proofs.{TakesLemmas.{HasNoFault-front, left_of}, MovesLemmas.{Moves-refl, Moves-then, Moves-steady}}
+use Rattle.no_std_io2_base.proofs.{ReadLoops.{some_bytes}, ReadsLemmas.{Took-none, Took-then, Took-bytes, Took-again, Took-fault}}
+use Rattle.no_std_io2.specs.Copy.{Handed, nothing, piece, refused, HandsOn, counted, SidesCopied, CopyEnds, side_error}
+use Rattle.no_std_io2.specs.declared.util.sides.CopyError.{TheVariants.{Read, Write}, CopyError}
+
+-- The loop of `copy_with`, and so of `copy_sided` and `copy`: it passes on what it reads, piece by piece.
 
 -- one piece more
 handed_more : {S : ℕ} {xs : List (List ℕ)} {x : List ℕ} {C D : List WriteCall} {so_far : Result (Unit {0}) Error}
@@ -200,3 +204,69 @@ module _ {R W : Type 0} {K : Reader R} {I : Writer W} {S : ℕ} {from : R} {old 
             all = λ t. wrote.all (before.all t);
             calls = hands (Err e) wrote;
           }
+
+-- What follows of a copy, if its reader tells its events or its writer its mishaps.
+
+-- events without a fault do not end in one
+pub no_fault_at_end : (P : List Event) (e : Error) → HasNoFault P → EndsInFault P e → ⊥
+no_fault_at_end P e none fault = by fault.0 (subst HasNoFault fault.1 none)
+  where
+    by : (Q : List Event) → HasNoFault (Q ++ fails e ∷ []) → ⊥
+    by [] h =
+        let again : IsInterruption e = h.0 in
+        let is : IsFault e = fault.3 in cc
+    by (byte b ∷ Q) h = by Q h
+    by (fails f ∷ Q) h = by Q h.1
+
+-- what was taken up to the end is all that was told
+pub took_told : {a b : ReaderState} {P E : List Event} → Takes a P b → to_come a ≡ Some E → IsAtEnd b → (P ≡ E) × (to_come b ≡ Some [])
+took_told {b = b} {P} takes told end = grind (arith, common_steps, append-nil, left_of)
+
+-- a copy fails for a fault of the reader, or a mishap of the writer
+pub copies_steadily : (room : ℕ) {a b : ReaderState} {P E : List Event} (side : CopyError) (old new : WriterState) → Takes a P b
+    → to_come a ≡ Some E
+    → HasNoFault E → CopyEnds room (Err side) P b old new → old.mishaps ≡ Some [] → ⊥
+copies_steadily room {P = P} (Read e) old new takes told none ends steady =
+    let left = left_of takes told in no_fault_at_end P e (HasNoFault-front P left.0 (subst HasNoFault left.2 none)) ends.fault
+copies_steadily room (Write e) old new takes told none ends steady = Moves-steady steady ends.moves
+
+module _ {R W : Type 0} {K : Reader R} {I : Writer W} {S : ℕ} {from from' : R} {old new : W} where
+  -- a `copy` that returned `Ok` is a `copy_sided` that did
+  pub copied_ok : {n : ℕ} → Copied K I S from old (Ok n) from' new → SidesCopied K I S from old (Ok n) from' new
+  copied_ok copied = grind (arith, common_steps)
+
+  -- and one that failed is a `copy_sided` of which one side failed
+  pub copied_err : {e : Error} → Copied K I S from old (Err e) from' new
+      → (side : CopyError) × (side_error side ≡ e) × SidesCopied K I S from old (Err side) from' new
+  copied_err copied = grind (arith, common_steps)
+
+-- a steady writer is steady afterwards
+pub stays_steady : {a c : WriterState} {x : List ℕ} → a.mishaps ≡ Some [] → Moves a x [] c → c.mishaps ≡ Some []
+stays_steady {a} {c} {x} steady m = none_left c.mishaps (subst (λ k. HasSpent k [] c.mishaps) steady m.mishaps)
+  where
+    none_left : (left : Option (List ErrorKind)) → HasSpent (Some []) [] left → left ≡ Some []
+    none_left None h = absurd h
+    none_left (Some []) h = refl
+    none_left (Some (k ∷ ks)) h = absurd (omega (arith, h (λ _. true), sum_by-cons (λ _. 1) k ks))
+
+-- what is out after a flush
+pub flushed : (a : WriterState) {b c : WriterState} {x : List ℕ}
+    → Moves a x [] b → Moves b [] [] c → c.held ≡ [] → c.out ≡ a.out ++ a.held ++ x
+flushed a {b = b} {c = c} m n empty = grind (arith, common_steps)
+
+-- no piece fits an empty buffer, so nothing was passed on
+none_handed : {xs : List (List ℕ)} {C : List WriteCall} {reply : Result (Unit {0}) Error} → Handed 0 xs C reply → C ≡ []
+none_handed handed = grind (arith, common_steps)
+
+module _ {R W : Type 0} {K : Reader R} {I : Writer W} where
+  hands_none : {last : List ReadCall} {from from' : R} {old new : W} {reply : Result (Unit {0}) Error}
+      → HandsOn K I 0 last from old reply from' new → new ≡ old
+  hands_none {old = old} {new} hands = subst (λ C. Made (CallOf I) old C new) (none_handed hands.handed) hands.made
+
+  -- a `copy_with` through an empty buffer, and a `copy_sided` with S = 0, leave the writer as it was,
+  pub sides_none : {from from' : R} {old new : W} (reply : Result ℕ CopyError) → SidesCopied K I 0 from old reply from' new → new ≡ old
+  sides_none reply copied = grind (arith, common_steps, hands_none)
+
+  -- and so does a `copy` with S = 0
+  pub copied_none : {from from' : R} {old new : W} (reply : Result ℕ Error) → Copied K I 0 from old reply from' new → new ≡ old
+  copied_none reply (sided, same, copied) = sides_none sided copied

@@ -7,15 +7,15 @@ use Rattle.no_std_io2.proofs.Words.{writing_calls, SendLinesCalls, LineWriteCall
 use Rattle.no_std_io2_base.specs.declared.error.Error.{Error}
 use lib.Seq.{take-take}
 use Rattle.std.proofs.lemmas.Result.{on_ok_weaker}
-use Rattle.no_std_io2_base.proofs.{MovesLemmas.{MovesFront-ends, MovesFront-whole, MovesFront-join, MovesFront-first, after_ok}}
-use Rattle.no_std_io2_base.proofs.{CallsLemmas.{made_split}, AllFacts.{all_calls}, MeterLemmas.{all_count}}
+use Rattle.no_std_io2_base.proofs.{CallsLemmas.{made_split}, MovesLemmas.{all_calls, all_count, MovesFront-ends, MovesFront-whole}}
+use Rattle.no_std_io2_base.proofs.MovesLemmas.{MovesFront-join, MovesFront-first, after_ok}
 use Rattle.no_std_io2_base.proofs.LineLemmas.{lines_some, lines_none, lines_split, take_lines, lines_bound, unfinished_all}
 use Rattle.no_std_io2.specs.LineWriter.{SendLineCalls, HoldsTail, LinesCalls, line_buffer_after, line_buffer_filled}
-use Rattle.no_std_io2.proofs.{BufWriterLemmas.{Moves-buffered, Moves-emptied, MovesFront-emptied}}
-use Rattle.no_std_io2.proofs.StepLemmas.{no_ok, then_does, effect_by, Always, Exactly, Emptied, Sending, StepsJoin}
+use Rattle.no_std_io2.proofs.BufWriterLemmas.{no_ok, then_does, effect_by, Always, Exactly, Emptied, Sending, StepsJoin, Moves-buffered}
+use Rattle.no_std_io2.proofs.{BufWriterLemmas.{Moves-emptied, MovesFront-emptied}, LineWriterStates.{line_left, line_left-is, tail_whole}}
+use Rattle.no_std_io2.proofs.LineWriterStates.{took_tail, tail_fits}
 use Rattle.no_std_io2.proofs.BufWriterCalls.{one_inner_call, send_does, kept_does, write_does, write_all_does, write_bound, Writing}
 use Rattle.no_std_io2.proofs.BufWriterCalls.{WritingAll, writing_joins, writing_all_joins, writing_all_calls}
-use Rattle.no_std_io2.proofs.{LineWriterStates.{line_left, line_left-is, tail_whole}, HeldTail.{took_tail, tail_fits}}
 
 -- a sent line is one call at most
 abbrev line_calls : List ℕ → ℕ

@@ -72,7 +72,7 @@ pub fn copy<R: Read, W: Write, const S: usize>(reader: &mut R, writer: &mut W) -
 /// assert!(rt; skip(&mut r, &mut left).is_err());
 /// assert!(rt; left == 3); // two of them were there
 /// ```
-#[tactic(auto, using(no_std_io2_base::proofs::PortionLemmas::portions_none))]
+#[tactic(auto, using(no_std_io2_base::proofs::PieceLoops::portions_none))]
 pub fn skip<B: BufRead>(reader: &mut B, left: &mut u64) -> Result<()>
     ensures { Skipped B.Read reader.old left.old result left.new reader.new }
 {

@@ -1,14 +1,22 @@
--- A content and a position in it.
+-- A content and a position in it, and the calls of a seeker.
 use Rattle.std.proofs.Common.{rules, ◌≡◌, ℕ, ◌+◌, ◌-◌, ◌<◌, ◌≤◌, ◌⊎◌, min, List, [], ◌∷◌, ◌++◌, Ok, Err, Result, length, take, drop}
-use Rattle.std.proofs.Common.{replicate, refl, sym, ap, ◌∙◌, arith, count_by, inl, inr, append-nil, take-append-drop, length-append}
-use Rattle.std.proofs.lemmas.{Grind.{common_steps}, Bool.{cases_lt}, List.{length-replicate, drop-drop, take_all, drop_all, take-replicate}}
-use Rattle.std.proofs.{lemmas.Bool.Decides.{nat_tests}, Math.Seq.{take-append-add}}
-use Rattle.std.specs.Result.{OnOk, OnErr, IfErr}
+use Rattle.std.proofs.Common.{replicate, refl, sym, ap, ◌∙◌, arith, count_by, inl, inr, append-nil, take-append-drop, length-append, ◌^◌}
+use Rattle.std.proofs.{Common.{true, Some, length-drop, ℤ, pos, subst}, lemmas.{Grind.{common_steps}, Bool.{cases_lt}}}
+use Rattle.std.proofs.lemmas.{List.{length-replicate, drop-drop, take_all, drop_all, take-replicate}, Bool.Decides.{nat_tests}}
+use Rattle.std.proofs.Math.Seq.{take-append-add, drop-append_seam}
+use Rattle.std.specs.{Result.{OnOk, OnErr, IfErr}, declared.dyn_box.DynBox.{DynBox}}
 use Rattle.no_std_io2_base.specs.{declared.error.{Error.{Error}, ErrorKind.{ErrorKind, TheVariants.{WriteZero}}}, Errors.{error_kind}}
-use Rattle.no_std_io2_base.specs.Errors.{is_interruption, IsFault, IsNoInterruption, IsOutOfMemory}
-use Rattle.no_std_io2_base.specs.Write.{WriterState, Moves, MovesFront}
-use Rattle.no_std_io2_base.specs.{Write.{told_out, taken, write_mishap, zero_write}, Cursor.{bytes_before, put_at, fitting, IsRefusal}}
-use Rattle.no_std_io2_base.specs.{Cursor.{PutsWhole, PutsAll, PutsFitting, PutsAllFitting}, Appends.{AppendsWhole}}
+use Rattle.no_std_io2_base.specs.{Errors.{is_interruption, IsFault, IsNoInterruption, IsOutOfMemory}, Write.{WriterState, Moves}}
+use Rattle.no_std_io2_base.specs.{Write.{MovesFront, told_out, taken, write_mishap, zero_write, ByCalls, BoxMay}, Cursor.{bytes_before}}
+use Rattle.no_std_io2_base.specs.Cursor.{put_at, fitting, IsRefusal, PutsWhole, PutsAll, PutsFitting, PutsAllFitting}
+use Rattle.no_std_io2_base.specs.{Appends.{AppendsWhole}, Events.{events_of}, Takes.{ReaderState, Takes, KeepsContent, to_come, store_at}}
+use Rattle.no_std_io2_base.specs.{Takes.{fits_u64}, declared.traits.seek.SeekFrom.{SeekFrom, TheVariants.{End}}, Seek.{SeekCall, Sought}}
+use Rattle.no_std_io2_base.specs.Seek.{Measured, LenCalls, measured, at_end, here, Seeker, SeekLaw, StreamPositionLaw, RewindLaw}
+use Rattle.no_std_io2_base.specs.Seek.{StreamLenLaw, SeekRelativeLaw}
+use Rattle.no_std_io2_base.proofs.{TakesLemmas.{events_of-append, length-events_of, bytes-events_of}, CallsLemmas.{by_call, by_two}}
+use Rattle.no_std_io2_base.proofs.Forwards.{holding, in_box}
+
+-- A content and a position in it.
 
 -- n bytes further on
 pub left_after : (all : List ℕ) (place n : ℕ) → drop (place + n) all ≡ drop n (drop place all)
@@ -148,3 +156,108 @@ pub appends_all : {old new x : List ℕ} (len capacity : ℕ) (reply : Result (U
     → IsNoInterruption reply × MovesFront (told_out old) x reply (told_out new)
 appends_all len capacity (Ok u) is = (tt, append_moves (Ok u) is tt tt)
 appends_all len capacity (Err e) h = (ap is_interruption h.0.0, append_moves (Err e) tt h.2 h.0)
+
+-- What is told of a content and a position in it.
+
+-- both fit, so the test says so
+pub fits_at : (content : List ℕ) (position : ℕ) → length content < 2 ^ 64 → position < 2 ^ 64 → fits_u64 content position ≡ true
+fits_at content position small near = grind (arith, common_steps)
+
+-- from one position to another the content stays
+pub keeps_at : (Goes : ℕ → ℕ → ℕ → Type 0) (content : List ℕ) (was now : ℕ) → (length content < 2 ^ 64 → was < 2 ^ 64 → now < 2 ^ 64)
+    → Goes (length content) was now → KeepsContent (store_at content was) Goes (store_at content now)
+keeps_at Goes content was now near goes = grind (arith, common_steps)
+
+-- what a reader tells of a content from a position on
+abbrev tells_at : List ℕ → ℕ → ReaderState
+tells_at content position = record {
+  events = Some (events_of (drop position content));
+  store = store_at content position;
+  turns = length (drop position content);
+}
+
+-- whether or not it is a store, the bytes from the position on are to come
+pub told_at : (content : List ℕ) (position : ℕ) → to_come (tells_at content position) ≡ Some (events_of (drop position content))
+told_at content position = grind (arith, common_steps)
+
+-- behind a part of them come the others
+pub behind_at : (content : List ℕ) (was now : ℕ) (part rest : List ℕ) → drop was content ≡ part ++ rest → now ≡ was + length part
+    → drop now content ≡ rest
+behind_at content was now part rest split moved =
+    ap (λ n. drop n content) moved ∙ sym (drop-drop (length part) was content) ∙ ap (drop (length part)) split ∙ drop-append_seam part rest
+
+-- the next bytes of a told store are taken
+pub takes_at : (content : List ℕ) (was now : ℕ) (part : List ℕ) → drop was content ≡ part ++ drop now content → now ≡ was + length part
+    → Takes (tells_at content was) (events_of part) (tells_at content now)
+takes_at content was now part split moved =
+    grind (
+      arith,
+      common_steps,
+      length-append,
+      tells_at,
+      told_at,
+      events_of-append,
+      keeps_at,
+      length-drop,
+      bytes-events_of,
+      length-events_of,
+    )
+
+-- The calls of a `stream_len`, and those of a reference, a box and a boxed object.
+
+module _ {X : Type 0} (may : X → SeekCall → X → Type 0) {old new : X} where
+  -- the `stream_len` of a type that has a body of its own for it
+  pub len_measured : (reply : Result ℕ Error) → may old (Measured reply) new → ByCalls may old (λ C. LenCalls C reply) new
+  len_measured reply call = by_call (Measured reply) call measured
+
+  -- the position was at the end
+  pub len_at_end : {mid : X} {n len : ℕ} → may old (Sought here (Ok n)) mid → may mid (Sought (End (pos 0)) (Ok len)) new → n ≡ len
+      → ByCalls may old (λ C. LenCalls C (Ok len)) new
+  len_at_end {n = n} first call there = by_two _ _ _ first call
+      (subst (λ m. LenCalls (Sought here (Ok n) ∷ Sought (End (pos 0)) (Ok m) ∷ []) (Ok m)) there at_end)
+
+-- S' tells the store of S, whose values are put into its own, and may make its calls
+pub record SeeksThrough {X Y : Type 0} (S : Seeker X) (S' : Seeker Y) (put : X → Y) : Type 0 where
+  pub store : (x : X) → S'.store (put x) ≡ S.store x
+  pub may : (x y : X) (call : SeekCall) → S.may x call y → S'.may (put x) call (put y)
+  pub sound : (x : X) → S'.sound (put x) → S.sound x
+  pub stays : (x : X) → S.sound x → S'.sound (put x)
+
+-- what a call did to a value, it did to that which the value was put into
+module _ {X Y : Type 0} {S : Seeker X} {S' : Seeker Y} (put : X → Y) (through : SeeksThrough S S' put) {a b : X} where
+  pub seek_through : {target : SeekFrom} {reply : Result ℕ Error} → SeekLaw S a target reply b → SeekLaw S' (put a) target reply (put b)
+  seek_through law = grind (arith, common_steps)
+
+  pub stream_position_through : {reply : Result ℕ Error} → StreamPositionLaw S a reply b → StreamPositionLaw S' (put a) reply (put b)
+  stream_position_through law = grind (arith, common_steps)
+
+  pub rewind_through : {reply : Result (Unit {0}) Error} → RewindLaw S a reply b → RewindLaw S' (put a) reply (put b)
+  rewind_through {reply} law = grind (arith, common_steps)
+
+  pub stream_len_through : {reply : Result ℕ Error} → StreamLenLaw S a reply b → StreamLenLaw S' (put a) reply (put b)
+  stream_len_through law = grind (arith, common_steps)
+
+  pub seek_relative_through : {offset : ℤ} {reply : Result (Unit {0}) Error} → SeekRelativeLaw S a offset reply b
+      → SeekRelativeLaw S' (put a) offset reply (put b)
+  seek_relative_through {offset} {reply} law = grind (arith, common_steps)
+
+module _ {I A : Type 0} {V : I → Type 0} (o : (p : (x : I) × V x) → Seeker (V p.0)) (box : DynBox I A V) where
+  -- the value in a box, by what its trait object tells, and the box
+  abbrev value_seeker : (i : I) → Seeker (V i)
+  value_seeker i = record { store = λ v. (o (i, v)).store v; may = λ v. (o (i, v)).may v; sound = λ v. (o (i, v)).sound v }
+
+  abbrev box_seeker : Seeker (DynBox I A V)
+  box_seeker = record {
+    store = λ b. (value_seeker b.vtable).store b.value;
+    may = λ b. BoxMay b (value_seeker b.vtable).may;
+    sound = λ b. (value_seeker b.vtable).sound b.value;
+  }
+
+  -- what a call did to the value that was lent, it did to the box
+  pub seeks_box : (Law : (X : Type 0) → Seeker X → X → X → Type 0)
+      → (SeeksThrough (value_seeker box.vtable) box_seeker (holding box box.vtable) → (new : V box.vtable)
+      → Law _ (value_seeker box.vtable) box.value new → Law _ box_seeker box (holding box box.vtable new))
+      → (lent : (x : I) × V x) → lent ≡ (box.vtable, box.value) → (new : V lent.0) → Law _ (value_seeker lent.0) lent.1 new
+      → Law _ box_seeker box (holding box lent.0 new)
+  seeks_box Law through = in_box box (λ i a b. Law _ (value_seeker i) a b) (Law _ box_seeker box)
+      (through (record { store = λ x. refl; may = λ x y call may. (y, refl, may); sound = λ x is. is; stays = λ x is. is }))

@@ -1,11 +1,21 @@
--- A reader behind a reference, or in a box: what a call did to the reader, it did to the reference or the box.
-use Rattle.std.proofs.{Common.{rules, arith, ◌≡◌, ℕ, List, Result, refl, sym, subst, Vec, String, Option}, lemmas.Grind.{common_steps}}
-use Rattle.std.specs.Borrow.{Bor}
+-- A stream behind a reference, in a box, or behind an object.
+use Rattle.std.proofs.Common.{rules, arith, ◌≡◌, ℕ, List, Result, refl, sym, subst, Vec, String, Option, ap, Global}
+use Rattle.std.proofs.lemmas.Grind.{common_steps}
+use Rattle.std.specs.{Borrow.{Bor}, declared.dyn_box.DynBox.{DynBox}, contracts.vec.Vec.{the_row as vec-row}}
+use Rattle.std.specs.contracts.{collections.VecDeque.{the_row as deque-row}, boxed.BoxedSlice.{the_row as boxed-row}}
+use Rattle.std.specs.contracts.{alloc.Global.{the_row as global-row}, impls.GlobalAllocator.TheImpl.{ghosts}}
+use Rattle.std.specs.declared.boxed.BoxedSlice.{BoxedSlice}
 use Rattle.no_std_io2_base.specs.{declared.error.Error.{Error}, Events.{Event}, Takes.{Store, ReaderState}, Read.{Reader, tells, ReadCall}}
 use Rattle.no_std_io2_base.specs.{Read.{ReadCallLaw, ReadLaw, ReadExactLaw, ReadFullLaw, ToEndLaw, ConsumeLaw}, BufRead.{AfterLoan}}
-use Rattle.no_std_io2_base.specs.{BufRead.{ReadUntilLaw, ReadLineLaw}, Write.{WriterState, WriteCall, ByCalls, CallLaw, WriteAllLaw}}
-use Rattle.no_std_io2_base.specs.Write.{WriteRestLaw, AllCalls, PartMay}
+use Rattle.no_std_io2_base.specs.{BufRead.{ReadUntilLaw, ReadLineLaw, FillBufLaw}, Write.{WriterState, WriteCall, ByCalls, CallLaw}}
+use Rattle.no_std_io2_base.specs.{Write.{WriteAllLaw, WriteRestLaw, AllCalls, PartMay, BoxMay}, Writers.{Writer, CallOf, WriteAllOf}}
+use Rattle.no_std_io2_base.specs.{Writers.{WriteRestOf}, contracts.cursor.Cursor.{the_row as cursor-row}, declared.cursor.Cursor.{Cursor}}
 use Rattle.no_std_io2_base.proofs.CallsLemmas.{made_map}
+use base.Stored.{Gv}
+use denote.{Builtin.{u8, Array}, RattleType.{RattleType}, Ref.{MutBor}, Param.Table.{Entry}}
+use borrow.Pointer.Hide.{carry_nowᵐ, carried_sameᵐ}
+
+-- A reader behind a reference, or in a box: what a call did to the reader, it did to the reference or the box.
 
 -- R' tells and holds what R does, whose values are put into its own, and may make its calls
 pub record PassesReads {X Y : Type 0} (R : Reader X) (R' : Reader Y) (put : X → Y) : Type 0 where
@@ -154,3 +164,173 @@ module _ {W V : Type 0} {store : V → Option Store} {turns : V → ℕ} {events
         subst (λ v. ToEndLaw lacks whole v buf reply buf' new) was
         (subst (λ v. ToEndLaw lacks whole (put old (get old)) buf reply buf' v) is (drained_through {R = part} {R' = whole}
         (put old) through law))
+
+-- A boxed object after a call on the value in it.
+
+module _ {I A : Type 0} {V : I → Type 0} (box : DynBox I A V) where
+  -- the box with another value
+  abbrev pub holding : (i : I) → V i → DynBox I A V
+  holding i new = record { ptr = box.ptr; vtable = i; alloc = box.alloc; value = new }
+
+  -- what a call did to the value that was lent, it did to the box, which that value is in
+  pub in_box : (P : (i : I) → V i → V i → Type 0) (Q : DynBox I A V → Type 0)
+      → ((new : V box.vtable) → P box.vtable box.value new → Q (holding box.vtable new))
+      → (lent : (i : I) × V i) → lent ≡ (box.vtable, box.value) → (new : V lent.0) → P lent.0 lent.1 new → Q (holding lent.0 new)
+  in_box P Q did lent back = subst (λ l. (new : V l.0) → P l.0 l.1 new → Q (holding l.0 new)) (sym back) did
+
+-- the value in a box, by what its trait object tells, and the box
+abbrev value_reader : {I : Type 0} {V : I → Type 0} → ((p : (x : I) × V x) → Reader (V p.0)) → (i : I) → Reader (V i)
+value_reader o i = record {
+  store = λ v. (o (i, v)).store v;
+  turns = λ v. (o (i, v)).turns v;
+  events = λ v. (o (i, v)).events v;
+  may = λ v. (o (i, v)).may v;
+  held = λ v. (o (i, v)).held v;
+}
+
+abbrev pub box_reader : {I A : Type 0} {V : I → Type 0} → ((p : (x : I) × V x) → Reader (V p.0)) → Reader (DynBox I A V)
+box_reader o = record {
+  store = λ b. (value_reader o b.vtable).store b.value;
+  turns = λ b. (value_reader o b.vtable).turns b.value;
+  events = λ b. (value_reader o b.vtable).events b.value;
+  may = λ b. BoxMay b (value_reader o b.vtable).may;
+  held = λ b. (value_reader o b.vtable).held b.value;
+}
+
+module _ {I A : Type 0} {V : I → Type 0} (o : (p : (x : I) × V x) → Reader (V p.0)) (box : DynBox I A V) where
+  of_reader : PassesReads (value_reader o box.vtable) (box_reader o) (holding box box.vtable)
+  of_reader = record { told = λ x. refl; may = λ x y call may. (y, refl, may); held = λ x. refl }
+
+  -- what a call did to the value that was lent, it did to the box
+  pub read_box : {buf buf' : List ℕ} {reply : Result ℕ Error} (lent : (x : I) × V x) → lent ≡ (box.vtable, box.value)
+      → (new : V lent.0) → ReadLaw (value_reader o lent.0) lent.1 buf reply buf' new
+      → ReadLaw (box_reader o) box buf reply buf' (holding box lent.0 new)
+  read_box {buf} {buf'} {reply} =
+      in_box box (λ i a b. ReadLaw (value_reader o i) a buf reply buf' b) (ReadLaw (box_reader o) box buf reply buf')
+      (λ new. read_through (holding box box.vtable) of_reader)
+
+  pub exact_box : {buf buf' : List ℕ} {reply : Result (Unit {0}) Error} (lent : (x : I) × V x) → lent ≡ (box.vtable, box.value)
+      → (new : V lent.0) → ReadExactLaw (value_reader o lent.0) lent.1 buf reply buf' new
+      → ReadExactLaw (box_reader o) box buf reply buf' (holding box lent.0 new)
+  exact_box {buf} {buf'} {reply} = in_box box (λ i a b. ReadExactLaw (value_reader o i) a buf reply buf' b)
+      (ReadExactLaw (box_reader o) box buf reply buf') (λ new. exact_through (holding box box.vtable) of_reader)
+
+  pub full_box : {buf buf' : List ℕ} {n n' : ℕ} {reply : Result (Unit {0}) Error} (lent : (x : I) × V x)
+      → lent ≡ (box.vtable, box.value) → (new : V lent.0) → ReadFullLaw (value_reader o lent.0) lent.1 buf n reply buf' n' new
+      → ReadFullLaw (box_reader o) box buf n reply buf' n' (holding box lent.0 new)
+  full_box {buf} {buf'} {n} {n'} {reply} = in_box box (λ i a b. ReadFullLaw (value_reader o i) a buf n reply buf' n' b)
+      (ReadFullLaw (box_reader o) box buf n reply buf' n') (λ new. read_full_through (holding box box.vtable) of_reader)
+
+  pub consume_box : {n : ℕ} (lent : (x : I) × V x) → lent ≡ (box.vtable, box.value)
+      → (new : V lent.0) → ConsumeLaw (value_reader o lent.0) lent.1 n new → ConsumeLaw (box_reader o) box n (holding box lent.0 new)
+  consume_box {n} = in_box box (λ i a b. ConsumeLaw (value_reader o i) a n b) (ConsumeLaw (box_reader o) box n)
+      (λ new. consume_through (holding box box.vtable) of_reader)
+
+  pub fill_box : {reply : Result (Bor (List ℕ)) Error} (lent : (x : I) × V x) → lent ≡ (box.vtable, box.value)
+      → FillBufLaw (value_reader o lent.0) lent.1 reply → FillBufLaw (box_reader o) box reply
+  fill_box {reply} lent back = grind (arith, common_steps)
+
+  pub loan_box : (reply : Result (Bor (List ℕ)) Error) (lent : (x : I) × V x) → lent ≡ (box.vtable, box.value)
+      → (new : V lent.0) → AfterLoan (value_reader o lent.0) lent.1 reply new → AfterLoan (box_reader o) box reply (holding box lent.0 new)
+  loan_box reply = in_box box (λ i a b. AfterLoan (value_reader o i) a reply b) (AfterLoan (box_reader o) box reply)
+      (λ new. loan_through {R' = box_reader o} (holding box box.vtable) of_reader reply)
+
+module _ {I A : Type 0} {V : I → Type 0} (o : (p : (x : I) × V x) → Writer (V p.0)) (box : DynBox I A V) where
+  -- a value in a box, as a writer,
+  abbrev value_writer : (i : I) → Writer (V i)
+  value_writer i = record {
+    told = λ v. (o (i, v)).told v;
+    takes_all = λ v. (o (i, v)).takes_all v;
+    may = λ v. (o (i, v)).may v;
+  }
+
+  -- and the box
+  abbrev box_writer : Writer (DynBox I A V)
+  box_writer = record {
+    told = λ b. (value_writer b.vtable).told b.value;
+    takes_all = λ b. (value_writer b.vtable).takes_all b.value;
+    may = λ b. BoxMay b (value_writer b.vtable).may;
+  }
+
+  -- the value that was lent is that in the box
+  pub lent_call : (call : WriteCall) (lent : (i : I) × V i) → lent ≡ (box.vtable, box.value)
+      → (new : V lent.0) → CallOf (value_writer lent.0) lent.1 call new → CallOf box_writer box call (holding box lent.0 new)
+  lent_call call = in_box box (λ i a b. CallOf (value_writer i) a call b) (CallOf box_writer box call)
+      (λ new law. wrote_through box_writer.told box_writer.takes_all (value_writer box.vtable).may box_writer.may (holding box box.vtable)
+      (λ a b call did. (b, refl, did)) box.value new call law)
+
+  pub write_all_box : (x : List ℕ) (reply : Result (Unit {0}) Error) (lent : (i : I) × V i) → lent ≡ (box.vtable, box.value)
+      → (new : V lent.0) → WriteAllOf (value_writer lent.0) lent.1 x reply new → WriteAllOf box_writer box x reply (holding box lent.0 new)
+  write_all_box x reply = in_box box (λ i a b. WriteAllOf (value_writer i) a x reply b) (WriteAllOf box_writer box x reply)
+      (λ new law. write_all_through (holding box box.vtable) (λ a b call did. (b, refl, did)) law)
+
+  pub write_rest_box : (x left : List ℕ) (reply : Result (Unit {0}) Error) (lent : (i : I) × V i) → lent ≡ (box.vtable, box.value)
+      → (new : V lent.0) → WriteRestOf (value_writer lent.0) lent.1 x reply new left
+      → WriteRestOf box_writer box x reply (holding box lent.0 new) left
+  write_rest_box x left reply = in_box box (λ i a b. WriteRestOf (value_writer i) a x reply b left)
+      (λ b. WriteRestOf box_writer box x reply b left)
+      (λ new law. write_rest_through (holding box box.vtable) (λ a b call did. (b, refl, did)) law)
+
+-- For callers that lend a value as a `&mut dyn`: the object refers to what was lent, and what is behind it is given back.
+
+-- an object refers to what was lent to it
+pub object_given : (G : Type 0 → Type 1) (C : Type 0) (e : Entry G C) (same : e ≡ e) (x : MutBor e.0.Denot)
+    → carry_nowᵐ G C e e same x ≡ x.now
+object_given G C e same x = e.0.coded.inj _ _ (carried_sameᵐ G C e e same Gv (λ j r. j.0.coded.code r.now) x)
+
+-- what is read of the owner's value is what is read of the value behind the object
+pub row_back : {X : Type 0} (R : RattleType) (F : R.Denot → X) (w y : R.Denot) → R.coded.code w ≡ R.coded.code y → F y ≡ F w
+row_back R F w y codes = ap F (sym (R.coded.inj w y codes))
+
+-- a vector of bytes
+abbrev pub vec : RattleType
+vec = vec-row u8 global-row ghosts
+
+-- its bytes
+pub vec_back : (w y : Vec ℕ Global) → vec.coded.code w ≡ vec.coded.code y → y.items ≡ w.items
+vec_back w y codes = row_back vec (λ (v : Vec ℕ Global). v.items) w y codes
+
+-- a queue of bytes
+abbrev pub queue : RattleType
+queue = deque-row u8 global-row ghosts
+
+-- its bytes
+pub queue_back : (w y : queue.Denot) → queue.coded.code w ≡ queue.coded.code y → y.items ≡ w.items
+queue_back w y codes = row_back queue (λ q. q.items) w y codes
+
+-- the bytes of a cursor over a vector
+pub cursor_back : (w y : Cursor (Vec ℕ Global)) → (cursor-row vec).coded.code w ≡ (cursor-row vec).coded.code y
+    → y.inner.items ≡ w.inner.items
+cursor_back w y codes = row_back (cursor-row vec) (λ (c : Cursor (Vec ℕ Global)). c.inner.items) w y codes
+
+-- and its position
+pub position_back : (w y : Cursor (Vec ℕ Global)) → (cursor-row vec).coded.code w ≡ (cursor-row vec).coded.code y → y.pos ≡ w.pos
+position_back w y codes = row_back (cursor-row vec) (λ (c : Cursor (Vec ℕ Global)). c.pos) w y codes
+
+-- a boxed slice of bytes
+abbrev pub boxed : RattleType
+boxed = boxed-row u8 global-row ghosts
+
+-- the bytes of a cursor over a boxed slice
+pub boxed_back : (w y : Cursor (BoxedSlice ℕ Global)) → (cursor-row boxed).coded.code w ≡ (cursor-row boxed).coded.code y
+    → y.inner.items.items ≡ w.inner.items.items
+boxed_back w y codes = row_back (cursor-row boxed) (λ (c : Cursor (BoxedSlice ℕ Global)). c.inner.items.items) w y codes
+
+-- and its position
+pub boxed_position : (w y : Cursor (BoxedSlice ℕ Global)) → (cursor-row boxed).coded.code w ≡ (cursor-row boxed).coded.code y
+    → y.pos ≡ w.pos
+boxed_position w y codes = row_back (cursor-row boxed) (λ (c : Cursor (BoxedSlice ℕ Global)). c.pos) w y codes
+
+-- an array of n bytes
+abbrev pub array : ℕ → RattleType
+array n = Array u8 tt n
+
+-- the bytes of a cursor over an array
+pub array_back : (n : ℕ) (w y : Cursor (List ℕ)) → (cursor-row (array n)).coded.code w ≡ (cursor-row (array n)).coded.code y
+    → y.inner ≡ w.inner
+array_back n w y codes = row_back (cursor-row (array n)) (λ (c : Cursor (List ℕ)). c.inner) w y codes
+
+-- and its position
+pub array_position : (n : ℕ) (w y : Cursor (List ℕ)) → (cursor-row (array n)).coded.code w ≡ (cursor-row (array n)).coded.code y
+    → y.pos ≡ w.pos
+array_position n w y codes = row_back (cursor-row (array n)) (λ (c : Cursor (List ℕ)). c.pos) w y codes

@@ -1,15 +1,40 @@
+-- What calls give and leave if the next bytes, all events, or a place in a store are known.
+use Rattle.std.proofs.Common.{arith, ◌≡◌, ℕ, List, ◌++◌, Option, None, Some, IfSome, IsSomeAnd, ap, ◌∙◌, append_assoc, ◌≤◌, take, drop}
+use Rattle.std.proofs.Common.{take-append-drop, length-take-le, ◌+◌, ◌-◌, ◌<◌, ◌∷◌, [], Vec, IfOk, IfErr, length, Result, Ok, Err, IsOk}
+use Rattle.std.proofs.Common.{inl, inr, sym, subst, append-nil, length-append, length-take, refl, rules, length-drop, OnOk}
+use Rattle.std.proofs.{lemmas.{Grind.{common_steps}, List.{append_cancel_left}}, Math.Seq.{take-append_seam}}
+use Rattle.no_std_io2_base.specs.{Events.{Event, bytes, cut, events_of, fails, HasNoFault, EndsInFault}, Takes.{ReaderState, Takes}}
+use Rattle.no_std_io2_base.specs.{Takes.{AreTaken, to_come, TakesBytes, Store, KeepsContent}, Lost.{LosesFirst}}
+use Rattle.no_std_io2_base.specs.{declared.error.Error.{Error}, Read.{Reader, tells, ReadExactLaw, AllOrNone, FillsOrEnds, gave_whole}}
+use Rattle.no_std_io2_base.specs.{Read.{ReadFullLaw, ReadToEndLaw}, Errors.{IsOutOfMemory}, declared.traits.seek.SeekFrom.{SeekFrom}}
+use Rattle.no_std_io2_base.specs.{Seek.{Seeks, IsTarget}, ReadAt.{ReadsAt, HasBytesAt}}
+use Rattle.no_std_io2_base.proofs.TakesLemmas.{bytes-append, events_of-append, bytes-events_of, bytes-behind, cut-bytes, cut-append}
+use Rattle.no_std_io2_base.proofs.TakesLemmas.{HasNoFault-front, HasNoFault-behind, HasNoFault-events_of, bytes-cut, all_taken, left_of}
+use Rattle.no_std_io2_base.proofs.{TakesLemmas.{front_taken, TakesBytes-then}, LimitLemmas.{cut-within}}
+
+-- Which bytes are gone from those to come, after one call and after two.
+
+-- the bytes of the events that were taken are gone from the front
+pub takes_loses : {a b : ReaderState} {P : List Event} (x : List ℕ) → Takes a P b → bytes P ≡ x → LosesFirst a x b
+takes_loses {a} {b} {P} x takes are = by (to_come a) (to_come b) takes.events
+  where
+    by : (E E' : Option (List Event)) → AreTaken E P E' → IfSome E (λ F. IsSomeAnd E' (λ F'. bytes F ≡ x ++ bytes F'))
+    by None E' taken = tt
+    by (Some E) None taken = absurd taken
+    by (Some E) (Some E') taken = rw taken (bytes-append P E' ∙ ap (λ l. l ++ bytes E') are)
+
+-- one after the other
+pub loses_then : (a b c : ReaderState) (x y : List ℕ) → LosesFirst a x b → LosesFirst b y c → LosesFirst a (x ++ y) c
+loses_then a b c x y first next = by (to_come a) (to_come b) (to_come c) first next
+  where
+    by : (E F G : Option (List Event)) → IfSome E (λ l. IsSomeAnd F (λ m. bytes l ≡ x ++ bytes m))
+        → IfSome F (λ l. IsSomeAnd G (λ m. bytes l ≡ y ++ bytes m)) → IfSome E (λ l. IsSomeAnd G (λ m. bytes l ≡ (x ++ y) ++ bytes m))
+    by None F G first next = tt
+    by (Some E) None G first next = absurd first
+    by (Some E) (Some F) None first next = absurd next
+    by (Some E) (Some F) (Some G) first next = grind (arith, append_assoc, first, next)
+
 -- What a call gives if the bytes x are the next to come.
-use Rattle.no_std_io2_base.proofs.EventLemmas.{events_of-append, bytes-events_of, bytes-behind, cut-bytes, cut-append, HasNoFault-front}
-use Rattle.no_std_io2_base.proofs.{EventLemmas.{HasNoFault-behind, HasNoFault-events_of, bytes-cut}, LimitLemmas.{cut-within}}
-use Rattle.no_std_io2_base.proofs.TakesLemmas.{all_taken, left_of, front_taken, TakesBytes-then}
-use Rattle.std.proofs.Common.{◌≤◌, take, drop, take-append-drop, length-take-le, append_assoc, ◌≡◌, ◌+◌, ◌-◌, ◌<◌, ℕ, List, ◌∷◌, ◌++◌, []}
-use Rattle.std.proofs.Common.{Vec, IfOk, IfErr}
-use Rattle.std.proofs.Common.{length, Result, Ok, Err, IfSome, IsOk, Some, inl, inr, ap, sym, ◌∙◌, subst, arith, append-nil, length-append}
-use Rattle.std.proofs.{Common.{length-take, refl}, lemmas.{Grind.{common_steps}, List.{append_cancel_left}}, Math.Seq.{take-append_seam}}
-use Rattle.no_std_io2_base.specs.{declared.error.Error.{Error}, Events.{Event, bytes, cut, events_of, fails, HasNoFault, EndsInFault}}
-use Rattle.no_std_io2_base.specs.Takes.{ReaderState, Takes, to_come, TakesBytes}
-use Rattle.no_std_io2_base.specs.Read.{Reader, tells, ReadExactLaw, AllOrNone, FillsOrEnds}
-use Rattle.no_std_io2_base.specs.{Read.{gave_whole, ReadFullLaw, ReadToEndLaw}, Errors.{IsOutOfMemory}}
 
 -- cut right after the bytes x, only these are left
 cut_behind : (x : List ℕ) (rest : List Event) → cut (length x) (events_of x ++ rest) ≡ events_of x
@@ -124,3 +149,65 @@ to_end_known (Err e) x law told = elim law.ends [
       let no : ⊥ = cc (last.0, fault.3) in absurd no
   | inr refused ↦ (tt, refused.1)
 ]
+
+-- A read after a seek.
+
+-- a seek has one target
+pub IsTarget-unique : (len position : ℕ) (at : SeekFrom) (p q : ℕ) → IsTarget len position at p → IsTarget len position at q → p ≡ q
+IsTarget-unique = grind (arith, common_steps)
+
+-- from an old store to a new one with the same content these events were taken, which are its next bytes
+pub record StoreTaken (s : Store) (P : List Event) (t : Store) : Type 0 where
+  pub content : t.content ≡ s.content
+  pub position : t.position ≡ s.position + length (bytes P)
+  pub split : events_of (drop s.position s.content) ≡ P ++ events_of (drop t.position t.content)
+
+-- what is taken of a told store
+pub store_taken : {a b : ReaderState} {P : List Event} → Takes a P b → IfSome a.store (λ s. IsSomeAnd b.store (StoreTaken s P))
+store_taken {a} {b} {P} takes = grind (arith, common_steps)
+
+-- a told store tells its bytes
+store_tells : (a : ReaderState) → IfSome a.store (λ s. to_come a ≡ Some (events_of (drop s.position s.content)))
+store_tells a = grind (arith, common_steps)
+
+-- the bytes that were taken are those at the target of the seek
+reads_there : {at : SeekFrom} {n : ℕ} {P : List Event} {buf : List ℕ} (s m t : Store) → m.content ≡ s.content
+    → Seeks (length s.content) s.position at (Ok n) m.position → StoreTaken m P t → bytes P ≡ buf → ReadsAt s at buf t.position
+reads_there {at} {n} {P} {buf} s m t kept sought took given =
+    let rest = drop t.position t.content in
+    let front = drop m.position m.content in
+    let split : front ≡ buf ++ rest =
+    sym (bytes-events_of front) ∙ ap bytes took.split ∙ bytes-append P (events_of rest) ∙ ap (λ l. l ++ bytes (events_of rest)) given
+    ∙ ap (λ l. buf ++ l) (bytes-events_of rest) in
+    let there : front ≡ drop n s.content = grind (arith, common_steps) in
+    record {
+      place = n;
+      target = sought.0;
+      there = sym (take-append_seam buf rest) ∙ ap (take (length buf)) (sym split ∙ there);
+      behind = omega (arith, took.position, sought.1, ap length given);
+    }
+
+module _ {X : Type 0} {R : Reader X} {mid new : X} {buf buf' : List ℕ} (s : Option Store) (at : SeekFrom) (n : ℕ) where
+  module _ (sought : KeepsContent s (λ len was now. Seeks len was at (Ok n) now) (R.store mid)) where
+    -- after a seek that succeeded, a read fills the buffer with the bytes from its target on
+    pub stands_there : (reply : Result (Unit {0}) Error) → ReadExactLaw R mid buf reply buf' new
+        → IfSome s (λ s. IsSomeAnd (R.store new) (λ t. (t.content ≡ s.content) × OnOk reply (ReadsAt s at buf' t.position)))
+    stands_there reply law =
+        search (arith, rules, store_taken, reads_there)
+
+    -- it does not fail if there are enough bytes
+    pub enough_there : (reply : Result (Unit {0}) Error) {room : ℕ} → ReadExactLaw R mid buf reply buf' new → length buf' ≡ room
+        → IsSomeAnd s (HasBytesAt at room) → IsOk reply
+    enough_there reply {room} law long has = by s (R.store mid) sought (store_tells (tells R mid)) has
+      where
+        by : (s m : Option Store) → KeepsContent s (λ len was now. Seeks len was at (Ok n) now) m
+            → IfSome m (λ m. to_come (tells R mid) ≡ Some (events_of (drop m.position m.content)))
+            → IsSomeAnd s (HasBytesAt at room) → IsOk reply
+        by None m sought told has = grind (arith, common_steps)
+        by (Some s) None sought told has = grind (arith, common_steps)
+        by (Some s) (Some m) sought told has =
+            let bs = drop m.position m.content in
+            let one = IsTarget-unique (length s.content) s.position at n has.0 sought.1.0 has.1 in
+            let fits : length buf' ≤ length bs =
+            omega (arith, one, has.2, long, sought.1.1, ap length sought.0, length-drop m.position m.content) in
+            (exact_cut bs [] law (told ∙ ap Some (sym (append-nil (events_of bs)))) fits).0

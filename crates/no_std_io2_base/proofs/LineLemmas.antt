@@ -1,11 +1,20 @@
--- The lines of a list of bytes, and what follows them.
+-- The lines of some bytes, and a line that goes to a text.
 use Rattle.std.proofs.{lemmas.Grind.{common_steps}, Common.{◌≡◌, ◌≢◌, ℕ, ◌<◌, ◌≤◌, ◌==◌, ◌⊎◌, Bool, true, false, List, [], ◌∷◌, ◌++◌}}
-use Rattle.std.proofs.Common.{length, refl, sym, ap, ◌∙◌, suc, subst, arith, true≢false, eqb-true, eq-eqb, Contains, take, drop}
-use Rattle.std.proofs.{lemmas.List.{get_or_default}, lemmas.List.Elements.{recursion_from_All, All-from_recursion, Contains-append_left}}
-use Rattle.std.proofs.lemmas.List.Elements.{Contains-append_right}
-use Rattle.no_std_io2_base.specs.{Pieces.{Lacks, ends_in, pieces, newline, ArePieces}, Lines.{lines_of, unfinished_line, lines_len}}
-use Rattle.no_std_io2_base.specs.Lines.{IsLineState}
-use Rattle.no_std_io2_base.proofs.PieceLaws.{pieces_are, ends_in-lacks}
+use Rattle.std.proofs.Common.{length, refl, sym, ap, ◌∙◌, suc, subst, arith, true≢false, eqb-true, eq-eqb, Contains, take, drop, Result}
+use Rattle.std.proofs.Common.{Err, String, string_bytes, string_len, string_capacity, Vec, vec_capacity, IfErr, IsErrAnd, IsUtf8, ◌+◌, Ok}
+use Rattle.std.proofs.{Common.{vec_len, le_refl, length-take-le, length-append, append-nil, ⊎_elim, inl, inr}, lemmas.List.{get_or_default}}
+use Rattle.std.proofs.lemmas.List.Elements.{recursion_from_All, All-from_recursion, Contains-append_left, Contains-append_right}
+use Rattle.std.proofs.{lemmas.Str.{IsUtf8-nil, IsUtf8-string_bytes}, Math.Seq.{take-append_seam, drop-append_seam}}
+use Rattle.no_std_io2_base.specs.Pieces.{Lacks, ends_in, pieces, newline, ArePieces, AnswersLine, IsInvalidText, FindsPiece, Follows}
+use Rattle.no_std_io2_base.specs.{Lines.{lines_of, unfinished_line, lines_len, IsLineState}, declared.error.Error.{Error}}
+use Rattle.no_std_io2_base.specs.{declared.error.ErrorKind.TheVariants.{OutOfMemory}, Errors.{error_kind, IsFault}, BufRead.{line_room}}
+use Rattle.no_std_io2_base.specs.{BufRead.{text_room, ReadUntilLaw, ReadLineLaw}, declared.error.ErrorKind.{ErrorKind}, Events.{bytes}}
+use Rattle.no_std_io2_base.specs.{Events.{events_of, fails}, Read.{Reader, tells, ConsumeLaw, FilledLaw}}
+use Rattle.no_std_io2_base.proofs.{PieceLemmas.{pieces_are, ends_in-lacks}, TakesLemmas.{bytes-events_of}, PieceLoops.{PieceTaken}}
+use Rattle.no_std_io2_base.proofs.PieceLoops.{part_none, piece_whole, piece_faulted, piece_since}
+use Rattle.std.specs.{Result.{result_and}, String.{string_vec}}
+
+-- The lines of a list of bytes, and what follows them.
 
 -- one byte more in front: it belongs to the lines, if there are some or it is a newline; if not, to the unfinished line
 abbrev JoinsLine : ℕ → List ℕ → Type 0
@@ -125,3 +134,129 @@ unended_lacks xs line other = contains_lacks newline xs (λ has. true≢false (s
 pub state_rest : (front rest : List ℕ) → IsLineState (front ++ rest) → IsLineState rest
 state_rest front rest line has =
     sym (ends_in-append newline front rest (omega (arith, has.1))) ∙ line (Contains-append_right front rest newline has)
+
+-- The room for what is read for a text, in a vector that has the memory of an empty text.
+
+-- an empty text lends its memory
+pub room_lent : {A : Type 0} (buf taken : String A) (none : Vec ℕ A) → string_len taken ≡ string_len buf
+    → text_room taken none ≡ string_capacity buf → line_room buf ≤ vec_capacity none
+room_lent buf taken none len room = grind (arith, common_steps)
+
+-- and that of the vector does not shrink
+pub room_grown : {A : Type 0} {capacity : ℕ} (taken : String A) (none all : Vec ℕ A) → vec_capacity none ≤ vec_capacity all
+    → text_room taken none ≡ capacity → capacity ≤ text_room taken all
+room_grown taken none all grown room = grind (arith, common_steps)
+
+-- what became of the bytes of the vector, with such a text that still has its memory
+pub text_answers : {A : Type 0} (buf taken : String A) (none all : Vec ℕ A) (line new : List ℕ) (read reply : Result ℕ Error)
+    → string_bytes taken ≡ string_bytes buf → string_len taken ≡ string_len buf → text_room taken none ≡ string_capacity buf
+    → vec_capacity none ≤ vec_capacity all → all.items ≡ line
+    → AnswersLine all.items read (string_len taken) (text_room taken all) reply (string_bytes taken) new
+    → AnswersLine line read (string_len buf) (string_capacity buf) reply (string_bytes buf) new
+text_answers buf taken none all line new read reply bytes len room grown is answers = grind (arith, common_steps)
+
+-- memory was refused to the read
+pub kept : (line : List ℕ) (read reply : Result ℕ Error) (len capacity : ℕ) {old new : List ℕ}
+    → IsErrAnd read (λ e. error_kind e ≡ OutOfMemory) → reply ≡ read → new ≡ old → AnswersLine line read len capacity reply old new
+kept line x2 reply len capacity memory is same = grind (arith, common_steps)
+
+-- the line is UTF-8
+pub became : (line : List ℕ) (read : Result ℕ Error) (len capacity : ℕ) (old : List ℕ) {new : List ℕ} → IsUtf8 line → new ≡ old ++ line
+    → IfErr read (λ e. error_kind e ≡ OutOfMemory → ⊥) → AnswersLine line read len capacity read old new
+became line x2 len capacity old text is other = grind (arith, common_steps)
+
+-- it is not
+pub refused : (line : List ℕ) (read : Result ℕ Error) (e : Error) (len capacity : ℕ) {old new : List ℕ}
+    → (IsUtf8 line → ⊥) → IsInvalidText e → IfErr read (λ f. error_kind f ≡ OutOfMemory → ⊥) → new ≡ old
+    → AnswersLine line read len capacity (result_and read (Err e)) old new
+refused line x2 e len capacity bad invalid other same = grind (arith, common_steps)
+
+-- A line that goes to a string: into its memory, behind its bytes, or straight from what a reader lends.
+
+-- memory is refused only to a line that has no room in an empty text
+no_room : {A : Type 0} (text : String A) (n : ℕ) → string_capacity text < string_len text + n → line_room text < n
+no_room text n full = grind (arith, common_steps, text.bytes.ok.1)
+
+-- a line that was read into the memory of the text, behind its bytes
+module _ {X A : Type 0} {R : Reader X} {old new : X} (text : String A) (line : Vec ℕ A) {read : Result ℕ Error}
+    (until : ReadUntilLaw R old newline (string_vec text) read line new) where
+  -- the bytes of the text come first,
+  front : take (string_len text) line.items ≡ string_bytes text
+  front = ap (λ n. take n line.items) text.bytes.ok.0 ∙ ap (λ l. take (length (string_bytes text)) l) until.appends
+      ∙ take-append_seam (string_bytes text) (bytes until.taken)
+
+  pub memory_grows : string_len text ≤ vec_len line
+  memory_grows = omega (arith, text.bytes.ok.0, line.ok.0, ap length until.appends, length-append (string_bytes text) (bytes until.taken))
+
+  pub memory_text : IsUtf8 (take (string_len text) line.items)
+  memory_text = subst IsUtf8 (sym front) (IsUtf8-string_bytes text)
+
+  -- and then the line
+  back : drop (string_len text) line.items ≡ bytes until.taken
+  back = ap (λ n. drop n line.items) text.bytes.ok.0 ∙ ap (λ l. drop (length (string_bytes text)) l) until.appends
+      ∙ drop-append_seam (string_bytes text) (bytes until.taken)
+
+  pub line_law : {reply : Result ℕ Error} {text' : String A}
+      → ((len capacity : ℕ) → AnswersLine (drop (string_len text) line.items) read len capacity reply
+      (take (string_len text) line.items) (string_bytes text'))
+      → string_capacity text' ≡ vec_capacity line → ReadLineLaw R old text reply text' new
+  line_law {reply} {text'} answers room =
+      let len = string_len text in
+      let capacity = string_capacity text in
+      record {
+        taken = until.taken;
+        takes = until.takes;
+        read = read;
+        ends = piece_since newline (tells R old) until.taken read (no_room text) until.ends;
+        answers = subst (λ l. AnswersLine l read len capacity reply (string_bytes text) (string_bytes text')) back
+            (subst (λ l. AnswersLine (drop len line.items) read len capacity reply l (string_bytes text')) front (answers len capacity));
+        capacity = subst (λ n. capacity ≤ n) (sym room) until.capacity;
+        calls = until.calls;
+      }
+
+-- a line that was lent whole went straight to the text
+pub line_at_once : {X A : Type 0} {R : Reader X} {old now new : X} {lent : List ℕ} {n : ℕ} {is_whole : Bool} {buf buf' : String A}
+    → FilledLaw R old (Ok lent) now → FindsPiece newline lent n is_whole → is_whole ≡ true → ConsumeLaw R now n new
+    → Follows (take n lent) (string_bytes buf) (string_bytes buf') → string_capacity buf ≤ string_capacity buf'
+    → ReadLineLaw R old buf (Ok n) buf' new
+line_at_once {R = R} {old} {lent = lent} {n} {buf = buf} {buf'} filled found whole dropped follows grown =
+    let line = take n lent in
+    let same = sym (bytes-events_of line) in
+    let long : n ≡ length (bytes (events_of line)) = sym (length-take-le n lent found.within) ∙ ap length same in
+    let piece : PieceTaken R (λ n. line_room buf < n) (Unit {0}) newline old (events_of line) (Ok n) _ =
+    piece_whole (part_none R newline old) filled found dropped whole long in
+    record {
+      taken = events_of line;
+      takes = piece.takes;
+      read = Ok n;
+      ends = piece.ends;
+      answers = (subst (λ l. Follows l (string_bytes buf) (string_bytes buf')) same follows, refl);
+      capacity = grown;
+      calls = piece.calls;
+    }
+
+memory_or_other : (kind : ErrorKind) → (kind ≡ OutOfMemory) ⊎ (kind ≡ OutOfMemory → ⊥)
+memory_or_other x1 = grind (arith, common_steps)
+
+-- before a fault no byte of a line came, and the text stays
+pub line_faulted : {X A : Type 0} {R : Reader X} {old new : X} {e : Error} {buf : String A} → FilledLaw R old (Err e) new → IsFault e
+    → ReadLineLaw R old buf (Err e) buf new
+line_faulted {R = R} {old} {e = e} {buf} filled fault =
+    let piece : PieceTaken R (λ n. line_room buf < n) (Unit {0}) newline old (fails e ∷ []) (Err e) _ =
+    piece_faulted (part_none R newline old) filled fault in
+    record {
+      taken = fails e ∷ [];
+      takes = piece.takes;
+      read = Err e;
+      ends = piece.ends;
+      answers = ⊎_elim (λ memory. inl (memory, refl, refl))
+          (λ other. inr (other, inl ((IsUtf8-nil, sym (append-nil (string_bytes buf))), refl)))
+          (memory_or_other (error_kind e));
+      capacity = le_refl _;
+      calls = piece.calls;
+    }
+
+-- a text refuses only a line that has some bytes
+pub line_some : {A : Type 0} (buf : String A) (line : List ℕ)
+    → (string_capacity buf < string_len buf + length line) ⊎ (IsUtf8 line → ⊥) → 0 < length line
+line_some buf x2 refused = grind (arith, common_steps)

@@ -1,12 +1,17 @@
--- How calls of a writer follow one another.
+-- How the calls of a writer follow one another, what follows from a list of them, and what they cost.
 use Rattle.std.proofs.{lemmas.Grind.{common_steps, flat_map-append}, Common.{◌≡◌, Result, Ok, Err, ℕ, ◌+◌, ◌≤◌, length, Bool, true, subst}}
 use Rattle.std.proofs.Common.{List, [], ◌∷◌, ◌++◌, Option, None, Some, refl, sym, ap, ◌∙◌, arith, count_by, append_assoc, append-nil, ◌<◌}
-use Rattle.std.proofs.{Common.{take, drop, get_or, take-append-drop, flat_map}, lemmas.List.Sums.{sum_by-append, sum_by-cons}}
-use Rattle.std.proofs.lemmas.{Bool.Decides.{nat_tests}, List.{take_more, flat_map_more, append_cancel_left, Folds.{concat-append}}}
-use Rattle.no_std_io2_base.specs.declared.error.{ErrorKind.{ErrorKind}, Error.{Error}}
-use Rattle.no_std_io2_base.specs.Write.{WriterState, IsFront, HasSpent, Moves, MovesFront}
-use Rattle.no_std_io2_base.specs.Write.{MovesEach, Sends, call_mishap, zero_write}
+use Rattle.std.proofs.Common.{take, drop, get_or, take-append-drop, flat_map, OnErr, IsOk, codes, length-drop, inl, inr}
+use Rattle.std.proofs.lemmas.{List.{Sums.{sum_by-append, sum_by-cons}, take_more, flat_map_more}, Bool.Decides.{nat_tests}}
+use Rattle.std.proofs.lemmas.List.{append_cancel_left, Folds.{concat-append}}
+use Rattle.no_std_io2_base.specs.{declared.error.{ErrorKind.{ErrorKind}, Error.{Error}}, Write.{WriterState, IsFront, HasSpent, Moves}}
+use Rattle.no_std_io2_base.specs.Write.{MovesFront, MovesEach, Sends, call_mishap, zero_write, calls_for, WriteCall, Made, ByCalls, Writes}
+use Rattle.no_std_io2_base.specs.{Write.{none, took, again, stuck, fault, WroteAll, AllCalls}, Errors.{is_interruption, IsNoInterruption}}
+use Rattle.no_std_io2_base.specs.{Writers.{Writer, TakesAll, WriteRestOf, CallOf}, Meter.{charges, IsMeter}}
 use Rattle.std.specs.{List.{concat}, Result.{OnOk}}
+use Rattle.no_std_io2_base.proofs.CallsLemmas.{writes_whole, law_may}
+
+-- How calls of a writer follow one another.
 
 -- what holds, holds after an `Ok`
 pub after_ok : {A E : Type 0} {P : Type 0} (reply : Result A E) → P → OnOk reply P
@@ -113,7 +118,7 @@ MovesFront-flush x u r f g = MovesFront-ends x r (MovesFront-whole x u f) g
 -- a call that says what is left is a call that accepted some front
 pub MovesFront-sends : {a b : WriterState} {r : Result (Unit {0}) Error} (x rest : List ℕ) → Sends a x r b rest
     → OnOk r (rest ≡ []) → MovesFront a x r b
-MovesFront-sends {r} x rest f none = grind (arith, common_steps)
+MovesFront-sends {r} x rest f nothing = grind (arith, common_steps)
 
 -- two calls that say what is left, one after the other: nothing went out twice
 pub Sends-then : {a b c : WriterState} {r s : Result (Unit {0}) Error} {x rest left : List ℕ} → Sends a x r b rest
@@ -178,3 +183,154 @@ module _ {X : Type 0} (text : X → List ℕ) (xs : List X) (i : ℕ) (d : X) (w
       subst (λ l. MovesFront a l (Err e) c) (sym text_all)
       (MovesFront-first (flat_map text (take i xs) ++ text (get_or xs i d)) (flat_map text (drop (i + 1) xs)) e
       (MovesFront-join (flat_map text (take i xs)) (text (get_or xs i d)) (Err e) f g))
+
+-- What follows from the calls that were made.
+
+one_write : (x : List ℕ) → 0 < length x → calls_for x ≡ 1
+one_write x some = grind (arith, nat_tests)
+
+no_call : (x : List ℕ) → length x ≡ 0 → calls_for x ≡ 0
+no_call x empty = grind (arith, nat_tests)
+
+took_whole : {n m : ℕ} → ◌≡◌ {A = Result ℕ Error} (Ok n) (Ok m) → n ≡ m
+took_whole is = cc
+
+no_error : {T : Type 0} {e : Error} {n : ℕ} → ◌≡◌ {A = Result ℕ Error} (Err e) (Ok n) → T
+no_error is = absurd (let no : ⊥ = cc in no)
+
+-- the result is no interruption
+pub writes_fault : {text : List ℕ} {C : List WriteCall} {x left : List ℕ} {reply : Result (Unit {0}) Error}
+    → Writes text C x reply left → IsNoInterruption reply
+writes_fault none = tt
+writes_fault (took some more w) = writes_fault w
+writes_fault (again some interrupted w) = writes_fault w
+writes_fault (stuck some says) = ap is_interruption says.0
+writes_fault (fault some is) = is
+
+-- after an error some is left
+pub writes_left : {text : List ℕ} {C : List WriteCall} {x left : List ℕ} {reply : Result (Unit {0}) Error}
+    → Writes text C x reply left → OnErr reply (0 < length left)
+writes_left none = tt
+writes_left (took some more w) = writes_left w
+writes_left (again some interrupted w) = writes_left w
+writes_left (stuck some says) = some
+writes_left (fault some is) = some
+
+-- for no bytes there is no call
+pub writes_idle : {text : List ℕ} {C : List WriteCall} {x left : List ℕ} {reply : Result (Unit {0}) Error}
+    → Writes text C x reply left → x ≡ [] → (C ≡ []) × IsOk reply
+writes_idle x1 empty = grind (arith, common_steps)
+
+module _ {X : Type 0} (I : Writer X) where
+  -- what was accepted
+  pub writes_sends : {text : List ℕ} {C : List WriteCall} {x left : List ℕ} {reply : Result (Unit {0}) Error}
+      → Writes text C x reply left → (a b : X) → Made (CallOf I) a C b
+      → Sends (I.told a) x reply (I.told b) left
+  writes_sends none a b made = grind (arith, common_steps)
+  writes_sends (took {x = x} {left = left} {n = n} some more w) a b made =
+      let rest = writes_sends w made.0 b made.2 in
+      record {
+        sent = take n x ++ rest.sent;
+        split = sym (take-append-drop n x) ∙ ap (λ l. take n x ++ l) rest.split ∙ sym (append_assoc (take n x) rest.sent left);
+        moves = Moves-then made.1.moves rest.moves;
+      }
+  writes_sends (again some interrupted w) a b made =
+      let rest = writes_sends w made.0 b made.2 in
+      record { sent = rest.sent; split = rest.split; moves = Moves-then made.1.moves rest.moves }
+  writes_sends (stuck {x = x} {e = e} some says) a b made = grind (arith, common_steps)
+  writes_sends (fault {e = e} some is) a b made = grind (arith, common_steps)
+
+  -- a writer that takes all does so in one call, which is counted
+  pub writes_all : {text : List ℕ} {C : List WriteCall} {x left : List ℕ} {reply : Result (Unit {0}) Error}
+      → Writes text C x reply left → (a b : X) → Made (CallOf I) a C b → TakesAll I a
+      → TakesAll I b × IsOk reply × (length C ≡ calls_for x)
+  writes_all none a b made takes =
+      (subst (TakesAll I) (sym made) takes, refl, refl)
+  writes_all (took {x = x} {n = n} some more w) a b made takes =
+      let took = made.1.all takes in
+      let rest = writes_all w made.0 b made.2 took.0 in
+      let empty : length (drop n x) ≡ 0 = omega (arith, took_whole took.1, length-drop n x) in (
+        rest.0,
+        rest.1,
+        omega (arith, rest.2, no_call (drop n x) empty, one_write x some),
+      )
+  writes_all (again some interrupted w) a b made takes = no_error (made.1.all takes).1
+  writes_all (stuck {x = x} some says) a b made takes = absurd (omega (arith, some, took_whole (made.1.all takes).1))
+  writes_all (fault some is) a b made takes = no_error (made.1.all takes).1
+
+  -- the law of `write_rest` follows from its writes
+  pub writes_law : {x left : List ℕ} {reply : Result (Unit {0}) Error} {a b : X}
+      → ByCalls (CallOf I) a (λ C. Writes (codes "failed to write whole buffer") C x reply left) b
+      → WriteRestOf I a x reply b left
+  writes_law {x} {left} {reply} {a} {b} calls = grind (arith, common_steps, writes_fault, writes_sends, writes_whole, writes_all)
+
+-- The law of `write_all` follows from the calls that were made, if each call kept its law.
+
+-- a call of a writer with no mishap to come returns `Ok`
+pub call_steady : {a c : WriterState} {x : List ℕ} (reply : Result (Unit {0}) Error) → a.mishaps ≡ Some [] → Moves a x (call_mishap reply) c
+    → IsOk reply
+call_steady x1 e f = grind (arith, common_steps, Moves-steady)
+
+module _ {X : Type 0} (I : Writer X) where
+  -- what a writer that takes all does: it still takes all, and returns `Ok`
+  abbrev TookAll : List ℕ → Result (Unit {0}) Error → X → X → Type 0
+  TookAll x reply a b = TakesAll I a → TakesAll I b × IsOk reply
+
+  -- `write_all`
+  pub all_calls : {C : List WriteCall} {x : List ℕ} {reply : Result (Unit {0}) Error} → AllCalls C x reply
+      → (a b : X) → Made (CallOf I) a C b
+      → IsNoInterruption reply × MovesFront (I.told a) x reply (I.told b) × TookAll x reply a b
+  all_calls {C} {x} {reply} calls a b made = elim calls [
+    | inl own ↦
+        let one = subst (λ K. Made (CallOf I) a K b) own made in
+        let law = subst (λ w. CallOf I a (WroteAll x reply) w) (sym one.2) one.1 in
+        (law.1, law.2, λ t. (law.3 t, call_steady reply t.1 law.2.moves))
+    | inr rest ↦
+        let law = writes_law I (record { calls = C; made = made; are = rest.1 }) in
+        (law.never_interrupted, MovesFront-sends x rest.0 law.sends law.done, law.all)
+  ]
+
+-- What calls of a writer cost, and how many calls the calls of the trait's loops count as.
+
+-- calls and then others count as both
+pub charges-append : (C D : List WriteCall) → charges (C ++ D) ≡ charges C + charges D
+charges-append [] D = omega arith
+charges-append (call ∷ C) D = omega (arith, charges-append C D)
+
+-- what calls cost, by a number that counts them
+pub meter_made : {W : Type 0} (I : Writer W) (cost : W → ℕ) → IsMeter I.may cost → (C : List WriteCall) (a b : W) → Made (CallOf I) a C b
+    → cost b ≡ cost a + charges C
+meter_made I cost meter [] a b made = omega (arith, ap cost made)
+meter_made I cost meter (call ∷ C) a b made =
+    let one = meter a made.0 call (law_may I a made.0 call made.1) in
+    omega (arith, one, meter_made I cost meter C made.0 b made.2)
+
+-- each write of a loop counts as one
+writes_charge : {text : List ℕ} {C : List WriteCall} {x left : List ℕ} {reply : Result (Unit {0}) Error}
+    → Writes text C x reply left → charges C ≡ length C
+writes_charge none = omega arith
+writes_charge (took some more w) = omega (arith, writes_charge w)
+writes_charge (again some interrupted w) = omega (arith, writes_charge w)
+writes_charge (stuck some says) = omega arith
+writes_charge (fault some is) = omega arith
+
+module _ {W : Type 0} (I : Writer W) where
+  -- over a writer that takes all, a loop of writes counts as one, or none for no bytes
+  pub writes_count : {text : List ℕ} {C : List WriteCall} {x left : List ℕ} {reply : Result (Unit {0}) Error}
+      → Writes text C x reply left → (a b : W) → Made (CallOf I) a C b → TakesAll I a
+      → TakesAll I b × IsOk reply × (charges C ≡ calls_for x)
+  writes_count w a b made takes = grind (arith, common_steps, writes_all, writes_charge)
+
+  -- and so does a `write_all`
+  pub all_count : {C : List WriteCall} {x : List ℕ}
+      {reply : Result (Unit {0}) Error} → AllCalls C x reply → (a b : W) → Made (CallOf I) a C b → TakesAll I a
+      → TakesAll I b × IsOk reply × (charges C ≡ calls_for x)
+  all_count {C} {x} calls a b made takes =
+      let all = (all_calls I calls a b made).2 takes in (
+        all.0,
+        all.1,
+        elim calls [
+          | inl own ↦ ap charges own ∙ omega arith
+          | inr writes ↦ (writes_count writes.1 a b made takes).2
+        ],
+      )

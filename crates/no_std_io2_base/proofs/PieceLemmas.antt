@@ -1,13 +1,110 @@
--- Bytes that belong to one piece.
-use Rattle.std.proofs.{lemmas.Grind.{common_steps}, Common.{◌≡◌, ◌≢◌, ℕ, ◌+◌, ◌<◌, ◌≤◌, ◌==◌, Bool, true, false, List, [], ◌∷◌, ◌++◌}}
-use Rattle.std.proofs.Common.{length, take, drop, All, Option, None, Some, IfSome, refl, sym, ap, ◌∙◌, arith, append_assoc, append-nil}
-use Rattle.std.proofs.Common.{inl, add-one, take-suc, slice_index, true≢false, eqb-true, eq-eqb, drop_of_length-le, take_all, le_refl}
-use Rattle.std.proofs.{Common.{length-take, take-append-drop}, lemmas.List.Elements.{recursion_from_All}}
+-- Pieces of bytes, and what calls took of one.
+use Rattle.std.proofs.{lemmas.Grind.{common_steps}, Common.{◌≡◌, ◌≢◌, ℕ, ◌==◌, true, false, Bool, if◌then◌else◌, List, [], ◌∷◌, ◌++◌}}
+use Rattle.std.proofs.Common.{length, refl, sym, ap, ◌∙◌, arith, true≢false, eqb-true, eq-eqb, ne_eqb, suc-ne-zero, get_or, drop, count_by}
+use Rattle.std.proofs.Common.{cond, ◌⊎◌, inl, inr, ◌+◌, ◌<◌, ◌≤◌, take, All, Option, None, Some, IfSome, append_assoc, append-nil, add-one}
+use Rattle.std.proofs.Common.{take-suc, slice_index, drop_of_length-le, take_all, le_refl, length-take, take-append-drop, rules, Result, Ok}
+use Rattle.std.proofs.{Common.{Err, Vec, vec_len, vec_capacity, subst, ⊎_elim, suc, ◌-◌}, lemmas.List.Sums.{sum_by-append, sum_by-cons}}
+use Rattle.std.proofs.lemmas.List.Elements.{recursion_from_All}
+use Rattle.no_std_io2_base.specs.Pieces.{Lacks, ends_in, in_front, pieces, ArePieces, EndsPiece, EndsAt, but_last, FindsPiece, IsPiecePart}
+use Rattle.no_std_io2_base.specs.Pieces.{ComesBehind, PieceEnds, PartCalls, no_part, and_part, and_waited, PieceCalls, without}
+use Rattle.no_std_io2_base.specs.{Events.{Event, byte, bytes, fails, events_of, BeginsWith, HasNoFault}, Takes.{ReaderState, IsAll, Takes}}
+use Rattle.no_std_io2_base.specs.{Takes.{AreTaken, to_come}, declared.error.Error.{Error}, Errors.{IsInterruption}, Read.{ReadCall, Filled}}
+use Rattle.no_std_io2_base.specs.{Read.{Consumed, Reader, FilledLaw}, BufRead.{ReadUntilLaw}}
+use Rattle.no_std_io2_base.proofs.TakesLemmas.{bytes-append, bytes-events_of, events_of-append, HasNoFault-append, takes_then, IsAll-behind}
+use Rattle.no_std_io2_base.proofs.TakesLemmas.{EndsInFault-behind}
 use Rattle.std.specs.List.{AllWithin}
-use Rattle.no_std_io2_base.specs.{declared.error.Error.{Error}, Events.{Event, fails, events_of, bytes, BeginsWith}}
-use Rattle.no_std_io2_base.specs.Takes.{ReaderState, Takes}
-use Rattle.no_std_io2_base.specs.{Takes.{AreTaken, to_come}, Pieces.{Lacks, but_last, EndsPiece, FindsPiece, IsPiecePart, ComesBehind}}
-use Rattle.no_std_io2_base.proofs.EventLemmas.{bytes-append, bytes-events_of, events_of-append}
+
+-- The laws that determine the pieces of some bytes.
+
+-- the pieces if the first byte is d, and if it is not
+pieces-at : (d b : ℕ) (bs : List ℕ) → b ≡ d → pieces d (b ∷ bs) ≡ (b ∷ []) ∷ pieces d bs
+pieces-at d b bs is = ap (λ t. if t then (b ∷ []) ∷ pieces d bs else in_front b (pieces d bs)) (eq-eqb b d is)
+
+-- a first byte that is not d joins the first piece of the rest, or is a piece by itself if there is no rest
+pieces-other : (d b : ℕ) (bs : List ℕ) → b ≢ d → pieces d (b ∷ bs) ≡ in_front b (pieces d bs)
+pieces-other d b bs differ = ap (λ t. if t then (b ∷ []) ∷ pieces d bs else in_front b (pieces d bs)) (ne_eqb b d differ)
+
+-- of one byte more, by whether that is d
+more_are : (d b : ℕ) (bs : List ℕ) (t : Bool) → (b == d) ≡ t → ArePieces d bs (pieces d bs) → ArePieces d (b ∷ bs) (pieces d (b ∷ bs))
+more_are d b bs true e h = grind (arith, common_steps)
+more_are d b bs false e h = grind (arith, common_steps)
+
+-- what `pieces` gives keeps all the laws of the pieces
+pub pieces_are : (d : ℕ) (bs : List ℕ) → ArePieces d bs (pieces d bs)
+pieces_are d [] = record { joined = refl; none_empty = tt; ended = tt; nowhere_else = tt }
+pieces_are d (b ∷ bs) = more_are d b bs (b == d) refl (pieces_are d bs)
+
+-- no byte, no piece
+none_only : (d : ℕ) (ps : List (List ℕ)) → ArePieces d [] ps → ps ≡ []
+none_only d [] h = refl
+none_only d ([] ∷ ps) h = absurd (omega (arith, h.none_empty.0))
+none_only d ((c ∷ p) ∷ ps) h = absurd (suc-ne-zero _ (ap length h.joined))
+
+-- the rest is the list after the first byte
+joined_rest : (b c : ℕ) (bs cs : List ℕ) → c ∷ cs ≡ b ∷ bs → (c ≡ b) × (cs ≡ bs)
+joined_rest b c bs cs h = (ap (λ l. get_or l 0 0) h, ap (drop 1) h)
+
+-- without its first byte, a longer piece begins the pieces of the rest
+rest_are : (d b c e : ℕ) (bs p : List ℕ) (ps : List (List ℕ)) → ArePieces d (b ∷ bs) ((c ∷ e ∷ p) ∷ ps) → ArePieces d bs ((e ∷ p) ∷ ps)
+rest_are d b c e bs p [] h = grind (arith, common_steps)
+rest_are d b c e bs p (q ∷ ps) h = grind (arith, common_steps)
+
+-- a list that keeps these laws is what `pieces` gives
+pub pieces_only : (d : ℕ) (bs : List ℕ) (ps : List (List ℕ)) → ArePieces d bs ps → ps ≡ pieces d bs
+pieces_only d [] ps h = none_only d ps h
+pieces_only d (b ∷ bs) [] h = absurd (suc-ne-zero _ (sym (ap length h.joined)))
+pieces_only d (b ∷ bs) ([] ∷ ps) h = absurd (omega (arith, h.none_empty.0))
+-- d alone
+pieces_only d (b ∷ bs) ((c ∷ []) ∷ []) h = grind (arith, common_steps)
+pieces_only d (b ∷ bs) ((c ∷ []) ∷ q ∷ ps) h = grind (arith, common_steps, pieces_only d bs (q ∷ ps), pieces-at, eqb-true)
+pieces_only d (b ∷ bs) ((c ∷ e ∷ p) ∷ ps) h =
+    grind (arith, common_steps, pieces_only d bs ((e ∷ p) ∷ ps), rest_are, pieces-other, joined_rest)
+
+-- the first piece ends at the first d
+pub pieces-first : (d : ℕ) (bs cs : List ℕ) → Lacks d bs → pieces d (bs ++ d ∷ cs) ≡ (bs ++ d ∷ []) ∷ pieces d cs
+pieces-first d [] cs h = pieces-at d d cs refl
+pieces-first d (b ∷ bs) cs h = pieces-other d b (bs ++ d ∷ cs) h.0 ∙ ap (in_front b) (pieces-first d bs cs h.1)
+
+-- without a d there is one piece
+pub pieces-last : (d b : ℕ) (bs : List ℕ) → Lacks d (b ∷ bs) → pieces d (b ∷ bs) ≡ (b ∷ bs) ∷ []
+pieces-last d b [] h = pieces-other d b [] h.0
+pieces-last d b (c ∷ bs) h = pieces-other d b (c ∷ bs) h.0 ∙ ap (in_front b) (pieces-last d c bs h.1)
+
+-- bytes followed by d end in d
+pub ends_in-end : (d : ℕ) (bs : List ℕ) → ends_in d (bs ++ d ∷ []) ≡ true
+ends_in-end d [] = eq-eqb d d refl
+ends_in-end d (b ∷ []) = eq-eqb d d refl
+ends_in-end d (b ∷ c ∷ bs) = ends_in-end d (c ∷ bs)
+
+-- bytes without a d do not end in d
+pub ends_in-lacks : (d : ℕ) (bs : List ℕ) → Lacks d bs → ends_in d bs ≡ false
+ends_in-lacks d [] h = refl
+ends_in-lacks d (b ∷ []) h = ne_eqb b d h.0
+ends_in-lacks d (b ∷ c ∷ bs) h = ends_in-lacks d (c ∷ bs) h.1
+
+-- bytes without a d have none
+pub count-lacks : (d : ℕ) (bs : List ℕ) → Lacks d bs → count_by (λ b. b == d) bs ≡ 0
+count-lacks d [] none = refl
+count-lacks d (b ∷ bs) none =
+    omega (arith, sum_by-cons (λ b. cond (b == d) 1 0) b bs, ap {B = ℕ} (λ t. cond t 1 0) (ne_eqb b d none.0), count-lacks d bs none.1)
+
+-- bytes that end in d, the only one in them, have one
+pub count-piece : (d : ℕ) (bs : List ℕ) → EndsPiece d bs → count_by (λ b. b == d) bs ≡ 1
+count-piece d bs ends = grind (arith, common_steps, sum_by-append, sum_by-cons, count-lacks, eq-eqb)
+
+-- the bytes of a piece end in d, the only d in them
+pub piece_bytes : {d : ℕ} {P : List Event} → EndsAt d P → EndsPiece d (bytes P)
+piece_bytes {d} {P} (front, is, none) = (bytes front, ap bytes is ∙ bytes-append front (byte d ∷ []), none)
+
+-- What one piece is, by its last byte: it ends in d, or it is the last one.
+pub piece_ended : (d : ℕ) (old : ReaderState) (P : List Event) → EndsAt d P ⊎ (Lacks d (bytes P) × IsAll old P)
+    → (ends_in d (bytes P) ≡ true → EndsPiece d (bytes P)) × (ends_in d (bytes P) ≡ false → Lacks d (bytes P) × IsAll old P)
+piece_ended d old P (inl at) =
+    let ends = piece_bytes at in
+    (λ _. ends, λ not. absurd (true≢false (sym (ap (ends_in d) ends.1 ∙ ends_in-end d ends.0) ∙ not)))
+piece_ended d old P (inr last) = (λ ended. absurd (true≢false (sym ended ∙ ends_in-lacks d (bytes P) last.0)), λ _. last)
+
+-- Bytes that belong to one piece.
 
 -- some bytes more
 pub bytes-more : (P : List Event) (x : List ℕ) → bytes (P ++ events_of x) ≡ bytes P ++ x
@@ -78,3 +175,119 @@ comes_behind {a} {b} P x n takes begins = by (to_come a) (to_come b) takes.event
           ∙ ap (λ l. l ++ begins.rest) (events_of-append (take n x) (drop n x))
           ∙ append_assoc (events_of (take n x)) (events_of (drop n x)) begins.rest),
     )
+
+-- A `fill_buf` of which nothing was consumed, before a loop that takes a piece.
+
+-- the calls of a loop begin with a `fill_buf`
+parts_first : {d : ℕ} {C : List ReadCall} {x : List ℕ} → PartCalls d C x → (a : Result (List ℕ) Error) (D : List ReadCall)
+    → (b : Result (List ℕ) Error) × (E : List ReadCall) × (C ++ Filled a ∷ D ≡ Filled b ∷ E)
+parts_first no_part a D = (a, D, refl)
+parts_first (and_part C x lent parts _ _) a D =
+    let calls = Filled (Ok lent) ∷ Consumed (length lent) ∷ [] in
+    let first = parts_first parts (Ok lent) (Consumed (length lent) ∷ Filled a ∷ D) in
+    (first.0, first.1, append_assoc C calls (Filled a ∷ D) ∙ first.2)
+parts_first (and_waited C x e parts _) a D =
+    let first = parts_first parts (Err e) (Filled a ∷ D) in
+    (first.0, first.1, append_assoc C (Filled (Err e) ∷ []) (Filled a ∷ D) ∙ first.2)
+
+piece_first : (may_refuse : Type 0) (d : ℕ) {C : List ReadCall} (x : List ℕ) (reply : Result ℕ Error) → PieceCalls may_refuse d C x reply
+    → (b : Result (List ℕ) Error) × (E : List ReadCall) × (C ≡ Filled b ∷ E)
+piece_first may_refuse d x (Ok n) (D, y, lent, k, parts, found, is, calls) =
+    let first = parts_first parts (Ok lent) (Consumed k ∷ []) in (first.0, first.1, calls ∙ first.2)
+piece_first may_refuse d x (Err e) (D, parts, inl (fault, calls)) =
+    let first = parts_first parts (Err e) [] in (first.0, first.1, calls ∙ first.2)
+piece_first may_refuse d x (Err e) (D, parts, inr (may, memory, lent, some, calls)) =
+    let first = parts_first parts (Ok lent) [] in (first.0, first.1, calls ∙ first.2)
+
+-- if an interrupted one comes before them, it is one of them
+parts_waited : {d : ℕ} {e : Error} {C : List ReadCall} {x : List ℕ} → IsInterruption e → PartCalls d C x
+    → PartCalls d (Filled (Err e) ∷ C) x
+parts_waited {e = e} again no_part = and_waited [] [] e no_part again
+parts_waited {e = e} again (and_part C x lent parts some lacks) =
+    and_part (Filled (Err e) ∷ C) x lent (parts_waited again parts) some lacks
+parts_waited {e = e} again (and_waited C x f parts other) = and_waited (Filled (Err e) ∷ C) x f (parts_waited again parts) other
+
+piece_waited : (may_refuse : Type 0) (d : ℕ) (e : Error) (C : List ReadCall) (x : List ℕ) (reply : Result ℕ Error) → IsInterruption e
+    → PieceCalls may_refuse d C x reply → PieceCalls may_refuse d (Filled (Err e) ∷ C) x reply
+piece_waited may_refuse d e C x (Ok n) again (D, y, lent, k, parts, found, is, calls) =
+    (Filled (Err e) ∷ D, y, lent, k, parts_waited again parts, found, is, ap (λ l. Filled (Err e) ∷ l) calls)
+piece_waited may_refuse d e C x (Err f) again (D, parts, inl (fault, calls)) =
+    (Filled (Err e) ∷ D, parts_waited again parts, inl (fault, ap (λ l. Filled (Err e) ∷ l) calls))
+piece_waited may_refuse d e C x (Err f) again (D, parts, inr (may, memory, lent, some, calls)) =
+    (Filled (Err e) ∷ D, parts_waited again parts, inr (may, memory, lent, some, ap (λ l. Filled (Err e) ∷ l) calls))
+
+-- what comes behind Q comes behind P and Q, if P was taken before
+behind_both : {a b : ReaderState} (P Q : List Event) (x : List ℕ) → Takes a P b → ComesBehind b Q x → ComesBehind a (P ++ Q) x
+behind_both {a} {b} P Q x takes comes = grind (arith, common_steps)
+
+-- the ends of a piece, if events without bytes and without a fault were taken before
+piece_ends_behind : (lacks : ℕ → Type 0) {a b : ReaderState} (d : ℕ) (P Q : List Event) (read : Result ℕ Error) → Takes a P b → HasNoFault P
+    → bytes P ≡ [] → PieceEnds lacks d b Q read → PieceEnds lacks d a (P ++ Q) read
+piece_ends_behind lacks d P Q (Ok n) takes free none ends = (
+  HasNoFault-append P Q free ends.0,
+  ends.1 ∙ ap length (same Q),
+  ⊎_elim
+      (λ end. inl (
+        P ++ end.0,
+        ap (λ l. P ++ l) end.1 ∙ sym (append_assoc P end.0 (byte d ∷ [])),
+        subst (Lacks d) (same end.0) end.2,
+      ))
+      (λ all. inr (subst (Lacks d) (same Q) all.0, IsAll-behind P Q takes all.1)) ends.2,
+)
+  where
+    same : (R : List Event) → bytes R ≡ bytes (P ++ R)
+    same R = sym (bytes-append P R ∙ ap (λ l. l ++ bytes R) none)
+piece_ends_behind lacks d P Q (Err e) takes free none ends =
+    grind (arith, common_steps, bytes-append, ⊎_elim, EndsInFault-behind, HasNoFault-append, behind_both)
+
+-- A `fill_buf` of which nothing was consumed came before such a loop.
+module _ {X A : Type 0} {R : Reader X} {d : ℕ} {old now new : X} {buf buf' : Vec ℕ A} {reply : Result ℕ Error} where
+  module _ (until : ReadUntilLaw R now d buf reply buf' new) where
+    -- if it lent some bytes, the loop's first one lends the same and changes nothing, so both are as one
+    pub until_lent : {lent : List ℕ} → FilledLaw R old (Ok lent) now → 0 < length lent → ReadUntilLaw R old d buf reply buf' new
+    until_lent {lent} filled some =
+        search (arith, rules, piece_first, takes_then, piece_ends_behind)
+
+    -- if it was interrupted, it is one more
+    pub until_waited : {e : Error} → FilledLaw R old (Err e) now → IsInterruption e → ReadUntilLaw R old d buf reply buf' new
+    until_waited {e} filled again = record {
+      taken = fails e ∷ until.taken;
+      takes = takes_then filled.takes until.takes;
+      appends = until.appends;
+      ends = piece_ends_behind (λ n. vec_capacity buf < vec_len buf + n) d (fails e ∷ []) until.taken reply filled.takes
+          (again, tt) refl until.ends;
+      capacity = until.capacity;
+      calls = record {
+        calls = Filled (Err e) ∷ until.calls.calls;
+        made = (now, filled, until.calls.made);
+        are = piece_waited (Unit {0}) d e until.calls.calls (bytes until.taken) reply again until.calls.are;
+      };
+    }
+
+-- A piece without what ended it.
+
+-- the last byte, by its place
+ends_in-at : (d d' : ℕ) (bs : List ℕ) (k : ℕ) → length bs ≡ suc k → ends_in d bs ≡ (get_or bs k d' == d)
+ends_in-at d d' [] k h = absurd (omega (arith, h))
+ends_in-at d d' (b ∷ []) k h = let first : k ≡ 0 = omega (arith, h) in ap (λ n. get_or (b ∷ []) n d' == d) (sym first)
+ends_in-at d d' (b ∷ c ∷ bs) k h = grind (arith, common_steps, ends_in-at d d' (c ∷ bs) (k - 1))
+
+-- of k + 1 bytes all but the last are the first k
+but_last-at : (bs : List ℕ) (k : ℕ) → length bs ≡ suc k → but_last bs ≡ take k bs
+but_last-at [] k h = absurd (omega (arith, h))
+but_last-at (b ∷ []) k h = let first : k ≡ 0 = omega (arith, h) in ap (λ n. take n (b ∷ [])) (sym first)
+but_last-at (b ∷ c ∷ bs) k h = grind (arith, common_steps, but_last-at (c ∷ bs) (k - 1))
+
+-- another byte is last
+pub other_last : (d b n : ℕ) (bs : List ℕ) → n ≡ length bs → (n ≡ 0 → ⊥) → b ≡ get_or bs (n - 1) b → (b ≡ d → ⊥) → ends_in d bs ≡ false
+other_last d b n bs long some is differ =
+    ends_in-at d b bs (n - 1) (omega (arith, long, some)) ∙ ap (λ x. x == d) (sym is) ∙ ne_eqb b d differ
+
+-- this byte is last
+pub is_last : (d b n : ℕ) (bs : List ℕ) → n ≡ length bs → (n ≡ 0 → ⊥) → b ≡ get_or bs (n - 1) b → b ≡ d → ends_in d bs ≡ true
+is_last d b n bs long some is same = ends_in-at d b bs (n - 1) (omega (arith, long, some)) ∙ ap (λ x. x == d) (sym is) ∙ eq-eqb b d same
+
+-- of n bytes that end in d the first n - 1 are what stays without it
+pub dropped_last : (d n : ℕ) (bs : List ℕ) {new : List ℕ} → n ≡ length bs → (n ≡ 0 → ⊥) → ends_in d bs ≡ true
+    → new ≡ take (n - 1) bs → new ≡ without d bs
+dropped_last d n bs long some last is = grind (arith, common_steps, but_last-at)

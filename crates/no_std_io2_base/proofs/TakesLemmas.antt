@@ -1,13 +1,99 @@
+-- What calls take of the events and the bytes that a reader tells, and whose fault an error is.
+use Rattle.no_std_io2_base.specs.declared.traits.{read.Read.{Ghosts as Reads}, stored.Stored.{Ghosts as Stores}}
+use Rattle.no_std_io2_base.specs.{declared.traits.seek.Seek.{Ghosts as Seeks}, Read.{Reader, tells, ReadCall, gave, ended, bytes_given}}
+use Rattle.no_std_io2_base.specs.{Read.{ReadCallLaw, GaveLaw, ReadLaw, ReadExactLaw, Gives, AllOrNone, DrainsOrStops}, Seek.{Seeker}}
+use Rattle.no_std_io2_base.specs.{Events.{Event, byte, fails, events_of, bytes, HasNoFault, cut, EndsInFault}, declared.error.Error.{Error}}
+use Rattle.no_std_io2_base.specs.{Errors.{IsInterruption, error_kind}, Takes.{ReaderState, Takes, TakesBytes, to_come, IsAtEnd, IsAll}}
+use Rattle.no_std_io2_base.specs.{Write.{Made, WriterState, Moves}, Faults.{HasFirstFault, TellsMishap, MayFail}}
+use Rattle.std.proofs.Common.{◌≡◌, ℕ, zero, suc, ◌+◌, ◌-◌, ◌<◌, ◌≤◌, List, [], ◌∷◌, ◌++◌, length, take, refl, sym, ap, ◌∙◌, arith, Result}
+use Rattle.std.proofs.Common.{Ok, Err, Option, Some, subst, append_assoc, append-nil, length-append, drop, length-take-le, IfOk, IfSome}
+use Rattle.std.proofs.{Common.{OnOk, inl, inr, ◌⊎◌}, lemmas.Grind.{common_steps}}
+use Rattle.no_std_io2_base.proofs.CallsLemmas.{made_map}
+
+-- Readers and seekers, as the laws of their calls take them.
+
+-- the members of a bound
+abbrev pub reader : {X : Type 0} → Stores X → Reads X → Reader X
+reader stored read = record { store = stored.store; turns = read.turns; events = read.events; may = read.may; held = read.held }
+
+-- the members of a bound `Seek`
+abbrev pub seeker : {X : Type 0} → Stores X → Seeks X → Seeker X
+seeker stored seek = record { store = stored.store; may = seek.may; sound = seek.sound }
+
+-- How bytes, cuts and faults of events go with `++`.
+
+-- the bytes of P and then Q are the bytes of P, and then those of Q
+pub bytes-append : (P Q : List Event) → bytes (P ++ Q) ≡ bytes P ++ bytes Q
+bytes-append [] Q = refl
+bytes-append (byte b ∷ P) Q = ap (λ l. b ∷ l) (bytes-append P Q)
+bytes-append (fails e ∷ P) Q = bytes-append P Q
+
+-- the bytes of the events of some bytes are these
+pub bytes-events_of : (bs : List ℕ) → bytes (events_of bs) ≡ bs
+bytes-events_of [] = refl
+bytes-events_of (b ∷ bs) = ap (λ l. b ∷ l) (bytes-events_of bs)
+
+-- the bytes of some bytes and then of E
+pub bytes-behind : (bs : List ℕ) (E : List Event) → bytes (events_of bs ++ E) ≡ bs ++ bytes E
+bytes-behind bs E = bytes-append (events_of bs) E ∙ ap (λ l. l ++ bytes E) (bytes-events_of bs)
+
+-- bytes turned into events are as many as before
+pub length-events_of : (bs : List ℕ) → length (events_of bs) ≡ length bs
+length-events_of [] = refl
+length-events_of (b ∷ bs) = ap suc (length-events_of bs)
+
+-- the events of bs and then cs are the events of bs, and then those of cs
+pub events_of-append : (bs cs : List ℕ) → events_of (bs ++ cs) ≡ events_of bs ++ events_of cs
+events_of-append [] cs = refl
+events_of-append (b ∷ bs) cs = ap (λ l. byte b ∷ l) (events_of-append bs cs)
+
+-- two lists with no fault, joined, have none
+pub HasNoFault-append : (P Q : List Event) → HasNoFault P → HasNoFault Q → HasNoFault (P ++ Q)
+HasNoFault-append [] Q p q = q
+HasNoFault-append (byte b ∷ P) Q p q = HasNoFault-append P Q p q
+HasNoFault-append (fails e ∷ P) Q p q = (p.0, HasNoFault-append P Q p.1 q)
+
+-- the front of a list with no fault has none
+pub HasNoFault-front : (P Q : List Event) → HasNoFault (P ++ Q) → HasNoFault P
+HasNoFault-front [] Q h = tt
+HasNoFault-front (byte b ∷ P) Q h = HasNoFault-front P Q h
+HasNoFault-front (fails e ∷ P) Q h = (h.0, HasNoFault-front P Q h.1)
+
+-- the rest of a list with no fault after a front has none
+pub HasNoFault-behind : (P Q : List Event) → HasNoFault (P ++ Q) → HasNoFault Q
+HasNoFault-behind [] Q h = h
+HasNoFault-behind (byte b ∷ P) Q h = HasNoFault-behind P Q h
+HasNoFault-behind (fails e ∷ P) Q h = HasNoFault-behind P Q h.1
+
+-- events that are only bytes have no fault
+pub HasNoFault-events_of : (bs : List ℕ) → HasNoFault (events_of bs)
+HasNoFault-events_of [] = tt
+HasNoFault-events_of (b ∷ bs) = HasNoFault-events_of bs
+
+-- a cut past the bytes of P keeps all of P
+pub cut-append : (P R : List Event) (j k : ℕ) → 0 < k → j ≡ length (bytes P) + k → cut j (P ++ R) ≡ P ++ cut k R
+cut-append [] R j k some is = let same : j ≡ k = omega arith in ap (λ n. cut n R) same
+cut-append (byte b ∷ P) R zero k some is = absurd (omega arith)
+cut-append (byte b ∷ P) R (suc j) k some is = ap (λ l. byte b ∷ l) (cut-append P R j k some (omega arith))
+cut-append (fails e ∷ P) R zero k some is = absurd (omega arith)
+cut-append (fails e ∷ P) R (suc j) k some is = ap (λ l. fails e ∷ l) (cut-append P R (suc j) k some is)
+
+-- bytes that fit under the cut stay, and the rest is cut at what is left
+pub cut-bytes : (bs : List ℕ) (R : List Event) (k : ℕ) → length bs ≤ k → cut k (events_of bs ++ R) ≡ events_of bs ++ cut (k - length bs) R
+cut-bytes [] R k fits = let same : k ≡ k - 0 = omega arith in ap (λ n. cut n R) same
+cut-bytes (b ∷ bs) R zero fits = absurd (omega arith)
+cut-bytes (b ∷ bs) R (suc k) fits =
+    let same : suc k - suc (length bs) ≡ k - length bs = omega arith in
+    ap (λ l. byte b ∷ l) (cut-bytes bs R k (omega arith)) ∙ ap (λ n. byte b ∷ (events_of bs ++ cut n R)) (sym same)
+
+-- of the bytes of E, a cut at k keeps the first k
+pub bytes-cut : (k : ℕ) (E : List Event) → bytes (cut k E) ≡ take k (bytes E)
+bytes-cut zero E = refl
+bytes-cut (suc k) [] = refl
+bytes-cut (suc k) (byte b ∷ E) = ap (λ l. b ∷ l) (bytes-cut k E)
+bytes-cut (suc k) (fails e ∷ E) = bytes-cut (suc k) E
+
 -- Calls one after another: what they take, and what their laws say of it.
-use Rattle.std.proofs.{lemmas.Grind.{common_steps}, Common.{◌≡◌, ℕ, zero, suc, ◌+◌, ◌-◌, ◌<◌, ◌≤◌, List, [], ◌∷◌, ◌++◌, Result, Ok, Err}}
-use Rattle.std.proofs.Common.{length, Option, Some, refl, sym, ap, subst, ◌∙◌, arith, append_assoc, append-nil, length-append, drop}
-use Rattle.std.proofs.Common.{length-take-le, IfOk, IfSome, OnOk}
-use Rattle.no_std_io2_base.specs.{declared.error.Error.{Error}, Errors.{IsInterruption}, Events.{Event, byte, fails, events_of, bytes}}
-use Rattle.no_std_io2_base.specs.{Events.{HasNoFault, cut, EndsInFault}, Takes.{ReaderState, Takes, TakesBytes, to_come, IsAtEnd, IsAll}}
-use Rattle.no_std_io2_base.specs.Read.{Reader, tells, ReadCall, gave, ended, bytes_given, ReadCallLaw, GaveLaw, ReadLaw, ReadExactLaw}
-use Rattle.no_std_io2_base.specs.{Read.{Gives, AllOrNone, DrainsOrStops}, Write.{Made}}
-use Rattle.no_std_io2_base.proofs.{CallsLemmas.{made_map}, EventLemmas.{bytes-append, bytes-events_of, HasNoFault-append}}
-use Rattle.no_std_io2_base.proofs.EventLemmas.{HasNoFault-events_of, cut-append}
 
 -- before the first call nothing is taken
 pub takes_none : (t : ReaderState) → Takes t [] t
@@ -228,3 +314,30 @@ gives_still {room} {P} {x} e so_far short again =
 -- bytes that fit fill the room alone
 pub gives_whole : {room : ℕ} (x : List ℕ) → length x ≤ room → Gives room (events_of x) x
 gives_whole {room} x fits = record { no_fault = HasNoFault-events_of x; given = bytes-events_of x; within = cut-fitting room x fits }
+
+-- Whose fault an error is.
+
+-- what is known of a writer that failed
+pub may_fail : {old new : WriterState} {x : List ℕ} {e : Error} → Moves old x (error_kind e ∷ []) new → MayFail old e
+may_fail {old} {new} {e = e} moves = grind (arith, common_steps)
+
+-- if what was taken ends in a fault, that is the first fault of the events to come
+pub first_fault_taken : {a b : ReaderState} {P : List Event} {e : Error} → Takes a P b → EndsInFault P e
+    → IfSome (to_come a) (λ E. HasFirstFault E e)
+first_fault_taken {a} {b} {P} {e} takes fault = grind (arith, common_steps)
+
+-- past a front, an error of events without a fault is an interruption
+no_fault_at : (front rest : List Event) (e : Error) → HasNoFault (front ++ fails e ∷ rest) → IsInterruption e
+no_fault_at [] rest e h = h.0
+no_fault_at (byte b ∷ front) rest e h = no_fault_at front rest e h
+no_fault_at (fails x ∷ front) rest e h = no_fault_at front rest e h.1
+
+-- events without a fault have no first one
+pub no_first_fault : (E : List Event) (e : Error) → HasNoFault E → HasFirstFault E e → ⊥
+no_first_fault E e none f = grind (arith, common_steps, append_assoc, no_fault_at)
+
+-- a reader without a fault and a writer without a mishap leave no failure
+pub no_failure : (E : List Event) (old : WriterState) → HasNoFault E → old.mishaps ≡ Some [] → (e : Error)
+    → HasFirstFault E e ⊎ MayFail old e → ⊥
+no_failure E old none steady e (inl f) = no_first_fault E e none f
+no_failure E old none steady e (inr f) = absurd (omega (arith, subst (λ m. TellsMishap m (error_kind e)) steady f.mishap))

@@ -1,15 +1,117 @@
--- How the calls that print a text follow one another, and what is known after any formatter.
-use Rattle.std.proofs.{lemmas.Grind.{common_steps}, Common.{arith, ◌≡◌, ℕ, List, [], ◌++◌, Option, None, Some, Result, Ok, Err, OnOk}}
-use Rattle.std.proofs.Common.{OnErr, IsOk, is_ok, IfSome, ◌⊎◌, Bool, true, false, true≢false, IsErrAnd, refl, sym, ap, subst, ◌∙◌}
-use Rattle.std.proofs.{Common.{append-nil, length, drop, inl, inr, ⊎_elim}, Math.{Seq.{drop-append_seam}, Logic.{∥∥₁_elim, ∥∥₁_map}}}
-use Rattle.std.proofs.{Props.{props}, lemmas.{List.Folds.{concat-append}, Fn.{chained_keeps}}}
+-- The loop of a `write_rest`, tries of it, and texts that are printed piece by piece.
+use Rattle.std.proofs.{lemmas.Grind.{common_steps}, Common.{◌≡◌, ℕ, ◌+◌, ◌-◌, ◌<◌, ◌≤◌, ◌==◌, Bool, true, false, eqb-true, codes, List, []}}
+use Rattle.std.proofs.Common.{◌∷◌, Result, Ok, Err, length, take, drop, refl, sym, ap, subst, ◌∙◌, arith, take_all, length-drop}
+use Rattle.std.proofs.Common.{drop_of_length-le, Option, count_by, ◌++◌, None, Some, OnOk, OnErr, IsOk, is_ok, IfSome, ◌⊎◌, true≢false}
+use Rattle.std.proofs.{Common.{IsErrAnd, append-nil, inl, inr, ⊎_elim, is_err}, lemmas.List.Recursion.{is_count_by}}
+use Rattle.std.proofs.{Math.{Seq.{drop-append_seam}, Logic.{∥∥₁_elim, ∥∥₁_map}}, Props.{props}, lemmas.List.Folds.{concat-append}}
+use Rattle.std.proofs.lemmas.Fn.{chained_keeps}
+use Rattle.no_std_io2_base.specs.{declared.error.{Error.{Error}, ErrorKind.TheVariants.{WriteZero}}, Errors.{IsInterruption, IsFault}}
+use Rattle.no_std_io2_base.specs.{Errors.{SaysError, IsNoInterruption}, Write.{Wrote, Writes, none as no_write, took, again as goes_again}}
+use Rattle.no_std_io2_base.specs.Write.{stuck, fault as fails, WriterState, Sends, HasSpent, Moves, MovesFront, call_mishap}
+use Rattle.no_std_io2_base.specs.Writers.{Writer, WriteOf, WriteRestOf, CallOf, WriteAllOf, PrintsOf, WriteFmtOf}
+use Rattle.no_std_io2_base.specs.{declared.error.ErrorKind.{ErrorKind}, Retries.{HasAtMost, HasSpentTries, Tries, again}, Text.{nothing}}
+use Rattle.no_std_io2_base.specs.Text.{piece, silent, IsTextError, FailsText, MovesText, HasText, PrintsShort, PrintsOrRefuses}
+use Rattle.no_std_io2_base.proofs.{CallsLemmas.{CallsSoFar, calls_more, calls_end}, MovesLemmas.{writes_law, Moves-refl, after_ok}}
+use Rattle.no_std_io2_base.proofs.MovesLemmas.{IsFront-refl, MovesFront-join, MovesFront-first, MovesFront-flush}
 use Rattle.std.specs.{Coded.{le_prop, Π_prop, Unit-prop}, List.{concat}, Fmt.{WritesInCalls, WritesText, DisplaysOnOk, IsPlainFormatter}}
 use Rattle.std.specs.{Fmt.{formatter_writer}, declared.fmt.{Formatter.{Formatter}, Error.{Error as FormatError}}}
 use mathlib.Core.HLevel.{⊥_prop}
-use Rattle.no_std_io2_base.specs.{declared.error.{Error.{Error}, ErrorKind.{ErrorKind}}, Write.{WriterState, Moves, MovesFront, HasSpent}}
-use Rattle.no_std_io2_base.specs.{Write.{call_mishap}, Writers.{Writer, WriteAllOf, PrintsOf, WriteFmtOf}, Text.{nothing, piece, silent}}
-use Rattle.no_std_io2_base.specs.{Text.{IsTextError, FailsText, MovesText}, Errors.{IsNoInterruption}}
-use Rattle.no_std_io2_base.proofs.MovesLemmas.{after_ok, IsFront-refl, Moves-refl, MovesFront-join, MovesFront-first, MovesFront-flush}
+
+-- What each exit of a loop of writes says.
+
+-- what the test `is_empty` says of a slice if it is false
+pub not_empty : (b : Bool) (left : List ℕ) → b ≡ (length left == 0) → b ≡ false → 0 < length left
+not_empty b x2 is h = grind (arith, common_steps)
+
+-- what the test `is_empty` says of a slice if it is true
+pub is_empty : (b : Bool) (left : List ℕ) → b ≡ (length left == 0) → b ≡ true → left ≡ []
+is_empty b left is h = drop_of_length-le left {i = 0} (omega (arith, eqb-true (length left) 0 (sym is ∙ h)))
+
+-- the rest of a slice from n on is its end
+pub rest_is : (n : ℕ) (left : List ℕ) → take (length left - n) (drop n left) ≡ drop n left
+rest_is n left = take_all (length left - n) (drop n left) (omega (arith, length-drop n left))
+
+-- some bytes fewer are left, or a turn fewer is
+pub fewer_left : (n : ℕ) {turns : ℕ} (turns' k : ℕ) (left : List ℕ)
+    → (n ≡ 0 → ⊥) → n ≤ length left → turns' + k ≤ turns
+    → turns' + length (take (length left - n) (drop n left)) < turns + length left
+fewer_left n turns' k left some fits spent = omega (arith, some, fits, spent, ap length (rest_is n left), length-drop n left)
+
+module _ {X : Type 0} {I : Writer X} {old now : X} {start left : List ℕ} where
+  module _ (before : CallsSoFar (CallOf I) (codes "failed to write whole buffer") old start left now) where
+    -- all was sent
+    pub writes_done : left ≡ [] → WriteRestOf I old start (Ok tt) now left
+    writes_done empty =
+        writes_law I (calls_end before (Ok tt) left [] refl
+        (subst (λ l. Writes (codes "failed to write whole buffer") [] l (Ok tt) l) (sym empty) no_write))
+
+    module _ {new : X} where
+      -- n bytes more were sent
+      pub writes_more : {n : ℕ} → WriteOf I now left (Ok n) new → 0 < length left → 0 < n
+          → CallsSoFar (CallOf I) (codes "failed to write whole buffer") old start
+          (take (length left - n) (drop n left)) new
+      writes_more {n} wrote some more = calls_more before wrote
+          (λ D r e w. took some more (subst (λ l. Writes (codes "failed to write whole buffer") D l r e) (rest_is n left) w))
+
+      -- an interruption is ignored
+      pub writes_interruption : {e : Error} → WriteOf I now left (Err e) new
+          → 0 < length left → IsInterruption e
+          → CallsSoFar (CallOf I) (codes "failed to write whole buffer") old start left new
+      writes_interruption wrote some interrupted = calls_more before wrote (λ D r e w. goes_again some interrupted w)
+
+      -- a fault stopped it
+      pub writes_stopped : {e : Error} → WriteOf I now left (Err e) new → IsFault e → 0 < length left
+          → WriteRestOf I old start (Err e) new left
+      writes_stopped {e} wrote is_fault some =
+          writes_law I
+          (calls_end before (Err e) left (Wrote left (Err e) ∷ []) (new, wrote, refl) (fails some is_fault))
+
+      -- no byte was taken of some
+      pub writes_zero : {reply : Result ℕ Error} {n : ℕ} {e : Error} → WriteOf I now left reply new
+          → reply ≡ Ok n → n ≡ 0 → 0 < length left → SaysError WriteZero (codes "failed to write whole buffer") e
+          → WriteRestOf I old start (Err e) new left
+      writes_zero {e = e} wrote is none some says =
+          let took = subst (λ r. WriteOf I now left r new) (is ∙ ap Ok none) wrote in
+          writes_law I
+          (calls_end before (Err e) left (Wrote left (Ok 0) ∷ []) (new, took, refl) (stuck some says))
+
+-- How tries follow one another.
+
+-- at the start nothing went, and all is still to go
+pub sends_none : (a : WriterState) (to_go : List ℕ) → Sends a to_go (Ok tt) a to_go
+sends_none a to_go = record { sent = []; split = refl; moves = Moves-refl a }
+
+-- what was left out of a list of kinds, counted
+count_all : (xs : List ErrorKind) → length xs ≡ count_by (λ _. true) xs
+count_all = is_count_by length (λ _. true) refl (λ x xs. omega arith)
+
+-- no try was made, and no mishap spent
+pub spent_none : (n : ℕ) (old : Option (List ErrorKind)) → HasSpentTries n n old old
+spent_none = grind (arith, common_steps)
+
+-- a mishap more was spent
+pub spent_more : (n left less : ℕ) (old mid new : Option (List ErrorKind)) (k : ErrorKind)
+    → HasSpentTries n left old mid → HasSpent mid (k ∷ []) new → left ≡ less + 1 → HasSpentTries n less old new
+spent_more = grind (arith, common_steps, count_all)
+
+-- no more mishaps than were told
+pub spent_all : (n : ℕ) (old mid new : Option (List ErrorKind)) (k : ErrorKind) → HasSpentTries n 0 old mid
+    → HasSpent mid (k ∷ []) new → HasAtMost n old → ⊥
+spent_all = grind (arith, common_steps, count_all)
+
+-- if there were enough retries, enough are left
+pub spent_left : (n left : ℕ) (old mid new : Option (List ErrorKind)) → HasSpentTries n left old mid → HasSpent mid [] new
+    → HasAtMost n old → HasAtMost left new
+spent_left n left x3 mid new f g most = grind (arith, common_steps, count_all)
+
+-- a try that failed, and then the others, one fewer
+pub tries_again : {W : Type 0} (law : W → List ℕ → Result (Unit {0}) Error → W → List ℕ → Type 0) (retries less : ℕ)
+    {old mid new : W} {x rest left : List ℕ} {e : Error}
+    {reply : Result (Unit {0}) Error} → retries ≡ less + 1 → law old x (Err e) mid rest → Tries law less mid rest reply new left
+    → Tries law retries old x reply new left
+tries_again law retries less is failed tries = grind (arith, common_steps, again)
+
+-- How the calls that print a text follow one another, and what is known after any formatter.
 
 module _ {X : Type 0} {I : Writer X} {old : X} where
   -- a piece more, if the test says that no error was met
@@ -190,3 +292,51 @@ pub MovesFront-text_flush : {a b c : WriterState} {text : List ℕ} {u : Unit {0
     → MovesText a (Some text) (Ok u) b
     → Moves b [] (call_mishap r) c → MovesFront a text r c
 MovesFront-text_flush {text = text} {u} r f g = ⊎_elim (λ front. MovesFront-flush text u r front g) (λ no. absurd no) (MovesFront-text f)
+
+-- What a page has after a text was printed to it, and what is known of a text that was printed by it.
+
+-- what stands under an `Ok`, if the result is no error
+pub when_ok : {E X : Type 0} (r : Result (Unit {0}) E) → false ≡ is_err r → OnOk r X → X
+when_ok x1 is x = grind (arith, common_steps)
+
+-- an unused page has no text
+pub page_none : (N : ℕ) (bytes : List ℕ) → HasText N bytes 0 false []
+page_none N x2 = grind (arith, common_steps)
+
+module _ {P : Type 0} (has : List ℕ → P → Type 0) where
+  abbrev PageGives : P → List ℕ → P → Type 0
+  PageGives s bs t = (text : List ℕ) → has text s → has (text ++ bs) t
+
+  -- a page that had no text has the specified one
+  pub page_has : (s t : P) (output : Option (List ℕ)) → WritesText PageGives s output t → has [] s → IfSome output (λ bs. has bs t)
+  page_has s t None writes start = tt
+  page_has s t (Some bs) writes start = subst (λ l. has l t) writes.whole
+      (chained_keeps PageGives (λ xs q. has (concat xs) q)
+      (λ xs q x v so_far next. subst (λ l. has l v)
+      (sym (concat-append xs (x ∷ []) ∙ ap (λ l. concat xs ++ l) (append-nil x))) (next (concat xs) so_far))
+      writes.parts s t start writes.calls)
+
+-- the specified text does not fit
+pub page_over : (N : ℕ) (output : Option (List ℕ)) (bytes : List ℕ) (len : ℕ) {is_over : Bool} → is_over ≡ true
+    → IfSome output (HasText N bytes len is_over) → IfSome output (λ bs. N < length bs)
+page_over N x2 bytes len is has = grind (arith, common_steps)
+
+-- or these bytes are it
+pub page_text : (N : ℕ) (output : Option (List ℕ)) (bytes : List ℕ) (len : ℕ) {text : List ℕ} {is_over : Bool} → is_over ≡ false
+    → text ≡ take len bytes
+    → IfSome output (HasText N bytes len is_over) → IfSome output (λ bs. text ≡ bs)
+page_text N x2 bytes len is same has = grind (arith, common_steps)
+
+-- a text that was printed is one of the two results
+pub short_prints : (N : ℕ) {old new : WriterState} {output : Option (List ℕ)} (reply : Result (Unit {0}) Error)
+    → PrintsShort N old output reply new → PrintsOrRefuses N old output reply new
+short_prints N x2 prints = grind (arith, common_steps)
+
+-- A text of at most N bytes was accepted, or a front of it; or its own `fmt` failed, and the writer got no call.
+pub prints_fitting : (N : ℕ) {a b : WriterState} {bs : List ℕ} (r : Result (Unit {0}) Error) → PrintsOrRefuses N a (Some bs) r b
+    → length bs ≤ N
+    → MovesFront a bs r b ⊎ IsErrAnd r (λ e. IsTextError e × (b ≡ a))
+prints_fitting N {a} {b} (Ok u) prints fits = inl (subst (λ l. MovesFront a l (Ok u) b) prints.is prints.moves)
+prints_fitting N {a} {b} (Err e) (inl prints) fits = inl (subst (λ l. MovesFront a l (Err e) b) prints.is prints.moves)
+prints_fitting N (Err e) (inr (inl unwritten, same)) fits = absurd (omega (arith, unwritten.1))
+prints_fitting N (Err e) (inr (inr failed, same)) fits = inr (failed.1, same)

@@ -1,12 +1,14 @@
--- For `adaptors`: at limit 0 a `Take` gives nothing, over every reader.
+-- For `adaptors`: a `Take` at its limit, and the calls of a `Chain`.
 use Rattle.std.proofs.{lemmas.{Grind.{common_steps}, Str.{IsUtf8-nil}}, Common.{IsUtf8, String, string_bytes, string_len, string_capacity}}
 use Rattle.no_std_io2.proofs.Words.{◌≡◌, ℕ, ◌<◌, ◌⊎◌, List, [], ◌∷◌, ◌++◌, Result, Ok, Err, OnOk, IfOk, IfErr, length, refl, sym, ap, subst}
 use Rattle.no_std_io2.proofs.Words.{◌∙◌, arith, inl, inr, append-nil, Vec, Event, bytes, Reader, ReadCall, Filled, ReadCallLaw, tells}
-use Rattle.no_std_io2.proofs.{Words.{newline, Made}, CallsLemmas.{made_split}, ReadsAdd.{piece_adds}, LimitLemmas.{limit_reader}}
-use Rattle.no_std_io2.proofs.LimitLoops.{limit_each, limit_exact}
+use Rattle.no_std_io2.proofs.{Words.{newline, Made}, CallsLemmas.{made_split}, CallsAdd.{piece_adds, EachAdds}, LimitLemmas.{limit_reader}}
+use Rattle.no_std_io2.proofs.{LimitLemmas.{limit_each, limit_exact}, ToEndLemmas.{chain_reader}}
 use Rattle.no_std_io2.specs.{declared.io.{Error.{Error}, Take.{Take}}, Errors.{IsUnexpectedEnd}, Events.{cut}, Read.{GaveExactly}}
 use Rattle.no_std_io2.specs.{Read.{ReadExactLaw, FillCalls, gave_whole}, BufRead.{ReadUntilLaw, ReadLineLaw, line_room}}
-use Rattle.no_std_io2.specs.{Pieces.{PieceCalls, PieceEnds, AnswersLine}, Write.{ByCalls}, Take.{limit_left, LimitTakes}}
+use Rattle.no_std_io2.specs.{Pieces.{PieceCalls, PieceEnds, AnswersLine}, Write.{ByCalls}, Take.{limit_left, LimitTakes}, Chain.{InTurn}}
+
+-- For `adaptors`: at limit 0 a `Take` gives nothing, over every reader.
 
 -- nothing is taken
 pub took_nothing : {T : Type 0} {inner : Reader T} {old new : Take T} {P : List Event} → LimitTakes inner old P new → limit_left old ≡ 0
@@ -108,3 +110,11 @@ module _ {T : Type 0} (inner : Reader T) where
       by (Err e) (Ok n) line none ok count (same, inl invalid) = absurd (invalid.0 (subst IsUtf8 (sym none) IsUtf8-nil))
       by (Err e) (Ok n) line none ok count (same, inr room) = absurd (omega (arith, room.1, ap length none, buf.bytes.ok.1))
       by reply (Err f) line none ok count answers = absurd ok
+
+-- For `adaptors`: the calls of a `Chain` use one reader after the other.
+
+module _ {T U : Type 0} where
+  -- Each call does. So `exact_adds (chain_each R S)` proves this for a `read_exact`, and the other calls are
+  -- as for `limit_each`.
+  pub chain_each : (R : Reader T) (S : Reader U) → EachAdds (ReadCallLaw (chain_reader R S)) (λ old x new. InTurn old new)
+  chain_each R S = grind (arith, common_steps)

@@ -1,14 +1,56 @@
--- For `towers`: which errors a writer with a buffer returns, if each call of its inner writer fails with such errors only.
-use Rattle.no_std_io2.proofs.Words.{common_steps, ◌≡◌, ℕ, ◌<◌, List, ◌∷◌, [], Result, Ok, Err, IfErr, IfOk, length, arith, subst, sym, inl}
-use Rattle.no_std_io2.proofs.Words.{inr, WriteCall, Wrote, WroteAll, Flushed, Made, AllCalls, Writer, CallOf, Step, TakesStep, Then, stops}
-use Rattle.no_std_io2.proofs.Words.{goes_on, SendCalls, RoomCalls, Buffered, WriteCalls, SingleCall, WriteAllCalls, FlushCalls, InnerCalls}
-use Rattle.no_std_io2.proofs.Words.{BufferMay, lines_of, unfinished_line, SendLinesCalls, LineWriteCalls, LineWriteAllCalls}
-use Rattle.no_std_io2.proofs.{CallsLemmas.{made_split}, LineLemmas.{lines_some}}
-use Rattle.no_std_io2.specs.{declared.io.Error.{Error}, BufWriter.{WithNothingHeld, PutCalls}}
-use Rattle.no_std_io2.specs.LineWriter.{SendLineCalls, LinesCalls, HoldsTail}
-use Rattle.no_std_io2.specs.LineWriter.{LineCalls}
+-- For `towers`: which errors a writer returns, and what streams in front of others are.
+use Rattle.no_std_io2.proofs.Words.{Ok, Err, Wrote, common_steps, ℕ, List, Result, IfErr, arith, IsOutOfMemory, WriteCall, Flushed, Made}
+use Rattle.no_std_io2.proofs.Words.{AllCalls, Writes, none, took, again, stuck, fault, Writer, CallOf, ◌≡◌, ◌<◌, ◌∷◌, [], IfOk, length}
+use Rattle.no_std_io2.proofs.Words.{subst, sym, inl, inr, WroteAll, Step, TakesStep, Then, stops, goes_on, SendCalls, RoomCalls, Buffered}
+use Rattle.no_std_io2.proofs.Words.{WriteCalls, SingleCall, WriteAllCalls, FlushCalls, InnerCalls, BufferMay, lines_of, unfinished_line}
+use Rattle.no_std_io2.proofs.Words.{SendLinesCalls, LineWriteCalls, LineWriteAllCalls, Vec, told_out, writer_inner, writer_buffer}
+use Rattle.no_std_io2.proofs.{Words.{writer_told, with_buffer, line_inner, line_buffer}, CallsLemmas.{law_may, made_split}}
+use Rattle.no_std_io2.proofs.LineLemmas.{lines_some}
+use Rattle.no_std_io2.specs.{declared.io.Error.{Error}, Writers.{WriteAllOf, FlushOf}, Appends.{AppendsWhole, AppendsMay}}
+use Rattle.no_std_io2.specs.{BufWriter.{WithNothingHeld, PutCalls}, LineWriter.{SendLineCalls, LinesCalls, HoldsTail, LineCalls}}
+use Rattle.no_std_io2.specs.declared.buffered.{buf_writer.BufWriter.{BufWriter}, line_writer.LineWriter.{LineWriter}}
 use Rattle.promises.specs.Fails.{FailsBy, FailsOnly}
-use Rattle.promises.proofs.FailsLemmas.{call_fails, writes_fail, all_fails}
+use Rattle.std.specs.Vec.{vec_len, vec_capacity}
+
+-- For `towers`: which errors the loops of a writer return, if each of its calls fails with such errors only.
+
+-- a vector fails by `OutOfMemory` only
+whole_fails : {A : Type 0} (old new x : List ℕ) (len capacity : ℕ) (reply : Result A Error) → AppendsWhole old len capacity x reply new
+    → IfErr reply IsOutOfMemory
+whole_fails old new x len capacity x6 is = grind (arith, common_steps)
+
+pub appends_fails : {W : Type 0} (items : W → List ℕ) (len capacity : W → ℕ)
+    → FailsOnly IsOutOfMemory (AppendsMay items len capacity)
+appends_fails items len capacity old new x6 made = grind (arith, common_steps)
+
+module _ {W : Type 0} (I : Writer W) (Q : Error → Type 0) (fails : FailsOnly Q I.may) where
+  -- so does each call, by its law
+  pub call_fails : (a b : W) (call : WriteCall) → CallOf I a call b → FailsBy Q call
+  call_fails a b call law = fails a b call (law_may I a b call law)
+
+  -- a loop of writes
+  pub writes_fail : {text : List ℕ} {C : List WriteCall} {x left : List ℕ} {reply : Result (Unit {0}) Error} → Writes text C x reply left
+      → (a b : W) → Made (CallOf I) a C b → IfErr reply Q
+  writes_fail none a b made = tt
+  writes_fail (took some more w) a b made = writes_fail w made.0 b made.2
+  writes_fail (again some interrupted w) a b made = writes_fail w made.0 b made.2
+  writes_fail (stuck {x = x} some says) a b made =
+      absurd (omega (arith, (call_fails a made.0 (Wrote x (Ok 0)) made.1).1 some))
+  writes_fail (fault {x = x} {e = e} some is) a b made = (call_fails a made.0 (Wrote x (Err e)) made.1).0
+
+  -- and a `write_all`
+  pub all_fails : {C : List WriteCall} {x : List ℕ} (reply : Result (Unit {0}) Error) → AllCalls C x reply → (a b : W)
+      → Made (CallOf I) a C b → IfErr reply Q
+  all_fails {x = x} reply calls a b made = grind (arith, common_steps, writes_fail, call_fails)
+
+  -- so the laws say which errors are returned
+  pub write_all_fails : {old new : W} {x : List ℕ} (reply : Result (Unit {0}) Error) → WriteAllOf I old x reply new → IfErr reply Q
+  write_all_fails {old} {new} reply law = all_fails reply law.calls.are old new law.calls.made
+
+  pub flush_fails : {old new : W} (reply : Result (Unit {0}) Error) → FlushOf I old reply new → IfErr reply Q
+  flush_fails {old} {new} reply law = fails old new (Flushed reply) law.call
+
+-- For `towers`: which errors a writer with a buffer returns, if each call of its inner writer fails with such errors only.
 
 module _ {W : Type 0} (I : Writer W) (Q : Error → Type 0) (fails : FailsOnly Q I.may) where
   -- a step has such results, if its calls were made
@@ -59,12 +101,12 @@ module _ {W : Type 0} (I : Writer W) (Q : Error → Type 0) (fails : FailsOnly Q
   write_some S x = buffered_gives (Some x) S x (length x) (SingleCall (Wrote x)) (λ e q. (q, tt)) (tt, λ some. some)
       (λ C reply is a b made. one {call = Wrote x reply} a b is made)
 
-  write_all_fails : (S : ℕ) (x : List ℕ) → Fails (WriteAllCalls S x)
-  write_all_fails S x = buffered_gives (λ reply. IfErr reply Q) S x tt (λ C. AllCalls C x) (λ e q. q) tt
+  buffer_write_all_fails : (S : ℕ) (x : List ℕ) → Fails (WriteAllCalls S x)
+  buffer_write_all_fails S x = buffered_gives (λ reply. IfErr reply Q) S x tt (λ C. AllCalls C x) (λ e q. q) tt
       (λ C reply calls a b made. all_fails I Q fails reply calls a b made)
 
-  flush_fails : Fails FlushCalls
-  flush_fails = then_gives (λ reply. IfErr reply Q) SendCalls (WithNothingHeld (SingleCall Flushed)) (λ e q. q) send_fails
+  buffer_flush_fails : Fails FlushCalls
+  buffer_flush_fails = then_gives (λ reply. IfErr reply Q) SendCalls (WithNothingHeld (SingleCall Flushed)) (λ e q. q) send_fails
       (λ held C reply left gone a b made. one {call = Flushed reply} a b gone.2 made)
 
   -- such a step of a writer with a buffer
@@ -74,7 +116,7 @@ module _ {W : Type 0} (I : Writer W) (Q : Error → Type 0) (fails : FailsOnly Q
 
   -- A writer with a buffer fails with the errors of its inner writer only.
   pub buffer_fails : {B : Type 0} (S : ℕ) (inner : B → W) (buffer : B → List ℕ) → FailsOnly Q (BufferMay I (InnerCalls S) inner buffer)
-  buffer_fails {B = B} S inner buffer = grind (arith, common_steps, by_step, flush_fails, write_all_fails, write_some)
+  buffer_fails {B = B} S inner buffer = grind (arith, common_steps, by_step, buffer_flush_fails, buffer_write_all_fails, write_some)
 
   -- and so does a line writer
   send_line_fails : Fails SendLineCalls
@@ -89,7 +131,7 @@ module _ {W : Type 0} (I : Writer W) (Q : Error → Type 0) (fails : FailsOnly Q
   send_lines_fails S y = λ held C reply left sends a b made. elim sends [
     | inl past ↦ all_fails I Q fails reply past.2 a b made
     | inr behind ↦
-        then_gives (λ reply. IfErr reply Q) (WriteAllCalls S y) SendCalls (λ e q. q) (write_all_fails S y) send_fails
+        then_gives (λ reply. IfErr reply Q) (WriteAllCalls S y) SendCalls (λ e q. q) (buffer_write_all_fails S y) send_fails
         held C reply left behind.1 a b made
   ]
 
@@ -109,14 +151,35 @@ module _ {W : Type 0} (I : Writer W) (Q : Error → Type 0) (fails : FailsOnly Q
   line_write_all_fails : (S : ℕ) (x : List ℕ) → Fails (LineWriteAllCalls S x)
   line_write_all_fails S x = λ held C reply left write a b made. elim write [
     | inl plain ↦
-        then_gives (λ reply. IfErr reply Q) SendLineCalls (WriteAllCalls S x) (λ e q. q) send_line_fails (write_all_fails S x)
+        then_gives (λ reply. IfErr reply Q) SendLineCalls (WriteAllCalls S x) (λ e q. q) send_line_fails (buffer_write_all_fails S x)
         held C reply left plain.1 a b made
     | inr lines ↦
         then_gives (λ reply. IfErr reply Q) (SendLinesCalls S (lines_of x)) (WriteAllCalls S (unfinished_line x)) (λ e q. q)
-        (send_lines_fails S (lines_of x)) (write_all_fails S (unfinished_line x)) held C reply left lines.1 a b made
+        (send_lines_fails S (lines_of x)) (buffer_write_all_fails S (unfinished_line x)) held C reply left lines.1 a b made
   ]
 
   pub line_fails : {B : Type 0} (S : ℕ) (inner : B → W) (buffer : B → List ℕ) → FailsOnly Q (BufferMay I (LineCalls S) inner buffer)
   line_fails S inner buffer old new (Wrote x reply) may = by_step inner buffer old new reply (line_write_some S x) may
   line_fails S inner buffer old new (WroteAll x reply) may = by_step inner buffer old new reply (line_write_all_fails S x) may
-  line_fails S inner buffer old new (Flushed reply) may = by_step inner buffer old new reply flush_fails may
+  line_fails S inner buffer old new (Flushed reply) may = by_step inner buffer old new reply buffer_flush_fails may
+
+-- What streams in front of others are, as the laws take them.
+
+-- a vector
+abbrev pub vector : (Z : Type 0) → Writer (Vec ℕ Z)
+vector Z = record { told = λ v. told_out v.items; takes_all = λ _. ⊥; may = AppendsMay (λ v. v.items) vec_len vec_capacity }
+
+-- a `BufWriter` and a `LineWriter` in front of a writer
+abbrev pub buffered : {W : Type 0} (S : ℕ) → Writer W → Writer (BufWriter W S)
+buffered S I = record {
+  told = writer_told I.told;
+  takes_all = λ w. I.takes_all (writer_inner w);
+  may = BufferMay I (InnerCalls S) writer_inner writer_buffer;
+}
+
+abbrev pub lines : {W : Type 0} (S : ℕ) → Writer W → Writer (LineWriter W S)
+lines S I = record {
+  told = λ w. with_buffer (I.told (line_inner w)) (line_buffer w);
+  takes_all = λ _. ⊥;
+  may = BufferMay I (LineCalls S) line_inner line_buffer;
+}

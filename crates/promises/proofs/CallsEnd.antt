@@ -1,10 +1,30 @@
--- Which call of a buffer's inner writer is the last.
+-- For `delivery`, `calls` and `bounds`: which call is the last, what calls cost, and what is nothing.
 use Rattle.std.proofs.{Common.{arith}, lemmas.Grind.{common_steps}}
-use Rattle.no_std_io2.proofs.Words.{ℕ, List, [], ◌∷◌, ◌++◌, Result, Ok, Err, IfOk, IfErr, OnOk, length, refl, WriteCall, Wrote, WroteAll}
-use Rattle.no_std_io2.proofs.Words.{Flushed, AllCalls, Writes, none, took, again, stuck, fault, stops, goes_on, RoomCalls, FlushCalls}
-use Rattle.no_std_io2.proofs.Words.{WriteCalls, SingleCall}
-use Rattle.no_std_io2.specs.{declared.io.Error.{Error}, BufWriter.{PutCalls}}
+use Rattle.no_std_io2.proofs.Words.{◌≡◌, ℕ, List, [], ◌∷◌, ◌++◌, refl, Result, OnOk, Ok, Err, IfOk, IfErr, length, WriteCall, Wrote}
+use Rattle.no_std_io2.proofs.Words.{WroteAll, Flushed, AllCalls, Writes, none, took, again, stuck, fault, stops, goes_on, RoomCalls}
+use Rattle.no_std_io2.proofs.Words.{FlushCalls, WriteCalls, SingleCall, ◌+◌, ◌≤◌, Writer, calls_for, charges, IsMeter, Step, TakesStep}
+use Rattle.no_std_io2.proofs.{BufWriterLemmas.{effect_of}, BufWriterCalls.{send_does}, MovesLemmas.{meter_made}}
+use Rattle.no_std_io2.specs.{declared.io.Error.{Error}, BufWriter.{PutCalls, UnwrapCalls}, Meter.{Costs}}
+use Rattle.no_std_io2.specs.declared.buffered.into_inner_error.IntoInnerError.{IntoInnerError}
 use Rattle.promises.specs.Promises.{HasNoFlush, FailedWith, EndsIn, EndsInFlush}
+
+-- For `delivery` and `calls`: two lists that are nothing together.
+
+-- both are empty
+pub both : (xs ys : List ℕ) → xs ++ ys ≡ [] → (xs ≡ []) × (ys ≡ [])
+both [] ys h = (refl, h)
+both (x ∷ xs) ys h = absurd (cc)
+
+-- the second is
+pub second : (reply : Result (Unit {0}) Error) (xs ys : List ℕ) → OnOk reply (xs ++ ys ≡ []) → OnOk reply (ys ≡ [])
+second reply xs ys h = grind (arith, common_steps, both)
+
+-- so are three
+pub three : (reply : Result (Unit {0}) Error) (xs ys zs : List ℕ) → OnOk reply ((xs ++ ys) ++ zs ≡ [])
+    → OnOk reply (xs ≡ []) × OnOk reply (ys ≡ []) × OnOk reply (zs ≡ [])
+three reply xs ys zs h = grind (arith, common_steps, both)
+
+-- Which call of a buffer's inner writer is the last.
 
 -- one more call before the others changes nothing, if there are others
 ends_before : (call : WriteCall) (C : List WriteCall) (e : Error) → EndsIn C e → EndsIn (call ∷ C) e
@@ -106,3 +126,21 @@ ends_after_both C D reply ends = grind (arith, common_steps, ends_after)
 -- a flush behind other calls
 pub flushed_end : (C : List WriteCall) (reply : Result (Unit {0}) Error) → IfErr reply (EndsIn (C ++ Flushed reply ∷ []))
 flushed_end C reply = grind (arith, common_steps, ends_last)
+
+-- For `bounds` and `counts`: what the calls of a buffered writer cost, by each number that counts those of the inner writer.
+
+module _ {W : Type 0} (I : Writer W) where
+  -- a step costs at most what its calls count as
+  pub few_cost : {A B : Type 0} (cost : W → ℕ) → IsMeter I.may cost → (inner : B → W) (buffer : B → List ℕ) (step : Step A) (old new : B)
+      {reply : Result A Error} {n : ℕ} (takes : TakesStep I inner buffer step old reply new) → charges takes.calls ≤ n
+      → cost (inner new) ≤ cost (inner old) + n
+  few_cost cost meter inner buffer step old new takes few =
+      omega (arith, meter_made I cost meter takes.calls (inner old) (inner new) takes.made, few)
+
+  -- `into_inner` costs one call for the held bytes
+  pub unwrap_cost : {B : Type 0} (inner : B → W) (buffer : B → List ℕ) (old : B) (reply : Result W (IntoInnerError B))
+      → UnwrapCalls I inner buffer old reply → IfOk reply (λ w. Costs I (inner old) (calls_for (buffer old)) w)
+  unwrap_cost inner buffer old (Ok w) calls = λ cost meter takes.
+      let sent = (effect_of (send_does I) calls).counts takes in
+      omega (arith, meter_made I cost meter calls.calls (inner old) w calls.made, sent.2)
+  unwrap_cost inner buffer old (Err e) calls = tt

@@ -1,14 +1,49 @@
--- For `reads`: a piece at the front of the held bytes, and what lies behind after a piece was taken.
-use Rattle.no_std_io2.proofs.Words.{common_steps, ◌≡◌, ℕ, ◌<◌, Bool, true, List, [], ◌∷◌, ◌++◌, length, take, drop, refl, sym, ap, ap₂}
-use Rattle.no_std_io2.proofs.Words.{subst, ◌∙◌, arith, Result, Ok, Err, ⊎_elim, inl, inr, append_assoc, append-nil, length-append}
-use Rattle.no_std_io2.proofs.Words.{length-take-le, take-append-drop, Vec, IfOk, IsOutOfMemory, Made, bytes, Reader, ReadCall, Filled}
-use Rattle.no_std_io2.proofs.Words.{Consumed, ReadCallLaw, tells, newline, IsSuffix, reader_held, reader_behind, reader_inner, FillsBelow}
-use Rattle.no_std_io2.proofs.{Words.{lent_held, lent_read}, CallsLemmas.{made_split}, BufReaderCalls.{buf_reader}}
-use Rattle.std.proofs.Common.{take_all, String, string_bytes}
-use Rattle.no_std_io2.specs.{declared.io.Error.{Error}, BufRead.{ReadUntilLaw, ReadLineLaw, line_room}, Pieces.{AnswersLine, Lacks}}
-use Rattle.no_std_io2.specs.Pieces.{EndsPiece, FindsPiece, PartCalls, no_part, and_part, and_waited, PieceEnds, PieceCalls}
+-- For `reads`: pieces at the front of the held bytes, and the store after a call.
+use Rattle.std.proofs.{lemmas.Grind.{common_steps}, Common.{IfSome, drop-drop, take_all, String, string_bytes}}
+use Rattle.no_std_io2.proofs.Words.{◌≡◌, ◌+◌, ◌-◌, ◌<◌, ◌++◌, ℕ, List, [], Option, None, Some, Result, Ok, IfOk, length, refl, subst, sym}
+use Rattle.no_std_io2.proofs.Words.{ap, ap₂, ◌∙◌, drop, arith, drop-append_seam, step_back, store_before, store_if, Event, answered}
+use Rattle.no_std_io2.proofs.Words.{KeepsContent, Store, Bool, true, ◌∷◌, take, Err, ⊎_elim, inl, inr, append_assoc, append-nil}
+use Rattle.no_std_io2.proofs.Words.{length-append, length-take-le, take-append-drop, Vec, IsOutOfMemory, Made, bytes, Reader, ReadCall}
+use Rattle.no_std_io2.proofs.Words.{Filled, Consumed, ReadCallLaw, tells, newline, IsSuffix, reader_held, reader_behind, reader_inner}
+use Rattle.no_std_io2.proofs.{Words.{FillsBelow, lent_held, lent_read}, BufferedReads.{before_decides, buf_reader}}
+use Rattle.no_std_io2.proofs.CallsLemmas.{made_split}
+use Rattle.no_std_io2.specs.{declared.io.Error.{Error}, Read.{gave}, BufRead.{ReadUntilLaw, ReadLineLaw, line_room}, Pieces.{AnswersLine}}
+use Rattle.no_std_io2.specs.Pieces.{Lacks, EndsPiece, FindsPiece, PartCalls, no_part, and_part, and_waited, PieceEnds, PieceCalls}
 use Rattle.no_std_io2.specs.{Write.{ByCalls}, declared.buffered.buf_reader.BufReader.{BufReader}, BufReader.{HasBuffer, TakesHeld}}
 use Rattle.no_std_io2.specs.BufReader.{TakesHeldLine}
+
+-- For `reads`: the store after a call, if it was told before; and the events.
+
+-- a store that was told still is, with its content
+pub store_after : (Goes : ℕ → ℕ → ℕ → Type 0) {was : Store} (old new : Option Store) → KeepsContent old Goes new → old ≡ Some was
+    → (now : Store) × (new ≡ Some now) × KeepsContent (Some was) Goes (Some now)
+store_after Goes {was} old new keeps told = by new (subst (λ o. KeepsContent o Goes new) told keeps)
+  where
+    by : (o : Option Store) → KeepsContent (Some was) Goes o → (now : Store) × (o ≡ Some now) × KeepsContent (Some was) Goes (Some now)
+    by None kept = absurd kept
+    by (Some now) kept = (now, refl, kept)
+
+-- a `read` that gave no byte into some room met the end
+pub none_left : (buf : List ℕ) (reply : Result ℕ Error) {told : Option (List Event)} {E after : List Event}
+    → IfOk reply (λ n. n ≡ 0 → 0 < length buf → IfSome told (λ F. F ≡ [])) → told ≡ Some after
+    → E ≡ answered (gave reply buf) ++ after → reply ≡ Ok 0 → 0 < length buf → E ≡ []
+none_left buf reply ends told split is_zero some = grind (arith, common_steps, IfSome)
+
+-- The held bytes stand in the content right before the position, with `front` before them: so the store is told, at
+-- their first byte.
+pub store_below : (held front after : List ℕ) (s : Store) {content : List ℕ} → content ≡ front ++ (held ++ after) → s.content ≡ content
+    → s.position ≡ length front + length held → store_before held (Some s) ≡ Some (step_back (length held) s)
+store_below held front after s has same at =
+    let all : s.content ≡ front ++ (held ++ after) = same ∙ has in
+    let from_held : drop (s.position - length held) s.content ≡ held ++ after =
+    ap₂ drop (omega (arith, at)) all ∙ drop-append_seam front (held ++ after) in
+    let from_after : drop s.position s.content ≡ after =
+    ap₂ drop at all ∙ sym (drop-drop (length held) (length front) (front ++ (held ++ after)))
+    ∙ ap (drop (length held)) (drop-append_seam front (held ++ after)) ∙ drop-append_seam held after in
+    ap (λ t. store_if t (step_back (length held) s))
+    ((before_decides held s).1 (omega (arith, at), from_held ∙ ap (λ l. held ++ l) (sym from_after)))
+
+-- For `reads`: a piece at the front of the held bytes, and what lies behind after a piece was taken.
 
 -- if d is among the bytes, they do not lack it
 has_end : (d : ℕ) (front rest : List ℕ) → Lacks d (front ++ d ∷ rest) → ⊥
@@ -125,25 +160,25 @@ module _ {R : Type 0} {S : ℕ} (K : Reader R) (old : BufReader R S) (d : ℕ) w
 -- by `read_line`
 module _ {R : Type 0} {S : ℕ} (K : Reader R) (old : BufReader R S) (line rest : List ℕ) (is : reader_held old ≡ line ++ rest)
     (ends : EndsPiece newline line) where
-  answered : (x : List ℕ) (new : BufReader R S) (len capacity : ℕ) (text text' : List ℕ) (read reply : Result ℕ Error)
+  was_answered : (x : List ℕ) (new : BufReader R S) (len capacity : ℕ) (text text' : List ℕ) (read reply : Result ℕ Error)
       → IfOk read (λ n. n ≡ length x) → Took K old newline line rest is ends x read new
       → AnswersLine x read len capacity reply text text' → TakesHeldLine line rest old text reply text' new
-  answered x new len capacity text text' (Ok n) (Ok m) count taken answers =
+  was_answered x new len capacity text text' (Ok n) (Ok m) count taken answers =
       (answers.1 ∙ count ∙ ap length taken.0, answers.0.1 ∙ ap (λ l. text ++ l) taken.0, taken.1, taken.2)
-  answered x new len capacity text text' (Ok n) (Err e) count taken answers = (answers.0, taken.2, inl taken.1)
-  answered x new len capacity text text' (Err f) (Ok m) count taken answers = absurd answers
-  answered x new len capacity text text' (Err f) (Err e) count taken (inl memory) = (
+  was_answered x new len capacity text text' (Ok n) (Err e) count taken answers = (answers.0, taken.2, inl taken.1)
+  was_answered x new len capacity text text' (Err f) (Ok m) count taken answers = absurd answers
+  was_answered x new len capacity text text' (Err f) (Err e) count taken (inl memory) = (
     memory.2,
     ap reader_inner taken.2,
     inr (subst IsOutOfMemory (sym memory.1) taken.0, (ap reader_behind taken.2, ap reader_held taken.2)),
   )
-  answered x new len capacity text text' (Err f) (Err e) count taken (inr other) = absurd (other.0 taken.0.0)
+  was_answered x new len capacity text text' (Err f) (Err e) count taken (inr other) = absurd (other.0 taken.0.0)
 
   pub line_held : {A : Type 0} {text text' : String A} {new : BufReader R S} (reply : Result ℕ Error)
       → ReadLineLaw (buf_reader K) old text reply text' new
       → TakesHeldLine line rest old (string_bytes text) reply (string_bytes text') new
   line_held {text = text} reply law =
-      answered (bytes law.taken) _ _ _ _ _ law.read reply (counts law.read law.ends)
+      was_answered (bytes law.taken) _ _ _ _ _ law.read reply (counts law.read law.ends)
       (piece_held K old newline line rest is ends (bytes law.taken) law.read law.calls) law.answers
     where
       counts : (read : Result ℕ Error) → PieceEnds (λ n. line_room text < n) newline (tells (buf_reader K) old) law.taken read

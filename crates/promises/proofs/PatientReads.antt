@@ -1,16 +1,19 @@
--- For `system`: what the reads of a patient give.
+-- For `system` and `memory`: what reads give.
 use Rattle.std.proofs.{lemmas.Grind.{common_steps}, KnownBytes.{Consumes-nil, Consumes-trans}}
 use Rattle.no_std_io2.proofs.Words.{◌≡◌, ℕ, zero, suc, ◌+◌, ◌<◌, ◌≤◌, List, [], ◌∷◌, Option, Result, Ok, Err, length, refl, sym, ap, subst}
 use Rattle.no_std_io2.proofs.Words.{◌∙◌, arith, inl, inr, ◌⊎◌, append-nil, length-append, OnOk, IsFault, ReadCall, Gave, bytes_given}
-use Rattle.no_std_io2.proofs.{Words.{answered, GaveLaw, ReadCallLaw, GathersUntil, ExactCalls, Made, IsFront}, CallsLemmas.{made_split}}
-use Rattle.no_std_io2.proofs.{EventLemmas.{length-events_of}, ReadsAdd.{EachAdds, gathers_add}}
+use Rattle.no_std_io2.proofs.Words.{answered, GaveLaw, ReadCallLaw, GathersUntil, ExactCalls, Made, IsFront, ◌++◌, Vec, Some, Event, bytes}
+use Rattle.no_std_io2.proofs.{Words.{to_come, Reader, tells}, CallsLemmas.{made_split}, TakesLemmas.{length-events_of}, CallsAdd.{EachAdds}}
+use Rattle.no_std_io2.proofs.{CallsAdd.{gathers_add}, CopyLoop.{took_told}}
 use Rattle.std.specs.{Prelude.{min}, Result.{IsErrAnd}, Io.KnownBytes.{Consumes, Keeps}}
 use lib.Seq.{take-append_seam}
-use Rattle.no_std_io2.specs.{declared.io.Error.{Error}, Errors.{is_interruption}, Read.{gave}, Write.{ByCalls}}
+use Rattle.no_std_io2.specs.{declared.io.Error.{Error}, Errors.{is_interruption}, Read.{gave, ToEndLaw}, Write.{ByCalls}}
 use Rattle.system_streams.specs.{declared.{patient.Patient.{Patient}, system.SystemRead.{Ghosts as Source}}, Patient.{patient_device}}
 use Rattle.system_streams.specs.{Patient.{patient_turns, patient_taken, AsksOnce, AsksDevice}, Turns.{IsOutOfTurns, IsDeviceFault}}
 use Rattle.promises.specs.Patience.{EndsReads, Fills}
 use Rattle.system_streams.proofs.PatientLemmas.{patient_reader}
+
+-- For `system`: what the reads of a patient give.
 
 -- known bytes that stay lose nothing
 keeps_consumes : (a b : Option (List ℕ)) → Keeps a b → Consumes a b []
@@ -155,3 +158,12 @@ module _ {D : Type 0} (I : Source D) where
               | inr failed ↦ inr (inl (failed, fell))
             ],
           )
+
+-- For `memory`: what a `read_to_end` gave.
+
+-- a `read_to_end` appends all bytes that were to come
+pub drained : {X A : Type 0} {lacks : ℕ → Type 0} {R : Reader X} {old new : X} {buf buf' : Vec ℕ A} {E : List Event} {x : List ℕ}
+    (reply : Result ℕ Error) → ToEndLaw lacks R old buf reply buf' new → to_come (tells R old) ≡ Some E → bytes E ≡ x
+    → OnOk reply (buf'.items ≡ buf.items ++ x)
+drained reply law told is =
+    grind (arith, common_steps, took_told)

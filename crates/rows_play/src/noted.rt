@@ -63,13 +63,13 @@ impl<W: Write> Write for Noted<W> {
         self.inner.flush()
     }
 
-    #[tactic(auto, using(no_std_io2::proofs::Wrappers::passes_on))]
+    #[tactic(auto, using(no_std_io2::proofs::ObjectRules::passes_on))]
     fn write_all(&mut self, buf: &[u8]) -> Result<()> {
         note_bytes(&self.journal, "write_all ", buf);
         self.inner.write_all(buf)
     }
 
-    #[tactic(auto, using(no_std_io2::proofs::Wrappers::passes_on))]
+    #[tactic(auto, using(no_std_io2::proofs::ObjectRules::passes_on))]
     fn write_rest(&mut self, rest: &mut &[u8]) -> Result<()> {
         note_bytes(&self.journal, "write_rest ", rest);
         self.inner.write_rest(rest)
@@ -93,19 +93,19 @@ impl<T: Read> Read for Noted<T> {
         self.inner.read(buf)
     }
 
-    #[tactic(auto, using(no_std_io2::proofs::Wrappers::passes_on))]
+    #[tactic(auto, using(no_std_io2::proofs::ObjectRules::passes_on))]
     fn read_exact(&mut self, buf: &mut [u8]) -> Result<()> {
         note_number(&self.journal, "read_exact ", buf.len());
         self.inner.read_exact(buf)
     }
 
-    #[tactic(auto, using(no_std_io2::proofs::Wrappers::passes_on))]
+    #[tactic(auto, using(no_std_io2::proofs::ObjectRules::passes_on))]
     fn read_full(&mut self, buf: &mut [u8], filled: &mut usize) -> Result<()> {
         note_number(&self.journal, "read_full ", buf.len());
         self.inner.read_full(buf, filled)
     }
 
-    #[tactic(auto, using(no_std_io2::proofs::Wrappers::passes_on))]
+    #[tactic(auto, using(no_std_io2::proofs::ObjectRules::passes_on))]
     fn read_to_end<B: Allocator>(&mut self, buf: &mut Vec<u8, B>) -> Result<usize> {
         note(&self.journal, "read_to_end");
         self.inner.read_to_end(buf)

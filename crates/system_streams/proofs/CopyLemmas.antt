@@ -3,9 +3,9 @@ use Rattle.no_std_io2.proofs.Words.{◌≡◌, ℕ, List, [], ◌∷◌, ◌++�
 use Rattle.no_std_io2.proofs.Words.{inr, ◌⊎◌, Bool, length, length-append, nil_from_length, error_kind, Event, bytes, HasNoFault}
 use Rattle.no_std_io2.proofs.Words.{ReaderState}
 use Rattle.no_std_io2.proofs.Words.{to_come, Reader, tells, ReadCall, WriterState, Moves, WriteCall, Flushed, Made, ByCalls, Writer, CallOf}
-use Rattle.no_std_io2.proofs.{Words.{with_buffer, Copied, LevelCalls}, TakesLemmas.{takes_to_end}, MovesLemmas.{Moves-then, Moves-ends}}
-use Rattle.no_std_io2.proofs.{BufWriterLemmas.{Moves-bare}, CallsLemmas.{made_more}, CopyLemmas.{copied_ok, copied_err}}
-use Rattle.no_std_io2.proofs.{TowerCalls.{through}, FaultLemmas.{first_fault_taken, may_fail, no_failure}}
+use Rattle.no_std_io2.proofs.{BufWriterLemmas.{Moves-bare, through}, CallsLemmas.{made_more}, CopyLoop.{copied_ok, copied_err}}
+use Rattle.no_std_io2.proofs.{TakesLemmas.{first_fault_taken, may_fail, no_failure, takes_to_end}, Words.{with_buffer, Copied, LevelCalls}}
+use Rattle.no_std_io2.proofs.MovesLemmas.{Moves-then, Moves-ends}
 use Rattle.std.proofs.Common.{IfSome}
 use Rattle.no_std_io2.specs.{declared.io.Error.{Error}, Takes.{IsAll}, Writers.{FlushOf}, Copy.{SidesCopied, side_error, HandsOn}}
 use Rattle.no_std_io2.specs.{declared.io.CopyError.{CopyError}, Faults.{HasFirstFault, MayFail, IsFaultOf}}

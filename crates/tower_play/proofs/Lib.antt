@@ -1,7 +1,3 @@
 mod ScriptLemmas
 mod PlayLemmas
 mod Escapes
-mod Unescaping
-mod CallLemmas
-mod LineLemmas
-mod ReadLemmas

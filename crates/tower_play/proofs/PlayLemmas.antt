@@ -1,13 +1,32 @@
--- For `play`: what it writes, and which calls its tower made of the device.
-use Rattle.no_std_io2.proofs.Words.{CallOf, Vec, told_out, arith, common_steps, ◌≡◌, ℕ, List, [], ◌∷◌, ◌++◌, subst, ap, ap₂, refl}
-use Rattle.no_std_io2.proofs.Words.{append_assoc, Ok, Err, Result, IfOk, ◌∙◌, error_kind, WriterState, Moves, MovesFront, Writer, WriteCall}
-use Rattle.no_std_io2.proofs.{Words.{ByCalls, InnerCalls, with_buffer, LevelCalls}, MovesLemmas.{Moves-ends}, FaultLemmas.{may_fail}}
-use Rattle.no_std_io2.specs.{declared.io.Error.{Error}, Faults.{MayFail}}
-use Rattle.io_bench.specs.{declared.{faulty.{Act.{Act}, Faulty.{Faulty}}, runs.Op.{Op}}, Faulty.{acts_left, faulty_inner, with_acts}}
+-- For `play`: the calls of a script, what it writes, and which calls its tower made of the device.
+use Rattle.std.proofs.{Common.{arith}, lemmas.Grind.{common_steps}}
+use Rattle.no_std_io2.proofs.Words.{ℕ, ◌+◌, ◌<◌, List, [], ◌∷◌, ◌++◌, length, get_or, take, refl, subst, take_more, CallOf, Vec, told_out}
+use Rattle.no_std_io2.proofs.Words.{◌≡◌, ap, ap₂, append_assoc, Ok, Err, Result, IfOk, ◌∙◌, error_kind, WriterState, Moves, MovesFront}
+use Rattle.no_std_io2.proofs.{Words.{Writer, WriteCall, ByCalls, InnerCalls, with_buffer, LevelCalls}, MovesLemmas.{Moves-ends}}
+use Rattle.no_std_io2.proofs.TakesLemmas.{may_fail}
+use Rattle.io_bench.specs.{declared.{runs.Op.{Op}, faulty.{Act.{Act}, Faulty.{Faulty}}}, Faulty.{acts_left, faulty_inner, with_acts}}
 use Rattle.io_bench.specs.Runs.{Ran, RunBelow}
+use Rattle.tower_play.specs.{declared.{script.Step.{Step}, playing.Shape.{Shape}}, Calls.{IsNext, AreOps}, Report.{printed_report}}
+use Rattle.tower_play.specs.Play.{WritesText, Shows, ShowsRun, TowerCalls, TwoLevels, fresh_told}
+use Rattle.no_std_io2.specs.{declared.io.Error.{Error}, Faults.{MayFail}}
 use Rattle.io_bench.proofs.RunLemmas.{below_first, below_map, below_more}
-use Rattle.tower_play.specs.{declared.playing.Shape.{Shape}, Report.{printed_report}, Play.{WritesText, Shows, ShowsRun, TowerCalls}}
-use Rattle.tower_play.specs.Play.{TwoLevels, fresh_told}
+
+-- For `Calls::ops`: the calls of a script, one after another.
+
+-- one call more
+ops_more : (steps : List Step) (texts : List ℕ) (ops : List Op) (rest : List ℕ) (step : Step) (op : Op) (next : List ℕ)
+    → AreOps steps texts ops rest → IsNext step rest op next → AreOps (steps ++ step ∷ []) texts (ops ++ op ∷ []) next
+ops_more [] texts [] rest step op next are is = (next, subst (λ t. IsNext step t op next) are is, refl)
+ops_more (s ∷ steps) texts (o ∷ ops) rest step op next are is = (are.0, are.1, ops_more steps are.0 ops rest step op next are.2 is)
+ops_more _ texts _ rest step op next are is = absurd are
+
+-- the next step of a list makes the next call
+pub ops_go_on : (steps : List Step) (i : ℕ) (d : Step) (texts : List ℕ) (ops : List Op) (rest : List ℕ) (op : Op) (next : List ℕ)
+    → i < length steps → AreOps (take i steps) texts ops rest → IsNext (get_or steps i d) rest op next
+    → AreOps (take (i + 1) steps) texts (ops ++ op ∷ []) next
+ops_go_on steps i d texts ops rest op next in' are is = grind (arith, common_steps, get_or, ops_more, take_more)
+
+-- For `play`: what it writes, and which calls its tower made of the device.
 
 -- what follows from a fact of the value of an `Ok`
 pub ifok_map : {A E : Type 0} {P Q : A → Type 0} (r : Result A E) → ((a : A) → P a → Q a) → IfOk r P → IfOk r Q

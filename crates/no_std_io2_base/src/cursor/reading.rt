@@ -84,7 +84,7 @@ impl<T: AsSlice<u8>> Read for Cursor<T> {
 }
 
 impl<T: AsSlice<u8>> BufRead for Cursor<T> {
-    #[tactic(auto, using(crate::proofs::FillBufHeld::begins_whole))]
+    #[tactic(auto, using(crate::proofs::ReadsLemmas::begins_whole))]
     fn fill_buf(&mut self) -> Result<&[u8]> {
         Ok(self.left())
     }

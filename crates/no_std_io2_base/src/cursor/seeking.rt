@@ -39,7 +39,7 @@ impl<T: AsSlice<u8>> Seek for Cursor<T> {
     }
 
     // The length is known, so nothing moves.
-    #[tactic(auto, using(crate::proofs::SeekCalls::len_measured))]
+    #[tactic(auto, using(crate::proofs::CursorLemmas::len_measured))]
     fn stream_len(&mut self) -> Result<u64>
         ensures law { StreamLenLaw ⟦<Self as Seek>⟧ self.old result self.new }
         ensures same { self.new ≡ self.old }

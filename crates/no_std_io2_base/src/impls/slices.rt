@@ -121,7 +121,7 @@ impl Read for &[u8] {
 }
 
 impl BufRead for &[u8] {
-    #[tactic(auto, using(crate::proofs::FillBufHeld::begins_whole))]
+    #[tactic(auto, using(crate::proofs::ReadsLemmas::begins_whole))]
     fn fill_buf(&mut self) -> Result<&[u8]> {
         Ok(*self)
     }

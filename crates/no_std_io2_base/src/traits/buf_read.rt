@@ -54,7 +54,7 @@ pub trait BufRead: Read {
     /// assert!(rt; r.read_until(b'=', &mut key)? == 4);
     /// assert!(rt; key.as_slice() == b"key=".as_slice());
     /// ```
-    #[tactic(auto, using(crate::proofs::PieceLoop::until_none))]
+    #[tactic(auto, using(crate::proofs::PieceLoops::until_none))]
     fn read_until<A: Allocator>(&mut self, delim: u8, buf: &mut Vec<u8, A>) -> Result<usize>
     where
         Self: Sized,
@@ -90,7 +90,7 @@ pub trait BufRead: Read {
     /// assert!(rt; r.skip_until(b'=')? == 4);
     /// assert!(rt; r.fill_buf()? == b"value".as_slice());
     /// ```
-    #[tactic(auto, using(crate::proofs::SkipLoop::skip_none))]
+    #[tactic(auto, using(crate::proofs::PieceLoops::skip_none))]
     final fn skip_until(&mut self, delim: u8) -> Result<usize>
     where
         Self: Sized,

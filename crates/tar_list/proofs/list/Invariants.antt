@@ -1,5 +1,5 @@
 -- Members were passed over, and their lines were printed.
-use Rattle.no_std_io2.proofs.{Words.{[], Moves}, Readers.{reader}}
+use Rattle.no_std_io2.proofs.{Words.{[], Moves}, TakesLemmas.{reader}}
 use Rattle.tar_reader.specs.Archives.{archive_turns}
 use Rattle.tar_reader.proofs.MemberLemmas.{Skipping}
 use Rattle.tar_list.specs.Listing.{member_lines}

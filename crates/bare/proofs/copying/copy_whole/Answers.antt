@@ -1,6 +1,6 @@
 -- The search does not join what the copy took of the slice with what the buffer and the queue accepted.
 use Rattle.no_std_io2.proofs.Words.{err_from_is_err_and}
-use Rattle.bare.proofs.{FullLemmas.{flush_done, flush_full}, CopyLemmas.{copied, copy_full}}
+use Rattle.bare.proofs.QueueLemmas.{flush_done, flush_full, copied, copy_full}
 use Rattle.bare.proofs.copying.copy_whole.Goals as goal
 
 pub returns-in_err-copy-clause-full : goal.returns-in_err-copy-clause-full

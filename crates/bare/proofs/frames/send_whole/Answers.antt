@@ -1,6 +1,6 @@
 -- Why a frame does not fit: the search does not take apart the law of the `send` or of the `flush` that failed.
 use Rattle.no_std_io2.proofs.Words.{arith, err_from_is_err_and}
-use Rattle.bare.proofs.{FullLemmas.{flush_full}, FrameLemmas.{frame_moved, frame_full}}
+use Rattle.bare.proofs.QueueLemmas.{flush_full, frame_moved, frame_full}
 use Rattle.bare.proofs.frames.send_whole.Goals as goal
 
 pub returns-in_err-send-clause-full : goal.returns-in_err-send-clause-full

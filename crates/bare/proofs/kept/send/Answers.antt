@@ -2,7 +2,7 @@
 use Rattle.no_std_io2.proofs.Words.{◌-◌, length, drop, ap, subst, ◌∙◌}
 use Rattle.no_std_io2.specs.Writers.{WriteRestOf}
 use Rattle.bare.specs.Queue.{waiting}
-use Rattle.bare.proofs.{FullLemmas.{queue}, KeptLemmas.{resumed}}
+use Rattle.bare.proofs.{QueueLemmas.{queue}, KeptLemmas.{resumed}}
 use Rattle.bare.proofs.kept.send.Goals as goal
 
 pub returns : goal.returns

@@ -3,7 +3,7 @@ use Rattle.no_std_io2.proofs.Words.{common_steps, arith}
 use Rattle.std.proofs.Common.{take_all}
 use Rattle.no_std_io2.proofs.{MovesLemmas.{Moves-refl}, TextLemmas.{MovesFront-text}}
 use Rattle.bare.specs.Report.{reading_line}
-use Rattle.bare.proofs.ReportLemmas.{printed_more, printed_all}
+use Rattle.bare.proofs.KeptLemmas.{printed_more, printed_all}
 use Rattle.bare.proofs.report.print.Goals as goal
 
 pub readings-init : goal.readings-init

@@ -1,6 +1,6 @@
 -- It ends with its reader's turns.
 use Rattle.no_std_io2.proofs.Words.{◌≡◌, length}
-use Rattle.examples.proofs.ChecksumLemmas.{SumsSoFar}
+use Rattle.examples.proofs.SumLemmas.{SumsSoFar}
 use Rattle.examples.proofs.checksum.checksum_of.Given as goal
 
 abbrev pub invariant-pieces : goal.invariant-pieces

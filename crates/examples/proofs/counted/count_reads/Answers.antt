@@ -1,7 +1,7 @@
 -- The prover does not find that the `Tally` fills its room, and that its count is a number that counts its reads.
 use Rattle.no_std_io2.proofs.Words.{arith, ap, subst, sym, length, length-append, bytes_left, reader_held, reader_inner, FillsRoom}
-use Rattle.no_std_io2.proofs.Readers.{reader}
-use Rattle.io_bench.{specs.Tally.{tally_reads}, proofs.TallyReads.{tallied_reader, tally_fills, tally_meters_reads}}
+use Rattle.no_std_io2.proofs.TakesLemmas.{reader}
+use Rattle.io_bench.{specs.Tally.{tally_reads}, proofs.DeviceLemmas.{tallied_reader, tally_fills, tally_meters_reads}}
 use Rattle.examples.proofs.counted.count_reads.Goals as goal
 
 pub returns : goal.returns

@@ -1,6 +1,6 @@
 -- A line more, or an error, is joined to the lines so far by a lemma, which the search does not try.
 use Rattle.no_std_io2.proofs.Words.{◌≡◌, refl, inl, inr, true, false, bytes, arith, common_steps, returned_err}
-use Rattle.no_std_io2.proofs.PiecesSoFar.{piece_alone}
+use Rattle.no_std_io2.proofs.GivenPieces.{piece_alone}
 use Rattle.examples.specs.Lines.{lines_with, has_word}
 use Rattle.examples.proofs.LineLoops.{passed_none, passed_more, passed_over, passed_all, passed_wanted, stops_writing, stops_at_line}
 use Rattle.examples.proofs.LineLoops.{with_more, with_other}

@@ -1,5 +1,5 @@
 -- The lines so far that have the word were passed on; each line lowers the reader's turns.
-use Rattle.no_std_io2.proofs.{Words.{tells}, Readers.{reader}}
+use Rattle.no_std_io2.proofs.{Words.{tells}, TakesLemmas.{reader}}
 use Rattle.examples.specs.Lines.{lines_with, LinesPassed}
 use Rattle.examples.proofs.greps.grep.Given as goal
 

@@ -1,5 +1,5 @@
 -- The lines so far were passed on; each lowers those that are wanted still.
-use Rattle.no_std_io2.proofs.{Words.{◌-◌, tells}, Readers.{reader}}
+use Rattle.no_std_io2.proofs.{Words.{◌-◌, tells}, TakesLemmas.{reader}}
 use Rattle.examples.specs.Lines.{every_line, LinesPassed}
 use Rattle.examples.proofs.heads.head.Given as goal
 

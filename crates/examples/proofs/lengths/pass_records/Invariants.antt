@@ -1,5 +1,5 @@
 -- Whole records are gone, with no fault.
-use Rattle.no_std_io2.proofs.Readers.{reader}
+use Rattle.no_std_io2.proofs.TakesLemmas.{reader}
 use Rattle.examples.proofs.RecordLemmas.{RecordsTaken}
 use Rattle.examples.proofs.lengths.pass_records.Given as goal
 

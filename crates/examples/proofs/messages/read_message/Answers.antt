@@ -2,9 +2,9 @@
 use Rattle.no_std_io2.proofs.Words.{◌++◌, length, take, drop, sym, ap, ◌∙◌, subst, arith, true≢false, take-append_seam, tells}
 use Rattle.std.specs.Int.{w16, to_be_bytes}
 use Rattle.no_std_io2.specs.Takes.{TakesBytes}
-use Rattle.no_std_io2.proofs.{Readers.{reader}, KnownBytes.{exact_known}, TakesLemmas.{TakesBytes-then, TakesBytes-fills}}
+use Rattle.no_std_io2.proofs.{TakesLemmas.{reader, TakesBytes-then, TakesBytes-fills}, KnownBytes.{exact_known}}
 use Rattle.examples.specs.Messages.{message}
-use Rattle.examples.proofs.MessageLemmas.{prefix_known, same_length}
+use Rattle.examples.proofs.RecordLemmas.{prefix_known, same_length}
 use Rattle.examples.proofs.messages.read_message.Goals as goal
 
 -- the length is known, so it is read

@@ -2,8 +2,8 @@
 use Rattle.no_std_io2.proofs.Words.{Ok, Err, rules, ap, ◌∙◌}
 use Rattle.std.proofs.Common.{slice_index_or}
 use Rattle.no_std_io2.specs.Errors.{IsUnexpectedEnd}
-use Rattle.no_std_io2.proofs.Readers.{reader}
-use Rattle.examples.proofs.HeaderLemmas.{sees_two, sees_end, sees_fault, look_stays, look_told}
+use Rattle.no_std_io2.proofs.TakesLemmas.{reader}
+use Rattle.examples.proofs.RecordLemmas.{sees_two, sees_end, sees_fault, look_stays, look_told}
 use Rattle.examples.proofs.records.peek_header.Goals as goal
 
 pub returns-in-Ok-true : goal.returns-in-Ok-true

@@ -1,8 +1,8 @@
 -- The payload goes through the borrow of a vector, and the search does not join the two calls.
 use Rattle.no_std_io2.proofs.Words.{◌≡◌, ◌≤◌, ◌++◌, length, take, drop, sym, ap, ◌∙◌, arith, length-drop, refl, ap₂, returned_err}
 use Rattle.no_std_io2.proofs.Words.{events_of, take-append_seam, reader_held}
-use Rattle.no_std_io2.proofs.{EventLemmas.{bytes-append, bytes-events_of}, TakesLemmas.{takes_then}, BufReaderThrough.{gives_held}}
-use Rattle.no_std_io2.proofs.LostBytes.{takes_loses}
+use Rattle.no_std_io2.proofs.{TakesLemmas.{bytes-append, bytes-events_of, takes_then}, BufReaderThrough.{gives_held}}
+use Rattle.no_std_io2.proofs.KnownBytes.{takes_loses}
 use Rattle.examples.proofs.records.read_payload.Goals as goal
 
 pub returns-in_err-read_exact-clause-held : goal.returns-in_err-read_exact-clause-held

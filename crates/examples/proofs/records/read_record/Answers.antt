@@ -1,8 +1,7 @@
 -- The search does not join the look and the payload if an error goes through a `?`, or if the record is held.
 use Rattle.no_std_io2.proofs.Words.{[], ap, ◌∙◌, returned_err, reader_inner, reader_held, reader_behind, tells}
-use Rattle.no_std_io2.proofs.{BufReaderCalls.{buf_reader}, Readers.{reader}}
-use Rattle.no_std_io2.proofs.LostBytes.{loses_then}
-use Rattle.examples.proofs.HeaderLemmas.{record_seen}
+use Rattle.no_std_io2.proofs.{BufferedReads.{buf_reader}, TakesLemmas.{reader}, KnownBytes.{loses_then}}
+use Rattle.examples.proofs.RecordLemmas.{record_seen}
 use Rattle.examples.proofs.records.read_record.Goals as goal
 
 pub returns-clause-whole : goal.returns-clause-whole

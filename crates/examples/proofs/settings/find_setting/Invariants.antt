@@ -1,5 +1,5 @@
 -- The lines so far do not set the key; each one lowers the reader's turns.
-use Rattle.no_std_io2.proofs.{Words.{tells}, Readers.{reader}}
+use Rattle.no_std_io2.proofs.{Words.{tells}, TakesLemmas.{reader}}
 use Rattle.examples.proofs.SettingLemmas.{LinesWithout}
 use Rattle.examples.proofs.settings.find_setting.Given as goal
 

@@ -1,5 +1,5 @@
 -- The reads of the trait's loop add what they gave.
-use Rattle.no_std_io2.proofs.ReadsAdd.{to_end_adds}
+use Rattle.no_std_io2.proofs.CallsAdd.{to_end_adds}
 use Rattle.examples.proofs.SumLemmas.{reads_sum}
 use Rattle.examples.proofs.summed.drain_summed.Goals as goal
 

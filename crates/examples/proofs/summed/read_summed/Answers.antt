@@ -1,5 +1,5 @@
 -- The reads of the trait's loop add what they gave.
-use Rattle.no_std_io2.proofs.ReadsAdd.{exact_adds}
+use Rattle.no_std_io2.proofs.CallsAdd.{exact_adds}
 use Rattle.examples.proofs.SumLemmas.{reads_sum}
 use Rattle.examples.proofs.summed.read_summed.Goals as goal
 

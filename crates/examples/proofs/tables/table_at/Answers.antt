@@ -1,5 +1,5 @@
 -- What comes back is what was lent, at these sizes; the search does not know its row.
-use Rattle.no_std_io2.proofs.{Words.{arith, append-nil}, ObjectLemmas.{object_given}}
+use Rattle.no_std_io2.proofs.{Words.{arith, append-nil}, Forwards.{object_given}}
 use Rattle.examples.proofs.TableLemmas.{page_out}
 use Rattle.examples.proofs.tables.table_at.Goals as goal
 

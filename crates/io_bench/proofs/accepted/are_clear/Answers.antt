@@ -1,7 +1,7 @@
 -- The prover does not find what holds of the calls before the one that is tested.
 use Rattle.no_std_io2.proofs.Words.{common_steps, arith, sym}
 use Rattle.std.proofs.lemmas.Slice.Zip.{AllZip-long}
-use Rattle.io_bench.proofs.{RunLemmas.{AllZip-more}, JoinedLemmas.{one_more, all_through, clear_at}}
+use Rattle.io_bench.proofs.RunLemmas.{AllZip-more, one_more, all_through, clear_at}
 use Rattle.io_bench.proofs.accepted.are_clear.Goals as goal
 
 pub returns-then-ops-replies-clause-no : goal.returns-then-ops-replies-clause-no

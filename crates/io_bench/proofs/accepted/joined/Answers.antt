@@ -1,7 +1,7 @@
 -- The prover does not find that the bytes of one more call follow those of the others.
 use Rattle.no_std_io2.proofs.Words.{common_steps, arith, err_from_is_err_and}
 use Rattle.std.proofs.lemmas.Slice.Zip.{AllZip-long}
-use Rattle.io_bench.proofs.{RunLemmas.{JoinsEach-more}, JoinedLemmas.{one_more, all_through, clear_at, unclear, run_once, some_accepted}}
+use Rattle.io_bench.proofs.RunLemmas.{JoinsEach-more, one_more, all_through, clear_at, unclear, run_once, some_accepted}
 use Rattle.io_bench.proofs.accepted.joined.Goals.{in_default}
 use Rattle.io_bench.proofs.accepted.joined.Goals as goal
 

@@ -1,5 +1,5 @@
 -- The prover does not find how an ask was answered by the law of its call.
-use Rattle.no_std_io2.proofs.{Words.{◌≡◌, min, length, Ok, Err, ap, arith, refl, err_from_is_err_and}, PieceLoop.{filled_law}}
+use Rattle.no_std_io2.proofs.{Words.{◌≡◌, min, length, Ok, Err, ap, arith, refl, err_from_is_err_and}, PieceLoops.{filled_law}}
 use Rattle.io_bench.proofs.asks.ask_fill.Goals as goal
 
 pub returns-in_err-lent : goal.returns-in_err-lent

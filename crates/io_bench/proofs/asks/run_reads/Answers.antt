@@ -1,9 +1,9 @@
 -- The prover does not find that one more ask joins those before it, nor the bound over all of them.
 use Rattle.no_std_io2.proofs.Words.{ap, ◌+◌, common_steps, Bool, Ok, Err, if◌then◌else◌, ◌≡◌, get_or, arith, refl, ◌∙◌, take_more}
-use Rattle.no_std_io2.proofs.{Readers.{reader}, BufReaderCalls.{buf_reader}}
+use Rattle.no_std_io2.proofs.{TakesLemmas.{reader}, BufferedReads.{buf_reader}}
 use Rattle.std.proofs.Common.{take_all}
 use Rattle.io_bench.specs.{declared.asks.Ask.TheVariants.{Read}, Asks.{no_ask, next_ask}}
-use Rattle.io_bench.proofs.{AskLemmas.{fits_at, came_takes}, AskSteps.{came_went, few_reads}}
+use Rattle.io_bench.proofs.AskSteps.{fits_at, came_takes, came_went, few_reads}
 use mir.Val.{bool_byte}
 use Rattle.io_bench.proofs.asks.run_reads.Goals as goal
 

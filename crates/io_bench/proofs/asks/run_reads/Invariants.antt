@@ -1,5 +1,5 @@
 -- The totals of the asks so far.
-use Rattle.no_std_io2.proofs.{Words.{◌≡◌, ◌≤◌, length, take}, Readers.{reader}, BufReaderCalls.{buf_reader}}
+use Rattle.no_std_io2.proofs.{Words.{◌≡◌, ◌≤◌, length, take}, TakesLemmas.{reader}, BufferedReads.{buf_reader}}
 use Rattle.io_bench.specs.Asks.{CameTo}
 use Rattle.io_bench.proofs.asks.run_reads.Given as goal
 

@@ -2,7 +2,7 @@
 use Rattle.no_std_io2.proofs.Words.{◌≡◌, ◌∙◌, ◌<◌, ap, [], ◌∷◌, ◌++◌, Some, Ok, inl, inr, refl, subst, err_from_is_err_and}
 use Rattle.std.proofs.Common.{OnSome}
 use Rattle.std.specs.Iterator.{IsFinite, size}
-use Rattle.io_bench.proofs.{AppendedLemmas.{appended-more}, PieceRunLemmas.{one_yielded, still_yielded}}
+use Rattle.io_bench.proofs.{RunLemmas.{appended-more}, PieceRunLemmas.{one_yielded, still_yielded}}
 use Rattle.io_bench.proofs.pieces.run_items.Goals as goal
 
 pub items-preserved : goal.items-preserved

@@ -1,7 +1,7 @@
 -- The prover does not find that one more call and its reply join those before them.
 use Rattle.std.proofs.{lemmas.Grind.{common_steps}, Common.{take_all}}
 use Rattle.no_std_io2.proofs.Words.{arith, append-nil, take_more}
-use Rattle.io_bench.proofs.{AppendedLemmas.{appended-none, appended-one, appended-more}, RunLemmas.{RunCalls-more, run_law}}
+use Rattle.io_bench.proofs.RunLemmas.{appended-none, appended-one, appended-more, RunCalls-more, run_law}
 use Rattle.io_bench.proofs.runs.run_writes.Goals as goal
 
 pub calls-init : goal.calls-init

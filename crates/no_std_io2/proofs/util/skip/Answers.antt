@@ -1,7 +1,7 @@
 -- The ways through the loop, by their lemmas: the search does not join the two facts of a lending call, as `filled_law` does.
 use Rattle.no_std_io2.proofs.Words.{arith, common_steps, ◌∙◌, sym}
-use Rattle.no_std_io2_base.proofs.{PieceLoop.{filled_law}, WriteExits.{not_empty, is_empty}, PortionLemmas.{portions_waited, portions_took}}
-use Rattle.no_std_io2_base.proofs.PortionLemmas.{portion_spends, skip_faults, skip_ends}
+use Rattle.no_std_io2_base.proofs.PieceLoops.{filled_law, portions_waited, portions_took, portion_spends, skip_faults, skip_ends}
+use Rattle.no_std_io2_base.proofs.TextLemmas.{not_empty, is_empty}
 use Rattle.no_std_io2.proofs.util.skip.Goals as goal
 
 pub returns-then-is_empty : goal.returns-then-is_empty

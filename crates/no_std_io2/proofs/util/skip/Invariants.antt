@@ -1,5 +1,5 @@
 -- `skip` ends with its reader's turns.
-use Rattle.no_std_io2_base.proofs.{Readers.{reader}, PortionLemmas.{PortionsTaken}}
+use Rattle.no_std_io2_base.proofs.{TakesLemmas.{reader}, PieceLoops.{PortionsTaken}}
 use Rattle.no_std_io2.proofs.util.skip.Given as goal
 
 abbrev pub invariant-pieces : goal.invariant-pieces

@@ -114,7 +114,7 @@ impl<T: Seek> Seek for Take<T> {
         Ok(self.position())
     }
 
-    #[tactic(auto, using(crate::proofs::SeekCalls::len_measured))]
+    #[tactic(auto, using(crate::proofs::CursorLemmas::len_measured))]
     fn stream_len(&mut self) -> Result<u64>
         ensures law { StreamLenLaw ⟦<Self as Seek>⟧ self.old result self.new }
 

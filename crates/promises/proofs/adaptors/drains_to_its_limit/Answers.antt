@@ -1,5 +1,5 @@
 -- The prover does not go over the calls of a loop.
-use Rattle.no_std_io2.proofs.LimitLoops.{limit_to_end}
+use Rattle.no_std_io2.proofs.LimitLemmas.{limit_to_end}
 use Rattle.promises.proofs.adaptors.drains_to_its_limit.Goals as goal
 
 pub returns : goal.returns

@@ -1,5 +1,5 @@
 -- The prover does not go over the calls of a loop.
-use Rattle.no_std_io2.proofs.LimitLoops.{limit_exact}
+use Rattle.no_std_io2.proofs.LimitLemmas.{limit_exact}
 use Rattle.promises.proofs.AtLimit.{exact_at_limit}
 use Rattle.promises.proofs.adaptors.keeps_to_its_limit.Goals as goal
 

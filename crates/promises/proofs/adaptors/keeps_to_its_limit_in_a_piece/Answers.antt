@@ -1,5 +1,5 @@
 -- The prover does not go over the calls of a loop.
-use Rattle.no_std_io2.proofs.LimitLoops.{limit_until}
+use Rattle.no_std_io2.proofs.LimitLemmas.{limit_until}
 use Rattle.promises.proofs.AtLimit.{until_at_limit}
 use Rattle.promises.proofs.adaptors.keeps_to_its_limit_in_a_piece.Goals as goal
 

@@ -1,6 +1,6 @@
 -- The prover does not go over the calls of a loop.
-use Rattle.no_std_io2.proofs.{ReadsAdd.{exact_adds}, Readers.{reader}}
-use Rattle.promises.proofs.ChainTurns.{chain_each}
+use Rattle.no_std_io2.proofs.{CallsAdd.{exact_adds}, TakesLemmas.{reader}}
+use Rattle.promises.proofs.AtLimit.{chain_each}
 use Rattle.promises.proofs.adaptors.reads_in_turn.Goals as goal
 
 pub returns : goal.returns

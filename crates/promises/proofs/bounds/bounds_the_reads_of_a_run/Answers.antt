@@ -1,6 +1,6 @@
 -- The prover does not find that a `Tally` fills its room, and that its count is a number that counts its reads.
-use Rattle.no_std_io2.proofs.{Words.{reader_inner}, Readers.{reader}}
-use Rattle.io_bench.{specs.Tally.{tally_reads}, proofs.TallyReads.{tally_fills, tally_meters_reads}}
+use Rattle.no_std_io2.proofs.{Words.{reader_inner}, TakesLemmas.{reader}}
+use Rattle.io_bench.{specs.Tally.{tally_reads}, proofs.DeviceLemmas.{tally_fills, tally_meters_reads}}
 use Rattle.promises.proofs.bounds.bounds_the_reads_of_a_run.Goals as goal
 
 pub returns-clause-fills : goal.returns-clause-fills

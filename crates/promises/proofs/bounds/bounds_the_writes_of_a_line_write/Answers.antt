@@ -1,6 +1,6 @@
 -- The prover does not count the inner calls.
 use Rattle.no_std_io2.proofs.{Words.{line_inner, line_buffer, LineWriteCalls}, LineWriterCalls.{line_write_does}}
-use Rattle.promises.proofs.WriteCosts.{few_cost}
+use Rattle.promises.proofs.CallsEnd.{few_cost}
 use Rattle.promises.proofs.bounds.bounds_the_writes_of_a_line_write.Goals as goal
 
 pub returns-clause-bound : goal.returns-clause-bound

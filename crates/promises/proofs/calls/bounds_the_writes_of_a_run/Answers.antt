@@ -1,6 +1,6 @@
 -- The prover does not find what takes all calls of the run: the bytes and the bound.
 use Rattle.no_std_io2.proofs.Words.{subst, sym, TakesAll}
-use Rattle.io_bench.proofs.ClosedLemmas.{closes}
+use Rattle.io_bench.proofs.RunCharges.{closes}
 use Rattle.promises.proofs.calls.bounds_the_writes_of_a_run.Goals as goal
 
 pub returns-in-Ok : goal.returns-in-Ok

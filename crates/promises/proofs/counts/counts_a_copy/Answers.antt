@@ -1,5 +1,5 @@
 -- The prover does not count the reads of a whole copy.
-use Rattle.promises.proofs.CopyReads.{copy_cost}
+use Rattle.promises.proofs.LoopCounts.{copy_cost}
 use Rattle.promises.proofs.counts.counts_a_copy.Goals as goal
 
 pub returns : goal.returns

@@ -1,6 +1,6 @@
 -- The prover does not find how many bytes a filling reader gives, nor the state that a loan leaves.
-use Rattle.no_std_io2.proofs.{Words.{ap, length}, PieceLoop.{filled_law}}
-use Rattle.promises.proofs.BufReaderCounts.{fill_cost, fill_fills, fill_gives}
+use Rattle.no_std_io2.proofs.{Words.{ap, length}, PieceLoops.{filled_law}}
+use Rattle.promises.proofs.ExactCounts.{fill_cost, fill_fills, fill_gives}
 use Rattle.promises.proofs.counts.counts_a_fill.Goals as goal
 
 pub returns : goal.returns

@@ -1,6 +1,6 @@
 -- The prover does not count inner calls.
 use Rattle.no_std_io2.proofs.{Words.{writer_inner, writer_buffer}, BufWriterCalls.{flush_does}}
-use Rattle.io_bench.proofs.StepCosts.{step_cost}
+use Rattle.io_bench.proofs.RunCharges.{step_cost}
 use Rattle.promises.proofs.counts.counts_a_flush.Goals as goal
 
 pub returns : goal.returns

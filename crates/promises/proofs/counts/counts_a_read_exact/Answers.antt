@@ -1,5 +1,5 @@
 -- The prover does not count the reads of a loop.
-use Rattle.no_std_io2.proofs.{Words.{arith}, Readers.{reader}, TakesLemmas.{made_may}}
+use Rattle.no_std_io2.proofs.{Words.{arith}, TakesLemmas.{reader, made_may}}
 use Rattle.promises.proofs.LoopCounts.{exact_counts}
 use Rattle.promises.proofs.counts.counts_a_read_exact.Goals as goal
 

@@ -1,6 +1,6 @@
 -- The prover does not count inner calls, nor find that S > 0 leaves no call for an empty text.
 use Rattle.no_std_io2.proofs.{Words.{ap, ◌∙◌, ◌+◌, writer_inner, writer_buffer}, BufWriterCalls.{write_all_does}}
-use Rattle.io_bench.proofs.StepCosts.{step_cost, writing_all-is}
+use Rattle.io_bench.proofs.RunCharges.{step_cost, writing_all-is}
 use Rattle.promises.proofs.counts.counts_a_write_all.Goals as goal
 
 pub returns : goal.returns

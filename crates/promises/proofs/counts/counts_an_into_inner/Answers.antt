@@ -1,6 +1,6 @@
 -- The prover does not count inner calls.
 use Rattle.no_std_io2.proofs.Words.{writer_inner, writer_buffer}
-use Rattle.promises.proofs.WriteCosts.{unwrap_cost}
+use Rattle.promises.proofs.CallsEnd.{unwrap_cost}
 use Rattle.promises.proofs.counts.counts_an_into_inner.Goals as goal
 
 pub returns : goal.returns

@@ -1,6 +1,6 @@
 -- The prover does not name the lemmas of the levels.
-use Rattle.no_std_io2.proofs.{Readers.{reader}, LimitLemmas.{limit_fills}, FillsRoomLemmas.{fills_passing}}
-use Rattle.io_bench.proofs.TallyReads.{tally_fills}
+use Rattle.no_std_io2.proofs.{TakesLemmas.{reader}, LimitLemmas.{limit_fills}, InMemoryReads.{fills_passing}}
+use Rattle.io_bench.proofs.DeviceLemmas.{tally_fills}
 use Rattle.promises.proofs.counts.has_filling_levels.Goals as goal
 
 pub returns-clause-lent : goal.returns-clause-lent

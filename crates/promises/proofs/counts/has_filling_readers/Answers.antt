@@ -1,6 +1,5 @@
 -- The prover does not name the lemmas.
-use Rattle.no_std_io2.proofs.InMemoryReads.{cursor_reader, cursor_fills, slice_fills}
-use Rattle.no_std_io2.proofs.{LimitLemmas.{limit_fills}, FillsRoomLemmas.{fills_passing}}
+use Rattle.no_std_io2.proofs.{LimitLemmas.{limit_fills}, InMemoryReads.{fills_passing, cursor_reader, cursor_fills, slice_fills}}
 use Rattle.promises.proofs.counts.has_filling_readers.Goals as goal
 
 pub returns-clause-cursor : goal.returns-clause-cursor

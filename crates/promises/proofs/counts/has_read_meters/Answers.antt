@@ -1,6 +1,6 @@
 -- The prover does not name the lemmas.
-use Rattle.no_std_io2.proofs.{Readers.{reader}, FillsRoomLemmas.{meters_passing}}
-use Rattle.io_bench.proofs.TallyReads.{tally_meters_reads}
+use Rattle.no_std_io2.proofs.{TakesLemmas.{reader}, InMemoryReads.{meters_passing}}
+use Rattle.io_bench.proofs.DeviceLemmas.{tally_meters_reads}
 use Rattle.promises.proofs.counts.has_read_meters.Goals as goal
 
 pub returns-clause-lent : goal.returns-clause-lent

@@ -4,7 +4,7 @@ use Rattle.no_std_io2.proofs.Words.{answered}
 use Rattle.no_std_io2.specs.{declared.io.{Error.{Error}, ErrorKind.{ErrorKind}}, Errors.{error_of}, Read.{gave}}
 use Rattle.std.specs.Prelude.{IsErr}
 use Rattle.io_bench.specs.{declared.feed.{Event.{TheVariants.{Byte, Fail}}, Feed.{Feed}}, Feed.{feed_left, feed_answer}}
-use Rattle.io_bench.proofs.FeedFills.{feed_fills}
+use Rattle.io_bench.proofs.DeviceLemmas.{feed_fills}
 use Rattle.promises.proofs.devices.fills_after_its_failure.Goals as goal
 
 -- a read into some room returns the failure that comes first

@@ -1,5 +1,5 @@
 -- The prover does not find these by induction over the pieces.
-use Rattle.no_std_io2.proofs.PieceLaws.{pieces_are, pieces_only}
+use Rattle.no_std_io2.proofs.PieceLemmas.{pieces_are, pieces_only}
 use Rattle.promises.proofs.memory.has_one_list_of_pieces.Goals as goal
 
 pub returns-clause-hold : goal.returns-clause-hold

@@ -1,8 +1,8 @@
 -- The prover does not join the events of three readers.
-use Rattle.no_std_io2.proofs.{Words.{◌++◌, Some, ap, ap₂, ◌∙◌, events_of, bytes}, EventLemmas.{bytes-append, bytes-events_of}}
-use Rattle.no_std_io2.proofs.StoreLemmas.{told_at}
+use Rattle.no_std_io2.proofs.{Words.{◌++◌, Some, ap, ap₂, ◌∙◌, events_of, bytes}, TakesLemmas.{bytes-append, bytes-events_of}}
+use Rattle.no_std_io2.proofs.CursorLemmas.{told_at}
 use Rattle.no_std_io2.specs.{Events.{cut}, Cursor.{cursor_left}, Chain.{both_to_come}, Take.{cut_to_come}}
-use Rattle.promises.proofs.InMemory.{drained}
+use Rattle.promises.proofs.PatientReads.{drained}
 use Rattle.promises.proofs.memory.joins_readers.Goals as goal
 
 pub returns : goal.returns

@@ -1,7 +1,7 @@
 -- The prover does not compare the held bytes with those of the content.
 use Rattle.no_std_io2.proofs.Words.{◌≡◌, ℕ, ◌-◌, Ok, ◌∙◌, ap, arith, length, subst, reader_held, store_before}
 use Rattle.no_std_io2.specs.{declared.io.SeekFrom.TheVariants.{Start}, Seek.{Seeks}}
-use Rattle.promises.proofs.ToldAfter.{store_after, store_below}
+use Rattle.promises.proofs.HeldPieces.{store_after, store_below}
 use Rattle.promises.proofs.reads.goes_on_after_a_seek_below.Goals as goal
 
 pub returns-in_err-seek : goal.returns-in_err-seek

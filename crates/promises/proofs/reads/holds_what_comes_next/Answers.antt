@@ -1,5 +1,5 @@
 -- The prover does not name the lemma.
-use Rattle.no_std_io2.proofs.FillBufHeld.{held_next}
+use Rattle.no_std_io2.proofs.ReadsLemmas.{held_next}
 use Rattle.promises.proofs.reads.holds_what_comes_next.Goals as goal
 
 pub returns : goal.returns

@@ -1,6 +1,6 @@
 -- The appended bytes are the piece that was taken.
 use Rattle.no_std_io2.proofs.Words.{◌++◌, drop, vec_len, ap, subst, sym, ◌∙◌, drop-append_seam, bytes, IsSuffix, reader_behind}
-use Rattle.no_std_io2.proofs.Readers.{reader}
+use Rattle.no_std_io2.proofs.TakesLemmas.{reader}
 use Rattle.promises.proofs.HeldPieces.{piece_behind}
 use Rattle.promises.proofs.reads.keeps_the_last_bytes_behind.Goals as goal
 

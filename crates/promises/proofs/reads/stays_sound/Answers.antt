@@ -1,5 +1,5 @@
 -- The prover does not go over the calls of a loop.
-use Rattle.no_std_io2.proofs.{Readers.{reader}, SoundReads.{calls_stay_sound}}
+use Rattle.no_std_io2.proofs.{TakesLemmas.{reader}, BufReaderSeeks.{calls_stay_sound}}
 use Rattle.promises.proofs.reads.stays_sound.Goals as goal
 
 pub returns : goal.returns

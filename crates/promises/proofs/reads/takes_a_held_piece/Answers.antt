@@ -1,5 +1,5 @@
 -- By the calls that it made.
-use Rattle.no_std_io2.proofs.Readers.{reader}
+use Rattle.no_std_io2.proofs.TakesLemmas.{reader}
 use Rattle.promises.proofs.HeldPieces.{until_held}
 use Rattle.promises.proofs.reads.takes_a_held_piece.Goals as goal
 

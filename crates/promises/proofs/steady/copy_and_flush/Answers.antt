@@ -1,7 +1,7 @@
 -- The prover does not join what the copy and the flush did, nor find that neither can fail by the writer.
 use Rattle.std.proofs.{Common.{arith}, lemmas.Grind.{common_steps}}
-use Rattle.no_std_io2.proofs.{MovesLemmas.{Moves-steady}, CopyLemmas.{took_told, copied_ok, copied_err, copies_steadily, stays_steady}}
-use Rattle.no_std_io2.proofs.CopyLemmas.{flushed}
+use Rattle.no_std_io2.proofs.{MovesLemmas.{Moves-steady}, CopyLoop.{took_told, copied_ok, copied_err, copies_steadily, stays_steady}}
+use Rattle.no_std_io2.proofs.CopyLoop.{flushed}
 use Rattle.promises.proofs.steady.copy_and_flush.Goals as goal
 
 pub returns : goal.returns

@@ -2,8 +2,7 @@
 use Rattle.no_std_io2.proofs.Words.{ℕ, err_from_is_err_and, IsOutOfMemory, writer_inner, writer_buffer, line_inner, line_buffer}
 use Rattle.std.specs.Vec.{vec_len, vec_capacity}
 use Rattle.promises.specs.Fails.{FailsOnly}
-use Rattle.promises.proofs.{BufferFails.{buffer_fails, line_fails}, FailsLemmas.{appends_fails, write_all_fails, flush_fails}}
-use Rattle.promises.proofs.Levels.{vector, buffered, lines}
+use Rattle.promises.proofs.BufferFails.{buffer_fails, line_fails, appends_fails, write_all_fails, flush_fails, vector, buffered, lines}
 use Rattle.promises.proofs.towers.fails_by_memory_alone.Goals as goal
 
 fails : (Z : Type 0) (S T : ℕ) → FailsOnly IsOutOfMemory (lines T (buffered S (vector Z))).may

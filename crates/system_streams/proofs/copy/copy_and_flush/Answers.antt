@@ -1,5 +1,5 @@
 -- The prover does not find what the copy and the flush do together (`copies_all`, `flushed_behind`).
-use Rattle.no_std_io2.proofs.{Words.{err_from_is_err_and}, CopyLemmas.{copied_ok}}
+use Rattle.no_std_io2.proofs.{Words.{err_from_is_err_and}, CopyLoop.{copied_ok}}
 use Rattle.system_streams.proofs.CopyLemmas.{copies_all, copies_err, flush_err, flushed_behind}
 use Rattle.system_streams.proofs.copy.copy_and_flush.Goals as goal
 

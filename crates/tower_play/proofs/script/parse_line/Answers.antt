@@ -1,6 +1,6 @@
 -- The prover does not find that no line with such a text is a step (`no_write`, `no_write_all`).
 use Rattle.no_std_io2.proofs.Words.{◌≡◌, ◌∷◌, rules}
-use Rattle.tower_play.proofs.LineLemmas.{no_write, no_write_all}
+use Rattle.tower_play.proofs.ScriptLemmas.{no_write, no_write_all}
 use Rattle.tower_play.proofs.script.parse_line.Goals as goal
 
 pub returns-in-None-text_argument-clause-bad : goal.returns-in-None-text_argument-clause-bad

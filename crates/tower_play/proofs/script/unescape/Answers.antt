@@ -1,6 +1,6 @@
 -- The prover does not find which bytes are meant so far (`goes_by_itself`).
 use Rattle.no_std_io2.proofs.Words.{◌∙◌, refl, [], ◌∷◌, arith, rules, common_steps}
-use Rattle.tower_play.proofs.Unescaping.{none_yet, ends_escape, begins_escape, goes_by_itself}
+use Rattle.tower_play.proofs.Escapes.{none_yet, ends_escape, begins_escape, goes_by_itself}
 use Rattle.tower_play.proofs.script.unescape.Goals.{then-is_escaped+in-110, then-is_escaped+in-92, else-is_escaped+then-b-eq92}
 use Rattle.tower_play.proofs.script.unescape.Goals.{else-is_escaped+else-b-eq92}
 use Rattle.tower_play.proofs.script.unescape.Goals as goal

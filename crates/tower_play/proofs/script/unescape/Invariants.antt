@@ -1,6 +1,6 @@
 use Rattle.no_std_io2.proofs.Words.{◌≡◌, ◌+◌, ◌≤◌, drop, vec_len}
 use Rattle.std.proofs.Common.{vec_capacity}
-use Rattle.tower_play.proofs.Unescaping.{Halfway, waiting}
+use Rattle.tower_play.proofs.Escapes.{Halfway, waiting}
 use Rattle.tower_play.proofs.script.unescape.Given as goal
 
 abbrev pub invariant-bytes : goal.invariant-bytes

@@ -1,5 +1,5 @@
 -- Bytes wait already; the search does not find that nothing is read then.
-use Rattle.no_std_io2.proofs.Readers.{reader}
+use Rattle.no_std_io2.proofs.TakesLemmas.{reader}
 use Rattle.base64_stream.proofs.DecoderLemmas.{fill_ready}
 use Rattle.base64_stream.proofs.decoder.DecoderReader.fill.Goals as goal
 

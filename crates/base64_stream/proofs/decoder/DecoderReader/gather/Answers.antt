@@ -1,6 +1,6 @@
 -- The search does not find which reads a `read_full` made.
 use Rattle.no_std_io2.proofs.Words.{refl, arith}
-use Rattle.no_std_io2.proofs.Readers.{reader}
+use Rattle.no_std_io2.proofs.TakesLemmas.{reader}
 use Rattle.base64_stream.proofs.DecoderLemmas.{gathers_all, gathers_some}
 use Rattle.base64_stream.proofs.decoder.DecoderReader.gather.Goals as goal
 

@@ -1,6 +1,6 @@
 -- A fault came, or the end, or a group that is refused or decoded; the search does not find what each gives.
 use Rattle.no_std_io2.proofs.Words.{sym, ap, refl, nat_lt, ◌∙◌, err_from_is_err_and}
-use Rattle.no_std_io2.proofs.Readers.{reader}
+use Rattle.no_std_io2.proofs.TakesLemmas.{reader}
 use Rattle.no_std_io2.specs.declared.io.ErrorKind.TheVariants.{InvalidData}
 use Rattle.base64_stream.proofs.DecoderLemmas.{only_kind, refill_ends, refill_fails, refill_gives, refill_refuses}
 use Rattle.base64_stream.proofs.decoder.DecoderReader.refill.Goals as goal

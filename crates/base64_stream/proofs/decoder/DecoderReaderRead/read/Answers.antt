@@ -1,6 +1,6 @@
 -- The search does not make the law of a decoder of what was filled and given.
 use Rattle.no_std_io2.proofs.Words.{length, ap, refl, arith, err_from_is_err_and}
-use Rattle.no_std_io2.proofs.{Readers.{reader}, WriteExits.{is_empty}}
+use Rattle.no_std_io2.proofs.{TakesLemmas.{reader}, TextLemmas.{is_empty}}
 use Rattle.base64_stream.proofs.DecoderLemmas.{gave_error, gave_nothing, gave_waiting}
 use Rattle.base64_stream.proofs.decoder.DecoderReaderRead.read.Goals as goal
 

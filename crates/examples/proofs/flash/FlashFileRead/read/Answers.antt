@@ -1,7 +1,7 @@
 -- The byte that was read is the next one of the store; the other fields of the law are found.
 use Rattle.no_std_io2.proofs.Words.{rules, arith}
-use Rattle.no_std_io2.proofs.WriteExits.{not_empty}
-use Rattle.examples.proofs.FlashLemmas.{flash_takes}
+use Rattle.no_std_io2.proofs.TextLemmas.{not_empty}
+use Rattle.examples.proofs.EntryLemmas.{flash_takes}
 use Rattle.examples.proofs.flash.FlashFileRead.read.Goals as goal
 
 pub returns : goal.returns

@@ -1,6 +1,6 @@
 -- The prover does not find that the header that is seen says this length (`one_length`, `begins_long`).
 use Rattle.no_std_io2.proofs.Words.{◌≡◌, ◌<◌, ◌++◌, [], ◌∙◌, sym, ap, take, subst, arith, length-take, reader_held}
-use Rattle.no_std_io2.proofs.EventLemmas.{length-events_of}
+use Rattle.no_std_io2.proofs.TakesLemmas.{length-events_of}
 use Rattle.framing.specs.{Frames.{HasHeader}, Taking.{begun, seen_bytes}}
 use Rattle.framing.proofs.SeenLemmas.{seen_between, seen_header, one_length, begins_long}
 use Rattle.framing.proofs.reader.FrameReader.begin_long.Goals as goal

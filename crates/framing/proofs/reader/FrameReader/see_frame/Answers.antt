@@ -1,6 +1,6 @@
 -- The prover does not find that the bytes of a `read_full` are seen (`rest_sees`), nor those of `fill_to` (`fills_sees`).
 use Rattle.no_std_io2.proofs.Words.{◌<◌, Ok, Err, refl, arith, err_from_is_err_and}
-use Rattle.no_std_io2.proofs.Readers.{reader}
+use Rattle.no_std_io2.proofs.TakesLemmas.{reader}
 use Rattle.framing.proofs.SeenLemmas.{fills_sees, rest_sees}
 use Rattle.framing.proofs.reader.FrameReader.see_frame.Goals as goal
 

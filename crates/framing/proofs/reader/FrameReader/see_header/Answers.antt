@@ -1,6 +1,6 @@
 -- The prover does not find that a frame which has begun needs no read (`Reads-none`), nor the reads of `fill_to`.
 use Rattle.no_std_io2.proofs.Words.{◌≡◌, [], sym, arith, append-nil}
-use Rattle.no_std_io2.proofs.{Readers.{reader}, ReadsLemmas.{Reads-none}}
+use Rattle.no_std_io2.proofs.{TakesLemmas.{reader}, ReadsLemmas.{Reads-none}}
 use Rattle.framing.proofs.SeenLemmas.{seen_header, fills_sees}
 use Rattle.framing.proofs.reader.FrameReader.see_header.Goals as goal
 

@@ -1,7 +1,7 @@
 -- The prover does not find the account of a call, which joins the reads for the header and those for the payload (`sees_both`).
 use Rattle.no_std_io2.proofs.Words.{common_steps, ◌≡◌, ◌≤◌, [], Ok, Err, Some, None, length, drop, refl, sym, ap, ◌∙◌, inl, inr, arith}
 use Rattle.no_std_io2.proofs.Words.{err_from_is_err_and}
-use Rattle.no_std_io2.proofs.WriteExits.{not_empty, is_empty}
+use Rattle.no_std_io2.proofs.TextLemmas.{not_empty, is_empty}
 use Rattle.framing.specs.Taking.{seen_bytes}
 use Rattle.framing.proofs.{SeenLemmas.{seen_between, not_inside}}
 use Rattle.framing.proofs.{TakingLemmas.{sees_header, sees_both, takes, takes_seen, header_after, part_of}}

@@ -1,7 +1,7 @@
 -- The prover does not find what an act does to a write.
 use Rattle.no_std_io2.proofs.Words.{common_steps, arith}
-use Rattle.io_bench.proofs.ActLemmas.{faulty_steady, moves_past, moves_spent, moves_zero, moves_through, taken_of_front, behind}
-use Rattle.io_bench.proofs.ActLemmas.{behind_take}
+use Rattle.io_bench.proofs.DeviceLemmas.{faulty_steady, moves_past, moves_spent, moves_zero, moves_through, taken_of_front, behind}
+use Rattle.io_bench.proofs.DeviceLemmas.{behind_take}
 use Rattle.io_bench.proofs.faulty.FaultyWrite.write.Goals as goal
 
 pub returns-in-None : goal.returns-in-None

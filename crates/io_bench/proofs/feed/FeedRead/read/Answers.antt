@@ -1,5 +1,5 @@
 -- The prover does not find which events a read takes.
-use Rattle.io_bench.proofs.FeedLemmas.{feed_reads}
+use Rattle.io_bench.proofs.DeviceLemmas.{feed_reads}
 use Rattle.io_bench.proofs.feed.FeedRead.read.Goals as goal
 
 pub returns-in-None : goal.returns-in-None

@@ -1,6 +1,6 @@
 -- The account of the loop goes on with each piece, and the calls of a reader that lends are told by `filled_law`, which no search finds.
 use Rattle.no_std_io2.proofs.Words.{◌∙◌, sym, refl}
-use Rattle.no_std_io2_base.proofs.{PieceLoop.{filled_law}, WriteExits.{not_empty, is_empty}}
+use Rattle.no_std_io2_base.proofs.{PieceLoops.{filled_law}, TextLemmas.{not_empty, is_empty}}
 use Rattle.no_std_io2.proofs.CopyLentLoop.{lent_nothing, lent_again, lent_faulted, lent_ended, lent_refused, lent_more}
 use Rattle.no_std_io2.proofs.util.lent.copy_lent.Goals as goal
 

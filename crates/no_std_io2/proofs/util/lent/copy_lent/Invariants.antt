@@ -1,5 +1,5 @@
 -- `copy_lent` ends with its reader's turns.
-use Rattle.no_std_io2_base.proofs.Readers.{reader}
+use Rattle.no_std_io2_base.proofs.TakesLemmas.{reader}
 use Rattle.no_std_io2.proofs.CopyLentLoop.{LentSoFar}
 use Rattle.no_std_io2.proofs.util.lent.copy_lent.Given as goal
 

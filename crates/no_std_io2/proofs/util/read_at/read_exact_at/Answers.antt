@@ -1,6 +1,6 @@
 -- A seek and then a read: the search does not join the laws of the two calls.
 use Rattle.no_std_io2.proofs.Words.{inr}
-use Rattle.no_std_io2_base.proofs.PlaceLemmas.{stands_there, enough_there}
+use Rattle.no_std_io2_base.proofs.KnownBytes.{stands_there, enough_there}
 use Rattle.no_std_io2.proofs.util.read_at.read_exact_at.Goals as goal
 
 pub returns : goal.returns

@@ -1,6 +1,6 @@
 -- The account of the tries so far, which the search does not build.
 use Rattle.no_std_io2.proofs.Words.{arith}
-use Rattle.no_std_io2_base.proofs.{MovesLemmas.{Sends-then, Moves-quiet}, RetryLemmas.{spent_more, spent_all, tries_again}}
+use Rattle.no_std_io2_base.proofs.{MovesLemmas.{Sends-then, Moves-quiet}, TextLemmas.{spent_more, spent_all, tries_again}}
 use Rattle.no_std_io2_base.specs.Retries.{last}
 use Rattle.no_std_io2.proofs.util.retries.write_with_retries.Goals as goal
 

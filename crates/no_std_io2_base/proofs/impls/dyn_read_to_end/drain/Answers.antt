@@ -1,7 +1,7 @@
 -- The loop and each of its exits, by the lemmas of loops that read to the end.
 use Rattle.std.proofs.{Common.{sym, arith, ◌∙◌}, lemmas.Grind.{common_steps}, lemmas.Result.{err_from_is_err_and}}
-use Rattle.no_std_io2_base.proofs.ReadToEndLoop.{wrote, to_end_none, to_end_no_room, to_end_read, to_end_interruption, to_end_done}
-use Rattle.no_std_io2_base.proofs.{ReadToEndLoop.{to_end_fault}, TakesLemmas.{read_spends}}
+use Rattle.no_std_io2_base.proofs.ToEndLemmas.{wrote, to_end_none, to_end_no_room, to_end_read, to_end_interruption, to_end_done}
+use Rattle.no_std_io2_base.proofs.{ToEndLemmas.{to_end_fault}, TakesLemmas.{read_spends}}
 use Rattle.no_std_io2_base.proofs.impls.dyn_read_to_end.drain.Goals as goal
 
 pub returns-in_err-reserve_first : goal.returns-in_err-reserve_first

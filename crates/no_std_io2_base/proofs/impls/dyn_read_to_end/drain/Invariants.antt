@@ -1,5 +1,5 @@
 -- As the trait's: it ends with its reader's turns.
-use Rattle.no_std_io2_base.proofs.ReadToEndLoop.{ToEndSoFar}
+use Rattle.no_std_io2_base.proofs.ToEndLemmas.{ToEndSoFar}
 use Rattle.no_std_io2_base.proofs.impls.dyn_read_to_end.drain.Given as goal
 
 abbrev pub invariant-reads : goal.invariant-reads

@@ -4,7 +4,7 @@ use Rattle.std.proofs.Common.{[], ◌++◌, Result, Err, IsErrAnd, IsOk, IsUtf8,
 use Rattle.std.proofs.Common.{true≢false, string_bytes, string_len}
 use Rattle.std.specs.Result.{result_and}
 use Rattle.no_std_io2_base.specs.{declared.error.Error.{Error}, declared.error.ErrorKind.TheVariants.{OutOfMemory}, Errors.{error_kind}}
-use Rattle.no_std_io2_base.proofs.TextRoom.{kept, became, refused}
+use Rattle.no_std_io2_base.proofs.LineLemmas.{kept, became, refused}
 use Rattle.no_std_io2_base.proofs.traits.pieces.put_line.Goals as goal
 use Rattle.no_std_io2_base.proofs.traits.pieces.put_line.Goals.{then-is_out_of_memory, else-is_out_of_memory}
 

@@ -1,7 +1,7 @@
 -- As the trait's `read_to_end` while there is room, and then the reader's own.
 use Rattle.std.proofs.{Common.{Ok, Err, arith, refl, sym, ◌∙◌, le_refl}, lemmas.Result.{err_from_is_err_and}}
-use Rattle.no_std_io2_base.proofs.ReadToEndLoop.{wrote, to_end_none, to_end_read, to_end_interruption, to_end_done, to_end_fault}
-use Rattle.no_std_io2_base.proofs.{ReadToEndLoop.{rest_drained}, TakesLemmas.{read_spends}}
+use Rattle.no_std_io2_base.proofs.ToEndLemmas.{wrote, to_end_none, to_end_read, to_end_interruption, to_end_done, to_end_fault}
+use Rattle.no_std_io2_base.proofs.{ToEndLemmas.{rest_drained}, TakesLemmas.{read_spends}}
 use Rattle.no_std_io2_base.proofs.traits.room.rest_to_end.Goals as goal
 
 pub reads-init : goal.reads-init

@@ -1,5 +1,5 @@
 -- The numbers so far.
-use Rattle.no_std_io2.proofs.Readers.{reader}
+use Rattle.no_std_io2.proofs.TakesLemmas.{reader}
 use Rattle.std.specs.Int.{w16}
 use Rattle.numbers.specs.Numbers.{signed_by}
 use Rattle.numbers.proofs.NumberLemmas.{ReadSoFar}

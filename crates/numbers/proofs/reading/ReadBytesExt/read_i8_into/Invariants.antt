@@ -1,5 +1,5 @@
 -- The numbers so far.
-use Rattle.no_std_io2.proofs.Readers.{reader}
+use Rattle.no_std_io2.proofs.TakesLemmas.{reader}
 use Rattle.std.specs.Int.{w8, cast_signed}
 use Rattle.numbers.specs.Numbers.{first_byte}
 use Rattle.numbers.proofs.NumberLemmas.{ReadSoFar}

@@ -1,5 +1,5 @@
 -- The numbers so far.
-use Rattle.no_std_io2.proofs.Readers.{reader}
+use Rattle.no_std_io2.proofs.TakesLemmas.{reader}
 use Rattle.numbers.proofs.NumberLemmas.{ReadSoFar}
 use Rattle.numbers.proofs.reading.ReadBytesExt.read_u32_into.Given as goal
 

@@ -1,5 +1,5 @@
 -- With some room and more than one turn, it is one read of the device.
-use Rattle.no_std_io2.proofs.{Words.{◌<◌, length, arith, rules, Ok, Err}, WriteExits.{not_empty}}
+use Rattle.no_std_io2.proofs.{Words.{◌<◌, length, arith, rules, Ok, Err}, TextLemmas.{not_empty}}
 use Rattle.system_streams.specs.Patient.{patient_turns}
 use Rattle.system_streams.proofs.PatientLemmas.{asks_once}
 use Rattle.system_streams.proofs.patient.PatientRead.read.Goals as goal

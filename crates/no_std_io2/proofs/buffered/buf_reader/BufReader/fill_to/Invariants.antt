@@ -1,5 +1,5 @@
 -- The bytes that were read so far are held. Each read spends a turn of the inner reader.
-use Rattle.no_std_io2_base.proofs.Readers.{reader}
+use Rattle.no_std_io2_base.proofs.TakesLemmas.{reader}
 use Rattle.no_std_io2.proofs.FillToLemmas.{FilledSoFar}
 use Rattle.no_std_io2.proofs.buffered.buf_reader.BufReader.fill_to.Given as goal
 

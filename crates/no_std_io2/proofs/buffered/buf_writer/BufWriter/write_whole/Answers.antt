@@ -5,7 +5,7 @@ use Rattle.no_std_io2.proofs.Words.{writer_inner, writer_buffer, writer_told, Ta
 use Rattle.no_std_io2_base.specs.declared.error.Error.{Error}
 use Rattle.no_std_io2.specs.{declared.buffered.buf_writer.BufWriter.{BufWriter}, BufWriter.{Puts}}
 use Rattle.no_std_io2_base.proofs.MovesLemmas.{Moves-then}
-use Rattle.no_std_io2.proofs.{BufWriterLemmas.{Moves-kept}, BufWriterCalls.{puts}, StepLemmas.{then_stops, then_goes_on}}
+use Rattle.no_std_io2.proofs.{BufWriterLemmas.{Moves-kept, then_stops, then_goes_on}, BufWriterCalls.{puts}}
 use Rattle.no_std_io2.proofs.buffered.buf_writer.BufWriter.write_whole.Goals as goal
 
 module _ {W : Type 0} {S : ℕ} (I : Writer W) {old : BufWriter W S} {n : ℕ} (head tail : List ℕ) (is : n ≡ length head + length tail) where

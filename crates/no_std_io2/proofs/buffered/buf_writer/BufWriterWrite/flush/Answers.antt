@@ -1,5 +1,5 @@
 -- The law, by lemmas about the inner calls: the search does not apply these to a whole step.
-use Rattle.no_std_io2.proofs.{BufWriterLemmas.{buffer_none}, StepLemmas.{effect_of}, BufWriterCalls.{flush_empty, flush_does}}
+use Rattle.no_std_io2.proofs.{BufWriterLemmas.{buffer_none, effect_of}, BufWriterCalls.{flush_empty, flush_does}}
 use Rattle.no_std_io2.proofs.buffered.buf_writer.BufWriterWrite.flush.Goals as goal
 
 pub returns : goal.returns

@@ -1,6 +1,6 @@
 -- The law and the clause, by lemmas about the inner calls: the search does not apply these to a whole step.
 use Rattle.no_std_io2.proofs.Words.{writer_inner, writer_buffer}
-use Rattle.no_std_io2.proofs.{StepLemmas.{effect_of}, BufWriterCalls.{write_does, write_bound, write_takes, buffers_of}}
+use Rattle.no_std_io2.proofs.{BufWriterLemmas.{effect_of}, BufWriterCalls.{write_does, write_bound, write_takes, buffers_of}}
 use Rattle.no_std_io2.proofs.buffered.buf_writer.BufWriterWrite.write.Goals as goal
 
 pub returns : goal.returns

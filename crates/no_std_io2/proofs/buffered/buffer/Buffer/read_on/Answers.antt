@@ -3,7 +3,7 @@ use Rattle.no_std_io2.proofs.Words.{common_steps, ◌≡◌, ℕ, ◌+◌, ◌-�
 use Rattle.no_std_io2.proofs.Words.{length-take, length-drop, length-take-le, err_from_is_err_and, GaveLaw}
 use Rattle.std.proofs.Common.{slice_range}
 use borrow.Rule.Slice.PartMut.{put_mid}
-use Rattle.no_std_io2_base.proofs.{ReadParts.{take-put_mid}, Readers.{reader}, TakesLemmas.{read_law}}
+use Rattle.no_std_io2_base.proofs.{ReadLoops.{take-put_mid}, TakesLemmas.{reader, read_law}}
 use Rattle.no_std_io2.proofs.buffered.buffer.Buffer.read_on.Goals as goal
 
 -- the bytes from the front to the end, after n bytes were put behind it

@@ -1,5 +1,5 @@
 -- The line state and the law, by lemmas about the inner calls: the search does not apply these to a whole step.
-use Rattle.no_std_io2.proofs.{BufWriterLemmas.{buffer_none}, BufWriterCalls.{flush_empty, flush_does}, StepLemmas.{effect_of}}
+use Rattle.no_std_io2.proofs.{BufWriterLemmas.{buffer_none, effect_of}, BufWriterCalls.{flush_empty, flush_does}}
 use Rattle.no_std_io2.proofs.LineWriterStates.{flush_state}
 use Rattle.no_std_io2.proofs.buffered.line_writer.LineWriterWrite.flush.Goals as goal
 

@@ -2,7 +2,7 @@
 use Rattle.no_std_io2.proofs.Words.{common_steps, refl, ◌≡◌, ℕ, ◌-◌, ◌==◌, Option, Some, List, length, arith, ◌∙◌, newline}
 use Rattle.std.specs.{Borrow.{Bor}, Option.{option_eq}, Slice.{IsGetResult}}
 use Rattle.no_std_io2_base.specs.Pieces.{ends_in}
-use Rattle.no_std_io2_base.proofs.PieceTrims.{is_last, other_last}
+use Rattle.no_std_io2_base.proofs.PieceLemmas.{is_last, other_last}
 use Rattle.no_std_io2.proofs.buffered.line_writer.steps.ends_in_newline.Goals as goal
 
 by_last : (bs : List ℕ) (r : Option (Bor ℕ)) (end : Bor ℕ) → end.now ≡ newline → IsGetResult bs 0 (length bs - 1) r

@@ -1,5 +1,6 @@
 -- Through the buffer, and then a sending: the search does not join the two calls.
-use Rattle.no_std_io2.proofs.{Words.{◌<◌, length, rules, inr, err_from_is_err_and, sender_buffer}, StepLemmas.{then_stops, then_goes_on}}
+use Rattle.no_std_io2.proofs.{Words.{◌<◌, length, rules, inr, err_from_is_err_and, sender_buffer}, BufWriterLemmas.{then_stops}}
+use Rattle.no_std_io2.proofs.BufWriterLemmas.{then_goes_on}
 use Rattle.no_std_io2_base.proofs.CallsLemmas.{by_are}
 use Rattle.no_std_io2.proofs.buffered.line_writer.steps.send_lines.Goals as goal
 

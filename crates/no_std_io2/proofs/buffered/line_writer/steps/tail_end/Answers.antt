@@ -2,7 +2,7 @@
 use Rattle.no_std_io2.proofs.Words.{common_steps, arith, take, drop, refl}
 use Rattle.std.proofs.lemmas.List.{take_min}
 use Rattle.no_std_io2_base.proofs.LineLemmas.{take_lines}
-use Rattle.no_std_io2.proofs.HeldTail.{lines_rest}
+use Rattle.no_std_io2.proofs.LineWriterStates.{lines_rest}
 use Rattle.no_std_io2.proofs.buffered.line_writer.steps.tail_end.Goals as goal
 
 pub returns-then-sent-len-clause-tail : goal.returns-then-sent-len-clause-tail

@@ -1,5 +1,5 @@
 -- A text without a newline is the first case of the step: the search does not join its two calls.
-use Rattle.no_std_io2.proofs.{Words.{arith, inl, err_from_is_err_and}, StepLemmas.{then_stops, then_goes_on}}
+use Rattle.no_std_io2.proofs.{Words.{arith, inl, err_from_is_err_and}, BufWriterLemmas.{then_stops, then_goes_on}}
 use Rattle.no_std_io2_base.proofs.{CallsLemmas.{by_are}, LineLemmas.{lacks_lines}}
 use Rattle.no_std_io2.proofs.buffered.line_writer.steps.write.Goals as goal
 

@@ -1,7 +1,7 @@
 -- With a newline and without one it is another case of the step: the search does not join the two calls of either.
 use Rattle.no_std_io2.proofs.Words.{◌≡◌, ◌<◌, ◌∙◌, arith, inl, inr, length, length-take, take, err_from_is_err_and}
 use Rattle.no_std_io2.proofs.Words.{SendLinesCalls, WriteAllCalls}
-use Rattle.no_std_io2.proofs.StepLemmas.{then_stops, then_goes_on}
+use Rattle.no_std_io2.proofs.BufWriterLemmas.{then_stops, then_goes_on}
 use Rattle.std.proofs.{Common.{eq-zero-or-pos}, lemmas.List.{take_rest}}
 use Rattle.no_std_io2_base.proofs.{CallsLemmas.{by_are}, LineLemmas.{take_lines, drop_lines, contains_lines, lacks_lines}}
 use Rattle.no_std_io2.proofs.buffered.line_writer.steps.write_all_apart.Goals as goal

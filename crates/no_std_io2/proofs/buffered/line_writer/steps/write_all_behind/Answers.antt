@@ -1,5 +1,5 @@
 -- The sending of a held line, and then the write: the search does not join the two calls.
-use Rattle.no_std_io2.proofs.{Words.{err_from_is_err_and}, StepLemmas.{then_stops, then_goes_on}}
+use Rattle.no_std_io2.proofs.{Words.{err_from_is_err_and}, BufWriterLemmas.{then_stops, then_goes_on}}
 use Rattle.no_std_io2.proofs.buffered.line_writer.steps.write_all_behind.Goals as goal
 
 pub returns-in_err-send_line : goal.returns-in_err-send_line

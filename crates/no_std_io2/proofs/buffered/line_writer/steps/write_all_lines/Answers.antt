@@ -2,7 +2,7 @@
 use Rattle.no_std_io2.proofs.Words.{◌≡◌, ◌∙◌, [], Ok, Stepped, arith, sym, unfinished_line, nil_from_length, length-drop, inr, subst}
 use Rattle.no_std_io2.proofs.Words.{err_from_is_err_and, TakesStep, sender_inner, sender_buffer, WriteAllCalls}
 use Rattle.no_std_io2.proofs.{LineWriterStates.{send_lines_leaves}, BufWriterCalls.{nothing_put}}
-use Rattle.no_std_io2.proofs.{Words.{SendLinesCalls}, StepLemmas.{then_stops, then_goes_on}}
+use Rattle.no_std_io2.proofs.{Words.{SendLinesCalls}, BufWriterLemmas.{then_stops, then_goes_on}}
 use Rattle.std.proofs.lemmas.List.{take_rest}
 use Rattle.no_std_io2_base.proofs.{CallsLemmas.{by_are}, LineLemmas.{take_lines, drop_lines, contains_lines}}
 use Rattle.no_std_io2.proofs.buffered.line_writer.steps.write_all_lines.Goals as goal

@@ -3,7 +3,7 @@ use Rattle.no_std_io2.proofs.Words.{common_steps, ◌≡◌, ◌+◌, ◌-◌, �
 use Rattle.no_std_io2.proofs.Words.{drop, rules, err_from_is_err_and, sender_buffer}
 use Rattle.std.specs.List.{slice_range}
 use Rattle.no_std_io2_base.proofs.{CallsLemmas.{by_are, writes_whole}, LineLemmas.{contains_lines}}
-use Rattle.no_std_io2.proofs.{StepLemmas.{then_stops, then_goes_on}, LineWriterStates.{wrote_lines}, HeldTail.{tail_none}}
+use Rattle.no_std_io2.proofs.{BufWriterLemmas.{then_stops, then_goes_on}, LineWriterStates.{wrote_lines, tail_none}}
 use Rattle.no_std_io2.proofs.buffered.line_writer.steps.write_lines.Goals as goal
 
 pub returns-in_err-send : goal.returns-in_err-send

@@ -1,5 +1,5 @@
 -- All was sent, and then the inner writer was flushed.
-use Rattle.no_std_io2.proofs.{Words.{arith, common_steps, err_from_is_err_and}, StepLemmas.{then_stops, then_goes_on}}
+use Rattle.no_std_io2.proofs.{Words.{arith, common_steps, err_from_is_err_and}, BufWriterLemmas.{then_stops, then_goes_on}}
 use Rattle.no_std_io2_base.proofs.CallsLemmas.{by_call, writes_whole}
 use Rattle.no_std_io2.proofs.buffered.sender.Sender.flush.Goals as goal
 

@@ -1,5 +1,5 @@
 -- The inner writer, once all was sent; or the fault that stopped the sending, and the writer.
-use Rattle.no_std_io2.proofs.SentLemmas.{unwraps_ok, unwraps_err}
+use Rattle.no_std_io2.proofs.BufWriterCalls.{unwraps_ok, unwraps_err}
 use Rattle.no_std_io2.proofs.buffered.sender.Sender.into_inner.Goals as goal
 
 pub returns-in-Ok : goal.returns-in-Ok

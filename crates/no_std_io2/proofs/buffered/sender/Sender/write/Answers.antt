@@ -1,6 +1,6 @@
 -- The hot paths: there is room, or nothing is held, so nothing has to be sent.
 use Rattle.no_std_io2.proofs.Words.{common_steps, nil_from_length, arith, Wrote, SingleCall}
-use Rattle.no_std_io2.proofs.{StepLemmas.{then_goes_on}, BufWriterCalls.{room_kept, puts, buffered_past, one_made}}
+use Rattle.no_std_io2.proofs.{BufWriterLemmas.{then_goes_on}, BufWriterCalls.{room_kept, puts, buffered_past, one_made}}
 use Rattle.no_std_io2.proofs.buffered.sender.Sender.write.Goals as goal
 
 pub returns-then-hold_if_room : goal.returns-then-hold_if_room

@@ -1,5 +1,5 @@
 -- A `write_all` off the hot path: room is made, and then the bytes go past the buffer or into it.
-use Rattle.no_std_io2.proofs.{Words.{common_steps, AllCalls, arith, rules, err_from_is_err_and}, StepLemmas.{then_stops, then_goes_on}}
+use Rattle.no_std_io2.proofs.{Words.{common_steps, AllCalls, arith, rules, err_from_is_err_and}, BufWriterLemmas.{then_stops, then_goes_on}}
 use Rattle.no_std_io2.proofs.BufWriterCalls.{room_none, room_enough, puts, passes}
 use Rattle.no_std_io2.proofs.buffered.sender.Sender.write_all_cold.Goals as goal
 

@@ -1,6 +1,6 @@
 -- A `write` off the hot path: room is made, and then the bytes go past the buffer or into it.
 use Rattle.no_std_io2.proofs.Words.{common_steps, SingleCall, arith, rules, err_from_is_err_and, Wrote}
-use Rattle.no_std_io2.proofs.StepLemmas.{then_stops, then_goes_on}
+use Rattle.no_std_io2.proofs.BufWriterLemmas.{then_stops, then_goes_on}
 use Rattle.no_std_io2.proofs.BufWriterCalls.{room_none, room_enough, puts, passes, one_made}
 use Rattle.no_std_io2.proofs.buffered.sender.Sender.write_cold.Goals as goal
 

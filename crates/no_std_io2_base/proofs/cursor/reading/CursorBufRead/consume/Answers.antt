@@ -1,6 +1,6 @@
 -- The law: the search does not find where the content is split.
 use Rattle.std.proofs.Common.{◌+◌, refl, take, drop, arith, length-take-le}
-use Rattle.no_std_io2_base.proofs.{CursorLemmas.{left_after}, StoreLemmas.{takes_at}, InMemoryReads.{split_at}}
+use Rattle.no_std_io2_base.proofs.{CursorLemmas.{left_after, takes_at}, InMemoryReads.{split_at}}
 use Rattle.no_std_io2_base.proofs.cursor.reading.CursorBufRead.consume.Goals as goal
 
 pub returns-clause-law : goal.returns-clause-law

@@ -1,6 +1,6 @@
 -- What the call did to the value in the box, it did to the box.
 use Rattle.std.proofs.Common.{refl}
-use Rattle.no_std_io2_base.proofs.SeekCalls.{stream_len_through}
+use Rattle.no_std_io2_base.proofs.CursorLemmas.{stream_len_through}
 use Rattle.no_std_io2_base.proofs.impls.boxes.BoxSeek.stream_len.Goals as goal
 
 pub returns : goal.returns

@@ -2,7 +2,7 @@
 use Rattle.std.proofs.{Common.{rules}, lemmas.Int.{to_z-of_z}}
 use mir.Syntax.{w64}
 use Rattle.no_std_io2_base.specs.Seek.{SeekRelativeLaw}
-use Rattle.no_std_io2_base.proofs.{Readers.{seeker}, SeekCalls.{seeks_box, seek_relative_through}}
+use Rattle.no_std_io2_base.proofs.{TakesLemmas.{seeker}, CursorLemmas.{seeks_box, seek_relative_through}}
 use Rattle.no_std_io2_base.proofs.impls.dyn_boxes.BoxDynSeekDropSeek.seek_relative.Goals as goal
 
 pub returns : goal.returns

@@ -1,6 +1,6 @@
 -- What the call did to the value in the box, it did to the box.
 use Rattle.std.proofs.Common.{rules}
-use Rattle.no_std_io2_base.proofs.BoxedObjects.{write_all_box}
+use Rattle.no_std_io2_base.proofs.Forwards.{write_all_box}
 use Rattle.no_std_io2_base.proofs.impls.dyn_boxes.BoxDynWriteDropWrite.write_all.Goals as goal
 
 pub returns : goal.returns

@@ -1,7 +1,7 @@
 -- What the call did to the value in the box, it did to the box.
 use mathlib.Core.List.{mem-append_right}
 use Rattle.std.proofs.Common.{rules, ◌≡◌, ◌≤◌, length, subst, sym, refl}
-use Rattle.no_std_io2_base.proofs.{Readers.{reader}, BoxedObjects.{consume_box}}
+use Rattle.no_std_io2_base.proofs.{TakesLemmas.{reader}, Forwards.{consume_box}}
 use Rattle.no_std_io2_base.proofs.impls.dyn_buf_read_boxes.BoxDynBufReadDropBufRead.consume.Goals as goal
 
 pub consume-requires : goal.consume-requires

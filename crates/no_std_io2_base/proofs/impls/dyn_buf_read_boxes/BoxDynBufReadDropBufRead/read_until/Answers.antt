@@ -1,7 +1,7 @@
 -- The loop and each of its exits, by the lemmas of loops that take a piece.
 use Rattle.std.proofs.{Common.{◌∙◌, sym}, lemmas.Result.{err_from_is_err_and}}
-use Rattle.no_std_io2_base.proofs.PieceLoop.{filled_law, until_none, until_interruption, until_fault, until_refused, until_more}
-use Rattle.no_std_io2_base.proofs.PieceLoop.{until_whole}
+use Rattle.no_std_io2_base.proofs.PieceLoops.{filled_law, until_none, until_interruption, until_fault, until_refused, until_more}
+use Rattle.no_std_io2_base.proofs.PieceLoops.{until_whole}
 use Rattle.no_std_io2_base.proofs.impls.dyn_buf_read_boxes.BoxDynBufReadDropBufRead.read_until.Goals as goal
 
 pub pieces-init : goal.pieces-init

@@ -1,5 +1,5 @@
 -- As the trait's: it ends with its reader's turns.
-use Rattle.no_std_io2_base.proofs.{Readers.{reader}, BoxedObjects.{box_reader}, PieceLoop.{UntilSoFar}}
+use Rattle.no_std_io2_base.proofs.{TakesLemmas.{reader}, Forwards.{box_reader}, PieceLoops.{UntilSoFar}}
 use Rattle.no_std_io2_base.proofs.impls.dyn_buf_read_boxes.BoxDynBufReadDropBufRead.read_until.Given as goal
 
 abbrev pub invariant-pieces : goal.invariant-pieces

@@ -1,6 +1,6 @@
 -- What the call did to the value in the box, it did to the box.
 use Rattle.std.proofs.Common.{rules}
-use Rattle.no_std_io2_base.proofs.{Readers.{reader}, BoxedObjects.{exact_box}}
+use Rattle.no_std_io2_base.proofs.{TakesLemmas.{reader}, Forwards.{exact_box}}
 use Rattle.no_std_io2_base.proofs.impls.dyn_buf_read_boxes.BoxDynBufReadDropRead.read_exact.Goals as goal
 
 pub returns : goal.returns

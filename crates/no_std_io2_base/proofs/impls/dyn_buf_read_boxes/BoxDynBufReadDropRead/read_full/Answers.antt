@@ -1,6 +1,6 @@
 -- What the call did to the value in the box, it did to the box.
 use Rattle.std.proofs.Common.{rules}
-use Rattle.no_std_io2_base.proofs.{Readers.{reader}, BoxedObjects.{full_box}}
+use Rattle.no_std_io2_base.proofs.{TakesLemmas.{reader}, Forwards.{full_box}}
 use Rattle.no_std_io2_base.proofs.impls.dyn_buf_read_boxes.BoxDynBufReadDropRead.read_full.Goals as goal
 
 pub returns : goal.returns

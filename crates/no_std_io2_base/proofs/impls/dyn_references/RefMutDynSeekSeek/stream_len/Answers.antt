@@ -1,6 +1,6 @@
 -- What the call did to the object, it did to the reference.
 use Rattle.std.proofs.Common.{refl}
-use Rattle.no_std_io2_base.proofs.SeekCalls.{stream_len_through}
+use Rattle.no_std_io2_base.proofs.CursorLemmas.{stream_len_through}
 use Rattle.no_std_io2_base.proofs.impls.dyn_references.RefMutDynSeekSeek.stream_len.Goals as goal
 
 pub returns : goal.returns

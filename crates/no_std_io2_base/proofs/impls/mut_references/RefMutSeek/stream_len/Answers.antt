@@ -1,6 +1,6 @@
 -- What the call did to the target, it did to the reference.
 use Rattle.std.proofs.Common.{refl}
-use Rattle.no_std_io2_base.proofs.SeekCalls.{stream_len_through}
+use Rattle.no_std_io2_base.proofs.CursorLemmas.{stream_len_through}
 use Rattle.no_std_io2_base.proofs.impls.mut_references.RefMutSeek.stream_len.Goals as goal
 
 pub returns : goal.returns

@@ -4,8 +4,8 @@ use Rattle.std.proofs.Common.{◌≡◌, ◌≤◌, ℕ, ◌∙◌, sym, ap, sub
 use Rattle.std.proofs.Common.{IsUtf8}
 use Rattle.std.specs.String.{string_vec}
 use Rattle.no_std_io2_base.specs.{BufRead.{ReadUntilLaw}, Pieces.{newline, AnswersLine}}
-use Rattle.no_std_io2_base.proofs.{LineTaken.{line_law, line_at_once, line_faulted, line_some, memory_grows, memory_text}}
-use Rattle.no_std_io2_base.proofs.{PieceBefore.{until_lent, until_waited}, PieceLoop.{filled_law}, Readers.{reader}}
+use Rattle.no_std_io2_base.proofs.LineLemmas.{line_law, line_at_once, line_faulted, line_some, memory_grows, memory_text}
+use Rattle.no_std_io2_base.proofs.{PieceLemmas.{until_lent, until_waited}, PieceLoops.{filled_law}, TakesLemmas.{reader}}
 use Rattle.no_std_io2_base.proofs.traits.buf_read.BufRead.read_line.Goals.{in-Ok+else-is_whole}
 use Rattle.no_std_io2_base.proofs.traits.buf_read.BufRead.read_line.Goals.{else-is_whole-via-then-is_whole+else-append_text}
 use Rattle.no_std_io2_base.proofs.traits.buf_read.BufRead.read_line.Goals.{else-is_whole-via-else-is_whole, in-Err}

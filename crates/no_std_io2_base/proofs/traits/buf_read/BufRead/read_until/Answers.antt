@@ -1,6 +1,6 @@
 -- Each exit of the loop, by the lemmas of loops that take a piece.
 use Rattle.std.proofs.{Common.{◌∙◌, sym}, lemmas.Result.{err_from_is_err_and}}
-use Rattle.no_std_io2_base.proofs.PieceLoop.{filled_law, until_interruption, until_fault, until_refused, until_more, until_whole}
+use Rattle.no_std_io2_base.proofs.PieceLoops.{filled_law, until_interruption, until_fault, until_refused, until_more, until_whole}
 use Rattle.no_std_io2_base.proofs.traits.buf_read.BufRead.read_until.Goals as goal
 
 pub returns-then-is_whole : goal.returns-then-is_whole

@@ -1,5 +1,5 @@
 -- `read_until` ends with its reader's turns.
-use Rattle.no_std_io2_base.proofs.{Readers.{reader}, PieceLoop.{UntilSoFar}}
+use Rattle.no_std_io2_base.proofs.{TakesLemmas.{reader}, PieceLoops.{UntilSoFar}}
 use Rattle.no_std_io2_base.proofs.traits.buf_read.BufRead.read_until.Given as goal
 
 abbrev pub invariant-pieces : goal.invariant-pieces

@@ -1,6 +1,6 @@
 -- Each exit of the loop, by the lemmas of loops that skip a piece.
 use Rattle.std.proofs.Common.{◌∙◌, sym}
-use Rattle.no_std_io2_base.proofs.{PieceLoop.{filled_law}, SkipLoop.{skip_interruption, skip_fault, skip_more, skip_piece}}
+use Rattle.no_std_io2_base.proofs.PieceLoops.{filled_law, skip_interruption, skip_fault, skip_more, skip_piece}
 use Rattle.no_std_io2_base.proofs.traits.buf_read.BufRead.skip_until.Goals as goal
 
 pub returns-then-is_whole : goal.returns-then-is_whole

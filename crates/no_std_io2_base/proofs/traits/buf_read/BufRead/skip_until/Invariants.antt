@@ -1,5 +1,5 @@
 -- `skip_until` ends with its reader's turns.
-use Rattle.no_std_io2_base.proofs.{Readers.{reader}, SkipLoop.{SkipSoFar}}
+use Rattle.no_std_io2_base.proofs.{TakesLemmas.{reader}, PieceLoops.{SkipSoFar}}
 use Rattle.no_std_io2_base.proofs.traits.buf_read.BufRead.skip_until.Given as goal
 
 abbrev pub invariant-pieces : goal.invariant-pieces

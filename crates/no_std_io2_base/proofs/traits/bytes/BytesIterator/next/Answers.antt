@@ -1,6 +1,6 @@
 -- The loop and each of its exits: the list of reads grows at its end, which the search does not do.
 use Rattle.std.proofs.Common.{◌≡◌, arith, refl, sym, ap, ◌∙◌, length, take, take-suc}
-use Rattle.no_std_io2_base.proofs.{NextByteLemmas.{next_end, next_byte, next_byte_fault}, ReadLoop.{reads_none, reads_again}}
+use Rattle.no_std_io2_base.proofs.ReadLoops.{next_end, next_byte, next_byte_fault, reads_none, reads_again}
 use Rattle.no_std_io2_base.proofs.TakesLemmas.{takes_turns, read_spends}
 use Rattle.no_std_io2_base.proofs.traits.bytes.BytesIterator.next.Goals as goal
 

@@ -1,6 +1,6 @@
 -- At the end of the first reader: the search does not get through the laws of both calls.
 use Rattle.std.proofs.Common.{◌≡◌, [], refl}
-use Rattle.no_std_io2_base.proofs.{Readers.{reader}, PieceLoop.{filled_law}, WriteExits.{is_empty}, ChainLemmas.{lends_second}}
+use Rattle.no_std_io2_base.proofs.{TakesLemmas.{reader}, PieceLoops.{filled_law}, TextLemmas.{is_empty}, ToEndLemmas.{lends_second}}
 use Rattle.no_std_io2_base.proofs.traits.chain.ChainBufRead.fill_buf.Goals as goal
 
 pub returns-then-is_empty : goal.returns-then-is_empty

@@ -1,6 +1,6 @@
 -- Each exit, by what both readers gave: the search does not join two lists of calls.
 use Rattle.std.proofs.{Common.{◌-◌, Ok, Err, refl, arith}, lemmas.Result.{err_from_is_err_and}}
-use Rattle.no_std_io2_base.proofs.{ChainLemmas.{end_first, end_second, end_both}, MovesLemmas.{after_ok}}
+use Rattle.no_std_io2_base.proofs.{ToEndLemmas.{end_first, end_second, end_both}, MovesLemmas.{after_ok}}
 use Rattle.no_std_io2_base.proofs.traits.chain.ChainRead.read_to_end.Goals as goal
 
 pub returns-then-self : goal.returns-then-self

@@ -1,7 +1,7 @@
 -- The loop and each of its exits, by the lemmas of loops that fill a buffer.
 use Rattle.std.proofs.{lemmas.Grind.{common_steps}, Common.{sym, ◌∙◌, arith}}
-use Rattle.no_std_io2_base.proofs.{ReadExactLoop.{exact_end, exact_fault}, ReadFullLoop.{full_none, full_read, full_interruption, full_end}}
-use Rattle.no_std_io2_base.proofs.{ReadFullLoop.{full_fault, stays}, TakesLemmas.{read_spends}}
+use Rattle.no_std_io2_base.proofs.ReadLoops.{exact_end, exact_fault, full_none, full_read, full_interruption, full_end, full_fault, stays}
+use Rattle.no_std_io2_base.proofs.TakesLemmas.{read_spends}
 use Rattle.no_std_io2_base.proofs.traits.read.Read.read_exact.Goals as goal
 
 pub reads-init : goal.reads-init

@@ -1,6 +1,6 @@
 -- The loop and each of its exits, by the lemmas of loops that fill a buffer.
 use Rattle.std.proofs.Common.{sym, ◌∙◌}
-use Rattle.no_std_io2_base.proofs.{ReadFullLoop.{full_none, full_read, full_interruption, full_end, full_fault}, TakesLemmas.{read_spends}}
+use Rattle.no_std_io2_base.proofs.{ReadLoops.{full_none, full_read, full_interruption, full_end, full_fault}, TakesLemmas.{read_spends}}
 use Rattle.no_std_io2_base.proofs.traits.read.Read.read_full.Goals as goal
 
 pub reads-init : goal.reads-init

@@ -1,5 +1,5 @@
 -- `read_full` ends with its reader's turns.
-use Rattle.no_std_io2_base.proofs.{ReadFullLoop.{FullSoFar}, Readers.{reader}}
+use Rattle.no_std_io2_base.proofs.{ReadLoops.{FullSoFar}, TakesLemmas.{reader}}
 use Rattle.no_std_io2_base.proofs.traits.read.Read.read_full.Given as goal
 
 abbrev pub invariant-reads : goal.invariant-reads

@@ -1,6 +1,6 @@
 -- The bytes are within the limit, from which the law of the inner `consume` gives that of this one.
 use Rattle.std.proofs.Common.{◌≤◌, arith, refl, length-take}
-use Rattle.no_std_io2_base.proofs.{ReadExactExits.{some_bytes}, LimitLemmas.{consumed_inner}}
+use Rattle.no_std_io2_base.proofs.{ReadLoops.{some_bytes}, LimitLemmas.{consumed_inner}}
 use Rattle.no_std_io2_base.proofs.traits.take.TakeBufRead.consume.Goals as goal
 
 pub returns : goal.returns

@@ -1,9 +1,9 @@
 -- The loop and each of its exits, by the lemmas of loops that read to the end.
 use Rattle.std.proofs.{Common.{◌∷◌, [], Ok, arith, ap, refl, sym, ◌∙◌}, lemmas.{Grind.{common_steps}, Result.{err_from_is_err_and}}}
 use Rattle.no_std_io2_base.specs.Read.{ReadLaw}
-use Rattle.no_std_io2_base.proofs.{Readers.{reader}, TakesLemmas.{read_by}, LimitLemmas.{limit_reader, gave_at_limit}}
-use Rattle.no_std_io2_base.proofs.{LimitLoops.{limit_fell}, ReadToEndLoop.{wrote, to_end_none, to_end_no_room, to_end_refused, to_end_read}}
-use Rattle.no_std_io2_base.proofs.ReadToEndLoop.{to_end_interruption, to_end_done, to_end_fault}
+use Rattle.no_std_io2_base.proofs.{TakesLemmas.{reader, read_by}, LimitLemmas.{limit_reader, gave_at_limit, limit_fell}}
+use Rattle.no_std_io2_base.proofs.ToEndLemmas.{wrote, to_end_none, to_end_no_room, to_end_refused, to_end_read, to_end_interruption}
+use Rattle.no_std_io2_base.proofs.ToEndLemmas.{to_end_done, to_end_fault}
 use Rattle.no_std_io2_base.proofs.traits.take.TakeRead.read_to_end.Goals as goal
 
 pub returns-in_err-reserve_room : goal.returns-in_err-reserve_room

@@ -1,7 +1,7 @@
 -- The steps and the exits of the loop, by the lemmas of loops that write.
 use Rattle.std.proofs.{lemmas.Grind.{common_steps}, Common.{arith, sym, ◌∙◌}}
-use Rattle.no_std_io2_base.proofs.WriteExits.{not_empty, is_empty, writes_more, writes_zero, writes_done, writes_stopped}
-use Rattle.no_std_io2_base.proofs.WriteExits.{writes_interruption}
+use Rattle.no_std_io2_base.proofs.TextLemmas.{not_empty, is_empty, writes_more, writes_zero, writes_done, writes_stopped}
+use Rattle.no_std_io2_base.proofs.TextLemmas.{writes_interruption}
 use Rattle.no_std_io2_base.proofs.traits.write.Write.write_rest.Goals as goal
 
 pub returns-in-Ok-eq0 : goal.returns-in-Ok-eq0

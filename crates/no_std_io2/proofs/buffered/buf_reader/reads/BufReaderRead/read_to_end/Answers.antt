@@ -1,6 +1,6 @@
 -- A read to the end, by its four ends: nothing held, no room for what is held, an error of the inner reader, or its end.
 use Rattle.no_std_io2.proofs.Words.{nil_from_length, err_from_is_err_and, ◌≡◌, [], Ok, Err, arith, refl, rules, reader_held}
-use Rattle.no_std_io2.proofs.BufReaderToEnd.{moved_all, to_end_alone, held_through, held_part}
+use Rattle.no_std_io2.proofs.BufReaderThrough.{moved_all, to_end_alone, held_through, held_part}
 use Rattle.no_std_io2.proofs.buffered.buf_reader.reads.BufReaderRead.read_to_end.Goals as goal
 
 pub returns-then-is_empty : goal.returns-then-is_empty

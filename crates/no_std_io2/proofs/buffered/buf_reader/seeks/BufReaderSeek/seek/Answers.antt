@@ -4,7 +4,7 @@ use Rattle.std.proofs.Common.{FitsSigned}
 use Rattle.no_std_io2_base.specs.declared.traits.seek.SeekFrom.TheVariants.{Current}
 use Rattle.no_std_io2.specs.BufReader.{ReaderSeeks}
 use Rattle.no_std_io2.proofs.{BufReaderSeeks.{seek_law, seek_elsewhere}}
-use Rattle.no_std_io2_base.proofs.Readers.{seeker}
+use Rattle.no_std_io2_base.proofs.TakesLemmas.{seeker}
 use Rattle.no_std_io2.proofs.buffered.buf_reader.seeks.BufReaderSeek.seek.Goals as goal
 
 pub returns-in-Current : goal.returns-in-Current

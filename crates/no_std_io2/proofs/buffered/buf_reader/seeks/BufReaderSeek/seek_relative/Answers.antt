@@ -2,8 +2,8 @@
 use Rattle.no_std_io2.proofs.Words.{ℤ, length, refl, subst, Ok, Err, to_z-of_z, w64, IsCutOn, reader_held, reader_behind}
 use Rattle.no_std_io2_base.specs.declared.traits.seek.SeekFrom.TheVariants.{Current}
 use Rattle.no_std_io2.specs.{Buffer.{IsInBuffer, buffer_held, buffer_behind}, BufReader.{ReaderSeeks}}
-use Rattle.no_std_io2.proofs.{BufReaderRoom.{same_buffer}, BufReaderSeeks.{moves_within, moves_far}}
-use Rattle.no_std_io2_base.proofs.Readers.{seeker}
+use Rattle.no_std_io2.proofs.{BufferedReads.{same_buffer}, BufReaderSeeks.{moves_within, moves_far}}
+use Rattle.no_std_io2_base.proofs.TakesLemmas.{seeker}
 use mir.Val.{to_z, of_z}
 use Rattle.no_std_io2.proofs.buffered.buf_reader.seeks.BufReaderSeek.seek_relative.Goals as goal
 

@@ -1,6 +1,6 @@
 -- The call goes nowhere (`stays_here`): the search does not rewrite the position in it.
 use Rattle.std.proofs.Common.{◌<◌, ◌^◌, subst}
-use Rattle.no_std_io2_base.proofs.LimitSeekLemmas.{stays_here}
+use Rattle.no_std_io2_base.proofs.LimitLemmas.{stays_here}
 use Rattle.no_std_io2_base.proofs.traits.take.seeking.TakeSeek.stream_position.Goals as goal
 
 pub returns-clause-law : goal.returns-clause-law

@@ -1,17 +1,20 @@
--- A loop that takes one piece, by what its calls do, for any reader that lends.
+-- Loops over what a reader lends, which take one piece, skip one, or take a number of bytes.
 use Rattle.std.proofs.{lemmas.Grind.{common_steps}, Common.{◌≡◌, ℕ, ◌+◌, ◌-◌, ◌<◌, ◌≤◌, ◌⊎◌, Bool, true, false, List, [], ◌∷◌, ◌++◌}}
 use Rattle.std.proofs.Common.{Result, Ok, Err, Vec, vec_len, vec_capacity, length, take, refl, sym, ap, subst, ◌∙◌, arith, append_assoc}
-use Rattle.std.proofs.Common.{append-nil, le_refl, le_trans, inl, inr, length-append, length-take-le, take_all}
+use Rattle.std.proofs.Common.{append-nil, le_refl, le_trans, inl, inr, length-append, length-take-le, take_all, ◌^◌, min}
 use Rattle.std.specs.Borrow.{Bor}
-use Rattle.no_std_io2_base.specs.{declared.error.Error.{Error}, Errors.{IsInterruption, IsFault, IsOutOfMemory}, Events.{Event, fails}}
-use Rattle.no_std_io2_base.specs.{Events.{events_of, bytes, HasNoFault}, Takes.{ReaderState, Takes, IsAll}, Read.{Filled, Consumed, Reader}}
-use Rattle.no_std_io2_base.specs.{Read.{tells, ConsumeLaw, FilledLaw, ReadCallLaw}, BufRead.{FillBufLaw, AfterLoan, ReadUntilLaw}}
-use Rattle.no_std_io2_base.specs.{BufRead.{lent_bytes}, Pieces.{Lacks, EndsPiece, EndsAt, FindsPiece, PieceEnds, PartCalls, no_part}}
-use Rattle.no_std_io2_base.specs.{Pieces.{and_part, and_waited, PieceCalls}, Write.{ByCalls}}
-use Rattle.no_std_io2_base.proofs.{CallsLemmas.{by_more, by_then}, EventLemmas.{events_of-append, HasNoFault-append, HasNoFault-events_of}}
-use Rattle.no_std_io2_base.proofs.{EventLemmas.{length-events_of}, PieceLemmas.{bytes-more, bytes-fails, Lacks-append, found_part}}
-use Rattle.no_std_io2_base.proofs.{PieceLemmas.{comes_behind}, TakesLemmas.{takes_none, takes_then, takes_still, takes_turns, takes_to_end}}
-use Rattle.no_std_io2_base.proofs.TakesLemmas.{spends, stays_at_end}
+use Rattle.no_std_io2_base.specs.{declared.error.Error.{Error}, Errors.{IsInterruption, IsFault, IsOutOfMemory, IsUnexpectedEnd}}
+use Rattle.no_std_io2_base.specs.{Events.{Event, fails, events_of, bytes, HasNoFault}, Takes.{ReaderState, Takes, IsAll}, Read.{Filled}}
+use Rattle.no_std_io2_base.specs.{Read.{Consumed, Reader, tells, ConsumeLaw, FilledLaw, ReadCallLaw}, BufRead.{FillBufLaw, AfterLoan}}
+use Rattle.no_std_io2_base.specs.{BufRead.{ReadUntilLaw, lent_bytes, SkipUntilLaw, at_most_max}, Pieces.{Lacks, EndsPiece, EndsAt}}
+use Rattle.no_std_io2_base.specs.{Pieces.{FindsPiece, PieceEnds, PartCalls, no_part, and_part, and_waited, PieceCalls}, Write.{ByCalls}}
+use Rattle.no_std_io2_base.specs.Passing.{PortionCalls, no_portion, and_portion, and_waited as portion_waited, Skipped}
+use Rattle.no_std_io2_base.proofs.{CallsLemmas.{by_more, by_then}, TakesLemmas.{events_of-append, HasNoFault-append, HasNoFault-events_of}}
+use Rattle.no_std_io2_base.proofs.TakesLemmas.{length-events_of, takes_none, takes_then, takes_still, takes_turns, takes_to_end, spends}
+use Rattle.no_std_io2_base.proofs.{TakesLemmas.{stays_at_end}, PieceLemmas.{bytes-more, bytes-fails, Lacks-append, found_part}}
+use Rattle.no_std_io2_base.proofs.PieceLemmas.{comes_behind}
+
+-- A loop that takes one piece, by what its calls do, for any reader that lends.
 
 -- a `fill_buf` and its loan are a call
 fill_law : {X : Type 0} {R : Reader X} {old new : X} (reply : Result (Bor (List ℕ)) Error) → FillBufLaw R old reply
@@ -229,3 +232,135 @@ module _ {X A : Type 0} {R : Reader X} {d : ℕ} {old now after : X} {buf xs : V
           let counts : end - start ≡ length all =
           omega (arith, from, to, v.ok.0, buf.ok.0, ap length gave, length-append buf.items all) in
           until_law (piece_whole before.part filled found dropped whole counts) (le_trans before.capacity grown) gave
+
+-- A loop that skips one piece, for any reader that lends.
+
+-- A part of a piece was skipped so far. The count is its length, at most `usize::MAX`.
+pub record SkipSoFar {X : Type 0} (R : Reader X) (d : ℕ) (old : X) (skipped : ℕ) (now : X) : Type 0 where
+  pub taken : List Event
+  pub part : PartTaken R d old taken now
+  pub count : skipped ≡ min (length (bytes taken)) (2 ^ 64 - 1)
+
+-- at the start nothing was skipped
+pub skip_none : {X : Type 0} {R : Reader X} {d : ℕ} {old : X} → SkipSoFar R d old 0 old
+skip_none {R = R} {d} {old} = record { taken = []; part = part_none R d old; count = omega arith }
+
+-- a piece that was skipped
+skip_law : {X : Type 0} {R : Reader X} {d : ℕ} {old new : X} {P : List Event} (read : Result ℕ Error) {reply : Result ℕ Error}
+    → reply ≡ at_most_max read → PieceTaken R (λ _. ⊥) ⊥ d old P read new → SkipUntilLaw R old d reply new
+skip_law {P = P} read is piece =
+    record { taken = P; takes = piece.takes; read = read; is = is; ends = piece.ends; calls = piece.calls }
+
+module _ {X : Type 0} {R : Reader X} {d : ℕ} {old now after : X} {skipped : ℕ} (before : SkipSoFar R d old skipped now) where
+  module _ {e : Error} (filled : FilledLaw R now (Err e) after) where
+    -- an interruption is ignored
+    pub skip_interruption : IsInterruption e → SkipSoFar R d old skipped after
+    skip_interruption again = record {
+      taken = before.taken ++ fails e ∷ [];
+      part = part_waited before.part filled again;
+      count = before.count ∙ ap (λ l. min (length l) (2 ^ 64 - 1)) (sym (bytes-fails before.taken e));
+    }
+
+    -- a fault ends the loop
+    pub skip_fault : IsFault e → SkipUntilLaw R old d (Err e) after
+    skip_fault fault = skip_law (Err e) refl (piece_faulted before.part filled fault)
+
+  module _ {lent : List ℕ} {n : ℕ} {is_whole : Bool} (filled : FilledLaw R now (Ok lent) after) (found : FindsPiece d lent n is_whole) where
+    module _ {total : ℕ} {new : X} (dropped : ConsumeLaw R after n new) (total_is : total ≡ min (skipped + n) (2 ^ 64 - 1)) where
+      -- the count
+      counted : total ≡ min (length (bytes (before.taken ++ events_of (take n lent)))) (2 ^ 64 - 1)
+      counted = grind (arith, common_steps, bytes-more, length-append, length-take-le)
+
+      -- after a part of the piece the loop continues
+      pub skip_more : is_whole ≡ false → SkipSoFar R d old total new
+      skip_more going = record { taken = _; part = part_more before.part filled found dropped going; count = counted }
+
+      -- the end of the piece ends it
+      pub skip_piece : is_whole ≡ true → SkipUntilLaw R old d (Ok total) new
+      skip_piece whole = skip_law (Ok _) (ap Ok counted) (piece_whole before.part filled found dropped whole refl)
+
+-- A loop that takes a number of bytes, by what its calls do, for any reader that lends.
+
+-- Of n bytes, `left` are still wanted; the others were taken, by these calls.
+pub record PortionsTaken {X : Type 0} (R : Reader X) (old : X) (n left : ℕ) (now : X) : Type 0 where
+  pub taken : List Event
+  pub takes : Takes (tells R old) taken (tells R now)
+  pub no_fault : HasNoFault taken
+  pub count : length (bytes taken) + left ≡ n
+  pub calls : ByCalls (ReadCallLaw R) old (λ C. PortionCalls n C (bytes taken)) now
+
+-- at the start all are wanted
+pub portions_none : {X : Type 0} {R : Reader X} {old : X} {n : ℕ} → PortionsTaken R old n n old
+portions_none {R = R} {old} = record {
+  taken = [];
+  takes = takes_none (tells R old);
+  no_fault = tt;
+  count = omega arith;
+  calls = record { calls = []; made = refl; are = no_portion };
+}
+
+module _ {X : Type 0} {R : Reader X} {old now : X} {n left : ℕ} (before : PortionsTaken R old n left now) (more : 0 < left) where
+  -- some bytes are still wanted
+  wanted : length (bytes before.taken) < n
+  wanted = omega (arith, before.count, more)
+
+  module _ {after : X} {e : Error} (filled : FilledLaw R now (Err e) after) where
+    same : bytes before.taken ≡ bytes (before.taken ++ fails e ∷ [])
+    same = sym (bytes-fails before.taken e)
+
+    -- an interruption is ignored
+    pub portions_waited : IsInterruption e → PortionsTaken R old n left after
+    portions_waited again = record {
+      taken = before.taken ++ fails e ∷ [];
+      takes = takes_then before.takes filled.takes;
+      no_fault = HasNoFault-append before.taken (fails e ∷ []) before.no_fault (again, tt);
+      count = ap (λ l. length l + left) (sym same) ∙ before.count;
+      calls = by_more before.calls (Filled (Err e)) filled
+          (λ C so_far. subst (PortionCalls n (C ++ Filled (Err e) ∷ [])) same (portion_waited C _ e so_far wanted again));
+    }
+
+    -- a fault ends a `skip`
+    pub skip_faults : IsFault e → Skipped R old n (Err e) left after
+    skip_faults fault = record {
+      taken = before.taken ++ fails e ∷ [];
+      takes = takes_then before.takes filled.takes;
+      count = ap (λ l. length l + left) (sym same) ∙ before.count;
+      ends = (more, inl (before.taken, refl, before.no_fault, fault));
+      calls = by_more before.calls (Filled (Err e)) filled
+          (λ C so_far. inl (fault, (C, subst (PortionCalls n C) same so_far, subst (λ l. length l < n) same wanted, refl)));
+    }
+
+  module _ {after : X} {lent : List ℕ} (filled : FilledLaw R now (Ok lent) after) where
+    -- the end ends a `skip`
+    pub skip_ends : {e : Error} → lent ≡ [] → IsUnexpectedEnd e → Skipped R old n (Err e) left after
+    skip_ends none end = record {
+      taken = before.taken;
+      takes = takes_still before.takes filled.takes;
+      count = before.count;
+      ends = (more, inr (end, before.no_fault, filled.end (ap Ok none)));
+      calls = by_more before.calls (Filled (Ok lent)) filled
+          (λ C so_far. inr (end, (C, so_far, wanted, ap (λ l. C ++ Filled (Ok l) ∷ []) none)));
+    }
+
+    module _ {k : ℕ} {new : X} (dropped : ConsumeLaw R after k new) (some : 0 < length lent) (least : k ≡ min (length lent) left) where
+      fits : k ≤ length lent
+      fits = omega (arith, least)
+
+      -- the lent bytes that are wanted are taken
+      pub portions_took : PortionsTaken R old n (left - k) new
+      portions_took =
+          let grown = bytes-more before.taken (take k lent) in
+          let long = ap length grown ∙ length-append (bytes before.taken) (take k lent) in
+          record {
+            taken = before.taken ++ events_of (take k lent);
+            takes = takes_then (takes_still before.takes filled.takes) (lent_taken filled fits dropped);
+            no_fault = HasNoFault-append before.taken _ before.no_fault (HasNoFault-events_of (take k lent));
+            count = omega (arith, before.count, least, long, length-take-le k lent fits);
+            calls = by_then before.calls (lent_calls filled fits dropped) (λ C D so_far is. rw is
+                (subst (PortionCalls n (C ++ Filled (Ok lent) ∷ Consumed k ∷ [])) (sym grown)
+                (and_portion C _ lent k so_far wanted some (omega (arith, least, before.count)))));
+          }
+
+      -- and a turn is spent
+      pub portion_spends : R.turns new < R.turns now
+      portion_spends = lent_spends filled fits dropped (omega (arith, some, least, more))
