@@ -135,7 +135,7 @@ def twice(pairs):
 
 def defined_twice(logic):
     """The names that two modules define: of all specs/, and of the specs/ and proofs/ of the libraries together."""
-    modules = re.compile(rf"crates/(?:{'|'.join(LIBRARIES)})/(?:specs|proofs)/\w+\.antt")
+    modules = re.compile(rf"crates/(?:{'|'.join(LIBRARIES)})/(?:specs|proofs)/(?:inner/)?\w+\.antt")
     places = [(name, path) for path, text in logic.items() for name in defined(text)]
     return (twice((name, path) for name, path in places if "/specs/" in path)
             | twice((name, path) for name, path in places if modules.fullmatch(path)))

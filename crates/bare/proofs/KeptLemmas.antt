@@ -4,7 +4,7 @@ use Rattle.no_std_io2.proofs.Words.{subst, arith, append_assoc, length-append, m
 use Rattle.no_std_io2.proofs.{Words.{Ok, Err, inl, inr, WriterState, Moves, MovesFront, call_mishap}, MovesLemmas.{writes_left, Moves-then}}
 use Rattle.no_std_io2.proofs.MovesLemmas.{Moves-ends, MovesFront-whole}
 use Rattle.std.proofs.{lemmas.List.{length-take}, Common.{slice_index, IsErrAnd}}
-use Rattle.no_std_io2.specs.{declared.io.Error.{Error}, Writers.{WriteRestOf}, Text.{IsTextError}}
+use Rattle.no_std_io2.specs.{declared.io.Error.{Error}, Writers.{WriteRestOf}, Errors.{IsTextError}}
 use Rattle.bare.specs.{declared.queue.Queue.{Queue}, Queue.{waiting, capacity}, Status.{done, kept}, Kept.{Resumes, resume_status}}
 use Rattle.bare.specs.{Log.{line}, Report.{texts_from}}
 use Rattle.bare.proofs.QueueLemmas.{queue, blocked}

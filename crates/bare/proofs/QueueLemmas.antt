@@ -9,8 +9,9 @@ use Rattle.no_std_io2.proofs.{MovesLemmas.{writes_left}, TakesLemmas.{bytes-appe
 use Rattle.no_std_io2.proofs.TakesLemmas.{HasNoFault-front, left_of}
 use Rattle.std.specs.{List.{copy_within}, Prelude.{MatchResult, OnOk, OnErr}, Int.{w32, to_le_bytes}}
 use Rattle.std.proofs.lemmas.List.{drop-take, length-drop, take_min, drop_min, Edits.{take-paste}}
-use Rattle.no_std_io2.specs.{declared.io.{Error.{Error}, BufWriter.{BufWriter}, ErrorKind.{ErrorKind}}, Writers.{FlushOf}, Copy.{Handed}}
-use Rattle.no_std_io2.specs.{Copy.{piece, refused}, declared.util.sides.CopyError.TheVariants.{Read, Write}}
+use Rattle.no_std_io2.specs.{declared.io.Error.{Error}, declared.io.BufWriter.{BufWriter}, declared.io.ErrorKind.{ErrorKind}}
+use Rattle.no_std_io2.specs.{Writers.{FlushOf}, inner.Copy.{Handed, piece, refused}}
+use Rattle.no_std_io2.specs.declared.util.sides.CopyError.TheVariants.{Read, Write}
 use Rattle.bare.specs.{declared.queue.Queue.{Queue}, Queue.{waiting, capacity, QueueMay}}
 use Rattle.framing.specs.{Frames.{frame}, Sending.{frame_writer, SendsFrame}, declared.writer.FrameWriter.{FrameWriter}}
 

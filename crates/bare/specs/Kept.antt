@@ -1,6 +1,6 @@
 -- What goes to a port, behind what is kept.
 use Rattle.std.specs.Prelude.{◌≡◌, ◌⊎◌, ℕ, ◌+◌, ◌<◌, ◌≤◌, List, [], ◌++◌, length, Result, Ok, Err}
-use Rattle.no_std_io2.specs.Write.{IsFront}
+use Rattle.no_std_io2.specs.Moves.{IsFront}
 use Rattle.bare.specs.Status.{done, kept, full, refused}
 use Rattle.bare.specs.declared.queue.Queue.{Queue}
 use Rattle.bare.specs.Queue.{waiting, capacity}

@@ -1,6 +1,6 @@
 -- What a log does.
 use Rattle.std.specs.Prelude.{◌≡◌, ◌⊎◌, ℕ, ◌+◌, ◌<◌, ◌≤◌, List, [], ◌∷◌, ◌++◌, length, Contains}
-use Rattle.no_std_io2.specs.Pieces.{Lacks, newline}
+use Rattle.no_std_io2.specs.{inner.Pieces.{Lacks}, Pieces.{newline}}
 use Rattle.bare.specs.Status.{kept, full, refused}
 use Rattle.bare.specs.Queue.{capacity}
 use Rattle.bare.specs.Kept.{Resumes}

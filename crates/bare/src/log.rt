@@ -1,7 +1,8 @@
 //! A log of lines through a port.
 ghost use Rattle.std.specs.Prelude.{Contains};
 ghost use Rattle.std.specs.Bool.{OnTrue, OnFalse};
-ghost use Rattle.no_std_io2.specs.Pieces.{Lacks, newline};
+ghost use Rattle.no_std_io2.specs.inner.Pieces.{Lacks};
+ghost use Rattle.no_std_io2.specs.Pieces.{newline};
 ghost use Rattle.bare.specs.Queue.{waiting};
 ghost use Rattle.bare.specs.Log.{LogsThrough};
 

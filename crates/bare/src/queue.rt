@@ -1,6 +1,6 @@
 //! [`Queue`], bytes that C keeps between two calls.
 ghost use Rattle.std.specs.Prelude.{◌≡◌, [], ◌-◌, ◌++◌, length, min, take, drop};
-ghost use Rattle.no_std_io2.specs.Write.{told_out};
+ghost use Rattle.no_std_io2.specs.Moves.{told_out};
 ghost use Rattle.bare.specs.Queue.{waiting, capacity, QueueMay};
 
 use no_std_io2::io::{Error, ErrorKind, Result, Write};

@@ -1,6 +1,6 @@
 //! A report of readings, and the line of an event, printed through a buffer.
 ghost use Rattle.std.specs.Prelude.{◌≡◌, [], OnOk};
-ghost use Rattle.no_std_io2.specs.Write.{Moves};
+ghost use Rattle.no_std_io2.specs.Moves.{Moves};
 ghost use Rattle.bare.specs.Report.{report, event_line};
 ghost use Rattle.bare.specs.Kept.{PrintsOrNot};
 

@@ -8,8 +8,8 @@ use Rattle.no_std_io2.proofs.Words.{HasNoFault}
 use Rattle.no_std_io2.proofs.Words.{Reader, ReadLaw, tells, Takes, to_come, IsAtEnd, AreTaken}
 use Rattle.no_std_io2.proofs.Words.{nat_lt, cases_lt}
 use Rattle.no_std_io2.specs.declared.io.{Error.{Error}, ErrorKind.{ErrorKind, TheVariants.{InvalidData}}}
-use Rattle.no_std_io2.specs.Errors.{error_kind, error_of, error_text}
-use Rattle.no_std_io2.specs.{Read.{FullCalls, ReadCallLaw, ReadFullLaw, ReadToEndLaw}, Write.{ByCalls}}
+use Rattle.no_std_io2.specs.{Errors.{error_kind}, inner.Kinds.{error_of, error_text}, inner.Read.{FullCalls}}
+use Rattle.no_std_io2.specs.{Read.{ReadCallLaw, ReadFullLaw, ReadToEndLaw}, Calls.{ByCalls}}
 use Rattle.no_std_io2.proofs.{CallsLemmas.{by_are}, Words.{Result, ◌-◌}}
 use Rattle.base64.specs.declared.engine.general_purpose.GeneralPurpose.{GeneralPurpose}
 use Rattle.std.specs.Option.{IfSome, option_map}

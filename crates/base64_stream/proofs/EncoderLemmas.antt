@@ -8,8 +8,8 @@ use Rattle.no_std_io2.proofs.Words.{Vec, WriterState, told_out}
 use Rattle.std.specs.Prelude.{OnErr}
 use Rattle.base64.specs.GeneralPurpose.{encode_of}
 use Rattle.base64.proofs.EngineFacts.{encode_of-append, encode_of-nil}
-use Rattle.no_std_io2.specs.{declared.io.{Error.{Error}, ErrorKind.{ErrorKind}, BufWriter.{BufWriter}}, Errors.{is_interruption}}
-use Rattle.no_std_io2.specs.Write.{CallAdds, WriteLaw, FlushLaw, taken, write_mishap, call_mishap}
+use Rattle.no_std_io2.specs.{declared.io.Error.{Error}, declared.io.ErrorKind.{ErrorKind}, declared.io.BufWriter.{BufWriter}}
+use Rattle.no_std_io2.specs.{inner.Kinds.{is_interruption}, Write.{CallAdds, WriteLaw, FlushLaw, taken, write_mishap}, Moves.{call_mishap}}
 use Rattle.no_std_io2.proofs.CallsAdd.{write_law, flush_law, err_turns, zero_none, Joins}
 use Rattle.base64_stream.specs.{declared.encoder.EncoderWriter.{EncoderWriter}, Encoder.{Encodes64, KeepsGroup, PutsText, encoder_accepted}}
 use Rattle.base64_stream.specs.Encoder.{encoder_engine, encoder_held, encoder_inner, encoder_told, encoder_writer, is_closed, passed_on}

@@ -9,7 +9,8 @@ use Rattle.base64.specs.{declared.decode.DecodeError.{DecodeError}, declared.eng
 use Rattle.base64.specs.{GeneralPurpose.{IsBytes, IsStrict, decode_of, encode_of}, Rfc4648.{encode_symbols}}
 use Rattle.base64.proofs.{EngineFacts.{decode_of_strict, encode_of-append, encode_of-nil, front_bytes}, RoundTrip.{length-encode_symbols}}
 use Rattle.no_std_io2.proofs.Words.{⊤, ◌⊎◌, Bool, Event, byte, fails, Some, Vec, append_assoc, Reader, tells, to_come, IsOutOfMemory}
-use Rattle.no_std_io2.specs.{declared.io.{Error.{Error}, ErrorKind.TheVariants.{InvalidData}}, Errors.{error_of}, Read.{ReadToEndLaw}}
+use Rattle.no_std_io2.specs.{declared.io.Error.{Error}, declared.io.ErrorKind.TheVariants.{InvalidData}, inner.Kinds.{error_of}}
+use Rattle.no_std_io2.specs.Read.{ReadToEndLaw}
 use Rattle.base64_stream.specs.Decoding.{closed_after, decoded_events, decoded_group, group_events, or_no_bytes}
 use Rattle.base64_stream.proofs.DecodingLemmas.{below_is_true, above_is_false, closed_by}
 

@@ -2,10 +2,9 @@
 use Rattle.std.specs.Prelude.{◌≡◌, ◌⊎◌, ℕ, ◌+◌, ◌-◌, ◌*◌, ◌<◌, ◌≤◌, min, Bool, List, [], ◌∷◌, ◌++◌, length, take, Option, Result, Ok, Err}
 use Rattle.std.specs.Option.{option_map}
 use Rattle.base64.specs.declared.engine.general_purpose.GeneralPurpose.{GeneralPurpose}
-use Rattle.no_std_io2.specs.{declared.io.Error.{Error}, Events.{Event, fails, events_of, bytes, HasNoFault, EndsInFault}}
-use Rattle.no_std_io2.specs.{Takes.{ReaderState, Takes, to_come, IsAtEnd}, Read.{Reader, ReadCall, ReadCallLaw, FullCalls, Gave}}
-use Rattle.no_std_io2.specs.Read.{tells, answered}
-use Rattle.no_std_io2.specs.Write.{ByCalls}
+use Rattle.no_std_io2.specs.{declared.io.Error.{Error}, Events.{Event, fails, events_of, bytes, HasNoFault}, inner.Events.{EndsInFault}}
+use Rattle.no_std_io2.specs.{Takes.{ReaderState, Takes, to_come, IsAtEnd, Reader, tells, answered}, Calls.{ReadCall, Gave, ByCalls}}
+use Rattle.no_std_io2.specs.{Read.{ReadCallLaw}, inner.Read.{FullCalls}}
 use Rattle.base64_stream.specs.{declared.decoder.DecoderReader.{DecoderReader}, FewBytes.{few_items}, Decoding.{decoded_events}}
 
 -- the events that a `read_full` took, by how it ended: a fault is the last one

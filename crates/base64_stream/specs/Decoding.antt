@@ -2,7 +2,7 @@
 use Rattle.std.specs.Prelude.{ℕ, nat_lt, Bool, true, false, if◌then◌else◌, List, [], ◌∷◌, ◌++◌, length, Result, Ok, Err}
 use Rattle.base64.specs.{declared.decode.DecodeError.{DecodeError}, declared.engine.general_purpose.GeneralPurpose.{GeneralPurpose}}
 use Rattle.base64.specs.GeneralPurpose.{decode_of}
-use Rattle.no_std_io2.specs.{declared.io.ErrorKind.TheVariants.{InvalidData}, Errors.{error_kind, error_of, is_interruption}}
+use Rattle.no_std_io2.specs.{declared.io.ErrorKind.TheVariants.{InvalidData}, Errors.{error_kind}, inner.Kinds.{error_of, is_interruption}}
 use Rattle.no_std_io2.specs.Events.{Event, byte, fails, events_of}
 
 -- the bytes of a result: none if it is an error

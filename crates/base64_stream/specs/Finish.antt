@@ -2,7 +2,7 @@
 use Rattle.std.specs.Prelude.{◌≡◌, ◌≢◌, ◌⊎◌, ℕ, ◌%◌, ◌<◌, ◌≤◌, true, List, [], ◌++◌, length, take, codes, Result, Ok, Err, IsErrAnd}
 use Rattle.base64.specs.GeneralPurpose.{encode_of}
 use Rattle.no_std_io2.specs.{declared.io.{Error.{Error}, BufWriter.{BufWriter}, ErrorKind.TheVariants.{InvalidInput}}, Errors.{SaysError}}
-use Rattle.no_std_io2.specs.{Read.{ended}, Write.{WriterState}, Writers.{Writer, FlushOf}}
+use Rattle.no_std_io2.specs.{inner.Read.{ended}, Moves.{WriterState}, Writers.{Writer, FlushOf}}
 use Rattle.base64_stream.specs.{declared.encoder.EncoderWriter.{EncoderWriter}, Encoder.{encoder_writer, encoder_inner, encoder_held}}
 use Rattle.base64_stream.specs.Encoder.{unfinished, is_closed, encoder_engine, KeepsGroup, PutsText, will_have}
 

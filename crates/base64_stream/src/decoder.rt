@@ -2,9 +2,10 @@
 ghost use Rattle.std.specs.Prelude.{◌≡◌, ◌⊎◌, ◌<◌, ◌≤◌, ℕ, List, false, [], length, IfOk, IfErr, Some};
 ghost use Rattle.base64.specs.GeneralPurpose.{encode_of, IsBytes, IsConsistent};
 ghost use Rattle.base64.specs.Engines.{standard};
-ghost use Rattle.no_std_io2.specs.Errors.{IsOutOfMemory, error_of};
+ghost use Rattle.no_std_io2.specs.Errors.{IsOutOfMemory};
+ghost use Rattle.no_std_io2.specs.inner.Kinds.{error_of};
+ghost use Rattle.no_std_io2.specs.Takes.{tells};
 ghost use Rattle.no_std_io2.specs.Events.{events_of};
-ghost use Rattle.no_std_io2.specs.Read.{tells};
 ghost use Rattle.no_std_io2.specs.Takes.{to_come};
 ghost use Rattle.base64_stream.specs.Decoding.{decoded_group};
 ghost use Rattle.base64_stream.specs.Decoder.{DecoderMay, FillsWaiting, GathersGroup, decoder_closed, decoder_engine, decoder_events};

@@ -4,8 +4,8 @@ use Rattle.no_std_io2.proofs.Words.{sym, ap, subst, arith, length-drop, byte, ev
 use Rattle.no_std_io2.proofs.Words.{Some, Result, Ok, Err, IsSomeAnd, OnOk, ⊤, negsuc, ◌∙◌, Store, step_back, store_if, store_before}
 use Rattle.no_std_io2.proofs.{Words.{Reader}, CursorLemmas.{fits_at, keeps_at}, BufferedReads.{before_decides, IsBefore}}
 use Rattle.std.proofs.{Common.{set, slice_index, add-one, IfSome}, Math.Seq.{drop-cons}}
-use Rattle.no_std_io2.specs.{Takes.{events_by, store_by, store_at, fits_u64, fits_by}, declared.io.Error.{Error}}
-use Rattle.no_std_io2.specs.{declared.io.SeekFrom.TheVariants.{Start, End}, BufReader.{is_before}, ReadAt.{ReadsAt}, Seek.{Seeker}}
+use Rattle.no_std_io2.specs.{inner.Takes.{events_by, store_by, fits_u64, fits_by}, Takes.{store_at}, declared.io.Error.{Error}}
+use Rattle.no_std_io2.specs.{declared.io.SeekFrom.TheVariants.{Start, End}, inner.Buffer.{is_before}, inner.Reads.{ReadsAt}, Seek.{Seeker}}
 use Rattle.examples.specs.Indexed.{u32_at, IsNumberAt, ReadsNumber, ReadsEntry, no_place, entry_place}
 
 -- What a read of a file in flash takes.

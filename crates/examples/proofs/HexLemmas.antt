@@ -2,7 +2,7 @@
 use Rattle.no_std_io2.proofs.Words.{◌≡◌, ℕ, ◌/◌, ◌≤◌, List, [], ◌∷◌, ◌++◌, take, Option, Some, None, Ok, sym, subst, ◌∙◌, arith}
 use Rattle.no_std_io2.proofs.Words.{append_assoc, append-nil, common_steps, WriterState, Moves, WroteAll, Flushed}
 use Rattle.std.specs.Option.{option_to_list}
-use Rattle.no_std_io2.specs.Write.{CallAdds, zero_write}
+use Rattle.no_std_io2.specs.{Write.{CallAdds}, inner.Write.{zero_write}}
 use Rattle.no_std_io2.proofs.CallsAdd.{Joins}
 use Rattle.examples.specs.{declared.hex.Hex.{Hex}, Hex.{digit, hex, half, owed, hex_told, Encodes}}
 

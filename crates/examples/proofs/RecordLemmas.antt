@@ -10,8 +10,8 @@ use Rattle.no_std_io2.proofs.{GivenPieces.{bytes_to_fault-append}, ReadsLemmas.{
 use Rattle.no_std_io2.proofs.{ReadsLemmas.{Took-fault}, FillToLemmas.{fills_lose}, KnownBytes.{exact_known}}
 use Rattle.std.proofs.{Common.{slice_index_or, IfSome}, lemmas.Nat.{from_be_bytes-to_be_bytes_2}}
 use Rattle.no_std_io2.specs.{declared.{io.Error.{Error}, buffered.buf_reader.BufReader.{BufReader}}, Errors.{IsUnexpectedEnd}}
-use Rattle.no_std_io2.specs.{BufReader.{HasTo}, FillTo.{FillsTo}, Reads.{GathersTo, Took}, Lost.{LosesFirst}, Read.{FilledLaw, ConsumeLaw}}
-use Rattle.no_std_io2.specs.{Read.{ReadExactLaw}, Passing.{Skipped}}
+use Rattle.no_std_io2.specs.{inner.Buffer.{HasTo}, BufReader.{FillsTo}, inner.Reads.{GathersTo}, Reads.{Took, Skipped}, Takes.{LosesFirst}}
+use Rattle.no_std_io2.specs.{inner.Read.{FilledLaw}, Read.{ConsumeLaw, ReadExactLaw}}
 use Rattle.examples.specs.{Headers.{LooksAhead, SeesHeader, PeeksAt}, Lengths.{AreRecords, none, more, IsCutOff, SkipsRecords}}
 use Rattle.examples.specs.Messages.{message}
 use Rattle.std.specs.Int.{w16, to_be_bytes, from_be_bytes}

@@ -2,7 +2,7 @@
 use Rattle.no_std_io2.proofs.Words.{◌^◌, Ok, refl, sum, Reader, ReadCall, Gave, GaveAll, Filled, ReadCallLaw, ◌≡◌, ◌+◌, ◌%◌, ℕ, List, []}
 use Rattle.no_std_io2.proofs.{Words.{◌++◌, true, arith, ReaderState}, CallsAdd.{Joins, joins_modulo, EachAdds}, ReadsLemmas.{Took-none}}
 use Rattle.std.proofs.lemmas.List.Sums.{sum_by-append}
-use Rattle.no_std_io2.specs.{Read.{GaveExactly}, Reads.{Took}}
+use Rattle.no_std_io2.specs.{Calls.{GaveExactly}, Reads.{Took}}
 use Rattle.examples.specs.{declared.summed.Summed.{Summed}, Summed.{summed_sum, Sums, ReadSums}}
 
 -- A sum of no bytes is nothing, and a sum of bytes and then others is that of both.

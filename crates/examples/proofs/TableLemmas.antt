@@ -3,7 +3,7 @@ use Rattle.no_std_io2.proofs.Words.{◌≡◌, ℕ, ◌+◌, ◌<◌, ◌≤◌,
 use Rattle.no_std_io2.proofs.Words.{subst, arith}
 use Rattle.no_std_io2.proofs.Words.{WriterState, Moves, MovesFront, sym, append-nil, length-append, told_out, with_buffer}
 use Rattle.std.proofs.lemmas.Fmt.{length-decimal-le}
-use Rattle.no_std_io2.specs.{declared.io.Error.{Error}, Text.{PrintsOrRefuses, PrintsShort}}
+use Rattle.no_std_io2.specs.{declared.io.Error.{Error}, inner.Text.{PrintsOrRefuses, PrintsShort}}
 use Rattle.no_std_io2.proofs.{MovesLemmas.{MovesFront-whole, MovesFront-all, MovesFront-next, MovesFront-stop}, TextLemmas.{prints_fitting}}
 use Rattle.no_std_io2.proofs.{Forwards.{row_back, array}, ObjectRules.{buffered, by_lines}}
 use Rattle.no_std_io2.specs.contracts.io.Cursor.{the_row as cursor-row}

@@ -3,10 +3,8 @@ use Rattle.std.specs.Prelude.{◌≡◌, ◌<◌, ◌⊎◌, ℕ, List, [], ◌�
 use Rattle.std.specs.Prelude.{Bool, true, false, Result, Ok, Err}
 use Rattle.no_std_io2.specs.BufReader.{reader_held}
 use Rattle.no_std_io2.specs.Errors.{IsUnexpectedEnd}
-use Rattle.no_std_io2.specs.Events.{Event, bytes, bytes_to_fault, first_fault, HasNoFault}
-use Rattle.no_std_io2.specs.FillTo.{FillsTo}
-use Rattle.no_std_io2.specs.Read.{Reader}
-use Rattle.no_std_io2.specs.Write.{IsFront}
+use Rattle.no_std_io2.specs.{Events.{Event, bytes, HasNoFault}, inner.Events.{bytes_to_fault, first_fault}, BufReader.{FillsTo}}
+use Rattle.no_std_io2.specs.{Takes.{Reader}, Moves.{IsFront}}
 use Rattle.no_std_io2.specs.declared.buffered.buf_reader.BufReader.{BufReader}
 use Rattle.no_std_io2.specs.declared.io.Error.{Error}
 

@@ -2,7 +2,7 @@
 use Rattle.std.specs.Prelude.{◌≡◌, ℕ, ◌+◌, ◌/◌, ◌%◌, nat_lt, if◌then◌else◌, List, [], ◌∷◌, ◌++◌, Option, None, Some}
 use Rattle.std.specs.List.{flat_map}
 use Rattle.std.specs.Option.{option_to_list}
-use Rattle.no_std_io2.specs.Write.{WriterState}
+use Rattle.no_std_io2.specs.Moves.{WriterState}
 use Rattle.examples.specs.declared.hex.Hex.{Hex}
 
 -- the digit of a number below 16

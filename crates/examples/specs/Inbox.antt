@@ -3,7 +3,7 @@ use Rattle.std.specs.Prelude.{◌≡◌, ◌⊎◌, ◌<◌, ℕ, List, [], ◌+
 use Rattle.no_std_io2.specs.declared.io.ErrorKind.{ErrorKind}
 use Rattle.no_std_io2.specs.declared.io.ErrorKind.TheVariants.{TimedOut, WouldBlock}
 use Rattle.no_std_io2.specs.Errors.{error_kind}
-use Rattle.no_std_io2.specs.Read.{ReadCall, Gave}
+use Rattle.no_std_io2.specs.Calls.{ReadCall, Gave}
 use Rattle.examples.specs.declared.inbox.Inbox.{Inbox}
 
 -- of what kind an error is: `TimedOut` at the last turn, and before it `WouldBlock`

@@ -10,10 +10,8 @@ use Rattle.system_streams.specs.declared.patient.Patient.{Patient}
 use Rattle.system_streams.specs.Patient.{patient_error}
 use Rattle.system_streams.specs.ToStd.{std_kind}
 use Rattle.system_streams.specs.Turns.{IsDeviceFault}
-use Rattle.no_std_io2.specs.Read.{Reader}
-use Rattle.no_std_io2.specs.ReadAt.{ReadAtLaw}
+use Rattle.no_std_io2.specs.{Takes.{Reader}, Reads.{ReadAtLaw}, Events.{Store}}
 use Rattle.no_std_io2.specs.Seek.{IsTarget, Seeker}
-use Rattle.no_std_io2.specs.Takes.{Store}
 use Rattle.no_std_io2.specs.declared.io.Error.{Error}
 use Rattle.no_std_io2.specs.declared.io.SeekFrom.{SeekFrom}
 use Rattle.no_std_io2.specs.declared.io.SeekFrom.TheVariants.{Start, End}

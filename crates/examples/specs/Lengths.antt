@@ -1,6 +1,6 @@
 -- Records with their length in front, and what skipping them takes.
 use Rattle.std.specs.Prelude.{◌≡◌, ◌⊎◌, ℕ, ◌<◌, List, [], ◌∷◌, ◌++◌, length, Result, Ok, Err, false}
-use Rattle.no_std_io2.specs.{Errors.{IsUnexpectedEnd}, Reads.{Took}, Takes.{ReaderState}, Read.{Reader, tells}, declared.io.Error.{Error}}
+use Rattle.no_std_io2.specs.{Errors.{IsUnexpectedEnd}, Reads.{Took}, Takes.{ReaderState, Reader, tells}, declared.io.Error.{Error}}
 
 -- these bytes are whole records: each is a length, in one byte, followed by that many bytes
 pub data AreRecords : List ℕ → Type 0 where

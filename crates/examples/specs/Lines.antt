@@ -2,8 +2,8 @@
 use Rattle.std.specs.Prelude.{◌≡◌, ◌≤◌, ◌<◌, ◌⊎◌, ℕ, List, [], ◌∷◌, ◌++◌, length, filter, Bool, None, Result, Ok, Err, is_some}
 use Rattle.std.specs.{List.{concat}, Result.{result_and}}
 use Rattle.memchr.specs.Find.{matches, first_of}
-use Rattle.no_std_io2.specs.{Pieces.{newline, GivesPieces, AreAllPieces}, PieceStops.{StopsAfter}, Takes.{ReaderState}}
-use Rattle.no_std_io2.specs.{Write.{WriterState, Moves, MovesFront}, declared.io.Error.{Error}}
+use Rattle.no_std_io2.specs.{Pieces.{newline, GivesPieces, AreAllPieces}, Reads.{StopsAfter}, Takes.{ReaderState}}
+use Rattle.no_std_io2.specs.{Moves.{WriterState, Moves, MovesFront}, declared.io.Error.{Error}}
 
 -- all of them
 abbrev pub every_line : List (List ℕ) → List (List ℕ)

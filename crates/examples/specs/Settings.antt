@@ -2,7 +2,7 @@
 use Rattle.std.specs.Prelude.{◌≡◌, ◌-◌, nat_eq, ℕ, List, [], ◌∷◌, ◌++◌, length, take, drop, Option, None, Some, IfSome, option_map}
 use Rattle.std.specs.Prelude.{if◌then◌else◌}
 use Rattle.std.specs.Cmp.Lexicographic.{pointwise}
-use Rattle.no_std_io2.specs.{Pieces.{newline, GivesPieces, AreAllPieces}, PieceStops.{StopsAfter}, Takes.{ReaderState}}
+use Rattle.no_std_io2.specs.{Pieces.{newline, GivesPieces, AreAllPieces}, Reads.{StopsAfter}, Takes.{ReaderState}}
 use Rattle.no_std_io2.specs.declared.io.Error.{Error}
 
 -- what follows these bytes, if the text begins with them

@@ -1,6 +1,6 @@
 -- What a stream with a checksum adds to its sum.
 use Rattle.std.specs.Prelude.{◌≡◌, ℕ, List, ◌+◌, ◌%◌, ◌^◌, sum}
-use Rattle.no_std_io2.specs.Read.{ReadCall, Gave, bytes_given}
+use Rattle.no_std_io2.specs.{Calls.{ReadCall, Gave}, inner.Read.{bytes_given}}
 use Rattle.examples.specs.declared.summed.Summed.{Summed}
 
 -- the inner writer or reader

@@ -1,7 +1,7 @@
 -- The text of a table.
 use Rattle.std.specs.Prelude.{ℕ, ◌<◌, ◌⊎◌, List, [], ◌∷◌, ◌++◌, length, take, decimal, Err}
 use Rattle.std.specs.List.{flat_map}
-use Rattle.no_std_io2.specs.{declared.io.Error.{Error}, Text.{IsTextError}, Write.{WriterState, Moves, MovesFront}}
+use Rattle.no_std_io2.specs.{declared.io.Error.{Error}, Errors.{IsTextError}, Moves.{WriterState, Moves, MovesFront}}
 
 -- `ID=VALUE` and a newline
 abbrev pub row_text : ℕ × ℕ → List ℕ

@@ -1,7 +1,8 @@
 // [`count_reads`], how many reads a list of calls makes of a device.
 ghost use Rattle.std.specs.Prelude.{◌+◌, ◌/◌, ◌≤◌, length};
 ghost use Rattle.no_std_io2.specs.BufReader.{BufReaderFits};
-ghost use Rattle.no_std_io2.specs.ReadMeter.{FillsRoom, bytes_left};
+ghost use Rattle.no_std_io2.specs.Meter.{FillsRoom};
+ghost use Rattle.no_std_io2.specs.Takes.{bytes_left};
 ghost use Rattle.io_bench.specs.Asks.{AllFit};
 ghost use Rattle.io_bench.specs.contracts.tally.Tally.{the_row as tally-row};
 

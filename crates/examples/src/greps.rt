@@ -1,6 +1,6 @@
 //! [`grep`], a loop over lines with an early success: the lines that have a word go to a writer.
 ghost use Rattle.std.specs.Prelude.{◌≡◌, ◌⊎◌, IfOk, IfErr};
-ghost use Rattle.no_std_io2.specs.Read.{tells};
+ghost use Rattle.no_std_io2.specs.Takes.{tells};
 ghost use Rattle.examples.specs.Lines.{has_word, lines_with, PassesLines, StopsReading, StopsWriting};
 
 use memchr::memmem;

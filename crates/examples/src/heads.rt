@@ -1,6 +1,6 @@
 //! [`head`], a loop over lines: the first lines of a reader go to a writer.
 ghost use Rattle.std.specs.Prelude.{◌⊎◌, IfOk, IfErr};
-ghost use Rattle.no_std_io2.specs.Read.{tells};
+ghost use Rattle.no_std_io2.specs.Takes.{tells};
 ghost use Rattle.examples.specs.Lines.{every_line, PassesLines, StopsAtPart, StopsWriting};
 
 use no_std_io2::io::{BufRead, Result, Write};

@@ -1,6 +1,7 @@
 //! [`Hex`], an adaptor that writes other bytes than it accepts: two hexadecimal digits for each byte.
 ghost use Rattle.std.specs.Prelude.{◌≡◌, ◌<◌, [], None, OnOk, IfOk};
-ghost use Rattle.no_std_io2.specs.Write.{CallAdds, Moves, RestAdds, call_mishap};
+ghost use Rattle.no_std_io2.specs.Write.{CallAdds, RestAdds};
+ghost use Rattle.no_std_io2.specs.Moves.{Moves, call_mishap};
 ghost use Rattle.no_std_io2.specs.Writers.{FlushOf};
 ghost use Rattle.examples.specs.Hex.{digit as digit_of, hex, hex_inner, half, hex_told, written, Encodes};
 

@@ -5,7 +5,7 @@
 
 ghost use Rattle.std.specs.Prelude.{◌≡◌, [], ◌++◌, IfOk};
 ghost use Rattle.no_std_io2.specs.BufWriter.{BufWriterFits};
-ghost use Rattle.no_std_io2.specs.Write.{Moves};
+ghost use Rattle.no_std_io2.specs.Moves.{Moves};
 
 mod broken;
 mod checksum;

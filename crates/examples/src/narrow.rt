@@ -1,5 +1,5 @@
 // [`Narrow`], a device that takes bytes.
-ghost use Rattle.no_std_io2.specs.Write.{told_out};
+ghost use Rattle.no_std_io2.specs.Moves.{told_out};
 
 use no_std_io2::io::{Result, Write};
 

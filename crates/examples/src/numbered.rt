@@ -1,5 +1,5 @@
 // [`Numbered`], a wrapper that passes each call on.
-ghost use Rattle.no_std_io2.specs.Write.{PartMay};
+ghost use Rattle.no_std_io2.specs.Calls.{PartMay};
 
 use no_std_io2::io::{Read, Result, Stored, Write};
 use std::alloc::Allocator;

@@ -1,7 +1,7 @@
 //! Functions over objects, and their callers.
 ghost use Rattle.std.specs.Prelude.{◌≡◌, ◌++◌, IfOk, OnOk};
 ghost use Rattle.no_std_io2.specs.Takes.{TakesBytes};
-ghost use Rattle.no_std_io2.specs.Write.{MovesFront};
+ghost use Rattle.no_std_io2.specs.Moves.{MovesFront};
 
 use crate::narrow::Narrow;
 use no_std_io2::io::{Read, Result, Write};

@@ -1,7 +1,7 @@
 //! [`send_with_one_retry`], a caller over any device.
 ghost use Rattle.std.specs.Prelude.{◌≡◌, [], OnOk};
 ghost use Rattle.no_std_io2.specs.Retries.{Tries};
-ghost use Rattle.no_std_io2.specs.Write.{Sends};
+ghost use Rattle.no_std_io2.specs.Moves.{Sends};
 ghost use Rattle.no_std_io2.specs.Writers.{WriteRestOf};
 
 use no_std_io2::io::{Result, Write};

@@ -2,8 +2,8 @@
 //! a writer.
 ghost use Rattle.std.specs.Prelude.{◌≡◌, ◌⊎◌, [], IsErrAnd, OnOk};
 ghost use Rattle.std.specs.List.{flat_map};
-ghost use Rattle.no_std_io2.specs.Text.{IsTextError};
-ghost use Rattle.no_std_io2.specs.Write.{MovesFront};
+ghost use Rattle.no_std_io2.specs.Errors.{IsTextError};
+ghost use Rattle.no_std_io2.specs.Moves.{MovesFront};
 ghost use Rattle.examples.specs.Readings.{reading};
 
 use no_std_io2::io::{Result, Write};

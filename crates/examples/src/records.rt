@@ -3,9 +3,8 @@ ghost use Rattle.std.specs.Prelude.{◌≡◌, ◌≢◌, ◌≤◌, ◌+◌, �
 ghost use Rattle.std.specs.Prelude.{IsSomeAnd, IfOk, IfErr, IfSome, OnOk, OnErr};
 ghost use Rattle.no_std_io2.specs.Errors.{IsOutOfMemory};
 ghost use Rattle.no_std_io2.specs.Takes.{to_come, KeepsContent};
-ghost use Rattle.no_std_io2.specs.Read.{tells};
+ghost use Rattle.no_std_io2.specs.Takes.{tells, LosesFirst};
 ghost use Rattle.no_std_io2.specs.BufReader.{reader_held, reader_inner, reader_store, KeepsBuffer};
-ghost use Rattle.no_std_io2.specs.Lost.{LosesFirst};
 ghost use Rattle.examples.specs.Headers.{LooksAhead, PeeksAt, record_bytes};
 
 use no_std_io2::io::{BufRead, BufReader, Error, ErrorKind, Read, Result};

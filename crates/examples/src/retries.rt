@@ -4,7 +4,7 @@ ghost use Rattle.no_std_io2.specs.declared.io.BufWriter.{BufWriter as Buffered};
 ghost use Rattle.no_std_io2.specs.declared.io.Error.{Error};
 ghost use Rattle.no_std_io2.specs.BufWriter.{BufWriterFits, writer_inner, writer_buffer};
 ghost use Rattle.no_std_io2.specs.Retries.{HasAtMost, RestFlushLaw, Tries};
-ghost use Rattle.no_std_io2.specs.Write.{Moves};
+ghost use Rattle.no_std_io2.specs.Moves.{Moves};
 
 use no_std_io2::io::{BufWriter, Result, Write, write_with_retries};
 

@@ -1,6 +1,6 @@
 // [`Serial`], a device that does not store the bytes that it takes: a serial line.
 ghost use Rattle.std.specs.Prelude.{◌≡◌, ◌++◌, ℕ, List};
-ghost use Rattle.no_std_io2.specs.Write.{told_out};
+ghost use Rattle.no_std_io2.specs.Moves.{told_out};
 ghost use Rattle.examples.specs.Serial.{if_taken, SerialMay};
 
 use no_std_io2::io::{Error, ErrorKind, Result, Write};

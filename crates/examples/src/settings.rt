@@ -1,6 +1,6 @@
 //! [`find_setting`], a loop over lines with an early success: the first line that sets a key.
 ghost use Rattle.std.specs.Prelude.{◌≡◌, option_copied, option_map, IfOk, IfErr};
-ghost use Rattle.no_std_io2.specs.Read.{tells};
+ghost use Rattle.no_std_io2.specs.Takes.{tells};
 ghost use Rattle.examples.specs.Settings.{FindsSetting, MissesSetting, setting_in};
 
 use no_std_io2::io::{BufRead, Result};

@@ -1,7 +1,7 @@
 //! [`Summed`], an adaptor with a state of its own. Its promise holds through the trait's loops and through a buffer.
 ghost use Rattle.std.specs.Prelude.{◌≡◌, ℕ, List, ◌++◌, ◌+◌, ◌%◌, ◌^◌, sum, OnOk};
 ghost use Rattle.no_std_io2.specs.BufWriter.{writer_inner, writer_buffer};
-ghost use Rattle.no_std_io2.specs.Read.{tells};
+ghost use Rattle.no_std_io2.specs.Takes.{tells};
 ghost use Rattle.no_std_io2.specs.Takes.{to_come};
 ghost use Rattle.no_std_io2.specs.Write.{CallAdds, RestAdds};
 ghost use Rattle.examples.specs.Summed.{summed_inner, summed_sum, Sums, ReadSums};

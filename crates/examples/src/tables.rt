@@ -2,7 +2,7 @@
 //! another type.
 ghost use Rattle.std.specs.Prelude.{◌≡◌, [], ◌++◌, IfOk, IfErr, OnOk};
 ghost use Rattle.no_std_io2.specs.Cursor.{cursor_out};
-ghost use Rattle.no_std_io2.specs.Write.{Moves};
+ghost use Rattle.no_std_io2.specs.Moves.{Moves};
 ghost use Rattle.examples.specs.Tables.{table, StopsTable};
 
 use no_std_io2::io::{BufWriter, Cursor, LineWriter, Result, Write, print_to_object};

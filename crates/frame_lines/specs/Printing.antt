@@ -1,8 +1,7 @@
 -- What the program does with frames: it takes one after another, and logs one line for each.
 use Rattle.std.specs.Prelude.{◌≡◌, ◌⊎◌, ℕ, List, [], ◌∷◌, ◌++◌, take, Option, Some, None, Result, Ok, Err}
 use Rattle.no_std_io2.specs.declared.io.Error.{Error}
-use Rattle.no_std_io2.specs.Read.{Reader}
-use Rattle.no_std_io2.specs.Write.{WriterState, Moves}
+use Rattle.no_std_io2.specs.{Takes.{Reader}, Moves.{WriterState, Moves}}
 use Rattle.framing.specs.declared.reader.FrameReader.{FrameReader}
 use Rattle.framing.specs.Taking.{TakesFrame}
 use Rattle.line_log.specs.declared.LineLog.{LineLog}

@@ -6,7 +6,7 @@ use Rattle.no_std_io2.proofs.Words.{Event, fails, bytes, events_of, HasNoFault, 
 use Rattle.no_std_io2.proofs.Words.{WriterState, behind_held}
 use Rattle.std.proofs.{Common.{All}, lemmas.{List.{append_cancel_left}, List.Elements.{All-head}}}
 use Rattle.std.specs.Int.{w32, to_le_bytes, from_le_bytes}
-use Rattle.no_std_io2.specs.{declared.io.Error.{Error}, Reads.{GathersTo, Took}}
+use Rattle.no_std_io2.specs.{declared.io.Error.{Error}, inner.Reads.{GathersTo}, Reads.{Took}}
 use Rattle.no_std_io2.proofs.TakesLemmas.{bytes-append, bytes-behind, HasNoFault-append, HasNoFault-events_of}
 use Rattle.no_std_io2.proofs.{GivenPieces.{first_fault-append}, MovesLemmas.{device_empty}, ReadsLemmas.{Reads-takes}}
 use Rattle.framing.specs.{Frames.{frame, frames, told_length, IsPart}}

@@ -1,6 +1,6 @@
 -- What a reader of frames gives back of the frames that a writer sent.
 use Rattle.std.specs.Prelude.{◌≡◌, ◌⊎◌, ℕ, ◌<◌, List, [], ◌∷◌, ◌++◌, length, take, Option, Some, None, Result, Ok, Err, IfSome, IsSomeAnd}
-use Rattle.no_std_io2.specs.{Events.{Event, bytes, first_fault}, Write.{WriterState, Moves}}
+use Rattle.no_std_io2.specs.{Events.{Event, bytes}, inner.Events.{first_fault}, Moves.{WriterState, Moves}}
 use Rattle.no_std_io2.specs.declared.io.{Error.{Error}, ErrorKind.{ErrorKind}}
 use Rattle.framing.specs.{Frames.{frames}, Taking.{SaysNoRoom}}
 

@@ -1,6 +1,6 @@
 -- What a writer of frames holds and tells, and what its calls do. I are the ghost members of the writer below.
 use Rattle.std.specs.Prelude.{◌≡◌, ◌⊎◌, ℕ, ◌+◌, ◌<◌, ◌≤◌, ◌^◌, List, ◌++◌, length, codes, [], ◌∷◌, Result, Ok, Err, IsErrAnd}
-use Rattle.no_std_io2.specs.{Errors.{SaysError}, Write.{WriterState, Moves}, BufWriter.{writer_inner, writer_buffer, writer_told, Puts}}
+use Rattle.no_std_io2.specs.{Errors.{SaysError}, Moves.{WriterState, Moves}, BufWriter.{writer_inner, writer_buffer, writer_told, Puts}}
 use Rattle.no_std_io2.specs.{Writers.{Writer}, declared.io.{BufWriter.{BufWriter}, Error.{Error}, ErrorKind.TheVariants.{InvalidInput}}}
 use Rattle.framing.specs.{Frames.{frame, frames}, declared.writer.FrameWriter.{FrameWriter}}
 

@@ -3,8 +3,8 @@ ghost use Rattle.std.specs.Prelude.{◌≡◌, ◌+◌, ◌<◌, ◌≤◌, ◌^
 ghost use Rattle.std.specs.Prelude.{IsSomeAnd};
 ghost use Rattle.no_std_io2.specs.Events.{bytes};
 ghost use Rattle.no_std_io2.specs.Takes.{to_come};
-ghost use Rattle.no_std_io2.specs.Read.{tells};
-ghost use Rattle.no_std_io2.specs.Write.{WriterState};
+ghost use Rattle.no_std_io2.specs.Takes.{tells};
+ghost use Rattle.no_std_io2.specs.Moves.{WriterState};
 ghost use Rattle.no_std_io2.specs.BufReader.{reader_held};
 ghost use Rattle.framing.specs.Frames.{frame, HasHeader};
 

@@ -10,7 +10,8 @@ use Rattle.no_std_io2.proofs.Words.{reader_inner, behind_held, PassesOn, ReadsBe
 use Rattle.no_std_io2.proofs.{Words.{lent_read}, TakesLemmas.{takes_none, takes_then, made_takes, stays_at_end, left_of, bytes-append}}
 use Rattle.no_std_io2.proofs.{TakesLemmas.{bytes-events_of, events_of-append}, CallsLemmas.{made_split}, BufferedReads.{some_room, held-le}}
 use Rattle.no_std_io2.proofs.{BufferedReads.{told_behind, buf_reader}, InMemoryReads.{drawn, fills_told}}
-use Rattle.no_std_io2.specs.{declared.{io.Error.{Error}, buffered.buf_reader.BufReader.{BufReader}}, Read.{FilledLaw, ConsumeLaw}}
+use Rattle.no_std_io2.specs.{declared.io.Error.{Error}, declared.buffered.buf_reader.BufReader.{BufReader}, inner.Read.{FilledLaw}}
+use Rattle.no_std_io2.specs.Read.{ConsumeLaw}
 use Rattle.no_std_io2.specs.Read.{ReadExactLaw}
 use Rattle.io_bench.specs.{declared.asks.Ask.{Ask}, Asks.{Fits, AllFit, Answered, CameTo, no_ask, next_ask, read_answer, end_or_error}}
 use Rattle.io_bench.specs.Asks.{exact_answer, fill_answer, fill_calls, left_behind, DropsFront, AskStep, meets_end, Steps, no_step}

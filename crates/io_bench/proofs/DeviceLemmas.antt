@@ -6,8 +6,8 @@ use Rattle.no_std_io2.proofs.Words.{events_of, Reader, ReadLaw, map, answered, F
 use Rattle.no_std_io2.proofs.{MovesLemmas.{Moves-refl, Moves-forget, count_by-append}, TakesLemmas.{length-events_of}}
 use Rattle.no_std_io2.proofs.InMemoryReads.{fills_by, drawn, fills_told}
 use Rattle.std.proofs.{Common.{take-take, take_all, set, IsOkAnd}, Math.Seq.{take-add}, lemmas.List.{take_more_set, drop-drop}}
-use Rattle.no_std_io2.specs.{declared.io.{Error.{Error}, ErrorKind.{TheVariants.{WriteZero}, ErrorKind}}, Write.{HasSpent, taken}}
-use Rattle.no_std_io2.specs.Write.{write_mishap, zero_write}
+use Rattle.no_std_io2.specs.{declared.io.Error.{Error}, declared.io.ErrorKind.TheVariants.{WriteZero}, declared.io.ErrorKind.{ErrorKind}}
+use Rattle.no_std_io2.specs.{inner.Moves.{HasSpent}, Write.{taken, write_mishap}, inner.Write.{zero_write}}
 use Rattle.std.specs.Option.{option_map}
 use Rattle.io_bench.specs.{declared.faulty.{Act.{Act, TheVariants.{Take}}, Faulty.{Faulty}}, Faulty.{act_mishap, act_mishaps, acts_left}}
 use Rattle.io_bench.specs.{Faulty.{faulty_inner, faulty_told, first_act, with_acts, WritesBehind}, declared.feed.Event.{Event}}

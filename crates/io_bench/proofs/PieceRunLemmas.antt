@@ -5,8 +5,10 @@ use Rattle.no_std_io2.proofs.Words.{concat, common_steps, IsFault, IsOutOfMemory
 use Rattle.no_std_io2.proofs.Words.{first_fault, to_come, Reader, tells, Made, newline, without, split_reader, split_delim}
 use Rattle.no_std_io2.proofs.{GivenPieces.{GivesNext, GivesNone, next_error, next_fault, next_item, next_none}, CallsLemmas.{made_more}}
 use Rattle.std.proofs.Common.{IfSome}
-use Rattle.no_std_io2.specs.{declared.io.Error.{Error}, Errors.{is_interruption}, Pieces.{pieces_given, RefusesLine, line_text, ends_at}}
-use Rattle.no_std_io2.specs.{Pieces.{split_is_ended, lines_reader, lines_is_ended}, BufRead.{NextPieceLaw}, declared.io.Split.{Split}}
+use Rattle.no_std_io2.specs.{declared.io.Error.{Error}, inner.Kinds.{is_interruption}, inner.Pieces.{pieces_given}}
+use Rattle.no_std_io2.specs.inner.Lines.{RefusesLine, line_text}
+use Rattle.no_std_io2.specs.inner.Iterators.{ends_at, split_is_ended, lines_reader, lines_is_ended, NextPieceLaw}
+use Rattle.no_std_io2.specs.declared.io.Split.{Split}
 use Rattle.no_std_io2.specs.declared.io.Lines.{Lines}
 use Rattle.io_bench.specs.{Appended.{appended}, PieceRuns.{AllPieces, GathersPieces, RunsNexts}}
 use Rattle.io_bench.proofs.RunLemmas.{appended-one}

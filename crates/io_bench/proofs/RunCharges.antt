@@ -7,7 +7,7 @@ use Rattle.no_std_io2.proofs.{Words.{writer_buffer, writer_inner, writer_told}, 
 use Rattle.no_std_io2.proofs.{BufWriterLemmas.{buffer-le}, BufWriterCalls.{writing_all_calls, send_does, write_does, write_all_does}}
 use Rattle.no_std_io2.proofs.{BufWriterCalls.{flush_does, write_takes}, MovesLemmas.{meter_made, Moves-ends}, CallsLemmas.{made_split}}
 use Rattle.no_std_io2.proofs.CallsLemmas.{made_map, law_may}
-use Rattle.no_std_io2.specs.{declared.{io.Error.{Error}, buffered.buf_writer.BufWriter.{BufWriter}}, Meter.{CostsAtMost}}
+use Rattle.no_std_io2.specs.{declared.io.Error.{Error}, declared.buffered.buf_writer.BufWriter.{BufWriter}, inner.Meter.{CostsAtMost}}
 use Rattle.no_std_io2.specs.BufWriter.{Unwraps}
 use Rattle.std.proofs.{lemmas.{Nat.{le-div}, List.{length-append}}, Common.{take_all}}
 use Rattle.io_bench.proofs.RunLemmas.{made_one}

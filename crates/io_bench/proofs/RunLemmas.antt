@@ -9,7 +9,7 @@ use Rattle.io_bench.specs.Runs.{failures, failures_of, is_failure, mishap_of, mi
 use Rattle.io_bench.specs.{Runs.{OpCalls, RunBelow, RunCalls, RunLaw}, declared.runs.Op.TheVariants.{Write, WriteAll, Flush}}
 use Rattle.io_bench.specs.{declared.runs.Reply.TheVariants.{Took, Done, Failed}, Joined.{IsClear, AreClear, IsJoined, HasIdleFailure}}
 use Rattle.std.proofs.{Common.{count_by, take_all}, lemmas.List.{length-append, append_cancel_left, Sums.{sum_by-cons}}}
-use Rattle.no_std_io2.specs.{declared.io.ErrorKind.{ErrorKind}, Write.{HasSpent}}
+use Rattle.no_std_io2.specs.{declared.io.ErrorKind.{ErrorKind}, inner.Moves.{HasSpent}}
 use Rattle.std.specs.List.{AllZip}
 
 -- For `run_writes` and `run_items`: one more item is appended.

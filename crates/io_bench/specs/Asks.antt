@@ -2,9 +2,8 @@
 use Rattle.std.specs.Prelude.{◌≡◌, ℕ, ◌+◌, ◌≤◌, ◌&&◌, min, nat_eq, nat_lt, Bool, true, false, if◌then◌else◌, List, [], ◌∷◌, ◌++◌, length}
 use Rattle.std.specs.Prelude.{drop, ⊤, Result, Ok, Err, is_err}
 use Rattle.no_std_io2.specs.{declared.io.{Error.{Error}, ErrorKind.{ErrorKind, TheVariants.{UnexpectedEof}}}, Errors.{error_kind}}
-use Rattle.no_std_io2.specs.{Read.{ReadCall, Gave, Filled, Consumed, ReadExactLaw, Reader, ReadCallLaw}, Write.{Made}}
+use Rattle.no_std_io2.specs.{Calls.{ReadCall, Gave, Filled, Consumed, Made}, Read.{ReadExactLaw, ReadCallLaw}, Takes.{Reader, bytes_left}}
 use Rattle.no_std_io2.specs.{declared.buffered.buf_reader.BufReader.{BufReader}, BufReader.{reader_held, reader_inner}}
-use Rattle.no_std_io2.specs.ReadMeter.{bytes_left}
 use Rattle.io_bench.specs.declared.asks.Ask.{Ask, TheVariants.{Read, Exact, Fill}}
 
 -- whether a read met the end, by its result: it gave no byte, and nothing is held

@@ -1,6 +1,7 @@
 -- What a `Faulty` tells, and what its acts do to a call.
-use Rattle.no_std_io2.specs.{Writers.{CallOf, Writer}, declared.io.{Error.{Error}, ErrorKind.{ErrorKind, TheVariants.{WriteZero}}}}
-use Rattle.no_std_io2.specs.{Errors.{error_kind, error_text, is_interruption}, Write.{WriterState, WriteCall, Wrote, WroteAll, Flushed}}
+use Rattle.no_std_io2.specs.{inner.Writers.{CallOf}, Writers.{Writer}, declared.io.Error.{Error}, declared.io.ErrorKind.{ErrorKind}}
+use Rattle.no_std_io2.specs.{declared.io.ErrorKind.TheVariants.{WriteZero}, Errors.{error_kind}, inner.Kinds.{error_text, is_interruption}}
+use Rattle.no_std_io2.specs.{Moves.{WriterState}, Calls.{WriteCall, Wrote, WroteAll, Flushed}}
 use Rattle.std.specs.Prelude.{◌≡◌, Some, None, Option, List, [], ◌∷◌, ◌++◌, drop, if◌then◌else◌, ◌==◌, ℕ, ◌+◌, ◌<◌, count_by, take, Result}
 use Rattle.std.specs.{Prelude.{Ok, IsErrAnd}, Option.{option_map}, List.{flat_map}}
 use Rattle.io_bench.specs.declared.faulty.{Act.{Act, TheVariants.{Take, Zero, Fail}}, Faulty.{Faulty}}

@@ -1,8 +1,8 @@
 -- What a `Feed` tells, and what its reads do.
 use Rattle.std.specs.Prelude.{◌≡◌, ℕ, List, [], ◌∷◌, map, take, drop, length, min, nat_lt, if◌then◌else◌, Option, Some, None, Result, Ok}
 use Rattle.std.specs.Prelude.{Err}
-use Rattle.no_std_io2.specs.{declared.io.{Error.{Error}, ErrorKind.{ErrorKind}}, Errors.{error_of}, Events.{Event as ToCome, byte, fails}}
-use Rattle.no_std_io2.specs.Read.{ReadCall, Gave, answered}
+use Rattle.no_std_io2.specs.{declared.io.Error.{Error}, declared.io.ErrorKind.{ErrorKind}, inner.Kinds.{error_of}}
+use Rattle.no_std_io2.specs.{Events.{Event as ToCome, byte, fails}, Calls.{ReadCall, Gave}, Takes.{answered}}
 use Rattle.io_bench.specs.declared.feed.{Event.{Event, TheVariants.{Byte, Fail}}, Feed.{Feed}}
 
 -- the event of a reader for an event of the script

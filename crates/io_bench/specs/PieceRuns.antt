@@ -1,7 +1,7 @@
 -- The items of a whole `split` or `lines`.
 use Rattle.std.specs.{Prelude.{◌≡◌, ℕ, ◌⊎◌, ◌<◌, List, ◌∷◌, ◌++◌, length, map, Option, None, Some, Result, Ok, Err}, List.{concat}}
-use Rattle.no_std_io2.specs.{declared.io.Error.{Error}, Errors.{IsOutOfMemory}, Events.{Event, bytes, bytes_to_fault, first_fault}}
-use Rattle.no_std_io2.specs.{Events.{HasNoFault}, Write.{Made}, Pieces.{pieces, pieces_given}}
+use Rattle.no_std_io2.specs.{declared.io.Error.{Error}, Errors.{IsOutOfMemory}, Events.{Event, bytes, HasNoFault}}
+use Rattle.no_std_io2.specs.{inner.Events.{bytes_to_fault, first_fault}, Calls.{Made}, inner.Pieces.{pieces, pieces_given}}
 
 -- no fault was to come, and these are the pieces of all bytes, trimmed
 pub record AllPieces (trim : List ℕ → List ℕ) (d : ℕ) (E : List Event) (items : List (List ℕ)) : Type 0 where

@@ -1,6 +1,7 @@
 -- The bytes that replies accept, the calls that failed, and whole runs.
-use Rattle.no_std_io2.specs.{Writers.{CallOf, TakesAll, Writer}, declared.io.ErrorKind.{ErrorKind}, Errors.{error_kind, kind_number}}
-use Rattle.no_std_io2.specs.Write.{WriterState, Moves, IsFront, zero_write, WriteCall, Wrote, Flushed, ByCalls, AllCalls}
+use Rattle.no_std_io2.specs.{inner.Writers.{CallOf}, Writers.{TakesAll, Writer}, declared.io.ErrorKind.{ErrorKind}, Errors.{error_kind}}
+use Rattle.no_std_io2.specs.{inner.Kinds.{kind_number}, Moves.{WriterState, Moves, IsFront}, inner.Write.{zero_write, AllCalls}}
+use Rattle.no_std_io2.specs.Calls.{WriteCall, Wrote, Flushed, ByCalls}
 use Rattle.std.specs.Prelude.{◌≡◌, ℕ, ◌+◌, ◌≤◌, ◌==◌, ◌&&◌, nat_lt, Bool, true, false, if◌then◌else◌, List, [], ◌∷◌, ◌++◌, length, take}
 use Rattle.std.specs.{Prelude.{count_by, ⊤, Option, None, Some, Ok, Err}, List.{AllZip}}
 use Rattle.io_bench.specs.declared.runs.{Op.{Op, TheVariants.{Write, WriteAll, Flush}}, Reply.{Reply, TheVariants.{Took, Done, Failed}}}

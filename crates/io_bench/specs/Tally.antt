@@ -1,6 +1,6 @@
 -- What a `Tally` tells.
-use Rattle.no_std_io2.specs.{Writers.{CallOf, Writer}, Write.{WriteCall, Wrote, WroteAll, Flushed}, declared.io.Error.{Error}}
-use Rattle.no_std_io2.specs.Read.{Reader, ReadCall, ReadCallLaw, Gave}
+use Rattle.no_std_io2.specs.{inner.Writers.{CallOf}, Writers.{Writer}, Calls.{WriteCall, Wrote, WroteAll, Flushed, ReadCall, Gave}}
+use Rattle.no_std_io2.specs.{declared.io.Error.{Error}, Takes.{Reader}, Read.{ReadCallLaw}}
 use Rattle.std.specs.Prelude.{◌≡◌, ℕ, ◌+◌, min, List, length, Result}
 use Rattle.io_bench.specs.declared.tally.Tally.{Tally}
 

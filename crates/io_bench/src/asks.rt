@@ -2,8 +2,8 @@
 ghost use Rattle.std.specs.Prelude.{◌≡◌, ◌+◌, ◌-◌, ◌/◌, ◌≤◌, ℕ, List, length};
 ghost use Rattle.no_std_io2.specs.Events.{Event};
 ghost use Rattle.no_std_io2.specs.Takes.{Takes};
-ghost use Rattle.no_std_io2.specs.Read.{tells};
-ghost use Rattle.no_std_io2.specs.ReadMeter.{FillsRoom, IsReadMeter};
+ghost use Rattle.no_std_io2.specs.Takes.{tells};
+ghost use Rattle.no_std_io2.specs.Meter.{FillsRoom, IsReadMeter};
 ghost use Rattle.no_std_io2.specs.BufReader.{reader_inner};
 ghost use Rattle.io_bench.specs.Asks.{AllFit, Answered, CameTo, Fits, Steps, left_behind};
 

@@ -4,9 +4,11 @@ ghost use Rattle.std.specs.Iterator.{IsFinite};
 ghost use Rattle.std.specs.Prelude.{vec_items, vec_len, vec_capacity, string_bytes};
 ghost use Rattle.no_std_io2.specs.Errors.{IsFault, IsOutOfMemory};
 ghost use Rattle.no_std_io2.specs.Takes.{to_come};
-ghost use Rattle.no_std_io2.specs.Read.{tells};
-ghost use Rattle.no_std_io2.specs.Pieces.{newline, line_text, without};
-ghost use Rattle.no_std_io2.specs.Pieces.{split_reader, split_delim, split_is_ended, lines_reader, lines_is_ended, RefusesLine};
+ghost use Rattle.no_std_io2.specs.Takes.{tells};
+ghost use Rattle.no_std_io2.specs.Pieces.{newline};
+ghost use Rattle.no_std_io2.specs.inner.Lines.{line_text, RefusesLine};
+ghost use Rattle.no_std_io2.specs.inner.Pieces.{without};
+ghost use Rattle.no_std_io2.specs.inner.Iterators.{split_reader, split_delim, split_is_ended, lines_reader, lines_is_ended};
 ghost use Rattle.io_bench.specs.PieceRuns.{GathersPieces, RunsNexts};
 ghost use Rattle.io_bench.specs.Appended.{appended};
 

@@ -1,5 +1,5 @@
 // What `write!` prints to each writer, and what it does if a device or the text's own `fmt` fails.
-ghost use Rattle.no_std_io2.specs.Write.{told_out};
+ghost use Rattle.no_std_io2.specs.Moves.{told_out};
 
 use no_std_io2::io::{
     Cursor, Error, ErrorKind, LineWriter, Result as IoResult, Write, print_to_object,

@@ -2,9 +2,9 @@
 use Rattle.std.specs.Prelude.{◌≡◌, ◌⊎◌, ℕ, ◌+◌, ◌<◌, ◌≤◌, List, [], ◌∷◌, ◌++◌, length, codes, Result, Ok, IfErr, OnOk, IsErrAnd}
 use Rattle.std.specs.Prelude.{Option, IfSome, Contains}
 use Rattle.no_std_io2.specs.Errors.{IsNoInterruption, SaysError, error_kind}
-use Rattle.no_std_io2.specs.Pieces.{Lacks, newline}
-use Rattle.no_std_io2.specs.Write.{WriterState, Moves}
-use Rattle.no_std_io2.specs.BufWriter.{Step, Then, TakesStep, SendCalls, WriteAllCalls, writer_inner, writer_buffer, writer_told}
+use Rattle.no_std_io2.specs.{inner.Pieces.{Lacks}, Pieces.{newline}, Moves.{WriterState, Moves}}
+use Rattle.no_std_io2.specs.inner.BufWriter.{Step, Then, TakesStep, SendCalls, WriteAllCalls}
+use Rattle.no_std_io2.specs.BufWriter.{writer_inner, writer_buffer, writer_told}
 use Rattle.no_std_io2.specs.Writers.{Writer}
 use Rattle.no_std_io2.specs.declared.io.BufWriter.{BufWriter}
 use Rattle.no_std_io2.specs.declared.io.Error.{Error}

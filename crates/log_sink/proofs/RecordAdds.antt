@@ -1,7 +1,7 @@
 -- A text that was logged is one line more.
 use Rattle.no_std_io2.proofs.Words.{◌≡◌, ◌++◌, ℕ, List, Option, Result, Ok, Err, ap, ◌∙◌, inl, inr, append-nil, Writer}
 use Rattle.std.proofs.Common.{IfSome}
-use Rattle.no_std_io2.specs.{declared.io.Error.{Error}, Write.{WriterState}}
+use Rattle.no_std_io2.specs.{declared.io.Error.{Error}, Moves.{WriterState}}
 use Rattle.line_log.specs.{declared.LineLog.{LineLog}, Log.{LogsLine, LogsText, IsLogged}}
 use Rattle.log_sink.specs.Records.{AddsLine, logged_bytes}
 

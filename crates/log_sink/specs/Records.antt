@@ -1,7 +1,6 @@
 -- What a record adds to a log of lines.
 use Rattle.std.specs.Prelude.{◌≡◌, ℕ, List, ◌++◌, Result, Option, IfSome, OnOk, OnErr}
-use Rattle.no_std_io2.specs.Pieces.{Lacks, newline}
-use Rattle.no_std_io2.specs.Write.{WriterState}
+use Rattle.no_std_io2.specs.{inner.Pieces.{Lacks}, Pieces.{newline}, Moves.{WriterState}}
 use Rattle.no_std_io2.specs.declared.io.Error.{Error}
 use Rattle.line_log.specs.declared.LineLog.{LineLog}
 use Rattle.line_log.specs.Log.{line_of, log_tells}

@@ -1,7 +1,7 @@
 -- How one file is written to standard output.
 use Rattle.std.specs.Prelude.{◌≡◌, ◌≢◌, ◌⊎◌, ℕ, List, codes, Option, Result, Ok, Err}
 use Rattle.std.specs.declared.io.Error as Std
-use Rattle.no_std_io2.specs.{Read.{Reader}, Writers.{Writer}, Copy.{SidesCopied}}
+use Rattle.no_std_io2.specs.{Takes.{Reader}, Writers.{Writer}, Copy.{SidesCopied}}
 use Rattle.no_std_io2.specs.declared.util.sides.CopyError.{CopyError, TheVariants.{Read, Write}}
 use Rattle.system_streams.specs.{declared.{files.FileFault.{FileFault, TheVariants.{File, Output}}, patient.Patient.{Patient}}}
 use Rattle.system_streams.specs.{Patient.{IsFresh}, About.{TellsLine}}

@@ -8,15 +8,16 @@ use Rattle.no_std_io2.proofs.Words.{reader_behind, reader_inner, ReadsBelow, Ask
 use Rattle.no_std_io2.proofs.{Words.{OnOk, IfOk, IsOutOfMemory, Event, GaveAll}, BufferedReads.{takes_held, buf_reader, held-le}}
 use Rattle.no_std_io2.proofs.BufferedReads.{takes_through, ends_unheld}
 use Rattle.std.proofs.{Common.{max, nat_le, take_all, le_trans, vec_capacity}, lemmas.{Bool.{le-leb, lt-leb}, List.{append_cancel_right}}}
-use Rattle.no_std_io2_base.specs.{declared.error.Error.{Error}, Errors.{IsUnexpectedEnd}, Read.{gave_whole, FullCalls, FillsOrEnds}}
-use Rattle.no_std_io2_base.specs.{Read.{ReadFullLaw, ReadExactLaw, ReadToEndLaw, DrainsOrStops, least_room, ended}, Reads.{Reads}}
-use Rattle.no_std_io2_base.specs.Cursor.{HasMoved}
+use Rattle.no_std_io2_base.specs.{declared.error.Error.{Error}, Errors.{IsUnexpectedEnd}}
+use Rattle.no_std_io2_base.specs.inner.Read.{gave_whole, FullCalls, least_room, ended}
+use Rattle.no_std_io2_base.specs.{Read.{FillsOrEnds, ReadFullLaw, ReadExactLaw, ReadToEndLaw, DrainsOrStops}, inner.Reads.{Reads}}
+use Rattle.no_std_io2_base.specs.inner.Cursor.{HasMoved}
 use Rattle.no_std_io2_base.proofs.{CallsLemmas.{made_split, exact_own, to_end_own}, TakesLemmas.{gives_whole, bytes-append}}
 use Rattle.no_std_io2_base.proofs.TakesLemmas.{bytes-events_of, HasNoFault-append, HasNoFault-events_of, drains_ended}
 use Rattle.no_std_io2_base.proofs.{ReadsLemmas.{Reads-none, Reads-more, Reads-again, Reads-end, Reads-fault}, ToEndLemmas.{recount}}
-use Rattle.no_std_io2.specs.{declared.buffered.buf_reader.BufReader.{BufReader}, BufReader.{HasNoBuffer, HasTo, LeavesThrough}}
-use Rattle.no_std_io2.specs.BufReader.{ReadsThrough, full_ended, LeavesExact, only_held, read_whole, read_to_end, read_to_fault, GivesHeld}
-use Rattle.no_std_io2.specs.BufReader.{ReaderMay}
+use Rattle.no_std_io2.specs.inner.BufReader.{HasNoBuffer, LeavesThrough, ReadsThrough, full_ended, LeavesExact, only_held, read_whole}
+use Rattle.no_std_io2.specs.declared.buffered.buf_reader.BufReader.{BufReader}
+use Rattle.no_std_io2.specs.{inner.BufReader.{read_to_end, read_to_fault, GivesHeld, ReaderMay}, inner.Buffer.{HasTo}}
 
 -- Which inner reads a `BufReader` makes for its reads, one after another, and what is in the buffer then: for `read_full` and `read_exact`.
 

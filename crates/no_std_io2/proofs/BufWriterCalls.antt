@@ -8,14 +8,15 @@ use Rattle.no_std_io2.proofs.Words.{FlushCalls, writing_calls, buffer_after, Sto
 use Rattle.no_std_io2.proofs.BufWriterLemmas.{Moves-kept, Moves-emptied, MovesFront-emptied, no_ok, then_goes_on, then_does, effect_by}
 use Rattle.no_std_io2.proofs.BufWriterLemmas.{effect_of, StepEffect, Effect, Always, Exactly, Emptied, Sending, StepsJoin}
 use Rattle.no_std_io2_base.specs.{declared.error.Error.{Error}, Errors.{IsNoInterruption}, Write.{taken, write_mishap}}
-use Rattle.no_std_io2_base.specs.{declared.traits.seek.SeekFrom.{SeekFrom}, Seek.{IsPosition, Seeker}}
+use Rattle.no_std_io2_base.specs.{declared.traits.seek.SeekFrom.{SeekFrom}, inner.Seek.{IsPosition}, Seek.{Seeker}}
 use Rattle.std.proofs.{Common.{take_all, nat_le, eq-zero-or-pos}, lemmas.Result.{on_ok_weaker}}
 use Rattle.no_std_io2_base.proofs.MovesLemmas.{IsFront-refl, Moves-then, zero_write-whole, writes_fault, writes_sends, all_calls}
 use Rattle.no_std_io2_base.proofs.MovesLemmas.{call_steady, writes_count, all_count, Moves-steady, after_ok, writes_left, writes_idle}
 use Rattle.no_std_io2_base.proofs.CallsLemmas.{by_are, by_call, made_split, writes_whole}
-use Rattle.no_std_io2.specs.{declared.buffered.sender.Sender.{Sender}, BufWriter.{PutCalls, WithNothingHeld, room_calls, Buffers}}
-use Rattle.no_std_io2.specs.BufWriter.{BuffersAll, SeeksSent, failed, Unwraps, store_unheld, into_inner_error_writer}
-use Rattle.no_std_io2.specs.{BufWriter.{into_inner_error_cause}, declared.buffered.into_inner_error.IntoInnerError.{IntoInnerError}}
+use Rattle.no_std_io2.specs.inner.BufWriter.{PutCalls, WithNothingHeld, room_calls, Buffers, BuffersAll, store_unheld}
+use Rattle.no_std_io2.specs.{declared.buffered.sender.Sender.{Sender}, inner.BufWriter.{into_inner_error_writer, into_inner_error_cause}}
+use Rattle.no_std_io2.specs.{inner.BufferSeeks.{SeeksSent, failed}, BufWriter.{Unwraps}}
+use Rattle.no_std_io2.specs.declared.buffered.into_inner_error.IntoInnerError.{IntoInnerError}
 
 -- What the steps of a buffered writer do, and what follows for its calls. For `Sender` and `BufWriter`, and for counts of calls.
 

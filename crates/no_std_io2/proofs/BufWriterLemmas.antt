@@ -4,10 +4,11 @@ use Rattle.no_std_io2.proofs.Words.{List, ◌++◌, length, drop, sym, ap, subst
 use Rattle.no_std_io2.proofs.Words.{MovesFront, with_buffer, writer_inner, writer_buffer, writer_told, line_inner, line_buffer, IsSuffix}
 use Rattle.no_std_io2.proofs.Words.{TakesAll, CallOf, Writer, WriteCall, Made, call_mishap, charges, false, true, ◌+◌, IsOk, Step, Stepped}
 use Rattle.no_std_io2.proofs.Words.{Then, stops, goes_on, nat_tests, FlushCalls, ◌∷◌, refl, LevelCalls}
-use Rattle.no_std_io2_base.specs.{declared.error.{ErrorKind.{ErrorKind}, Error.{Error}}, Errors.{IsNoInterruption}, Write.{ByCalls}}
+use Rattle.no_std_io2_base.specs.{declared.error.ErrorKind.{ErrorKind}, declared.error.Error.{Error}, Errors.{IsNoInterruption}}
+use Rattle.no_std_io2_base.specs.Calls.{ByCalls}
 use Rattle.no_std_io2_base.specs.Write.{CallAdds, RestAdds}
 use Rattle.no_std_io2.specs.declared.buffered.{buf_writer.BufWriter.{BufWriter}, line_writer.LineWriter.{LineWriter}}
-use Rattle.no_std_io2.specs.LineWriter.{line_told}
+use Rattle.no_std_io2.specs.inner.LineWriter.{line_told}
 use Rattle.no_std_io2_base.proofs.{MovesLemmas.{MovesFront-whole, charges-append, after_ok}, CallsLemmas.{by_are, by_then, made_split}}
 use Rattle.no_std_io2_base.proofs.{CallsLemmas.{law_may}, CallsAdd.{Joins, writes_add}}
 

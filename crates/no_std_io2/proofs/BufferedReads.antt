@@ -9,12 +9,14 @@ use Rattle.no_std_io2.proofs.Words.{ReadsBelow, of_held, was_filled}
 use Rattle.std.proofs.{Math.Bridge.{le_prop}, Common.{◌+ℤ◌, IfSome}, lemmas.List.{drop-take, drop-drop, drop-append-le, length-take-le}}
 use Rattle.std.proofs.{Math.{Seq.{take-add, drop-append-add}, Nat.{mul-le-mul_left, mul-suc}}, lemmas.Slice.{take-put_mid}}
 use Rattle.std.proofs.lemmas.Bool.{Decides.{Decides-and}, leb-true, le-leb}
-use Rattle.no_std_io2.specs.{declared.buffered.{buffer.Buffer.{Buffer}, buf_reader.BufReader.{BufReader}}, BufReader.{is_before}}
-use Rattle.no_std_io2.specs.BufReader.{reader_told, AreBefore, TakesOver, reader_events, reader_store, reader_turns, ReaderMay}
-use Rattle.no_std_io2.specs.Buffer.{IsInBuffer}
+use Rattle.no_std_io2.specs.{declared.buffered.buffer.Buffer.{Buffer}, declared.buffered.buf_reader.BufReader.{BufReader}}
+use Rattle.no_std_io2.specs.inner.Buffer.{is_before, AreBefore, IsInBuffer}
+use Rattle.no_std_io2.specs.{inner.BufReader.{reader_told, reader_events, reader_turns, ReaderMay}, inner.BufferSeeks.{TakesOver}}
+use Rattle.no_std_io2.specs.BufReader.{reader_store}
 use Rattle.std.specs.{List.{slice_range}, Bool.{Decides}}
 use borrow.Rule.Slice.PartMut.{put_mid}
-use Rattle.no_std_io2_base.specs.{Seek.{IsAtOffset}, declared.error.Error.{Error}, Events.{BeginsWith}, Takes.{events_by}, Read.{fault_of}}
+use Rattle.no_std_io2_base.specs.{inner.Seek.{IsAtOffset}, declared.error.Error.{Error}, inner.Events.{BeginsWith}, inner.Takes.{events_by}}
+use Rattle.no_std_io2_base.specs.inner.Read.{fault_of}
 use lib.Pointwise.{pointwise, bytes_decides}
 use Rattle.no_std_io2_base.proofs.TakesLemmas.{bytes-append, bytes-events_of, length-events_of, events_of-append, takes_none}
 

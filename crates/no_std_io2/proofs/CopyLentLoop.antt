@@ -3,12 +3,14 @@ use Rattle.no_std_io2.proofs.Words.{common_steps, ◌≡◌, ℕ, ◌+◌, ◌-�
 use Rattle.no_std_io2.proofs.Words.{take, refl, ap, ◌∙◌, arith, append_assoc, length-append, IsInterruption, IsFault, ReadCall, Filled}
 use Rattle.no_std_io2.proofs.Words.{Consumed, Reader, ReadCallLaw, tells, WriteCall, Made, Moves, Writer, CallOf, TakesAll}
 use Rattle.no_std_io2.proofs.CopyLoop.{Took-last}
-use Rattle.no_std_io2_base.specs.{declared.error.Error.{Error}, Read.{FilledLaw, ConsumeLaw}, Reads.{Took}, Writers.{WriteAllOf}}
+use Rattle.no_std_io2_base.specs.{declared.error.Error.{Error}, inner.Read.{FilledLaw}, Read.{ConsumeLaw}, Reads.{Took}}
+use Rattle.no_std_io2_base.specs.Writers.{WriteAllOf}
 use Rattle.std.proofs.Common.{take_all}
 use Rattle.no_std_io2_base.proofs.{CallsLemmas.{made_then}, MovesLemmas.{Moves-refl, Moves-then}, ReadsLemmas.{Took-none, Took-then}}
 use Rattle.no_std_io2_base.proofs.ReadsLemmas.{Took-bytes, Took-again, Took-end, Took-fault}
-use Rattle.no_std_io2.specs.{Copy.{counted}, CopyLent.{HandsLent, LentCopied, lends_none, lends_fault, again_lent, piece_lent}}
-use Rattle.no_std_io2.specs.{CopyLent.{piece_refused}, declared.util.sides.CopyError.{CopyError, TheVariants.{Read, Write}}}
+use Rattle.no_std_io2.specs.inner.Copy.{counted, HandsLent, lends_none, lends_fault, again_lent, piece_lent, piece_refused}
+use Rattle.no_std_io2.specs.{Copy.{LentCopied}, declared.util.sides.CopyError.{CopyError}}
+use Rattle.no_std_io2.specs.declared.util.sides.CopyError.TheVariants.{Read, Write}
 
 module _ {R W : Type 0} (K : Reader R) (I : Writer W) (from : R) (old : W) where
   -- These calls were made. Whatever calls follow, they follow these.

@@ -5,12 +5,12 @@ use Rattle.no_std_io2.proofs.Words.{IsInterruption, IsFault, bytes, ReaderState,
 use Rattle.no_std_io2.proofs.Words.{no_read, and_gave, and_again, WriteCall, Made, AllCalls, Moves, Writer, CallOf, TakesAll, Option, None}
 use Rattle.no_std_io2.proofs.Words.{Some, Event, byte, fails, HasNoFault, ReadCall, Takes, to_come, IsAtEnd, WriterState, Copied}
 use Rattle.std.proofs.lemmas.List.{Folds.{concat-append}, Sums.{sum_by-cons}}
-use Rattle.no_std_io2_base.specs.{declared.error.{Error.{Error}, ErrorKind.{ErrorKind}}, Read.{gave}, Reads.{Took}, Writers.{WriteAllOf}}
-use Rattle.no_std_io2_base.specs.{Events.{EndsInFault}, Write.{HasSpent}}
+use Rattle.no_std_io2_base.specs.{declared.error.Error.{Error}, declared.error.ErrorKind.{ErrorKind}, Takes.{gave}, Reads.{Took}}
+use Rattle.no_std_io2_base.specs.{Writers.{WriteAllOf}, inner.Events.{EndsInFault}, inner.Moves.{HasSpent}}
 use Rattle.no_std_io2_base.proofs.{CallsLemmas.{made_more, made_then}, TakesLemmas.{length-events_of, read_law, nothing_read}}
 use Rattle.no_std_io2_base.proofs.{TakesLemmas.{HasNoFault-front, left_of}, MovesLemmas.{Moves-refl, Moves-then, Moves-steady}}
 use Rattle.no_std_io2_base.proofs.{ReadLoops.{some_bytes}, ReadsLemmas.{Took-none, Took-then, Took-bytes, Took-again, Took-fault}}
-use Rattle.no_std_io2.specs.Copy.{Handed, nothing, piece, refused, HandsOn, counted, SidesCopied, CopyEnds, side_error}
+use Rattle.no_std_io2.specs.{inner.Copy.{Handed, nothing, piece, refused, HandsOn, counted, CopyEnds, side_error}, Copy.{SidesCopied}}
 use Rattle.no_std_io2.specs.declared.util.sides.CopyError.{TheVariants.{Read, Write}, CopyError}
 
 -- The loop of `copy_with`, and so of `copy_sided` and `copy`: it passes on what it reads, piece by piece.

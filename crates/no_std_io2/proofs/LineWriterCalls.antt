@@ -10,7 +10,7 @@ use Rattle.std.proofs.lemmas.Result.{on_ok_weaker}
 use Rattle.no_std_io2_base.proofs.{CallsLemmas.{made_split}, MovesLemmas.{all_calls, all_count, MovesFront-ends, MovesFront-whole}}
 use Rattle.no_std_io2_base.proofs.MovesLemmas.{MovesFront-join, MovesFront-first, after_ok}
 use Rattle.no_std_io2_base.proofs.LineLemmas.{lines_some, lines_none, lines_split, take_lines, lines_bound, unfinished_all}
-use Rattle.no_std_io2.specs.LineWriter.{SendLineCalls, HoldsTail, LinesCalls, line_buffer_after, line_buffer_filled}
+use Rattle.no_std_io2.specs.inner.LineWriter.{SendLineCalls, HoldsTail, LinesCalls, line_buffer_after, line_buffer_filled}
 use Rattle.no_std_io2.proofs.BufWriterLemmas.{no_ok, then_does, effect_by, Always, Exactly, Emptied, Sending, StepsJoin, Moves-buffered}
 use Rattle.no_std_io2.proofs.{BufWriterLemmas.{Moves-emptied, MovesFront-emptied}, LineWriterStates.{line_left, line_left-is, tail_whole}}
 use Rattle.no_std_io2.proofs.LineWriterStates.{took_tail, tail_fits}

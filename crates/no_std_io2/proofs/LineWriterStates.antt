@@ -8,12 +8,12 @@ use Rattle.no_std_io2.proofs.Words.{WriteAllCalls, FlushCalls, SendLinesCalls, L
 use Rattle.no_std_io2.proofs.{BufWriterLemmas.{IsSuffix-trans}, BufWriterCalls.{buffered_fits, write_whole}}
 use Rattle.std.proofs.lemmas.List.{take_min}
 use lib.Seq.{take-add}
-use Rattle.no_std_io2_base.specs.{Pieces.{Lacks, ends_in}, declared.error.Error.{Error}}
+use Rattle.no_std_io2_base.specs.{inner.Pieces.{Lacks, ends_in}, declared.error.Error.{Error}}
 use Rattle.no_std_io2_base.proofs.LineLemmas.{lines_split, lines_bound, lines_end, lacks_lines, unfinished_lacks, plain_state, state_rest}
 use Rattle.no_std_io2_base.proofs.LineLemmas.{take_lines, drop_lines, lines_some, unfinished_none, lacks_contains, contains_lines}
 use Rattle.no_std_io2_base.proofs.{LineLemmas.{lacks_rest, ends_in-append}, CallsLemmas.{by_call, writes_whole}, MovesLemmas.{after_ok}}
 use Rattle.no_std_io2_base.proofs.PieceLemmas.{Lacks-append}
-use Rattle.no_std_io2.specs.LineWriter.{held_tail, lines_or_all, SendLineCalls, HoldsTail, LinesCalls, IsShortText}
+use Rattle.no_std_io2.specs.inner.LineWriter.{held_tail, lines_or_all, SendLineCalls, HoldsTail, LinesCalls, IsShortText}
 
 -- The bytes that a line writer holds of those that its inner writer left (`held_tail`). For the `write` of a `LineWriter`.
 

@@ -16,28 +16,27 @@ pub use Rattle.std.specs.Cmp.Lexicographic.{same_text}
 pub use Rattle.std.specs.Int.{w64}
 pub use Rattle.std.specs.List.{concat, sum}
 pub use Rattle.std.specs.Prelude.{is_some, ⊤}
-pub use Rattle.no_std_io2.specs.BufReader.{AsksExact, FillsBelow, PassesOn, ReadsBelow, behind_held, lent_held, lent_read, of_held}
-pub use Rattle.no_std_io2.specs.BufReader.{reader_behind, reader_held, reader_inner, step_back, store_before, store_if, was_filled}
-pub use Rattle.no_std_io2.specs.BufReader.{went_past}
-pub use Rattle.no_std_io2.specs.BufWriter.{BufferMay, Buffered, FlushCalls, InnerCalls, SingleCall, SendCalls, Step, Stepped, TakesStep}
-pub use Rattle.no_std_io2.specs.BufWriter.{Then}
-pub use Rattle.no_std_io2.specs.BufWriter.{RoomCalls, WriteAllCalls, WriteCalls, buffer_after, goes_on, sender_buffer, sender_inner, stops}
-pub use Rattle.no_std_io2.specs.BufWriter.{with_buffer, writer_buffer, writer_inner, writer_told, writing_calls}
-pub use Rattle.no_std_io2.specs.Buffer.{IsCutOn, IsSuffix}
+pub use Rattle.no_std_io2.specs.inner.BufReader.{AsksExact, FillsBelow, PassesOn, ReadsBelow, lent_held, lent_read, of_held, was_filled}
+pub use Rattle.no_std_io2.specs.inner.BufReader.{went_past}
+pub use Rattle.no_std_io2.specs.inner.Buffer.{behind_held, step_back, store_before, store_if, IsCutOn, IsSuffix}
+pub use Rattle.no_std_io2.specs.inner.BufWriter.{BufferMay, Buffered, FlushCalls, InnerCalls, SingleCall, SendCalls, Step, Stepped}
+pub use Rattle.no_std_io2.specs.inner.BufWriter.{TakesStep, Then, RoomCalls, WriteAllCalls, WriteCalls, buffer_after, goes_on}
+pub use Rattle.no_std_io2.specs.BufReader.{reader_behind, reader_held, reader_inner}
+pub use Rattle.no_std_io2.specs.inner.BufWriter.{sender_buffer, sender_inner, stops, with_buffer, writing_calls, LevelCalls}
+pub use Rattle.no_std_io2.specs.BufWriter.{writer_buffer, writer_inner, writer_told}
+pub use Rattle.no_std_io2.specs.{inner.LineWriter.{LineWriteAllCalls, LineWriteCalls, SendLinesCalls}, LineWriter.{line_buffer, line_inner}}
 pub use Rattle.no_std_io2.specs.Copy.{Copied}
-pub use Rattle.no_std_io2.specs.LineWriter.{LineWriteAllCalls, LineWriteCalls, SendLinesCalls, line_buffer, line_inner}
-pub use Rattle.no_std_io2.specs.Towers.{LevelCalls}
 pub use Rattle.no_std_io2_base.specs.Errors.{IsFault, IsInterruption, IsOutOfMemory, error_kind}
-pub use Rattle.no_std_io2_base.specs.Events.{Event, HasNoFault, byte, bytes, bytes_to_fault, events_of, fails, first_fault}
-pub use Rattle.no_std_io2_base.specs.Lines.{IsLineState, lines_len, lines_of, unfinished_line}
-pub use Rattle.no_std_io2_base.specs.Meter.{IsMeter, charges}
-pub use Rattle.no_std_io2_base.specs.Pieces.{newline, split_delim, split_reader, without}
-pub use Rattle.no_std_io2_base.specs.Read.{Consumed, ExactCalls, Filled, Gathers, GathersUntil, Gave, GaveAll, GaveLaw, IsRest, ReadCall}
-pub use Rattle.no_std_io2_base.specs.Read.{ReadCallLaw, ReadLaw, Reader, and_again, and_gave, answered, bytes_given, no_read, tells}
-pub use Rattle.no_std_io2_base.specs.ReadMeter.{FillsRoom, IsReadMeter, bytes_left}
+pub use Rattle.no_std_io2_base.specs.Events.{Event, HasNoFault, byte, bytes, events_of, fails, Store}
+pub use Rattle.no_std_io2_base.specs.inner.Events.{bytes_to_fault, first_fault}
+pub use Rattle.no_std_io2_base.specs.inner.Lines.{IsLineState, lines_len, lines_of, unfinished_line}
+pub use Rattle.no_std_io2_base.specs.{Meter.{IsMeter, FillsRoom, IsReadMeter}, inner.Charges.{charges, calls_for}, Pieces.{newline}}
+pub use Rattle.no_std_io2_base.specs.{inner.Iterators.{split_delim, split_reader}, inner.Pieces.{without}}
+pub use Rattle.no_std_io2_base.specs.inner.Read.{ExactCalls, Gathers, GathersUntil, GaveLaw, IsRest, and_again, and_gave, bytes_given}
+pub use Rattle.no_std_io2_base.specs.Calls.{Consumed, Filled, Gave, GaveAll, ReadCall, ByCalls, Flushed, Made, WriteCall, Wrote, WroteAll}
+pub use Rattle.no_std_io2_base.specs.{inner.Read.{no_read}, Read.{ReadCallLaw, ReadLaw}}
+pub use Rattle.no_std_io2_base.specs.Takes.{Reader, answered, tells, bytes_left, IsAtEnd, KeepsContent, Takes, ReaderState, to_come}
+pub use Rattle.no_std_io2_base.specs.{inner.Takes.{AreTaken}, inner.Write.{AllCalls, Writes, again, fault, none, stuck, took}}
+pub use Rattle.no_std_io2_base.specs.{Moves.{IsFront, Moves, MovesFront, WriterState, call_mishap, told_out}, inner.Writers.{CallOf}}
+pub use Rattle.no_std_io2_base.specs.Writers.{TakesAll, Writer}
 pub use Rattle.no_std_io2_base.specs.Reads.{Fetches}
-pub use Rattle.no_std_io2_base.specs.Takes.{AreTaken, IsAtEnd, KeepsContent, Store, Takes, ReaderState, to_come}
-pub use Rattle.no_std_io2_base.specs.Write.{AllCalls, ByCalls, Flushed, IsFront, Made, Moves, MovesFront, WriterState, WriteCall, Writes}
-pub use Rattle.no_std_io2_base.specs.Write.{Wrote}
-pub use Rattle.no_std_io2_base.specs.Write.{WroteAll, again, call_mishap, calls_for, fault, none, stuck, told_out, took}
-pub use Rattle.no_std_io2_base.specs.Writers.{CallOf, TakesAll, Writer}

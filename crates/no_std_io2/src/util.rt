@@ -3,7 +3,7 @@
 //! [`empty`], [`repeat`] and [`sink`] make streams without a device.
 ghost use Rattle.std.specs.Prelude.{◌<◌, ◌^◌};
 ghost use Rattle.no_std_io2.specs.Copy.{Copied};
-ghost use Rattle.no_std_io2_base.specs.Passing.{Skipped};
+ghost use Rattle.no_std_io2_base.specs.Reads.{Skipped};
 
 use no_std_io2_base::error::Result;
 use no_std_io2_base::internal::failed_to_fill;

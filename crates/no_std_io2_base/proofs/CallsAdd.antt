@@ -2,12 +2,14 @@
 use Rattle.std.proofs.{lemmas.Grind.{common_steps}, Common.{arith, ℕ, List, [], ◌++◌, Result, Ok, Err, refl, sym, ap, subst, ◌∙◌, take}}
 use Rattle.std.proofs.Common.{append_assoc, append-nil, take-append-drop, ◌≡◌, ◌+◌, ◌%◌, ◌∷◌, OnOk, IfOk, ◌≤◌, length, le_refl, inl, inr}
 use Rattle.std.proofs.{Common.{false, count_by}, Math.Nat.{mod-add-mod}, lemmas.{List.{take_all}, Bool.Decides.{nat_tests}}}
-use Rattle.no_std_io2_base.specs.{declared.error.Error.{Error}, Write.{WriteCall, Wrote, WroteAll, CallAdds, RestAdds, Made, Writes, none}}
-use Rattle.no_std_io2_base.specs.Write.{took, again, stuck, fault, AllCalls, ByCalls, WriterState, IsFront, Moves, WriteLaw, FlushLaw}
-use Rattle.no_std_io2_base.specs.{Write.{taken, zero_write, write_mishap, call_mishap}, Read.{ReadCall, Gave, GaveExactly, GaveAll, Filled}}
-use Rattle.no_std_io2_base.specs.Read.{Consumed, Gathers, no_read, and_gave, and_again, bytes_given, gave_whole, FillCalls, GathersUntil}
-use Rattle.no_std_io2_base.specs.{Read.{ExactCalls, ToEndCalls}, Pieces.{PartCalls, no_part, and_part, and_waited, PieceCalls, AnswersLine}}
-use Rattle.no_std_io2_base.specs.{declared.error.ErrorKind.{ErrorKind}, Errors.{is_interruption}, Wrapping.{told_over, SpendsMishaps}}
+use Rattle.no_std_io2_base.specs.declared.error.Error.{Error}
+use Rattle.no_std_io2_base.specs.Calls.{WriteCall, Wrote, WroteAll, Made, ByCalls, ReadCall, Gave, GaveExactly, GaveAll, Filled, Consumed}
+use Rattle.no_std_io2_base.specs.Write.{CallAdds, RestAdds, WriteLaw, FlushLaw, taken, write_mishap}
+use Rattle.no_std_io2_base.specs.inner.Write.{Writes, none, took, again, stuck, fault, AllCalls, zero_write, told_over, SpendsMishaps}
+use Rattle.no_std_io2_base.specs.inner.Read.{Gathers, no_read, and_gave, and_again, bytes_given, gave_whole, FillCalls, GathersUntil}
+use Rattle.no_std_io2_base.specs.{Moves.{WriterState, IsFront, Moves, call_mishap}, inner.Read.{ExactCalls, ToEndCalls}}
+use Rattle.no_std_io2_base.specs.{inner.Pieces.{PartCalls, no_part, and_part, and_waited, PieceCalls}, inner.Lines.{AnswersLine}}
+use Rattle.no_std_io2_base.specs.{declared.error.ErrorKind.{ErrorKind}, inner.Kinds.{is_interruption}}
 use Rattle.no_std_io2_base.proofs.{CallsLemmas.{made_split}, MovesLemmas.{Moves-refl, after_ok}}
 
 -- What each call adds to a writer's own state, the calls of a `write_all` or a `write_rest` add together.

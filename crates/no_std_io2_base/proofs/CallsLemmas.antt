@@ -2,10 +2,11 @@
 use Rattle.std.proofs.{lemmas.Grind.{common_steps}, Common.{arith, ◌≡◌, ℕ, List, [], ◌∷◌, ◌++◌, Result, OnOk, refl, ap, subst}}
 use Rattle.std.proofs.Common.{append_assoc, inl, ◌+◌, ◌%◌, length, sym, ◌∙◌, Ok, Err, length-append, append-nil, inr}
 use Rattle.std.proofs.Math.Nat.{mod-add-mod}
-use Rattle.no_std_io2_base.specs.{declared.error.Error.{Error}, Write.{WriteCall, Made, ByCalls, WroteAll, Writes, none, took, again}}
-use Rattle.no_std_io2_base.specs.{Write.{stuck, fault, WriterState, CallLaw, WriteAllLaw}, Writers.{Writer, CallOf}, Read.{ReadCall, Gave}}
-use Rattle.no_std_io2_base.specs.Read.{GaveExactly, GaveAll, gave_whole, Gathers, no_read, and_gave, and_again, GathersUntil, IsRoom}
-use Rattle.no_std_io2_base.specs.Read.{ToEndCalls, ExactCalls}
+use Rattle.no_std_io2_base.specs.declared.error.Error.{Error}
+use Rattle.no_std_io2_base.specs.Calls.{WriteCall, Made, ByCalls, WroteAll, ReadCall, Gave, GaveExactly, GaveAll}
+use Rattle.no_std_io2_base.specs.{inner.Write.{Writes, none, took, again, stuck, fault}, Moves.{WriterState}, Write.{CallLaw, WriteAllLaw}}
+use Rattle.no_std_io2_base.specs.inner.Read.{gave_whole, Gathers, no_read, and_gave, and_again, GathersUntil, IsRoom, ToEndCalls}
+use Rattle.no_std_io2_base.specs.{Writers.{Writer}, inner.Writers.{CallOf}, inner.Read.{ExactCalls}}
 
 -- Calls one after another.
 

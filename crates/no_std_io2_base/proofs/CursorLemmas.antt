@@ -6,12 +6,14 @@ use Rattle.std.proofs.lemmas.{List.{length-replicate, drop-drop, take_all, drop_
 use Rattle.std.proofs.Math.Seq.{take-append-add, drop-append_seam}
 use Rattle.std.specs.{Result.{OnOk, OnErr, IfErr}, declared.dyn_box.DynBox.{DynBox}}
 use Rattle.no_std_io2_base.specs.{declared.error.{Error.{Error}, ErrorKind.{ErrorKind, TheVariants.{WriteZero}}}, Errors.{error_kind}}
-use Rattle.no_std_io2_base.specs.{Errors.{is_interruption, IsFault, IsNoInterruption, IsOutOfMemory}, Write.{WriterState, Moves}}
-use Rattle.no_std_io2_base.specs.{Write.{MovesFront, told_out, taken, write_mishap, zero_write, ByCalls, BoxMay}, Cursor.{bytes_before}}
-use Rattle.no_std_io2_base.specs.Cursor.{put_at, fitting, IsRefusal, PutsWhole, PutsAll, PutsFitting, PutsAllFitting}
-use Rattle.no_std_io2_base.specs.{Appends.{AppendsWhole}, Events.{events_of}, Takes.{ReaderState, Takes, KeepsContent, to_come, store_at}}
-use Rattle.no_std_io2_base.specs.{Takes.{fits_u64}, declared.traits.seek.SeekFrom.{SeekFrom, TheVariants.{End}}, Seek.{SeekCall, Sought}}
-use Rattle.no_std_io2_base.specs.Seek.{Measured, LenCalls, measured, at_end, here, Seeker, SeekLaw, StreamPositionLaw, RewindLaw}
+use Rattle.no_std_io2_base.specs.{inner.Kinds.{is_interruption}, Errors.{IsFault, IsNoInterruption, IsOutOfMemory}}
+use Rattle.no_std_io2_base.specs.{Moves.{WriterState, Moves, MovesFront, told_out}, Write.{taken, write_mishap}, inner.Write.{zero_write}}
+use Rattle.no_std_io2_base.specs.{Calls.{ByCalls, SeekCall, Sought, Measured}, inner.Calls.{BoxMay}}
+use Rattle.no_std_io2_base.specs.inner.Cursor.{bytes_before, put_at, fitting, IsRefusal, PutsWhole, PutsAll, PutsFitting, PutsAllFitting}
+use Rattle.no_std_io2_base.specs.{inner.InMemory.{AppendsWhole}, Events.{events_of}}
+use Rattle.no_std_io2_base.specs.{Takes.{ReaderState, Takes, KeepsContent, to_come, store_at}, inner.Takes.{fits_u64}}
+use Rattle.no_std_io2_base.specs.{declared.traits.seek.SeekFrom.{SeekFrom}, declared.traits.seek.SeekFrom.TheVariants.{End}}
+use Rattle.no_std_io2_base.specs.{inner.Seek.{LenCalls, measured, at_end, here}, Seek.{Seeker, SeekLaw, StreamPositionLaw, RewindLaw}}
 use Rattle.no_std_io2_base.specs.Seek.{StreamLenLaw, SeekRelativeLaw}
 use Rattle.no_std_io2_base.proofs.{TakesLemmas.{events_of-append, length-events_of, bytes-events_of}, CallsLemmas.{by_call, by_two}}
 use Rattle.no_std_io2_base.proofs.Forwards.{holding, in_box}

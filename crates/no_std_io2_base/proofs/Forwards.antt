@@ -5,10 +5,11 @@ use Rattle.std.specs.{Borrow.{Bor}, declared.dyn_box.DynBox.{DynBox}, contracts.
 use Rattle.std.specs.contracts.{collections.VecDeque.{the_row as deque-row}, boxed.BoxedSlice.{the_row as boxed-row}}
 use Rattle.std.specs.contracts.{alloc.Global.{the_row as global-row}, impls.GlobalAllocator.TheImpl.{ghosts}}
 use Rattle.std.specs.declared.boxed.BoxedSlice.{BoxedSlice}
-use Rattle.no_std_io2_base.specs.{declared.error.Error.{Error}, Events.{Event}, Takes.{Store, ReaderState}, Read.{Reader, tells, ReadCall}}
+use Rattle.no_std_io2_base.specs.{declared.error.Error.{Error}, Events.{Event, Store}, Takes.{ReaderState, Reader, tells}}
+use Rattle.no_std_io2_base.specs.{Calls.{ReadCall, WriteCall, ByCalls, PartMay}, BufRead.{ReadUntilLaw, ReadLineLaw, FillBufLaw}}
+use Rattle.no_std_io2_base.specs.{Moves.{WriterState}, Write.{CallLaw, WriteAllLaw, WriteRestLaw}, inner.Write.{AllCalls}}
+use Rattle.no_std_io2_base.specs.{inner.Calls.{BoxMay}, Writers.{Writer, WriteAllOf}, inner.Writers.{CallOf}}
 use Rattle.no_std_io2_base.specs.{Read.{ReadCallLaw, ReadLaw, ReadExactLaw, ReadFullLaw, ToEndLaw, ConsumeLaw}, BufRead.{AfterLoan}}
-use Rattle.no_std_io2_base.specs.{BufRead.{ReadUntilLaw, ReadLineLaw, FillBufLaw}, Write.{WriterState, WriteCall, ByCalls, CallLaw}}
-use Rattle.no_std_io2_base.specs.{Write.{WriteAllLaw, WriteRestLaw, AllCalls, PartMay, BoxMay}, Writers.{Writer, CallOf, WriteAllOf}}
 use Rattle.no_std_io2_base.specs.{Writers.{WriteRestOf}, contracts.cursor.Cursor.{the_row as cursor-row}, declared.cursor.Cursor.{Cursor}}
 use Rattle.no_std_io2_base.proofs.CallsLemmas.{made_map}
 use base.Stored.{Gv}

@@ -6,10 +6,11 @@ use Rattle.std.proofs.Common.{length, filter, refl, sym, ap, ap₂, ◌∙◌, s
 use Rattle.std.proofs.Common.{⊎_elim, length-append, IfSome, OnSome, IfErr, Vec, String, vec_len, vec_capacity, IsSomeAnd, true}
 use Rattle.std.proofs.lemmas.{Grind.{common_steps}, List.{append_cancel_left, nil_from_length, Folds.{concat-append}}}
 use Rattle.no_std_io2_base.specs.{declared.error.Error.{Error}, Errors.{IsFault, IsOutOfMemory}, Events.{Event, byte, fails, events_of}}
-use Rattle.no_std_io2_base.specs.{Events.{bytes, HasNoFault, EndsInFault, bytes_to_fault, first_fault}, Takes.{ReaderState, Takes, to_come}}
-use Rattle.no_std_io2_base.specs.{Read.{Reader, tells}, BufRead.{NextPieceLaw, ReadUntilLaw, ReadLineLaw, line_room}, Pieces.{Lacks}}
-use Rattle.no_std_io2_base.specs.Pieces.{EndsAt, PieceEnds, ends_in, pieces, pieces_before, pieces_given, ends_at, items_left, newline}
-use Rattle.no_std_io2_base.specs.{Pieces.{GivesFirst, GivesPieces, AreAllPieces, ComeFirst}, Write.{IsFront}, PieceStops.{StopsAfter}}
+use Rattle.no_std_io2_base.specs.{Events.{bytes, HasNoFault}, inner.Events.{EndsInFault, bytes_to_fault, first_fault}}
+use Rattle.no_std_io2_base.specs.{Takes.{ReaderState, Takes, to_come, Reader, tells}, inner.Iterators.{NextPieceLaw, ends_at, items_left}}
+use Rattle.no_std_io2_base.specs.{BufRead.{ReadUntilLaw, ReadLineLaw}, inner.Lines.{line_room}}
+use Rattle.no_std_io2_base.specs.inner.Pieces.{Lacks, EndsAt, ends_in, pieces, pieces_before, pieces_given, GivesFirst, ComeFirst}
+use Rattle.no_std_io2_base.specs.{Pieces.{PieceEnds, newline, GivesPieces, AreAllPieces}, Moves.{IsFront}, Reads.{StopsAfter}}
 use Rattle.std.specs.List.{concat}
 
 -- What a call that takes one piece says of all pieces that are to come, if the reader tells its events; and what its error is.

@@ -2,11 +2,13 @@
 use Rattle.std.proofs.Common.{◌≡◌, ℕ, zero, suc, ◌+◌, min, List, Result, Ok, Err, Some, IsOkAnd, length, refl, sym, ap, subst, ◌∙◌, arith}
 use Rattle.std.proofs.Common.{length-append, ◌<◌, ◌≤◌, [], ◌++◌, take, drop, le_refl, None, IfOk, IfErr, IfSome, Vec, vec_len, vec_capacity}
 use Rattle.std.proofs.{Common.{take-append-drop, length-take}, lemmas.Grind.{common_steps}}
-use Rattle.no_std_io2_base.specs.{declared.error.Error.{Error}, Events.{events_of, bytes}, Takes.{to_come, AreTaken, ReaderState, Takes}}
-use Rattle.no_std_io2_base.specs.{Takes.{IsAtEnd, store_at}, Read.{Reader, tells, GaveLaw, ReadCall, Gave, GaveExactly, GaveAll, ended}}
-use Rattle.no_std_io2_base.specs.Read.{ReadLaw, ReadExactLaw, ReadToEndLaw, DrainsOrStops, least_room, FillsOrEnds}
-use Rattle.no_std_io2_base.specs.{ReadMeter.{told_bytes, bytes_left, FillsFor, FillsRoom, IsReadMeter}, Errors.{IsUnexpectedEnd}}
-use Rattle.no_std_io2_base.specs.{Errors.{IsOutOfMemory}, InMemory.{GivesLeft}, declared.cursor.Cursor.{Cursor}, Cursor.{cursor_left}}
+use Rattle.no_std_io2_base.specs.{declared.error.Error.{Error}, Events.{events_of, bytes}}
+use Rattle.no_std_io2_base.specs.Takes.{to_come, ReaderState, Takes, IsAtEnd, store_at, Reader, tells, bytes_left}
+use Rattle.no_std_io2_base.specs.{inner.Takes.{AreTaken, told_bytes}, inner.Read.{GaveLaw, ended, least_room}}
+use Rattle.no_std_io2_base.specs.Calls.{ReadCall, Gave, GaveExactly, GaveAll}
+use Rattle.no_std_io2_base.specs.{Read.{ReadLaw, ReadExactLaw, ReadToEndLaw, DrainsOrStops, FillsOrEnds}, inner.Charges.{FillsFor}}
+use Rattle.no_std_io2_base.specs.{Meter.{FillsRoom, IsReadMeter}, Errors.{IsUnexpectedEnd, IsOutOfMemory}, inner.InMemory.{GivesLeft}}
+use Rattle.no_std_io2_base.specs.{declared.cursor.Cursor.{Cursor}, inner.Cursor.{cursor_left}}
 use Rattle.no_std_io2_base.proofs.TakesLemmas.{bytes-events_of, length-events_of, events_of-append, HasNoFault-events_of, gives_whole}
 use Rattle.no_std_io2_base.proofs.{TakesLemmas.{drains_ended}, CursorLemmas.{told_at}, CallsLemmas.{exact_own, to_end_own}}
 use Rattle.std.specs.Borrow.{Bor}

@@ -3,11 +3,11 @@ use Rattle.std.proofs.Common.{arith, ◌≡◌, ℕ, List, ◌++◌, Option, Non
 use Rattle.std.proofs.Common.{take-append-drop, length-take-le, ◌+◌, ◌-◌, ◌<◌, ◌∷◌, [], Vec, IfOk, IfErr, length, Result, Ok, Err, IsOk}
 use Rattle.std.proofs.Common.{inl, inr, sym, subst, append-nil, length-append, length-take, refl, rules, length-drop, OnOk}
 use Rattle.std.proofs.{lemmas.{Grind.{common_steps}, List.{append_cancel_left}}, Math.Seq.{take-append_seam}}
-use Rattle.no_std_io2_base.specs.{Events.{Event, bytes, cut, events_of, fails, HasNoFault, EndsInFault}, Takes.{ReaderState, Takes}}
-use Rattle.no_std_io2_base.specs.{Takes.{AreTaken, to_come, TakesBytes, Store, KeepsContent}, Lost.{LosesFirst}}
-use Rattle.no_std_io2_base.specs.{declared.error.Error.{Error}, Read.{Reader, tells, ReadExactLaw, AllOrNone, FillsOrEnds, gave_whole}}
+use Rattle.no_std_io2_base.specs.{Events.{Event, bytes, events_of, fails, HasNoFault, Store}, inner.Events.{cut, EndsInFault}}
+use Rattle.no_std_io2_base.specs.Takes.{ReaderState, Takes, to_come, TakesBytes, KeepsContent, LosesFirst, Reader, tells}
+use Rattle.no_std_io2_base.specs.{inner.Takes.{AreTaken}, declared.error.Error.{Error}, Read.{ReadExactLaw, FillsOrEnds}}
+use Rattle.no_std_io2_base.specs.{inner.Read.{AllOrNone, gave_whole}, Seek.{Seeks, IsTarget}, inner.Reads.{ReadsAt, HasBytesAt}}
 use Rattle.no_std_io2_base.specs.{Read.{ReadFullLaw, ReadToEndLaw}, Errors.{IsOutOfMemory}, declared.traits.seek.SeekFrom.{SeekFrom}}
-use Rattle.no_std_io2_base.specs.{Seek.{Seeks, IsTarget}, ReadAt.{ReadsAt, HasBytesAt}}
 use Rattle.no_std_io2_base.proofs.TakesLemmas.{bytes-append, events_of-append, bytes-events_of, bytes-behind, cut-bytes, cut-append}
 use Rattle.no_std_io2_base.proofs.TakesLemmas.{HasNoFault-front, HasNoFault-behind, HasNoFault-events_of, bytes-cut, all_taken, left_of}
 use Rattle.no_std_io2_base.proofs.{TakesLemmas.{front_taken, TakesBytes-then}, LimitLemmas.{cut-within}}

@@ -4,12 +4,14 @@ use Rattle.std.proofs.Common.{IsOkAnd, IfSome, length, take, drop, refl, sym, ap
 use Rattle.std.proofs.Common.{length-append, length-take, length-take-le, length-drop, Err, OnOk, ◌⊎◌, Vec, String, string_bytes, ◌^◌}
 use Rattle.std.proofs.lemmas.{Bool.{cases_lt}, List.{drop-take, append_cancel_right}}
 use Rattle.no_std_io2_base.specs.{declared.{error.Error.{Error}, traits.take.Take.{Take}}, Events.{Event, byte, fails, events_of, bytes}}
-use Rattle.no_std_io2_base.specs.{Events.{cut, BeginsWith}, Takes.{Takes, AreTaken, ReaderState, to_come}, Read.{Reader, tells, ReadCall}}
-use Rattle.no_std_io2_base.specs.Read.{Gave, Filled, Consumed, ReadCallLaw, GaveLaw, ReadLaw, gave, bytes_given, answered, fault_of}
-use Rattle.no_std_io2_base.specs.{Read.{ConsumeLaw, ReadExactLaw, ToEndLaw, ended}, ReadMeter.{FillsRoom, bytes_left}, Take.{limit_held}}
-use Rattle.no_std_io2_base.specs.Take.{limit_inner, limit_left, limit_set, limit_events, cut_to_come, lent_within, LimitTakes, LimitAsks}
-use Rattle.no_std_io2_base.specs.{Take.{LimitMay, limit_position}, BufRead.{ReadUntilLaw, ReadLineLaw}, Seek.{Seeker, Sought, here}}
-use Rattle.no_std_io2_base.specs.LimitSeeks.{LimitGoes, LimitMaySeek, arrived}
+use Rattle.no_std_io2_base.specs.inner.Events.{cut, BeginsWith}
+use Rattle.no_std_io2_base.specs.{Takes.{Takes, ReaderState, to_come, Reader, tells, gave, answered, bytes_left}, inner.Takes.{AreTaken}}
+use Rattle.no_std_io2_base.specs.Calls.{ReadCall, Gave, Filled, Consumed, Sought}
+use Rattle.no_std_io2_base.specs.Read.{ReadCallLaw, ReadLaw, ConsumeLaw, ReadExactLaw, ToEndLaw}
+use Rattle.no_std_io2_base.specs.inner.Take.{limit_held, limit_inner, limit_left, limit_set, limit_events, cut_to_come, lent_within}
+use Rattle.no_std_io2_base.specs.{inner.Read.{GaveLaw, bytes_given, fault_of, ended}, Meter.{FillsRoom}}
+use Rattle.no_std_io2_base.specs.inner.Take.{LimitTakes, LimitAsks, LimitMay, limit_position, LimitGoes, LimitMaySeek, arrived}
+use Rattle.no_std_io2_base.specs.{BufRead.{ReadUntilLaw, ReadLineLaw}, Seek.{Seeker}, inner.Seek.{here}}
 use Rattle.no_std_io2_base.proofs.TakesLemmas.{bytes-append, bytes-events_of, takes_then, cut-none, cut-fitting, cut-error, read_law}
 use Rattle.no_std_io2_base.proofs.{TakesLemmas.{read_by, length-events_of}, ReadsLemmas.{begins_cut}, InMemoryReads.{drawn, fills_by}}
 use Rattle.no_std_io2_base.proofs.{InMemoryReads.{fills_told}, GivenPieces.{few_bytes}, ReadLoops.{ReadsSoFar}, CallsAdd.{EachAdds}}

@@ -5,11 +5,12 @@ use Rattle.std.proofs.Common.{Err, String, string_bytes, string_len, string_capa
 use Rattle.std.proofs.{Common.{vec_len, le_refl, length-take-le, length-append, append-nil, ⊎_elim, inl, inr}, lemmas.List.{get_or_default}}
 use Rattle.std.proofs.lemmas.List.Elements.{recursion_from_All, All-from_recursion, Contains-append_left, Contains-append_right}
 use Rattle.std.proofs.{lemmas.Str.{IsUtf8-nil, IsUtf8-string_bytes}, Math.Seq.{take-append_seam, drop-append_seam}}
-use Rattle.no_std_io2_base.specs.Pieces.{Lacks, ends_in, pieces, newline, ArePieces, AnswersLine, IsInvalidText, FindsPiece, Follows}
-use Rattle.no_std_io2_base.specs.{Lines.{lines_of, unfinished_line, lines_len, IsLineState}, declared.error.Error.{Error}}
-use Rattle.no_std_io2_base.specs.{declared.error.ErrorKind.TheVariants.{OutOfMemory}, Errors.{error_kind, IsFault}, BufRead.{line_room}}
-use Rattle.no_std_io2_base.specs.{BufRead.{text_room, ReadUntilLaw, ReadLineLaw}, declared.error.ErrorKind.{ErrorKind}, Events.{bytes}}
-use Rattle.no_std_io2_base.specs.{Events.{events_of, fails}, Read.{Reader, tells, ConsumeLaw, FilledLaw}}
+use Rattle.no_std_io2_base.specs.inner.Lines.{AnswersLine, IsInvalidText, Follows, lines_of, unfinished_line, lines_len, IsLineState}
+use Rattle.no_std_io2_base.specs.{inner.Pieces.{Lacks, ends_in, pieces, ArePieces, FindsPiece}, Pieces.{newline}}
+use Rattle.no_std_io2_base.specs.{inner.Lines.{line_room, text_room}, declared.error.Error.{Error}}
+use Rattle.no_std_io2_base.specs.{declared.error.ErrorKind.TheVariants.{OutOfMemory}, Errors.{error_kind, IsFault}}
+use Rattle.no_std_io2_base.specs.{BufRead.{ReadUntilLaw, ReadLineLaw}, declared.error.ErrorKind.{ErrorKind}}
+use Rattle.no_std_io2_base.specs.{Events.{bytes, events_of, fails}, Takes.{Reader, tells}, Read.{ConsumeLaw}, inner.Read.{FilledLaw}}
 use Rattle.no_std_io2_base.proofs.{PieceLemmas.{pieces_are, ends_in-lacks}, TakesLemmas.{bytes-events_of}, PieceLoops.{PieceTaken}}
 use Rattle.no_std_io2_base.proofs.PieceLoops.{part_none, piece_whole, piece_faulted, piece_since}
 use Rattle.std.specs.{Result.{result_and}, String.{string_vec}}

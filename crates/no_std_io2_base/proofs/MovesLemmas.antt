@@ -4,10 +4,12 @@ use Rattle.std.proofs.Common.{List, [], ◌∷◌, ◌++◌, Option, None, Some,
 use Rattle.std.proofs.Common.{take, drop, get_or, take-append-drop, flat_map, OnErr, IsOk, codes, length-drop, inl, inr}
 use Rattle.std.proofs.lemmas.{List.{Sums.{sum_by-append, sum_by-cons}, take_more, flat_map_more}, Bool.Decides.{nat_tests}}
 use Rattle.std.proofs.lemmas.List.{append_cancel_left, Folds.{concat-append}}
-use Rattle.no_std_io2_base.specs.{declared.error.{ErrorKind.{ErrorKind}, Error.{Error}}, Write.{WriterState, IsFront, HasSpent, Moves}}
-use Rattle.no_std_io2_base.specs.Write.{MovesFront, MovesEach, Sends, call_mishap, zero_write, calls_for, WriteCall, Made, ByCalls, Writes}
-use Rattle.no_std_io2_base.specs.{Write.{none, took, again, stuck, fault, WroteAll, AllCalls}, Errors.{is_interruption, IsNoInterruption}}
-use Rattle.no_std_io2_base.specs.{Writers.{Writer, TakesAll, WriteRestOf, CallOf}, Meter.{charges, IsMeter}}
+use Rattle.no_std_io2_base.specs.{declared.error.ErrorKind.{ErrorKind}, declared.error.Error.{Error}}
+use Rattle.no_std_io2_base.specs.{Moves.{WriterState, IsFront, Moves, MovesFront, Sends, call_mishap}, inner.Moves.{HasSpent}}
+use Rattle.no_std_io2_base.specs.inner.Write.{MovesEach, zero_write, Writes, none, took, again, stuck, fault, AllCalls}
+use Rattle.no_std_io2_base.specs.{inner.Charges.{calls_for, charges}, Calls.{WriteCall, Made, ByCalls, WroteAll}}
+use Rattle.no_std_io2_base.specs.{inner.Kinds.{is_interruption}, Errors.{IsNoInterruption}, Writers.{Writer, TakesAll, WriteRestOf}}
+use Rattle.no_std_io2_base.specs.{inner.Writers.{CallOf}, Meter.{IsMeter}}
 use Rattle.std.specs.{List.{concat}, Result.{OnOk}}
 use Rattle.no_std_io2_base.proofs.CallsLemmas.{writes_whole, law_may}
 

@@ -5,11 +5,12 @@ use Rattle.std.proofs.Common.{cond, ◌⊎◌, inl, inr, ◌+◌, ◌<◌, ◌�
 use Rattle.std.proofs.Common.{take-suc, slice_index, drop_of_length-le, take_all, le_refl, length-take, take-append-drop, rules, Result, Ok}
 use Rattle.std.proofs.{Common.{Err, Vec, vec_len, vec_capacity, subst, ⊎_elim, suc, ◌-◌}, lemmas.List.Sums.{sum_by-append, sum_by-cons}}
 use Rattle.std.proofs.lemmas.List.Elements.{recursion_from_All}
-use Rattle.no_std_io2_base.specs.Pieces.{Lacks, ends_in, in_front, pieces, ArePieces, EndsPiece, EndsAt, but_last, FindsPiece, IsPiecePart}
-use Rattle.no_std_io2_base.specs.Pieces.{ComesBehind, PieceEnds, PartCalls, no_part, and_part, and_waited, PieceCalls, without}
-use Rattle.no_std_io2_base.specs.{Events.{Event, byte, bytes, fails, events_of, BeginsWith, HasNoFault}, Takes.{ReaderState, IsAll, Takes}}
-use Rattle.no_std_io2_base.specs.{Takes.{AreTaken, to_come}, declared.error.Error.{Error}, Errors.{IsInterruption}, Read.{ReadCall, Filled}}
-use Rattle.no_std_io2_base.specs.{Read.{Consumed, Reader, FilledLaw}, BufRead.{ReadUntilLaw}}
+use Rattle.no_std_io2_base.specs.inner.Pieces.{Lacks, ends_in, in_front, pieces, ArePieces, EndsPiece, EndsAt, but_last, FindsPiece}
+use Rattle.no_std_io2_base.specs.inner.Pieces.{IsPiecePart, ComesBehind, PartCalls, no_part, and_part, and_waited, PieceCalls, without}
+use Rattle.no_std_io2_base.specs.{inner.Pieces.{IsAll}, Pieces.{PieceEnds}, Events.{Event, byte, bytes, fails, events_of, HasNoFault}}
+use Rattle.no_std_io2_base.specs.{inner.Events.{BeginsWith}, Takes.{ReaderState, Takes, to_come, Reader}, inner.Takes.{AreTaken}}
+use Rattle.no_std_io2_base.specs.{declared.error.Error.{Error}, Errors.{IsInterruption}, Calls.{ReadCall, Filled, Consumed}}
+use Rattle.no_std_io2_base.specs.{inner.Read.{FilledLaw}, BufRead.{ReadUntilLaw}}
 use Rattle.no_std_io2_base.proofs.TakesLemmas.{bytes-append, bytes-events_of, events_of-append, HasNoFault-append, takes_then, IsAll-behind}
 use Rattle.no_std_io2_base.proofs.TakesLemmas.{EndsInFault-behind}
 use Rattle.std.specs.List.{AllWithin}

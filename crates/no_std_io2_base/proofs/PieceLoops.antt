@@ -4,11 +4,12 @@ use Rattle.std.proofs.Common.{Result, Ok, Err, Vec, vec_len, vec_capacity, lengt
 use Rattle.std.proofs.Common.{append-nil, le_refl, le_trans, inl, inr, length-append, length-take-le, take_all, ◌^◌, min}
 use Rattle.std.specs.Borrow.{Bor}
 use Rattle.no_std_io2_base.specs.{declared.error.Error.{Error}, Errors.{IsInterruption, IsFault, IsOutOfMemory, IsUnexpectedEnd}}
-use Rattle.no_std_io2_base.specs.{Events.{Event, fails, events_of, bytes, HasNoFault}, Takes.{ReaderState, Takes, IsAll}, Read.{Filled}}
-use Rattle.no_std_io2_base.specs.{Read.{Consumed, Reader, tells, ConsumeLaw, FilledLaw, ReadCallLaw}, BufRead.{FillBufLaw, AfterLoan}}
-use Rattle.no_std_io2_base.specs.{BufRead.{ReadUntilLaw, lent_bytes, SkipUntilLaw, at_most_max}, Pieces.{Lacks, EndsPiece, EndsAt}}
-use Rattle.no_std_io2_base.specs.{Pieces.{FindsPiece, PieceEnds, PartCalls, no_part, and_part, and_waited, PieceCalls}, Write.{ByCalls}}
-use Rattle.no_std_io2_base.specs.Passing.{PortionCalls, no_portion, and_portion, and_waited as portion_waited, Skipped}
+use Rattle.no_std_io2_base.specs.inner.Pieces.{IsAll, Lacks, EndsPiece, EndsAt, FindsPiece, PartCalls, no_part, and_part, and_waited}
+use Rattle.no_std_io2_base.specs.{Events.{Event, fails, events_of, bytes, HasNoFault}, Takes.{ReaderState, Takes, Reader, tells}}
+use Rattle.no_std_io2_base.specs.{inner.Pieces.{PieceCalls}, Calls.{Filled, Consumed, ByCalls}, Read.{ConsumeLaw, ReadCallLaw}}
+use Rattle.no_std_io2_base.specs.inner.Read.{FilledLaw, lent_bytes, at_most_max}
+use Rattle.no_std_io2_base.specs.{BufRead.{FillBufLaw, AfterLoan, ReadUntilLaw, SkipUntilLaw}, Pieces.{PieceEnds}}
+use Rattle.no_std_io2_base.specs.{inner.Reads.{PortionCalls, no_portion, and_portion, and_waited as portion_waited}, Reads.{Skipped}}
 use Rattle.no_std_io2_base.proofs.{CallsLemmas.{by_more, by_then}, TakesLemmas.{events_of-append, HasNoFault-append, HasNoFault-events_of}}
 use Rattle.no_std_io2_base.proofs.TakesLemmas.{length-events_of, takes_none, takes_then, takes_still, takes_turns, takes_to_end, spends}
 use Rattle.no_std_io2_base.proofs.{TakesLemmas.{stays_at_end}, PieceLemmas.{bytes-more, bytes-fails, Lacks-append, found_part}}

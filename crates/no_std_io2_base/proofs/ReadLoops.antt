@@ -5,9 +5,10 @@ use Rattle.std.proofs.{Common.{length-append, take-append-drop, None, Some}, lem
 use borrow.Rule.Slice.PartMut.{put_mid, same_len_mid, post_of}
 use lib.Seq.{take-append-le, take-append-add, take-take}
 use Rattle.no_std_io2_base.specs.{declared.error.Error.{Error}, Errors.{IsInterruption, IsFault, IsUnexpectedEnd}, Takes.{TakesBytes}}
-use Rattle.no_std_io2_base.specs.Read.{Reader, tells, ReadLaw, GaveLaw, ReadCallLaw, Gave, Gathers, no_read, and_gave, and_again}
-use Rattle.no_std_io2_base.specs.Read.{GathersUntil, ReadFullLaw, FullCalls, IsRest, Gives, ReadCall, ReadExactLaw, ExactCalls, NextLaw}
-use Rattle.no_std_io2_base.specs.{Write.{ByCalls, IsFront}, Events.{fails, bytes, events_of}}
+use Rattle.no_std_io2_base.specs.inner.Read.{GaveLaw, Gathers, no_read, and_gave, and_again, GathersUntil, FullCalls, IsRest, Gives}
+use Rattle.no_std_io2_base.specs.{Takes.{Reader, tells}, Read.{ReadLaw, ReadCallLaw, ReadFullLaw, ReadExactLaw}, inner.Read.{ExactCalls}}
+use Rattle.no_std_io2_base.specs.{Calls.{Gave, ReadCall, ByCalls}, inner.Iterators.{NextLaw}, Moves.{IsFront}}
+use Rattle.no_std_io2_base.specs.Events.{fails, bytes, events_of}
 use Rattle.no_std_io2_base.proofs.{CallsLemmas.{by_more, by_are}, TakesLemmas.{takes_none, bytes_more, bytes_still, read_law, bytes-append}}
 use Rattle.no_std_io2_base.proofs.TakesLemmas.{takes_then, takes_still, nothing_read, gives_none, gives_bytes, gives_still, all_taken}
 

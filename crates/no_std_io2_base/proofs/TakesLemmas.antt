@@ -1,10 +1,12 @@
 -- What calls take of the events and the bytes that a reader tells, and whose fault an error is.
 use Rattle.no_std_io2_base.specs.declared.traits.{read.Read.{Ghosts as Reads}, stored.Stored.{Ghosts as Stores}}
-use Rattle.no_std_io2_base.specs.{declared.traits.seek.Seek.{Ghosts as Seeks}, Read.{Reader, tells, ReadCall, gave, ended, bytes_given}}
-use Rattle.no_std_io2_base.specs.{Read.{ReadCallLaw, GaveLaw, ReadLaw, ReadExactLaw, Gives, AllOrNone, DrainsOrStops}, Seek.{Seeker}}
-use Rattle.no_std_io2_base.specs.{Events.{Event, byte, fails, events_of, bytes, HasNoFault, cut, EndsInFault}, declared.error.Error.{Error}}
-use Rattle.no_std_io2_base.specs.{Errors.{IsInterruption, error_kind}, Takes.{ReaderState, Takes, TakesBytes, to_come, IsAtEnd, IsAll}}
-use Rattle.no_std_io2_base.specs.{Write.{Made, WriterState, Moves}, Faults.{HasFirstFault, TellsMishap, MayFail}}
+use Rattle.no_std_io2_base.specs.declared.traits.seek.Seek.{Ghosts as Seeks}
+use Rattle.no_std_io2_base.specs.{Takes.{Reader, tells, gave, ReaderState, Takes, TakesBytes, to_come, IsAtEnd}, Calls.{ReadCall, Made}}
+use Rattle.no_std_io2_base.specs.inner.Read.{ended, bytes_given, GaveLaw, Gives, AllOrNone}
+use Rattle.no_std_io2_base.specs.{Read.{ReadCallLaw, ReadLaw, ReadExactLaw, DrainsOrStops}, Seek.{Seeker}}
+use Rattle.no_std_io2_base.specs.{Events.{Event, byte, fails, events_of, bytes, HasNoFault}, inner.Events.{cut, EndsInFault}}
+use Rattle.no_std_io2_base.specs.{declared.error.Error.{Error}, Errors.{IsInterruption, error_kind}, inner.Pieces.{IsAll}}
+use Rattle.no_std_io2_base.specs.{Moves.{WriterState, Moves}, inner.Faults.{HasFirstFault, TellsMishap, MayFail}}
 use Rattle.std.proofs.Common.{◌≡◌, ℕ, zero, suc, ◌+◌, ◌-◌, ◌<◌, ◌≤◌, List, [], ◌∷◌, ◌++◌, length, take, refl, sym, ap, ◌∙◌, arith, Result}
 use Rattle.std.proofs.Common.{Ok, Err, Option, Some, subst, append_assoc, append-nil, length-append, drop, length-take-le, IfOk, IfSome}
 use Rattle.std.proofs.{Common.{OnOk, inl, inr, ◌⊎◌}, lemmas.Grind.{common_steps}}

@@ -6,11 +6,12 @@ use Rattle.std.proofs.{Common.{IsErrAnd, append-nil, inl, inr, ⊎_elim, is_err}
 use Rattle.std.proofs.{Math.{Seq.{drop-append_seam}, Logic.{∥∥₁_elim, ∥∥₁_map}}, Props.{props}, lemmas.List.Folds.{concat-append}}
 use Rattle.std.proofs.lemmas.Fn.{chained_keeps}
 use Rattle.no_std_io2_base.specs.{declared.error.{Error.{Error}, ErrorKind.TheVariants.{WriteZero}}, Errors.{IsInterruption, IsFault}}
-use Rattle.no_std_io2_base.specs.{Errors.{SaysError, IsNoInterruption}, Write.{Wrote, Writes, none as no_write, took, again as goes_again}}
-use Rattle.no_std_io2_base.specs.Write.{stuck, fault as fails, WriterState, Sends, HasSpent, Moves, MovesFront, call_mishap}
-use Rattle.no_std_io2_base.specs.Writers.{Writer, WriteOf, WriteRestOf, CallOf, WriteAllOf, PrintsOf, WriteFmtOf}
-use Rattle.no_std_io2_base.specs.{declared.error.ErrorKind.{ErrorKind}, Retries.{HasAtMost, HasSpentTries, Tries, again}, Text.{nothing}}
-use Rattle.no_std_io2_base.specs.Text.{piece, silent, IsTextError, FailsText, MovesText, HasText, PrintsShort, PrintsOrRefuses}
+use Rattle.no_std_io2_base.specs.{Errors.{SaysError, IsNoInterruption, IsTextError}, Calls.{Wrote}}
+use Rattle.no_std_io2_base.specs.inner.Write.{Writes, none as no_write, took, again as goes_again, stuck, fault as fails}
+use Rattle.no_std_io2_base.specs.{Moves.{WriterState, Sends, Moves, MovesFront, call_mishap}, inner.Moves.{HasSpent, HasSpentTries}}
+use Rattle.no_std_io2_base.specs.{Writers.{Writer, WriteOf, WriteRestOf, WriteAllOf}, inner.Writers.{CallOf, PrintsOf, WriteFmtOf}}
+use Rattle.no_std_io2_base.specs.{declared.error.ErrorKind.{ErrorKind}, Retries.{HasAtMost, Tries, again}}
+use Rattle.no_std_io2_base.specs.{inner.Text.{nothing, piece, silent, FailsText, HasText, PrintsShort, PrintsOrRefuses}, Text.{MovesText}}
 use Rattle.no_std_io2_base.proofs.{CallsLemmas.{CallsSoFar, calls_more, calls_end}, MovesLemmas.{writes_law, Moves-refl, after_ok}}
 use Rattle.no_std_io2_base.proofs.MovesLemmas.{IsFront-refl, MovesFront-join, MovesFront-first, MovesFront-flush}
 use Rattle.std.specs.{Coded.{le_prop, Π_prop, Unit-prop}, List.{concat}, Fmt.{WritesInCalls, WritesText, DisplaysOnOk, IsPlainFormatter}}

@@ -4,10 +4,11 @@ use Rattle.std.proofs.Common.{drop, refl, sym, ap, subst, ◌∙◌, arith, le_r
 use Rattle.std.proofs.Common.{vec_capacity, inl, inr, append_assoc, append-nil, take_all, OnOk, IfOk, length-append, true, false}
 use Rattle.std.proofs.Common.{true≢false, None}
 use Rattle.no_std_io2_base.specs.{declared.error.Error.{Error}, Errors.{IsInterruption, IsFault, IsOutOfMemory}, Events.{Event, fails}}
-use Rattle.no_std_io2_base.specs.{Events.{bytes, HasNoFault}, Read.{Reader, ReadLaw, ToEndLaw, ReadToEndLaw, IsRoom, no_read, GathersUntil}}
-use Rattle.no_std_io2_base.specs.{Read.{DrainsOrStops, least_room, ended, tells, GaveAll, FilledLaw}, Takes.{ReaderState, Takes, IsAtEnd}}
-use Rattle.no_std_io2_base.specs.{declared.traits.chain.Chain.{Chain}, Chain.{chain_first, chain_second, chain_is_done, chain_events}}
-use Rattle.no_std_io2_base.specs.{Chain.{chain_held, by_first, by_both, by_second, ChainMay}, BufRead.{FillBufLaw, AfterLoan}}
+use Rattle.no_std_io2_base.specs.{Events.{bytes, HasNoFault}, Takes.{Reader, tells, ReaderState, Takes, IsAtEnd}}
+use Rattle.no_std_io2_base.specs.Read.{ReadLaw, ToEndLaw, ReadToEndLaw, DrainsOrStops}
+use Rattle.no_std_io2_base.specs.{inner.Read.{IsRoom, no_read, GathersUntil, least_room, ended, FilledLaw}, Calls.{GaveAll}}
+use Rattle.no_std_io2_base.specs.inner.Chain.{chain_first, chain_second, chain_is_done, chain_events, chain_held, by_first, by_both}
+use Rattle.no_std_io2_base.specs.{declared.traits.chain.Chain.{Chain}, inner.Chain.{by_second, ChainMay}, BufRead.{FillBufLaw, AfterLoan}}
 use Rattle.no_std_io2_base.proofs.{CallsLemmas.{by_are, by_then, to_end_then, to_end_own}, TakesLemmas.{bytes-append, HasNoFault-append}}
 use Rattle.no_std_io2_base.proofs.TakesLemmas.{takes_none, takes_then, takes_still, nothing_read, read_law, EndsInFault-behind}
 use Rattle.no_std_io2_base.proofs.{TakesLemmas.{drains_ended, stays_at_end}, ReadLoops.{ReadsSoFar, reads_none, reads_more, reads_again}}

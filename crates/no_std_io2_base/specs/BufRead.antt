@@ -1,16 +1,10 @@
--- The bytes that `fill_buf` lends, the state after the borrow, and the law of each call of `BufRead`.
-use Rattle.std.specs.Prelude.{◌≡◌, ℕ, ◌-◌, ◌<◌, List, [], ◌++◌, length, Ok, Err, Result, ◌+◌, ◌≤◌, take, drop, Vec, String, ◌^◌, ◌==◌}
-use Rattle.std.specs.Prelude.{min, if◌then◌else◌, vec_len, vec_capacity, string_bytes, string_len, string_capacity, IfOk, IfSome, IsOkAnd}
-use Rattle.std.specs.{Prelude.{Option}, Borrow.{Bor}}
-use Rattle.no_std_io2_base.specs.{declared.error.Error.{Error}, Events.{Event, events_of, bytes, BeginsWith}}
-use Rattle.no_std_io2_base.specs.Takes.{Store, ReaderState, Takes}
-use Rattle.no_std_io2_base.specs.{Takes.{to_come, IsAtEnd}, Read.{Reader, tells, ReadCall, Filled, Consumed, ReadCallLaw, bytes_given}}
-use Rattle.no_std_io2_base.specs.{Read.{fault_of}, Pieces.{newline, PieceEnds, AnswersLine, PieceCalls, YieldsRead}, Write.{ByCalls}}
-
--- the bytes that were lent, or the error
-abbrev pub lent_bytes : Result (Bor (List ℕ)) Error → Result (List ℕ) Error
-lent_bytes (Ok s) = Ok s.now
-lent_bytes (Err e) = Err e
+-- The state after a `fill_buf`, and the law of each call of `BufRead`.
+use Rattle.std.specs.Prelude.{◌≡◌, ℕ, ◌<◌, List, [], ◌++◌, length, Ok, Result, ◌+◌, ◌≤◌, Vec, String, vec_len, vec_capacity, string_bytes}
+use Rattle.std.specs.{Prelude.{string_len, string_capacity, IfOk, IfSome, IsOkAnd}, Borrow.{Bor}}
+use Rattle.no_std_io2_base.specs.{declared.error.Error.{Error}, Events.{Event, bytes}, inner.Events.{BeginsWith}}
+use Rattle.no_std_io2_base.specs.{Takes.{Takes, to_come, IsAtEnd, Reader, tells}, Calls.{Filled, ByCalls}, Read.{ReadCallLaw}}
+use Rattle.no_std_io2_base.specs.{inner.Read.{bytes_given, fault_of, lent_bytes, at_most_max}, Pieces.{newline, PieceEnds}}
+use Rattle.no_std_io2_base.specs.{inner.Lines.{AnswersLine, line_room}, inner.Pieces.{PieceCalls}}
 
 -- `fill_buf()`: its result
 pub record FillBufLaw {X : Type 0} (R : Reader X) (old : X) (reply : Result (Bor (List ℕ)) Error) : Type 0 where
@@ -51,11 +45,6 @@ pub record ReadUntilLaw {X A : Type 0} (R : Reader X) (old : X) (delim : ℕ) (b
   -- which calls it made
   pub calls : ByCalls (ReadCallLaw R) old (λ C. PieceCalls (Unit {0}) delim C (bytes taken) reply) new
 
--- the result of a call that counts at most `usize::MAX` bytes
-abbrev pub at_most_max : Result ℕ Error → Result ℕ Error
-at_most_max (Ok n) = Ok (min n (2 ^ 64 - 1))
-at_most_max (Err e) = Err e
-
 -- `skip_until(delim)`
 pub record SkipUntilLaw {X : Type 0} (R : Reader X) (old : X) (delim : ℕ) (reply : Result ℕ Error) (new : X) : Type 0 where
   -- what it takes
@@ -67,14 +56,6 @@ pub record SkipUntilLaw {X : Type 0} (R : Reader X) (old : X) (delim : ℕ) (rep
   pub ends : PieceEnds (λ _. ⊥) delim (tells R old) taken read
   -- which calls it made
   pub calls : ByCalls (ReadCallLaw R) old (λ C. PieceCalls ⊥ delim C (bytes taken) read) new
-
--- the room for a line that is read for a text: an empty text lends its own memory
-abbrev pub line_room : {A : Type 0} → String A → ℕ
-line_room buf = if string_len buf == 0 then string_capacity buf else 0
-
--- the capacity of a text: while it is empty, and a vector has its memory, that of the vector
-abbrev pub text_room : {A : Type 0} → String A → Vec ℕ A → ℕ
-text_room buf line = if string_len buf == 0 then vec_capacity line else string_capacity buf
 
 -- `read_line(alloc, buf)`
 pub record ReadLineLaw {X A : Type 0} (R : Reader X) (old : X) (buf : String A) (reply : Result ℕ Error) (buf' : String A) (new : X)
@@ -91,17 +72,3 @@ pub record ReadLineLaw {X A : Type 0} (R : Reader X) (old : X) (buf : String A) 
   pub capacity : string_capacity buf ≤ string_capacity buf'
   -- which calls it made
   pub calls : ByCalls (ReadCallLaw R) old (λ C. PieceCalls (Unit {0}) newline C (bytes taken) read) new
-
--- A `next` of `Split` or `Lines` took one piece, as `read_until` takes it into a new vector, and yields it, trimmed, or an error. `view`
--- gives the bytes of an item. A new vector has no room, so memory can be refused for the first byte of an item.
-pub record NextPieceLaw {X T : Type 0} (R : Reader X) (old : X) (view : T → List ℕ) (trim : List ℕ → List ℕ)
-    (refuses : List ℕ → Error → Type 0) (d : ℕ) (result : Option (Result T Error)) (new : X) : Type 0 where
-  pub taken : List Event
-  pub takes : Takes (tells R old) taken (tells R new)
-  -- it is one piece, taken with this result
-  pub read : Result ℕ Error
-  pub ends : PieceEnds (λ _. Unit {0}) d (tells R old) taken read
-  -- that is what it yields
-  pub yields : YieldsRead view trim refuses (bytes taken) read result
-  -- which calls it made
-  pub calls : ByCalls (ReadCallLaw R) old (λ C. PieceCalls (Unit {0}) d C (bytes taken) read) new

@@ -1,116 +1,21 @@
--- The kind and the text of an error, and the errors that the library makes.
-use Rattle.std.specs.Prelude.{◌≡◌, ℕ, Bool, true, false, List, codes, Option, None, Some, Result, IfErr}
+-- The kind of an error, and the errors that the library makes.
+use Rattle.std.specs.Prelude.{◌≡◌, ℕ, true, false, List, codes, None, Some, Result, IfErr}
 use Rattle.no_std_io2_base.specs.{declared.error.Error.{Error}, declared.error.Repr.{Repr}, declared.error.Repr.TheVariants.{Kind, Custom}}
-use Rattle.no_std_io2_base.specs.{declared.error.ErrorKind.{ErrorKind}, declared.error.ErrorKind.TheVariants.{NotFound, PermissionDenied}}
-use Rattle.no_std_io2_base.specs.declared.error.ErrorKind.TheVariants.{ConnectionRefused, ConnectionReset, ConnectionAborted}
-use Rattle.no_std_io2_base.specs.declared.error.ErrorKind.TheVariants.{NotConnected, AddrInUse, AddrNotAvailable, BrokenPipe}
-use Rattle.no_std_io2_base.specs.declared.error.ErrorKind.TheVariants.{AlreadyExists, WouldBlock, InvalidInput, InvalidData, TimedOut}
-use Rattle.no_std_io2_base.specs.declared.error.ErrorKind.TheVariants.{WriteZero, Interrupted, Other, UnexpectedEof, Unsupported}
-use Rattle.no_std_io2_base.specs.declared.error.ErrorKind.TheVariants.{OutOfMemory, Uncategorized}
+use Rattle.no_std_io2_base.specs.{declared.error.ErrorKind.{ErrorKind}, declared.error.ErrorKind.TheVariants.{UnexpectedEof, OutOfMemory}}
+use Rattle.no_std_io2_base.specs.inner.Kinds.{error_text, is_interruption}
 
 -- the kind of either form
 abbrev repr_kind : Repr → ErrorKind
 repr_kind (Kind kind) = kind
 repr_kind (Custom kind _) = kind
 
--- the text of either form, if it has one
-abbrev repr_text : Repr → Option (List ℕ)
-repr_text (Kind _) = None
-repr_text (Custom _ text) = Some text.now
-
 -- the result of `e.kind()`
 abbrev pub error_kind : Error → ErrorKind
 error_kind e = repr_kind e.repr
 
--- the text of an error, if it has one
-abbrev pub error_text : Error → Option (List ℕ)
-error_text e = repr_text e.repr
-
--- an error of this kind, without a text
-abbrev pub error_of : ErrorKind → Error
-error_of kind = record { repr = Kind kind }
-
--- what a kind prints
-abbrev pub kind_text : ErrorKind → List ℕ
-kind_text NotFound = codes "entity not found"
-kind_text PermissionDenied = codes "permission denied"
-kind_text ConnectionRefused = codes "connection refused"
-kind_text ConnectionReset = codes "connection reset"
-kind_text ConnectionAborted = codes "connection aborted"
-kind_text NotConnected = codes "not connected"
-kind_text AddrInUse = codes "address in use"
-kind_text AddrNotAvailable = codes "address not available"
-kind_text BrokenPipe = codes "broken pipe"
-kind_text AlreadyExists = codes "entity already exists"
-kind_text WouldBlock = codes "operation would block"
-kind_text InvalidInput = codes "invalid input parameter"
-kind_text InvalidData = codes "invalid data"
-kind_text TimedOut = codes "timed out"
-kind_text WriteZero = codes "write zero"
-kind_text Interrupted = codes "operation interrupted"
-kind_text Other = codes "other os error"
-kind_text UnexpectedEof = codes "unexpected end of file"
-kind_text Unsupported = codes "unsupported I/O error"
-kind_text OutOfMemory = codes "out of memory"
-kind_text Uncategorized = codes "uncategorized"
-
--- a kind's place in the order of declaration
-abbrev pub kind_number : ErrorKind → ℕ
-kind_number NotFound = 1
-kind_number PermissionDenied = 2
-kind_number ConnectionRefused = 3
-kind_number ConnectionReset = 4
-kind_number ConnectionAborted = 5
-kind_number NotConnected = 6
-kind_number AddrInUse = 7
-kind_number AddrNotAvailable = 8
-kind_number BrokenPipe = 9
-kind_number AlreadyExists = 10
-kind_number WouldBlock = 11
-kind_number InvalidInput = 12
-kind_number InvalidData = 13
-kind_number TimedOut = 14
-kind_number WriteZero = 15
-kind_number Interrupted = 16
-kind_number Other = 17
-kind_number UnexpectedEof = 18
-kind_number Unsupported = 19
-kind_number OutOfMemory = 20
-kind_number Uncategorized = 21
-
--- the text, or else the text of the kind
-abbrev text_or_kind : ErrorKind → Option (List ℕ) → List ℕ
-text_or_kind kind (Some text) = text
-text_or_kind kind None = kind_text kind
-
--- what an error prints
-abbrev pub error_display : Error → List ℕ
-error_display e = text_or_kind (error_kind e) (error_text e)
-
 -- e has this kind and this text
 abbrev pub SaysError : ErrorKind → List ℕ → Error → Type 0
 SaysError kind text e = (error_kind e ≡ kind) × (error_text e ≡ Some text)
-
--- e is the error of a failed allocation: `OutOfMemory`, without a text
-abbrev pub IsOutOfMemory : Error → Type 0
-IsOutOfMemory e = (error_kind e ≡ OutOfMemory) × (error_text e ≡ None)
-
--- e is the error of bytes that end too early
-abbrev pub IsUnexpectedEnd : Error → Type 0
-IsUnexpectedEnd e = SaysError UnexpectedEof (codes "failed to fill whole buffer") e
-
--- e is the error of a writer that takes no byte
-abbrev pub IsUnwritten : Error → Type 0
-IsUnwritten e = SaysError WriteZero (codes "failed to write whole buffer") e
-
--- e is the error of a seek that has no target
-abbrev pub IsInvalidSeek : Error → Type 0
-IsInvalidSeek e = SaysError InvalidInput (codes "invalid seek to a negative or overflowing position") e
-
--- errors of this kind are interruptions, all others are faults
-abbrev pub is_interruption : ErrorKind → Bool
-is_interruption Interrupted = true
-is_interruption _ = false
 
 -- e is an interruption: the call accepted and gave no byte, and may be made again
 abbrev pub IsInterruption : Error → Type 0
@@ -123,3 +28,15 @@ IsFault e = is_interruption (error_kind e) ≡ false
 -- the result is no interruption
 abbrev pub IsNoInterruption : {T : Type 0} → Result T Error → Type 0
 IsNoInterruption reply = IfErr reply IsFault
+
+-- e is the error of a failed allocation: `OutOfMemory`, without a text
+abbrev pub IsOutOfMemory : Error → Type 0
+IsOutOfMemory e = (error_kind e ≡ OutOfMemory) × (error_text e ≡ None)
+
+-- e is the error of bytes that end too early
+abbrev pub IsUnexpectedEnd : Error → Type 0
+IsUnexpectedEnd e = SaysError UnexpectedEof (codes "failed to fill whole buffer") e
+
+-- the error says that the text's own `fmt` failed
+abbrev pub IsTextError : Error → Type 0
+IsTextError e = error_text e ≡ Some (codes "formatter error")

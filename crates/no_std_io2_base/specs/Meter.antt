@@ -1,27 +1,17 @@
--- What it means that a number counts the calls of a writer, and how many writes a list of calls counts as.
-use Rattle.std.specs.Prelude.{◌≡◌, ℕ, ◌+◌, ◌≤◌, List, [], ◌∷◌}
-use Rattle.no_std_io2_base.specs.{Write.{WriteCall, Wrote, WroteAll, Flushed, calls_for}, Writers.{Writer, TakesAll}}
-
--- How many writes a call counts as. A `write_all` of a type that has a body of its own for it counts as one, or as none for no bytes.
--- A flush does not count.
-abbrev charge : WriteCall → ℕ
-charge (Wrote x reply) = 1
-charge (WroteAll x reply) = calls_for x
-charge (Flushed reply) = 0
-
--- how many writes these calls count as
-abbrev pub charges : List WriteCall → ℕ
-charges [] = 0
-charges (call ∷ C) = charge call + charges C
+-- What it means that a number counts the calls of a stream, and that a reader is filling.
+use Rattle.std.specs.Prelude.{◌≡◌, ℕ, ◌+◌, min, List, Result}
+use Rattle.no_std_io2_base.specs.{Calls.{WriteCall, ReadCall, Gave}, inner.Charges.{charge, FillsFor}, declared.error.Error.{Error}}
+use Rattle.no_std_io2_base.specs.Takes.{Reader}
 
 -- Each call that the writer may make raises this number by what the call counts as.
 abbrev pub IsMeter : {W : Type 0} → (W → WriteCall → W → Type 0) → (W → ℕ) → Type 0
 IsMeter {W} may cost = (old new : W) (call : WriteCall) → may old call new → cost new ≡ cost old + charge call
 
--- If the writer takes all, each number that counts its calls rises by n.
-abbrev pub Costs : {W : Type 0} → Writer W → W → ℕ → W → Type 0
-Costs {W} I old n new = (cost : W → ℕ) → IsMeter I.may cost → TakesAll I old → cost new ≡ cost old + n
+-- Each `read` that the reader may make raises this number by one, or by none if there is no room.
+abbrev pub IsReadMeter : {R : Type 0} → (R → ReadCall → R → Type 0) → (R → ℕ) → Type 0
+IsReadMeter {R} may cost = (old new : R) (room : ℕ) (answer : Result (List ℕ) Error) → may old (Gave room answer) new
+    → cost new ≡ cost old + min 1 room
 
--- If the writer takes all, each number that counts its calls rises by at most n.
-abbrev pub CostsAtMost : {W : Type 0} → Writer W → W → ℕ → W → Type 0
-CostsAtMost {W} I old n new = (cost : W → ℕ) → IsMeter I.may cost → TakesAll I old → cost new ≤ cost old + n
+-- The reader is filling in this state: however many reads follow, only bytes are to come, and each gives as many of them as fit.
+pub record FillsRoom {X : Type 0} (R : Reader X) (x : X) : Type 0 where
+  pub always : (n : ℕ) → FillsFor R n x

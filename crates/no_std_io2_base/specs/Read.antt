@@ -1,124 +1,12 @@
--- What a call needs to know of a reader, the calls of `Read` with the law of each, and what `Bytes` yields.
-use Rattle.std.specs.Prelude.{◌≡◌, ℕ, ◌<◌, List, [], ◌∷◌, ◌++◌, length, take, Ok, Err, Result, ◌⊎◌, ◌+◌, ◌-◌, ◌≤◌, Vec, vec_len}
-use Rattle.std.specs.Prelude.{vec_capacity, Some, IfOk, IsOk, Option, None, IfSome, drop}
-use Rattle.no_std_io2_base.specs.{declared.error.Error.{Error}, Errors.{IsInterruption, IsFault, IsUnexpectedEnd, IsOutOfMemory}}
-use Rattle.no_std_io2_base.specs.{declared.traits.bytes.Bytes.{Bytes}, Events.{Event, byte, fails, events_of, bytes, HasNoFault, cut}}
-use Rattle.no_std_io2_base.specs.{Events.{EndsInFault, BeginsWith}, Takes.{Store, ReaderState, Takes, to_come, IsAtEnd}}
-use Rattle.no_std_io2_base.specs.Write.{ByCalls, IsFront}
-
--- A call of a reader, with its result.
-pub data ReadCall : Type 0 where
-  -- a `read` into that much room: the bytes that it gave, or its error
-  Gave : ℕ → Result (List ℕ) Error → ReadCall
-  -- a `read_exact` of that many bytes, of a type that has a body of its own for it
-  GaveExactly : ℕ → Result (List ℕ) Error → ReadCall
-  -- a `read_to_end` of such a type: the bytes that it appended, and how it ended
-  GaveAll : List ℕ → Result (Unit {0}) Error → ReadCall
-  -- a `fill_buf`: the bytes that it lent, or its error
-  Filled : Result (List ℕ) Error → ReadCall
-  -- a `consume` of that many held bytes
-  Consumed : ℕ → ReadCall
-
--- the bytes that `read` gave at the front of buf, or its error
-abbrev pub gave : Result ℕ Error → List ℕ → Result (List ℕ) Error
-gave (Ok n) buf = Ok (take n buf)
-gave (Err e) buf = Err e
-
--- all of buf, or the error
-abbrev pub gave_whole : Result (Unit {0}) Error → List ℕ → Result (List ℕ) Error
-gave_whole (Ok u) buf = Ok buf
-gave_whole (Err e) buf = Err e
-
--- the result without its number
-abbrev pub ended : Result ℕ Error → Result (Unit {0}) Error
-ended (Ok n) = Ok tt
-ended (Err e) = Err e
-
--- the bytes of a result: none if it is an error
-abbrev pub bytes_given : Result (List ℕ) Error → List ℕ
-bytes_given (Ok x) = x
-bytes_given (Err e) = []
-
--- C are reads in a row that gave x: each gave some bytes, or was interrupted. `asks` says into how much room a read
--- is made after that many bytes.
-pub data Gathers (asks : ℕ → ℕ → Type 0) : List ReadCall → List ℕ → Type 0 where
-  no_read : Gathers asks [] []
-  and_gave : (C : List ReadCall) (x y : List ℕ) (room : ℕ) → Gathers asks C x → asks (length x) room → 0 < length y
-      → Gathers asks (C ++ Gave room (Ok y) ∷ []) (x ++ y)
-  and_again : (C : List ReadCall) (x : List ℕ) (room : ℕ) (e : Error) → Gathers asks C x → asks (length x) room → IsInterruption e
-      → Gathers asks (C ++ Gave room (Err e) ∷ []) x
-
--- C are such reads, and then a read that ended them with this result
-abbrev pub GathersUntil : (ℕ → ℕ → Type 0) → List ReadCall → List ℕ → Result (List ℕ) Error → Type 0
-GathersUntil asks C x answer = (D : List ReadCall) × (room : ℕ) × Gathers asks D x × asks (length x) room × (C ≡ D ++ Gave room answer ∷ [])
-
--- the room after `at` bytes of a buffer of `size` is all of the rest, and not empty
-abbrev pub IsRest : ℕ → ℕ → ℕ → Type 0
-IsRest size at room = (at + room ≡ size) × (0 < room)
-
--- there is some room
-abbrev pub IsRoom : ℕ → ℕ → Type 0
-IsRoom at room = 0 < room
-
--- C are the reads of a `read_exact(buf)`: they fill buf, or its front if the end or a fault comes first
-abbrev pub FillCalls : List ReadCall → Result (Unit {0}) Error → List ℕ → Type 0
-FillCalls C (Ok u) buf = Gathers (IsRest (length buf)) C buf
-FillCalls C (Err e) buf = (x : List ℕ) × IsFront x buf × ((IsUnexpectedEnd e × GathersUntil (IsRest (length buf)) C x (Ok []))
-    ⊎ (IsFault e × GathersUntil (IsRest (length buf)) C x (Err e)))
-
--- C are the calls of a `read_exact(buf)`: these reads, or the `read_exact` of a type that has a body of its own for it
-abbrev pub ExactCalls : List ReadCall → Result (Unit {0}) Error → List ℕ → Type 0
-ExactCalls C reply buf = (C ≡ GaveExactly (length buf) (gave_whole reply buf) ∷ []) ⊎ FillCalls C reply buf
-
--- C are the reads of a `read_full` into this much room, which gave x: until it is full, or the end or a fault comes first
-abbrev pub FullCalls : List ReadCall → ℕ → List ℕ → Result (Unit {0}) Error → Type 0
-FullCalls C room x (Ok u) = (Gathers (IsRest room) C x × (length x ≡ room)) ⊎ GathersUntil (IsRest room) C x (Ok [])
-FullCalls C room x (Err e) = IsFault e × GathersUntil (IsRest room) C x (Err e)
-
--- C are the reads of a `read_to_end` that gave x: up to the end, a fault, or a failed allocation
-abbrev DrainCalls : List ReadCall → List ℕ → Result (Unit {0}) Error → Type 0
-DrainCalls C x (Ok u) = GathersUntil IsRoom C x (Ok [])
-DrainCalls C x (Err e) = (IsFault e × GathersUntil IsRoom C x (Err e)) ⊎ (IsOutOfMemory e × Gathers IsRoom C x)
-
--- C are the calls of a `read_to_end` that gave x: these reads, or some reads and then the `read_to_end` of a type that has a body of its
--- own for it
-abbrev pub ToEndCalls : List ReadCall → List ℕ → Result (Unit {0}) Error → Type 0
-ToEndCalls C x answer = ((D : List ReadCall) × (y : List ℕ) × (z : List ℕ) × Gathers IsRoom D y × (x ≡ y ++ z)
-    × (C ≡ D ++ GaveAll z answer ∷ [])) ⊎ DrainCalls C x answer
-
--- the ghost members of a reader, as `⟦<R as Read>⟧` names them: that of its store, and its own. `held` are the bytes that it can lend
-abbrev pub Reader : Type 0 → Type 1
-Reader S = record {
-  store : S → Option Store;
-  turns : S → ℕ;
-  events : S → Option (List Event);
-  may : S → ReadCall → S → Type 0;
-  held : S → List ℕ;
-}
-
--- what a reader tells
-abbrev pub tells : {X : Type 0} → Reader X → X → ReaderState
-tells R x = record { events = R.events x; store = R.store x; turns = R.turns x }
-
--- the events that a `read` took, by its answer: the given bytes, or the error
-abbrev pub answered : Result (List ℕ) Error → List Event
-answered (Ok x) = events_of x
-answered (Err e) = fails e ∷ []
-
--- the events that a `fill_buf` took: none, or the error that it returned
-abbrev pub fault_of : Result (List ℕ) Error → List Event
-fault_of (Ok x) = []
-fault_of (Err e) = fails e ∷ []
-
--- P has no fault, and its bytes are x. If these are `room` bytes, it ends with the last of them.
-pub record Gives (room : ℕ) (P : List Event) (x : List ℕ) : Type 0 where
-  pub no_fault : HasNoFault P
-  pub given : bytes P ≡ x
-  pub within : cut room P ≡ P
-
--- all was taken; or nothing was, of fewer bytes than `room` without a fault
-abbrev pub AllOrNone : List Event → ℕ → List Event → Type 0
-AllOrNone P room left = (left ≡ []) ⊎ ((P ≡ []) × HasNoFault left × (length (bytes left) < room))
+-- The law of each call of `Read`.
+use Rattle.std.specs.Prelude.{◌≡◌, ℕ, ◌<◌, List, ◌++◌, length, take, Ok, Err, Result, ◌⊎◌, ◌+◌, ◌-◌, ◌≤◌, Vec, vec_len, vec_capacity, IfOk}
+use Rattle.std.specs.Prelude.{IsOk, IfSome, drop, String, string_len, string_capacity, string_bytes}
+use Rattle.no_std_io2_base.specs.{declared.error.Error.{Error}, Errors.{IsUnexpectedEnd, IsOutOfMemory}}
+use Rattle.no_std_io2_base.specs.{Events.{Event, events_of, bytes, HasNoFault}, inner.Events.{cut, EndsInFault}}
+use Rattle.no_std_io2_base.specs.Takes.{ReaderState, Takes, to_come, IsAtEnd, gave, Reader, tells, answered}
+use Rattle.no_std_io2_base.specs.inner.Read.{gave_whole, ended, ExactCalls, FullCalls, ToEndCalls, Gives, AllOrNone, GaveLaw, FilledLaw}
+use Rattle.no_std_io2_base.specs.{Calls.{ByCalls, ReadCall, Gave, GaveExactly, GaveAll, Filled, Consumed}, inner.Read.{least_room}}
+use Rattle.no_std_io2_base.specs.inner.Lines.{AnswersLine, line_room}
 
 -- how a `read_exact` of `room` bytes that took P ended: it gave them; or a fault came before the last of them, or the end
 abbrev pub FillsOrEnds : ℕ → List Event → Result (List ℕ) Error → ReaderState → Type 0
@@ -135,31 +23,6 @@ FillsOrMeetsEnd room P (Err e) new = EndsInFault P e × (length (bytes P) < room
 abbrev pub DrainsOrStops : {A : Type 0} → Type 0 → List Event → Result A Error → ReaderState → Type 0
 DrainsOrStops lacks P (Ok _) new = HasNoFault P × IsAtEnd new
 DrainsOrStops lacks P (Err e) new = EndsInFault P e ⊎ (HasNoFault P × IsOutOfMemory e × lacks)
-
--- a `read`, by its answer
-pub record GaveLaw {X : Type 0} (R : Reader X) (old : X) (room : ℕ) (answer : Result (List ℕ) Error) (new : X) : Type 0 where
-  -- it gives at most as many bytes as fit
-  pub bound : length (bytes_given answer) ≤ room
-  -- it takes the bytes or the error that it gives
-  pub takes : Takes (tells R old) (answered answer) (tells R new)
-  -- it gives no bytes only at the end, or if there is no room
-  pub end : answer ≡ Ok [] → 0 < room → IsAtEnd (tells R new)
-  -- it is one call
-  pub call : R.may old (Gave room answer) new
-
--- a `fill_buf`, by its answer
-pub record FilledLaw {X : Type 0} (R : Reader X) (old : X) (answer : Result (List ℕ) Error) (new : X) : Type 0 where
-  -- if bytes were held, they are lent, all of them, and nothing has changed
-  pub held : 0 < length (R.held old) → (answer ≡ Ok (R.held old)) × (new ≡ old)
-  -- the lent bytes come next, and are held
-  pub front : IfOk answer (λ x. IfSome (to_come (tells R old)) (λ E. BeginsWith E x))
-  pub lends : R.held new ≡ bytes_given answer
-  -- none are lent only at the end
-  pub end : answer ≡ Ok [] → IsAtEnd (tells R new)
-  -- nothing is taken, except the error that was returned
-  pub takes : Takes (tells R old) (fault_of answer) (tells R new)
-  -- it is one call
-  pub call : R.may old (Filled answer) new
 
 -- `consume(amount)`
 pub record ConsumeLaw {X : Type 0} (R : Reader X) (old : X) (amount : ℕ) (new : X) : Type 0 where
@@ -219,10 +82,6 @@ pub record ReadFullLaw {X : Type 0} (R : Reader X) (old : X) (buf : List ℕ) (f
   -- which calls it made
   pub calls : ByCalls (ReadCallLaw R) old (λ C. FullCalls C (length buf - filled) (bytes taken) reply) new
 
--- the least room into which a read to the end reads
-abbrev pub least_room : ℕ
-least_room = 32
-
 -- `read_to_end(&mut buf)` of a reader that gives up only if `lacks` holds for the number of bytes that it took
 pub record ToEndLaw {X A : Type 0} (lacks : ℕ → Type 0) (R : Reader X) (old : X) (buf : Vec ℕ A) (reply : Result ℕ Error) (buf' : Vec ℕ A)
     (new : X) : Type 0 where
@@ -242,35 +101,19 @@ pub record ToEndLaw {X A : Type 0} (lacks : ℕ → Type 0) (R : Reader X) (old 
 abbrev pub ReadToEndLaw : {X A : Type 0} → Reader X → X → Vec ℕ A → Result ℕ Error → Vec ℕ A → X → Type 0
 ReadToEndLaw R old buf = ToEndLaw (λ n. vec_capacity buf < vec_len buf + (n + least_room)) R old buf
 
--- the inner reader
-abbrev pub bytes_reader : {R : Type 0} → Bytes R → R
-bytes_reader s = s.inner
-
--- E has only interruptions
-abbrev IsInterruptionsAlone : List Event → Type 0
-IsInterruptionsAlone E = HasNoFault E × (bytes E ≡ [])
-
--- P are interruptions, and then this event
-abbrev IsRetried : List Event → Event → Type 0
-IsRetried P event = (Q : List Event) × (P ≡ Q ++ event ∷ []) × IsInterruptionsAlone Q
-
--- how a `next` that took P ended: with a byte, with a fault, or at the end
-abbrev EndsNext : List Event → Option (Result ℕ Error) → ReaderState → Type 0
-EndsNext P None new = IsInterruptionsAlone P × IsAtEnd new
-EndsNext P (Some (Ok b)) new = IsRetried P (byte b)
-EndsNext P (Some (Err e)) new = IsRetried P (fails e) × IsFault e
-
--- what the last read of a `next` returned, if `next` yields this
-abbrev pub last_read : Option (Result ℕ Error) → Result (List ℕ) Error
-last_read None = Ok []
-last_read (Some (Ok b)) = Ok (b ∷ [])
-last_read (Some (Err e)) = Err e
-
--- A `next` took some events, by reads into room for one byte each. All but the last were interrupted.
-pub record NextLaw {X : Type 0} (R : Reader X) (old : X) (result : Option (Result ℕ Error)) (new : X) : Type 0 where
+-- `read_to_string(alloc, buf)`
+pub record ReadToStringLaw {X A : Type 0} (R : Reader X) (old : X) (buf : String A) (reply : Result ℕ Error) (buf' : String A) (new : X)
+    : Type 0 where
+  -- what it takes
   pub taken : List Event
   pub takes : Takes (tells R old) taken (tells R new)
-  -- they end in the byte or the fault that it yields
-  pub ends : EndsNext taken result (tells R new)
-  -- which reads it made
-  pub calls : ByCalls (ReadCallLaw R) old (λ C. GathersUntil (λ _ room. room ≡ 1) C [] (last_read result)) new
+  -- that is all, as `read_to_end` takes it, with this result
+  pub read : Result ℕ Error
+  pub count : IfOk read (λ n. n ≡ length (bytes taken))
+  pub ends : DrainsOrStops (line_room buf < length (bytes taken) + least_room) taken read (tells R new)
+  -- it is appended if it is UTF-8 and there is room for it
+  pub answers : AnswersLine (bytes taken) read (string_len buf) (string_capacity buf) reply (string_bytes buf) (string_bytes buf')
+  -- the capacity never shrinks
+  pub capacity : string_capacity buf ≤ string_capacity buf'
+  -- which calls it made
+  pub calls : ByCalls (ReadCallLaw R) old (λ C. ToEndCalls C (bytes taken) (ended read)) new

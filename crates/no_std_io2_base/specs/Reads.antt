@@ -1,15 +1,11 @@
--- Calls of a reader, one after another: which calls, what they gave, and how they ended. `how` is `Ok(true)` if the reader may go on,
--- `Ok(false)` if it met the end, and an error if it met that fault.
-use Rattle.std.specs.Prelude.{◌≡◌, ◌⊎◌, ◌<◌, ℕ, List, [], ◌∷◌, ◌++◌, length, ⊤, Bool, true, false, Result, Ok, Err, IfErr}
-use Rattle.no_std_io2_base.specs.{declared.error.Error.{Error}, Errors.{IsFault, IsInterruption}, Events.{Event, bytes, HasNoFault}}
-use Rattle.no_std_io2_base.specs.{Events.{EndsInFault}, Takes.{ReaderState, Takes, IsAtEnd}, Write.{Made, ByCalls}, Read.{Reader, tells}}
-use Rattle.no_std_io2_base.specs.Read.{ReadCallLaw, ReadCall, Gave, GaveExactly, GaveAll, Filled, Consumed, Gathers, GathersUntil}
-
--- how a reader that took P ended, and tells this now
-abbrev pub GathersTo : List Event → Result Bool Error → ReaderState → Type 0
-GathersTo P (Ok true) new = HasNoFault P
-GathersTo P (Ok false) new = HasNoFault P × IsAtEnd new
-GathersTo P (Err e) new = EndsInFault P e
+-- What calls of a reader gave, one after another: those of a loop, of a `skip`, and of a seek and a read.
+use Rattle.std.specs.Prelude.{◌≡◌, ◌⊎◌, ℕ, ◌+◌, ◌<◌, List, [], length, Result, Ok, Err, Bool, true, IsOk, OnOk, IfSome, IsSomeAnd}
+use Rattle.no_std_io2_base.specs.{declared.error.Error.{Error}, Errors.{IsFault, IsUnexpectedEnd, IsOutOfMemory}}
+use Rattle.no_std_io2_base.specs.{Events.{Event, bytes, HasNoFault}, inner.Events.{EndsInFault}}
+use Rattle.no_std_io2_base.specs.{Takes.{ReaderState, Takes, IsAtEnd, Reader, tells}, Calls.{ReadCall, ByCalls}}
+use Rattle.no_std_io2_base.specs.Read.{ReadCallLaw, ReadExactLaw}
+use Rattle.no_std_io2_base.specs.{inner.Reads.{PortionCalls, PortionsUntil, HasBytesAt, ReadsAt, GathersTo, Asked}, Pieces.{GivesPieces}}
+use Rattle.no_std_io2_base.specs.{Seek.{Seeker, SeekLaw}, declared.traits.seek.SeekFrom.{SeekFrom}}
 
 -- From old to new a reader took these bytes, and ended like this.
 pub record Took (old : ReaderState) (x : List ℕ) (how : Result Bool Error) (new : ReaderState) : Type 0 where
@@ -17,44 +13,6 @@ pub record Took (old : ReaderState) (x : List ℕ) (how : Result Bool Error) (ne
   pub takes : Takes old taken new
   pub are : bytes taken ≡ x
   pub ends : GathersTo taken how new
-
--- C are reads in a row that gave x, and ended like this
-abbrev pub ReadsTo : (ℕ → ℕ → Type 0) → List ReadCall → List ℕ → Result Bool Error → Type 0
-ReadsTo asks C x (Ok true) = Gathers asks C x
-ReadsTo asks C x (Ok false) = GathersUntil asks C x (Ok [])
-ReadsTo asks C x (Err e) = GathersUntil asks C x (Err e)
-
--- From old to new reads gave x, and ended like this. `asks` says into how much room a read is made after that many bytes.
-pub record Reads {X : Type 0} (R : Reader X) (asks : ℕ → ℕ → Type 0) (old : X) (x : List ℕ) (how : Result Bool Error)
-    (new : X) : Type 0 where
-  pub calls : List ReadCall
-  pub made : Made (ReadCallLaw R) old calls new
-  pub are : ReadsTo asks calls x how
-  pub fault : IfErr how IsFault
-
--- some bytes were given or lent, or the call was interrupted
-abbrev GoesOn : Result (List ℕ) Error → Type 0
-GoesOn (Ok x) = 0 < length x
-GoesOn (Err e) = IsInterruption e
-
--- each of these calls went on, or consumed lent bytes
-abbrev pub AllGoOn : List ReadCall → Type 0
-AllGoOn [] = ⊤
-AllGoOn (Gave room answer ∷ C) = GoesOn answer × AllGoOn C
-AllGoOn (Filled answer ∷ C) = GoesOn answer × AllGoOn C
-AllGoOn (Consumed n ∷ C) = AllGoOn C
-AllGoOn (GaveExactly room answer ∷ C) = ⊥
-AllGoOn (GaveAll x answer ∷ C) = ⊥
-
--- this call met the end or the fault
-abbrev AnsweredBy : ReadCall → Result (List ℕ) Error → Type 0
-AnsweredBy call answer = (call ≡ Filled answer) ⊎ ((room : ℕ) × (call ≡ Gave room answer))
-
--- calls that went on were made, and then, at the end or a fault, one more, which met it
-abbrev pub Asked : List ReadCall → Result Bool Error → Type 0
-Asked C (Ok true) = AllGoOn C
-Asked C (Ok false) = (D : List ReadCall) × (call : ReadCall) × AllGoOn D × (C ≡ D ++ call ∷ []) × AnsweredBy call (Ok [])
-Asked C (Err e) = (D : List ReadCall) × (call : ReadCall) × AllGoOn D × (C ≡ D ++ call ∷ []) × AnsweredBy call (Err e)
 
 -- From old to new a reader that lends got calls of `read` and `fill_buf`. It gave x, and may go on; or it met the end or
 -- a fault, after which it got no more calls.
@@ -65,3 +23,51 @@ pub record Fetches {X : Type 0} (R : Reader X) (old : X) (x : List ℕ) (how : R
 -- bytes were fetched, and this holds for them and for how that ended
 abbrev pub Fetched : {X : Type 0} → Reader X → X → (List ℕ → Result Bool Error → Type 0) → X → Type 0
 Fetched R old Ends new = (x : List ℕ) × (how : Result Bool Error) × Fetches R old x how new × Ends x how
+
+-- From old to new a reader gave these pieces. After them this part of the next one was taken, or all of it; and then came the error e: the
+-- reader's fault, or an allocation failed.
+pub record StopsAfter (d : ℕ) (e : Error) (old : ReaderState) (ps : List (List ℕ)) (part : List ℕ) (new : ReaderState) : Type 0 where
+  -- what the reader tells after the pieces
+  pub mid : ReaderState
+  pub gives : GivesPieces d old ps mid
+  -- how the taking of the part ended
+  pub how : Result Bool Error
+  pub took : Took mid part how new
+  pub whose : (how ≡ Err e) ⊎ ((how ≡ Ok true) × IsOutOfMemory e)
+
+-- C are the calls of a `skip` of n bytes that skipped x: up to the last of them, a fault, or the end
+abbrev SkipCalls : ℕ → List ReadCall → List ℕ → Result (Unit {0}) Error → Type 0
+SkipCalls n C x (Ok u) = PortionCalls n C x
+SkipCalls n C x (Err e) = (IsFault e × PortionsUntil n C x (Err e)) ⊎ (IsUnexpectedEnd e × PortionsUntil n C x (Ok []))
+
+-- how a `skip` that took P ended, with `left` bytes still to be skipped: all were skipped; or a fault came first, or the end
+abbrev SkipEnds : List Event → Result (Unit {0}) Error → ℕ → ReaderState → Type 0
+SkipEnds P (Ok u) left new = HasNoFault P × (left ≡ 0)
+SkipEnds P (Err e) left new = (0 < left) × (EndsInFault P e ⊎ (IsUnexpectedEnd e × HasNoFault P × IsAtEnd new))
+
+-- `skip(&mut left)`: of n bytes, `left` are still to be skipped
+pub record Skipped {X : Type 0} (R : Reader X) (old : X) (n : ℕ) (reply : Result (Unit {0}) Error) (left : ℕ) (new : X) : Type 0 where
+  -- what it takes
+  pub taken : List Event
+  pub takes : Takes (tells R old) taken (tells R new)
+  -- its bytes are the skipped ones
+  pub count : length (bytes taken) + left ≡ n
+  -- how it ended
+  pub ends : SkipEnds taken reply left (tells R new)
+  -- which calls it made
+  pub calls : ByCalls (ReadCallLaw R) old (λ C. SkipCalls n C (bytes taken) reply) new
+
+-- a seek failed, and its error is the result; or the seek succeeded, and a `read_exact` after it had this result
+abbrev SeeksThenReads : {X : Type 0} → Seeker X → Reader X → X → SeekFrom → List ℕ → Result (Unit {0}) Error → List ℕ → X → Type 0
+SeeksThenReads {X} S R old at buf reply buf' new = ((e : Error) × (reply ≡ Err e) × SeekLaw S old at (Err e) new)
+    ⊎ ((mid : X) × (n : ℕ) × SeekLaw S old at (Ok n) mid × ReadExactLaw R mid buf reply buf' new)
+
+-- `read_exact_at(at, buf)`
+pub record ReadAtLaw {X : Type 0} (S : Seeker X) (R : Reader X) (old : X) (at : SeekFrom) (buf : List ℕ) (reply : Result (Unit {0}) Error)
+    (buf' : List ℕ) (new : X) : Type 0 where
+  -- a told store keeps its content; after `Ok` the bytes at the target were read
+  pub store : IfSome (S.store old) (λ s. IsSomeAnd (S.store new) (λ t. (t.content ≡ s.content) × OnOk reply (ReadsAt s at buf' t.position)))
+  -- it succeeds if a store is told that has these bytes
+  pub enough : IsSomeAnd (S.store old) (HasBytesAt at (length buf)) → IsOk reply
+  -- which calls it made
+  pub calls : SeeksThenReads S R old at buf reply buf' new

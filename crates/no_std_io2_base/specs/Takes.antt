@@ -1,32 +1,8 @@
 -- What a reader tells, and what its calls take of that.
-use Rattle.std.specs.Prelude.{◌≡◌, ℕ, ◌<◌, ◌≤◌, ◌+◌, ◌^◌, min, List, [], ◌++◌, length, drop, ⊤, Option, None, Some, IfSome, Bool, true}
-use Rattle.std.specs.Prelude.{false, ◌&&◌, nat_lt, refl}
-use Rattle.std.proofs.lemmas.Bool.Decides.{Decides-and, Decides-ltb}
-use Rattle.no_std_io2_base.specs.Events.{Event, events_of, bytes, HasNoFault}
-
--- A content and a position in it. The length and the position fit a `u64`.
-pub record Store : Type 0 where
-  pub content : List ℕ
-  pub position : ℕ
-  pub fits : (length content < 2 ^ 64) × (position < 2 ^ 64)
-
--- whether this length and this position fit
-abbrev pub fits_u64 : List ℕ → ℕ → Bool
-fits_u64 content position = nat_lt (length content) (2 ^ 64) && nat_lt position (2 ^ 64)
-
--- the proof that both fit, from that test
-pub fits_by : (content : List ℕ) (position : ℕ) → fits_u64 content position ≡ true → (length content < 2 ^ 64) × (position < 2 ^ 64)
-fits_by content position = (Decides-and _ _ (Decides-ltb (length content) (2 ^ 64)) (Decides-ltb position (2 ^ 64))).0
-
--- the store of this content and this position, if this test is true, which says that both fit
-abbrev pub store_by : (t : Bool) (content : List ℕ) (position : ℕ) → (t ≡ true → (length content < 2 ^ 64) × (position < 2 ^ 64))
-    → Option Store
-store_by true content position fits = Some (record { content = content; position = position; fits = fits refl })
-store_by false content position fits = None
-
--- the store of this content and this position, if both fit
-abbrev pub store_at : List ℕ → ℕ → Option Store
-store_at content position = store_by (fits_u64 content position) content position (fits_by content position)
+use Rattle.std.specs.Prelude.{◌≡◌, ℕ, List, ◌++◌, IfSome, IsSomeAnd, [], ◌∷◌, take, Ok, Err, Result, Option, ◌≤◌, ◌+◌, min, length, ⊤, None}
+use Rattle.std.specs.Prelude.{Some}
+use Rattle.no_std_io2_base.specs.{Events.{bytes, Event, fails, events_of, Store, HasNoFault}, declared.error.Error.{Error}}
+use Rattle.no_std_io2_base.specs.{Calls.{ReadCall}, inner.Takes.{told_bytes, fits_u64, fits_by, store_by, events_by, AreTaken}}
 
 -- What a reader tells.
 pub record ReaderState : Type 0 where
@@ -37,20 +13,31 @@ pub record ReaderState : Type 0 where
   -- a number that no call raises
   pub turns : ℕ
 
--- the bytes of a store from its position on; or, without a store, these events
-abbrev pub events_by : Option Store → Option (List Event) → Option (List Event)
-events_by None E = E
-events_by (Some s) E = Some (events_of (drop s.position s.content))
+-- the store of this content and this position, if both fit
+abbrev pub store_at : List ℕ → ℕ → Option Store
+store_at content position = store_by (fits_u64 content position) content position (fits_by content position)
 
 -- the events to come, if they are told
 abbrev pub to_come : ReaderState → Option (List Event)
 to_come t = events_by t.store t.events
 
--- If events were told, they still are, and P is gone from their front.
-abbrev pub AreTaken : Option (List Event) → List Event → Option (List Event) → Type 0
-AreTaken None P new = ⊤
-AreTaken (Some E) P None = ⊥
-AreTaken (Some E) P (Some after) = E ≡ P ++ after
+-- the ghost members of a reader, as `⟦<R as Read>⟧` names them: that of its store, and its own. `held` are the bytes that it can lend
+abbrev pub Reader : Type 0 → Type 1
+Reader S = record {
+  store : S → Option Store;
+  turns : S → ℕ;
+  events : S → Option (List Event);
+  may : S → ReadCall → S → Type 0;
+  held : S → List ℕ;
+}
+
+-- what a reader tells
+abbrev pub tells : {X : Type 0} → Reader X → X → ReaderState
+tells R x = record { events = R.events x; store = R.store x; turns = R.turns x }
+
+-- the bytes that the reader tells to come
+abbrev pub bytes_left : {X : Type 0} → Reader X → X → List ℕ
+bytes_left R x = told_bytes (to_come (tells R x))
 
 -- If a store was told, it still is, with the same content; and `Goes` holds for its length, its old position and its new one.
 abbrev pub KeepsContent : Option Store → (ℕ → ℕ → ℕ → Type 0) → Option Store → Type 0
@@ -78,6 +65,16 @@ pub record TakesBytes (old : ReaderState) (x : List ℕ) (new : ReaderState) : T
 abbrev pub IsAtEnd : ReaderState → Type 0
 IsAtEnd t = IfSome (to_come t) (λ E. E ≡ [])
 
--- P is all that is to come, if events are told
-abbrev pub IsAll : ReaderState → List Event → Type 0
-IsAll t P = IfSome (to_come t) (λ E. E ≡ P)
+-- of the bytes to come, if they are told, these are gone from the front, and no others
+abbrev pub LosesFirst : ReaderState → List ℕ → ReaderState → Type 0
+LosesFirst old x new = IfSome (to_come old) (λ E. IsSomeAnd (to_come new) (λ E'. bytes E ≡ x ++ bytes E'))
+
+-- the bytes that `read` gave at the front of buf, or its error
+abbrev pub gave : Result ℕ Error → List ℕ → Result (List ℕ) Error
+gave (Ok n) buf = Ok (take n buf)
+gave (Err e) buf = Err e
+
+-- the events that a `read` took, by its answer: the given bytes, or the error
+abbrev pub answered : Result (List ℕ) Error → List Event
+answered (Ok x) = events_of x
+answered (Err e) = fails e ∷ []

@@ -6,7 +6,8 @@ ghost use Rattle.std.specs.Borrow.{Lends};
 ghost use Rattle.std.specs.Box.{boxed_slice_items};
 ghost use Rattle.no_std_io2_base.specs.contracts.cursor.Cursor.{the_row as cursor-row};
 ghost use Rattle.no_std_io2_base.specs.Errors.{IsOutOfMemory};
-ghost use Rattle.no_std_io2_base.specs.Cursor.{cursor_position, cursor_inner, cursor_with_inner};
+ghost use Rattle.no_std_io2_base.specs.Cursor.{cursor_position, cursor_inner};
+ghost use Rattle.no_std_io2_base.specs.inner.Cursor.{cursor_with_inner};
 
 mod reading;
 mod seeking;

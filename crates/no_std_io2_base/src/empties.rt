@@ -1,6 +1,6 @@
 //! [`Empty`], a stream without bytes.
 ghost use Rattle.std.specs.Prelude.{◌≡◌, [], Some};
-ghost use Rattle.no_std_io2_base.specs.Sink.{sink_taken};
+ghost use Rattle.no_std_io2_base.specs.inner.InMemory.{sink_taken};
 
 use crate::error::Result;
 use crate::sinks::Sink;
@@ -47,7 +47,7 @@ impl BufRead for Empty {
 
 /// Each seek returns 0.
 impl Seek for Empty {
-    ghost use Rattle.no_std_io2_base.specs.Sink.{StaysAtStart};
+    ghost use Rattle.no_std_io2_base.specs.inner.InMemory.{StaysAtStart};
 
     ghost may = { StaysAtStart };
 
@@ -58,7 +58,7 @@ impl Seek for Empty {
 
 /// Tells what its sink tells.
 impl Write for Empty {
-    ghost use Rattle.no_std_io2_base.specs.Sink.{sink_told, SinkMay};
+    ghost use Rattle.no_std_io2_base.specs.inner.InMemory.{sink_told, SinkMay};
     ghost use Rattle.std.specs.Prelude.{⊤};
 
     ghost told = { λ e. sink_told e.sink };

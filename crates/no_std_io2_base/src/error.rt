@@ -2,7 +2,9 @@
 //! [`ErrorKind`] and perhaps a static text.
 ghost use Rattle.std.specs.Prelude.{◌≡◌, Some, None};
 ghost use Rattle.std.specs.Option.{option_map};
-ghost use Rattle.no_std_io2_base.specs.Errors.{kind_text, error_kind, error_text, error_display, is_interruption, IsOutOfMemory};
+ghost use Rattle.no_std_io2_base.specs.inner.Kinds.{kind_text, error_text, is_interruption};
+ghost use Rattle.no_std_io2_base.specs.Errors.{error_kind, IsOutOfMemory};
+ghost use Rattle.no_std_io2_base.specs.inner.Errors.{error_display};
 
 pub(crate) use crate::internal::{failed_to_fill, failed_to_write, invalid_seek};
 use std::alloc::{AllocError, AllocFailed};

@@ -1,5 +1,6 @@
 //! Functions that `no_std_io2` shares with this crate. They are no part of the public interface.
-ghost use Rattle.no_std_io2_base.specs.Errors.{IsInvalidSeek, IsUnexpectedEnd, IsUnwritten};
+ghost use Rattle.no_std_io2_base.specs.inner.Errors.{IsInvalidSeek, IsUnwritten};
+ghost use Rattle.no_std_io2_base.specs.Errors.{IsUnexpectedEnd};
 
 use crate::error::{Error, ErrorKind};
 pub use crate::impls::{append_rest, copy_apart, copy_bytes};

@@ -1,7 +1,6 @@
 //! [`empty`], [`repeat`] and [`sink`]. A module cannot have these names beside those of their types.
 ghost use Rattle.std.specs.Prelude.{◌≡◌, [], replicate};
-ghost use Rattle.no_std_io2_base.specs.Repeat.{repeat_left};
-ghost use Rattle.no_std_io2_base.specs.Sink.{empty_taken, sink_taken};
+ghost use Rattle.no_std_io2_base.specs.inner.InMemory.{repeat_left, empty_taken, sink_taken};
 
 use crate::empties::Empty;
 use crate::repeats::Repeat;

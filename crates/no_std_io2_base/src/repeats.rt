@@ -1,9 +1,10 @@
 //! [`Repeat`], one byte many times.
 ghost use Rattle.std.specs.Prelude.{◌≡◌, length, replicate, Some};
 ghost use Rattle.no_std_io2_base.specs.Events.{events_of};
-ghost use Rattle.no_std_io2_base.specs.InMemory.{GivesLeft};
-ghost use Rattle.no_std_io2_base.specs.Read.{Gave, ReadLaw, gave};
-ghost use Rattle.no_std_io2_base.specs.Repeat.{repeat_left};
+ghost use Rattle.no_std_io2_base.specs.inner.InMemory.{GivesLeft, repeat_left};
+ghost use Rattle.no_std_io2_base.specs.Calls.{Gave};
+ghost use Rattle.no_std_io2_base.specs.Read.{ReadLaw};
+ghost use Rattle.no_std_io2_base.specs.Takes.{gave};
 
 use crate::error::Result;
 use crate::traits::{Read, Stored};

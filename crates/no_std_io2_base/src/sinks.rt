@@ -1,6 +1,6 @@
 //! [`Sink`], a writer that takes all.
 ghost use Rattle.std.specs.Prelude.{◌≡◌, [], ⊤};
-ghost use Rattle.no_std_io2_base.specs.Sink.{sink_taken};
+ghost use Rattle.no_std_io2_base.specs.inner.InMemory.{sink_taken};
 
 use crate::error::Result;
 use crate::ghost_bytes::GhostBytes;
@@ -35,7 +35,7 @@ impl Default for Sink {
 
 /// Tells that each byte is out as soon as it is written, and that no mishap is to come.
 impl Write for Sink {
-    ghost use Rattle.no_std_io2_base.specs.Sink.{sink_told, SinkMay};
+    ghost use Rattle.no_std_io2_base.specs.inner.InMemory.{sink_told, SinkMay};
 
     ghost told = { sink_told };
 

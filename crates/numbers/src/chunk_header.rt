@@ -2,9 +2,9 @@
 ghost use Rattle.std.specs.Prelude.{◌≡◌, ◌<◌, ◌^◌, ◌++◌, ℕ, List, Ok, Some};
 ghost use Rattle.numbers.specs.ChunkHeaders.{chunk_header};
 ghost use Rattle.no_std_io2.specs.Events.{Event, events_of};
-ghost use Rattle.no_std_io2.specs.Read.{tells};
+ghost use Rattle.no_std_io2.specs.Takes.{tells};
+ghost use Rattle.no_std_io2.specs.Moves.{MovesFront};
 ghost use Rattle.no_std_io2.specs.Takes.{to_come};
-ghost use Rattle.no_std_io2.specs.Write.{MovesFront};
 
 use crate::{BigEndian, ReadBytesExt, WriteBytesExt};
 use no_std_io2::io::{Read, Result, Write};

@@ -1,7 +1,7 @@
 // Numbers by the crate `byteorder`.
 ghost use Rattle.std.specs.Prelude.{◌≡◌, ◌≤◌, ◌++◌, drop, length, IfOk, IfSome, Some};
 ghost use Rattle.byteorder.specs.Endian.{big_bytes, big_number};
-ghost use Rattle.no_std_io2.specs.Read.{tells};
+ghost use Rattle.no_std_io2.specs.Takes.{tells};
 ghost use Rattle.system_streams.specs.ToStd.{accepted, bytes_to_come};
 
 use byteorder::{BigEndian, ReadBytesExt, WriteBytesExt};

@@ -4,9 +4,10 @@ use Rattle.no_std_io2.proofs.Words.{◌≡◌, ℕ, ◌<◌, ◌⊎◌, List, []
 use Rattle.no_std_io2.proofs.Words.{◌∙◌, arith, inl, inr, append-nil, Vec, Event, bytes, Reader, ReadCall, Filled, ReadCallLaw, tells}
 use Rattle.no_std_io2.proofs.{Words.{newline, Made}, CallsLemmas.{made_split}, CallsAdd.{piece_adds, EachAdds}, LimitLemmas.{limit_reader}}
 use Rattle.no_std_io2.proofs.{LimitLemmas.{limit_each, limit_exact}, ToEndLemmas.{chain_reader}}
-use Rattle.no_std_io2.specs.{declared.io.{Error.{Error}, Take.{Take}}, Errors.{IsUnexpectedEnd}, Events.{cut}, Read.{GaveExactly}}
-use Rattle.no_std_io2.specs.{Read.{ReadExactLaw, FillCalls, gave_whole}, BufRead.{ReadUntilLaw, ReadLineLaw, line_room}}
-use Rattle.no_std_io2.specs.{Pieces.{PieceCalls, PieceEnds, AnswersLine}, Write.{ByCalls}, Take.{limit_left, LimitTakes}, Chain.{InTurn}}
+use Rattle.no_std_io2.specs.{declared.io.Error.{Error}, declared.io.Take.{Take}, Errors.{IsUnexpectedEnd}, inner.Events.{cut}}
+use Rattle.no_std_io2.specs.{Calls.{GaveExactly, ByCalls}, Read.{ReadExactLaw}, inner.Read.{FillCalls, gave_whole}}
+use Rattle.no_std_io2.specs.{BufRead.{ReadUntilLaw, ReadLineLaw}, inner.Lines.{line_room, AnswersLine}, inner.Pieces.{PieceCalls}}
+use Rattle.no_std_io2.specs.{Pieces.{PieceEnds}, inner.Take.{limit_left, LimitTakes}, inner.Chain.{InTurn}}
 
 -- For `adaptors`: at limit 0 a `Take` gives nothing, over every reader.
 

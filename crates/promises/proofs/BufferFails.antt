@@ -6,8 +6,9 @@ use Rattle.no_std_io2.proofs.Words.{WriteCalls, SingleCall, WriteAllCalls, Flush
 use Rattle.no_std_io2.proofs.Words.{SendLinesCalls, LineWriteCalls, LineWriteAllCalls, Vec, told_out, writer_inner, writer_buffer}
 use Rattle.no_std_io2.proofs.{Words.{writer_told, with_buffer, line_inner, line_buffer}, CallsLemmas.{law_may, made_split}}
 use Rattle.no_std_io2.proofs.LineLemmas.{lines_some}
-use Rattle.no_std_io2.specs.{declared.io.Error.{Error}, Writers.{WriteAllOf, FlushOf}, Appends.{AppendsWhole, AppendsMay}}
-use Rattle.no_std_io2.specs.{BufWriter.{WithNothingHeld, PutCalls}, LineWriter.{SendLineCalls, LinesCalls, HoldsTail, LineCalls}}
+use Rattle.no_std_io2.specs.{declared.io.Error.{Error}, Writers.{WriteAllOf, FlushOf}, inner.InMemory.{AppendsWhole, AppendsMay}}
+use Rattle.no_std_io2.specs.inner.BufWriter.{WithNothingHeld, PutCalls}
+use Rattle.no_std_io2.specs.inner.LineWriter.{SendLineCalls, LinesCalls, HoldsTail, LineCalls}
 use Rattle.no_std_io2.specs.declared.buffered.{buf_writer.BufWriter.{BufWriter}, line_writer.LineWriter.{LineWriter}}
 use Rattle.promises.specs.Fails.{FailsBy, FailsOnly}
 use Rattle.std.specs.Vec.{vec_len, vec_capacity}

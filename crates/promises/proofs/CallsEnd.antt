@@ -4,7 +4,7 @@ use Rattle.no_std_io2.proofs.Words.{◌≡◌, ℕ, List, [], ◌∷◌, ◌++�
 use Rattle.no_std_io2.proofs.Words.{WroteAll, Flushed, AllCalls, Writes, none, took, again, stuck, fault, stops, goes_on, RoomCalls}
 use Rattle.no_std_io2.proofs.Words.{FlushCalls, WriteCalls, SingleCall, ◌+◌, ◌≤◌, Writer, calls_for, charges, IsMeter, Step, TakesStep}
 use Rattle.no_std_io2.proofs.{BufWriterLemmas.{effect_of}, BufWriterCalls.{send_does}, MovesLemmas.{meter_made}}
-use Rattle.no_std_io2.specs.{declared.io.Error.{Error}, BufWriter.{PutCalls, UnwrapCalls}, Meter.{Costs}}
+use Rattle.no_std_io2.specs.{declared.io.Error.{Error}, inner.BufWriter.{PutCalls, UnwrapCalls}, inner.Meter.{Costs}}
 use Rattle.no_std_io2.specs.declared.buffered.into_inner_error.IntoInnerError.{IntoInnerError}
 use Rattle.promises.specs.Promises.{HasNoFlush, FailedWith, EndsIn, EndsInFlush}
 

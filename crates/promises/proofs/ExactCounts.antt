@@ -7,8 +7,8 @@ use Rattle.no_std_io2.proofs.Words.{FillsBelow, lent_held, lent_read, cases_lt, 
 use Rattle.no_std_io2.proofs.Words.{length-append, length-drop, Made, ReadCall, ReadCallLaw, GaveLaw, Gave, Gathers, no_read, and_gave}
 use Rattle.no_std_io2.proofs.{Words.{and_again, AsksExact}, BufferedReads.{some_room}, InMemoryReads.{drawn}, CallsLemmas.{made_split}}
 use Rattle.std.specs.Prelude.{nat_lt}
-use Rattle.no_std_io2.specs.{declared.{io.Error.{Error}, buffered.buf_reader.BufReader.{BufReader}}, Read.{gave}, BufReader.{ReadsThrough}}
-use Rattle.no_std_io2.specs.BufReader.{LeavesExact, only_held, read_whole, read_to_end, read_to_fault}
+use Rattle.no_std_io2.specs.{declared.io.Error.{Error}, declared.buffered.buf_reader.BufReader.{BufReader}, Takes.{gave}}
+use Rattle.no_std_io2.specs.inner.BufReader.{ReadsThrough, LeavesExact, only_held, read_whole, read_to_end, read_to_fault}
 use Rattle.promises.specs.Counts.{exact_reads, exact_left}
 
 -- For `counts`: how many inner reads a call of a `BufReader` makes over a filling reader, and how many bytes it gives.

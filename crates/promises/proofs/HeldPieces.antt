@@ -7,10 +7,11 @@ use Rattle.no_std_io2.proofs.Words.{length-append, length-take-le, take-append-d
 use Rattle.no_std_io2.proofs.Words.{Filled, Consumed, ReadCallLaw, tells, newline, IsSuffix, reader_held, reader_behind, reader_inner}
 use Rattle.no_std_io2.proofs.{Words.{FillsBelow, lent_held, lent_read}, BufferedReads.{before_decides, buf_reader}}
 use Rattle.no_std_io2.proofs.CallsLemmas.{made_split}
-use Rattle.no_std_io2.specs.{declared.io.Error.{Error}, Read.{gave}, BufRead.{ReadUntilLaw, ReadLineLaw, line_room}, Pieces.{AnswersLine}}
-use Rattle.no_std_io2.specs.Pieces.{Lacks, EndsPiece, FindsPiece, PartCalls, no_part, and_part, and_waited, PieceEnds, PieceCalls}
-use Rattle.no_std_io2.specs.{Write.{ByCalls}, declared.buffered.buf_reader.BufReader.{BufReader}, BufReader.{HasBuffer, TakesHeld}}
-use Rattle.no_std_io2.specs.BufReader.{TakesHeldLine}
+use Rattle.no_std_io2.specs.{declared.io.Error.{Error}, Takes.{gave}, BufRead.{ReadUntilLaw, ReadLineLaw}}
+use Rattle.no_std_io2.specs.inner.Lines.{line_room, AnswersLine}
+use Rattle.no_std_io2.specs.inner.Pieces.{Lacks, EndsPiece, FindsPiece, PartCalls, no_part, and_part, and_waited, PieceCalls}
+use Rattle.no_std_io2.specs.{Pieces.{PieceEnds}, Calls.{ByCalls}, declared.buffered.buf_reader.BufReader.{BufReader}, BufReader.{HasBuffer}}
+use Rattle.no_std_io2.specs.inner.BufReader.{TakesHeld, TakesHeldLine}
 
 -- For `reads`: the store after a call, if it was told before; and the events.
 

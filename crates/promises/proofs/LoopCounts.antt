@@ -4,7 +4,7 @@ use Rattle.no_std_io2.proofs.Words.{refl, sym, subst, ◌∙◌, inl, inr, Made,
 use Rattle.no_std_io2.proofs.Words.{and_gave, and_again, GathersUntil, ExactCalls, ap, OnOk, GaveLaw, ReadCallLaw, bytes_given, IsReadMeter}
 use Rattle.no_std_io2.proofs.{Words.{FillsRoom, bytes_left, Writer, Copied}, CallsLemmas.{made_split}, TakesLemmas.{length-events_of}}
 use Rattle.no_std_io2.proofs.{CopyLoop.{copied_ok}, InMemoryReads.{drawn}}
-use Rattle.no_std_io2.specs.{declared.io.Error.{Error}, Read.{ended, FillCalls, ToEndCalls}}
+use Rattle.no_std_io2.specs.{declared.io.Error.{Error}, inner.Read.{ended, FillCalls, ToEndCalls}}
 use Rattle.promises.specs.Loops.{stopped, CountsToEnd}
 use Rattle.io_bench.specs.{declared.tally.Tally.{Tally}, Tally.{tally_inner, tally_reads, tally_writes, ReadCounted, ReadsCounted}}
 use Rattle.std.specs.Int.{div_ceil}

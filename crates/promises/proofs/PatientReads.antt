@@ -7,7 +7,7 @@ use Rattle.no_std_io2.proofs.{Words.{to_come, Reader, tells}, CallsLemmas.{made_
 use Rattle.no_std_io2.proofs.{CallsAdd.{gathers_add}, CopyLoop.{took_told}}
 use Rattle.std.specs.{Prelude.{min}, Result.{IsErrAnd}, Io.KnownBytes.{Consumes, Keeps}}
 use lib.Seq.{take-append_seam}
-use Rattle.no_std_io2.specs.{declared.io.Error.{Error}, Errors.{is_interruption}, Read.{gave, ToEndLaw}, Write.{ByCalls}}
+use Rattle.no_std_io2.specs.{declared.io.Error.{Error}, inner.Kinds.{is_interruption}, Takes.{gave}, Read.{ToEndLaw}, Calls.{ByCalls}}
 use Rattle.system_streams.specs.{declared.{patient.Patient.{Patient}, system.SystemRead.{Ghosts as Source}}, Patient.{patient_device}}
 use Rattle.system_streams.specs.{Patient.{patient_turns, patient_taken, AsksOnce, AsksDevice}, Turns.{IsOutOfTurns, IsDeviceFault}}
 use Rattle.promises.specs.Patience.{EndsReads, Fills}

@@ -1,6 +1,6 @@
 -- Which errors the calls of a writer may return.
 use Rattle.std.specs.Prelude.{◌<◌, length, IfOk, IfErr}
-use Rattle.no_std_io2.specs.{declared.io.Error.{Error}, Write.{WriteCall, Wrote, WroteAll, Flushed}}
+use Rattle.no_std_io2.specs.{declared.io.Error.{Error}, Calls.{WriteCall, Wrote, WroteAll, Flushed}}
 
 -- if the call failed, then with such an error; and a `write` of some bytes that returned `Ok` took some
 abbrev pub FailsBy : (Error → Type 0) → WriteCall → Type 0

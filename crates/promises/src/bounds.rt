@@ -1,10 +1,11 @@
 // At most how many calls the device gets, by each number that counts its calls. A `Tally` has such a number.
 ghost use Rattle.std.specs.Prelude.{◌≡◌, ◌+◌, ◌-◌, ◌/◌, ◌≤◌, IsOk, length};
 ghost use Rattle.no_std_io2.specs.LineWriter.{line_inner};
-ghost use Rattle.no_std_io2.specs.Meter.{CostsAtMost};
+ghost use Rattle.no_std_io2.specs.inner.Meter.{CostsAtMost};
+ghost use Rattle.no_std_io2.specs.Meter.{FillsRoom};
+ghost use Rattle.no_std_io2.specs.Moves.{Moves, MovesFront};
+ghost use Rattle.no_std_io2.specs.Write.{taken, write_mishap};
 ghost use Rattle.no_std_io2.specs.BufReader.{reader_inner};
-ghost use Rattle.no_std_io2.specs.ReadMeter.{FillsRoom};
-ghost use Rattle.no_std_io2.specs.Write.{Moves, MovesFront, taken, write_mishap};
 ghost use Rattle.no_std_io2.specs.Writers.{TakesAll};
 ghost use Rattle.io_bench.specs.Asks.{AllFit, CameTo, Steps, left_behind};
 ghost use Rattle.io_bench.specs.Tally.{tally_inner, tally_reads};

@@ -2,9 +2,10 @@
 ghost use Rattle.std.specs.Prelude.{◌≡◌, ◌-◌, ◌<◌, ◌+◌, ◌++◌, IsOkAnd, Ok, OnErr, drop, length, min, take, vec_capacity, vec_len};
 ghost use Rattle.std.specs.Box.{boxed_slice_items};
 ghost use Rattle.std.specs.VecDeque.{deque_capacity, deque_len};
-ghost use Rattle.no_std_io2.specs.Appends.{AppendsWhole};
-ghost use Rattle.no_std_io2.specs.Cursor.{PutsFitting, PutsWhole, cursor_inner, cursor_left, cursor_position};
-ghost use Rattle.no_std_io2.specs.Read.{gave};
+ghost use Rattle.no_std_io2.specs.inner.InMemory.{AppendsWhole};
+ghost use Rattle.no_std_io2.specs.inner.Cursor.{PutsFitting, PutsWhole, cursor_left};
+ghost use Rattle.no_std_io2.specs.Cursor.{cursor_inner, cursor_position};
+ghost use Rattle.no_std_io2.specs.Takes.{gave};
 
 use no_std_io2::io::{AsSlice, Cursor, Read, Result, Write};
 use std::alloc::Allocator;

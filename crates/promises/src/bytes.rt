@@ -1,7 +1,10 @@
 // No accepted byte is lost, repeated or moved.
 ghost use Rattle.std.specs.Prelude.{◌≡◌, List, [], ℕ, ◌++◌, IfErr, OnOk};
-ghost use Rattle.no_std_io2.specs.Write.{AllCalls, ByCalls, Flushed, IsFront, Moves, Wrote, taken, write_mishap};
-ghost use Rattle.no_std_io2.specs.Writers.{CallOf};
+ghost use Rattle.no_std_io2.specs.inner.Write.{AllCalls};
+ghost use Rattle.no_std_io2.specs.Calls.{ByCalls, Flushed, Wrote};
+ghost use Rattle.no_std_io2.specs.Moves.{IsFront, Moves};
+ghost use Rattle.no_std_io2.specs.Write.{taken, write_mishap};
+ghost use Rattle.no_std_io2.specs.inner.Writers.{CallOf};
 ghost use Rattle.io_bench.specs.Tally.{tally_inner};
 ghost use Rattle.promises.specs.Promises.{EndsIn, bytes_in, in_tower};
 

@@ -2,9 +2,12 @@
 ghost use Rattle.std.specs.Prelude.{◌≡◌, ◌+◌, ◌*◌, ◌/◌, ◌<◌, ◌≤◌, ◌++◌, [], IfErr, IfOk, Ok, OnOk, length, vec_capacity, vec_len};
 ghost use Rattle.no_std_io2.specs.BufWriter.{BufWriterFits, writer_buffer, writer_inner, writer_told};
 ghost use Rattle.no_std_io2.specs.Errors.{IsOutOfMemory};
-ghost use Rattle.no_std_io2.specs.Write.{ByCalls, Moves, taken, write_mishap};
-ghost use Rattle.no_std_io2.specs.Writers.{CallOf, TakesAll};
-ghost use Rattle.no_std_io2.specs.Meter.{CostsAtMost};
+ghost use Rattle.no_std_io2.specs.Calls.{ByCalls};
+ghost use Rattle.no_std_io2.specs.Moves.{Moves};
+ghost use Rattle.no_std_io2.specs.Write.{taken, write_mishap};
+ghost use Rattle.no_std_io2.specs.inner.Writers.{CallOf};
+ghost use Rattle.no_std_io2.specs.Writers.{TakesAll};
+ghost use Rattle.no_std_io2.specs.inner.Meter.{CostsAtMost};
 ghost use Rattle.io_bench.specs.Closed.{flushes, given_bytes};
 ghost use Rattle.promises.specs.Promises.{EndsInFlush, EndsIn, HasNoFlush};
 

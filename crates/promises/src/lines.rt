@@ -1,9 +1,11 @@
 // What a `LineWriter` holds.
 ghost use Rattle.std.specs.Prelude.{OnOk};
-ghost use Rattle.no_std_io2.specs.Lines.{IsLineState};
-ghost use Rattle.no_std_io2.specs.Pieces.{Lacks, newline};
+ghost use Rattle.no_std_io2.specs.inner.Lines.{IsLineState};
+ghost use Rattle.no_std_io2.specs.inner.Pieces.{Lacks};
+ghost use Rattle.no_std_io2.specs.Pieces.{newline};
+ghost use Rattle.no_std_io2.specs.Moves.{Moves, MovesFront};
+ghost use Rattle.no_std_io2.specs.Write.{taken, write_mishap};
 ghost use Rattle.no_std_io2.specs.LineWriter.{line_buffer};
-ghost use Rattle.no_std_io2.specs.Write.{Moves, MovesFront, taken, write_mishap};
 ghost use Rattle.promises.specs.Promises.{in_lines, in_tower};
 
 use no_std_io2::io::{BufWriter, LineWriter, Result, Write};

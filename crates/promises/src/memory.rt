@@ -2,11 +2,13 @@
 ghost use Rattle.std.specs.Prelude.{List, ℕ, ◌≡◌, ◌-◌, ◌++◌, drop, length, min, IsOkAnd, None, OnOk, Some};
 ghost use Rattle.std.specs.Box.{boxed_slice_items};
 ghost use Rattle.no_std_io2.specs.Cursor.{cursor_inner, cursor_out, cursor_position};
-ghost use Rattle.no_std_io2.specs.Events.{Event, bytes, cut, events_of};
-ghost use Rattle.no_std_io2.specs.Pieces.{ArePieces, pieces};
-ghost use Rattle.no_std_io2.specs.Read.{answered, gave, tells};
+ghost use Rattle.no_std_io2.specs.Events.{Event, bytes, events_of};
+ghost use Rattle.no_std_io2.specs.inner.Events.{cut};
+ghost use Rattle.no_std_io2.specs.inner.Pieces.{ArePieces, pieces};
+ghost use Rattle.no_std_io2.specs.Takes.{answered, gave, tells};
+ghost use Rattle.no_std_io2.specs.Moves.{Moves, told_out};
+ghost use Rattle.no_std_io2.specs.Write.{taken, write_mishap};
 ghost use Rattle.no_std_io2.specs.Takes.{Takes, to_come};
-ghost use Rattle.no_std_io2.specs.Write.{Moves, taken, told_out, write_mishap};
 ghost use Rattle.promises.specs.Promises.{in_cursor};
 
 use crate::bytes::keeps_every_byte_of_a_write_all;

@@ -1,10 +1,13 @@
 // A call of a boxed object, or through a reference to an object, is the same call of the object, and tells
 // what that tells.
 ghost use Rattle.std.specs.Prelude.{[], ◌≡◌, Ok, Some, length};
-ghost use Rattle.no_std_io2.specs.Read.{Gave, answered, gave};
-ghost use Rattle.no_std_io2.specs.Seek.{Seeks, Sought};
+ghost use Rattle.no_std_io2.specs.Calls.{Gave, Sought, Wrote};
+ghost use Rattle.no_std_io2.specs.Takes.{answered, gave};
+ghost use Rattle.no_std_io2.specs.Seek.{Seeks};
+ghost use Rattle.no_std_io2.specs.inner.Calls.{BoxMay, LentMay};
+ghost use Rattle.no_std_io2.specs.Moves.{Moves};
+ghost use Rattle.no_std_io2.specs.Write.{taken, write_mishap};
 ghost use Rattle.no_std_io2.specs.Takes.{KeepsContent, Takes};
-ghost use Rattle.no_std_io2.specs.Write.{BoxMay, LentMay, Moves, Wrote, taken, write_mishap};
 
 use no_std_io2::io::{BufRead, Read, Result, Seek, SeekFrom, Write};
 

@@ -1,15 +1,16 @@
 // What readers give, and where seeks go.
 ghost use Rattle.std.specs.Prelude.{◌≡◌, ◌+◌, ◌<◌, [], ◌++◌, ℕ, List, Ok, Some, IfSome, IsOk, drop, length, vec_len, vec_capacity};
 ghost use Rattle.std.specs.Prelude.{string_bytes};
-ghost use Rattle.no_std_io2.specs.BufReader.{reader_inner, reader_behind, reader_held, reader_store, TakesHeld, TakesHeldLine, TakesOver};
-ghost use Rattle.no_std_io2.specs.BufReader.{KeepsBuffer, ReaderIsSound};
-ghost use Rattle.no_std_io2.specs.Read.{tells};
-ghost use Rattle.no_std_io2.specs.Buffer.{IsInBuffer, IsSuffix};
-ghost use Rattle.no_std_io2.specs.Events.{BeginsWith, Event, bytes};
-ghost use Rattle.no_std_io2.specs.Pieces.{EndsPiece, PieceEnds, newline};
-ghost use Rattle.no_std_io2.specs.Read.{tells, answered, gave};
+ghost use Rattle.no_std_io2.specs.BufReader.{reader_inner, reader_behind, reader_held, reader_store, KeepsBuffer};
+ghost use Rattle.no_std_io2.specs.inner.BufReader.{TakesHeld, TakesHeldLine, ReaderIsSound};
+ghost use Rattle.no_std_io2.specs.inner.BufferSeeks.{TakesOver};
+ghost use Rattle.no_std_io2.specs.Takes.{tells, answered, gave, IsAtEnd, KeepsContent, Takes, to_come};
+ghost use Rattle.no_std_io2.specs.inner.Buffer.{IsInBuffer, IsSuffix};
+ghost use Rattle.no_std_io2.specs.inner.Events.{BeginsWith};
+ghost use Rattle.no_std_io2.specs.Events.{Event, bytes, Store};
+ghost use Rattle.no_std_io2.specs.inner.Pieces.{EndsPiece};
+ghost use Rattle.no_std_io2.specs.Pieces.{PieceEnds, newline};
 ghost use Rattle.no_std_io2.specs.Seek.{Seeks};
-ghost use Rattle.no_std_io2.specs.Takes.{IsAtEnd, KeepsContent, Store, Takes, to_come};
 ghost use Rattle.io_bench.specs.Tally.{tally_inner};
 ghost use Rattle.promises.specs.Promises.{in_chain, in_reader, in_take};
 

@@ -2,9 +2,10 @@
 ghost use Rattle.std.specs.Io.KnownBytes.{ReadConsumes, WriteAppends};
 ghost use Rattle.std.specs.Io.Seek.{SeekMoves};
 ghost use Rattle.std.specs.Prelude.{Some};
-ghost use Rattle.no_std_io2.specs.Read.{tells};
-ghost use Rattle.no_std_io2.specs.Seek.{Sought};
-ghost use Rattle.no_std_io2.specs.Write.{Moves, Wrote, taken, write_mishap};
+ghost use Rattle.no_std_io2.specs.Takes.{tells};
+ghost use Rattle.no_std_io2.specs.Calls.{Sought, Wrote};
+ghost use Rattle.no_std_io2.specs.Moves.{Moves};
+ghost use Rattle.no_std_io2.specs.Write.{taken, write_mishap};
 ghost use Rattle.system_streams.specs.Patient.{PatientMay, PatientSeeks, patient_told};
 ghost use Rattle.promises.specs.Patience.{Fills};
 ghost use Rattle.system_streams.specs.ToStd.{accepted, bytes_to_come, content_of, position_of, std_inner};

@@ -1,7 +1,9 @@
 // What holds of a stream holds through references, boxes, boxed objects and buffers.
 ghost use Rattle.std.specs.Prelude.{◌≡◌, [], IfErr, OnOk};
-ghost use Rattle.no_std_io2.specs.BufReader.{HasNoBuffer, reader_inner, reader_store};
-ghost use Rattle.no_std_io2.specs.BufWriter.{store_unheld, writer_buffer, writer_inner};
+ghost use Rattle.no_std_io2.specs.inner.BufReader.{HasNoBuffer};
+ghost use Rattle.no_std_io2.specs.BufReader.{reader_inner, reader_store};
+ghost use Rattle.no_std_io2.specs.inner.BufWriter.{store_unheld};
+ghost use Rattle.no_std_io2.specs.BufWriter.{writer_buffer, writer_inner};
 ghost use Rattle.no_std_io2.specs.Cursor.{cursor_inner, cursor_position};
 ghost use Rattle.no_std_io2.specs.Errors.{IsOutOfMemory};
 ghost use Rattle.no_std_io2.specs.Seek.{SeekLaw, Seeks};

@@ -1,6 +1,6 @@
 -- A reader in front of another one.
 use Rattle.std.proofs.{Common.{arith}, lemmas.Grind.{common_steps}}
-use Rattle.no_std_io2.specs.Read.{Reader, ReadCall, ReadCallLaw}
+use Rattle.no_std_io2.specs.{Takes.{Reader}, Calls.{ReadCall}, Read.{ReadCallLaw}}
 use Rattle.no_std_io2.proofs.Forwards.{PassesReads}
 
 -- what one read did to the inner reader, it did to the one in front

@@ -1,6 +1,6 @@
 // A stream that notes the name of each call that has a default body, such as `write_all`, and passes the call on.
 
-ghost use Rattle.no_std_io2.specs.Write.{PartMay};
+ghost use Rattle.no_std_io2.specs.Calls.{PartMay};
 
 use super::journal::Journal;
 use no_std_io2::io::{BufRead, Read, Result, Seek, SeekFrom, Stored, Write};

@@ -7,8 +7,9 @@ use Rattle.no_std_io2.proofs.{BufWriterLemmas.{Moves-bare, through}, CallsLemmas
 use Rattle.no_std_io2.proofs.{TakesLemmas.{first_fault_taken, may_fail, no_failure, takes_to_end}, Words.{with_buffer, Copied, LevelCalls}}
 use Rattle.no_std_io2.proofs.MovesLemmas.{Moves-then, Moves-ends}
 use Rattle.std.proofs.Common.{IfSome}
-use Rattle.no_std_io2.specs.{declared.io.Error.{Error}, Takes.{IsAll}, Writers.{FlushOf}, Copy.{SidesCopied, side_error, HandsOn}}
-use Rattle.no_std_io2.specs.{declared.io.CopyError.{CopyError}, Faults.{HasFirstFault, MayFail, IsFaultOf}}
+use Rattle.no_std_io2.specs.{declared.io.Error.{Error}, inner.Pieces.{IsAll}, Writers.{FlushOf}, Copy.{SidesCopied}}
+use Rattle.no_std_io2.specs.{inner.Copy.{side_error, HandsOn}, declared.io.CopyError.{CopyError}, inner.Faults.{HasFirstFault, MayFail}}
+use Rattle.no_std_io2.specs.Retries.{IsFaultOf}
 use Rattle.system_streams.specs.Copies.{CopiesAll, HandsAndFlushes, HandsThrough, BufferCalls}
 
 -- a copy, and then a flush

@@ -1,9 +1,8 @@
 -- What a copy through buffers takes, and what it does to the writer.
 use Rattle.std.specs.Prelude.{◌≡◌, ℕ, Bool, true, false, List, [], ◌∷◌, ◌++◌, Ok}
-use Rattle.no_std_io2.specs.{Events.{Event, bytes, HasNoFault}, Takes.{ReaderState, IsAll}, Writers.{Writer, CallOf}}
-use Rattle.no_std_io2.specs.Write.{WriterState, Moves}
-use Rattle.no_std_io2.specs.{Write.{WriteCall, Flushed, Made}, BufWriter.{InnerCalls}, LineWriter.{LineCalls}, Copy.{counted, Handed}}
-use Rattle.no_std_io2.specs.Towers.{LevelCalls}
+use Rattle.no_std_io2.specs.{Events.{Event, bytes, HasNoFault}, Takes.{ReaderState}, inner.Pieces.{IsAll}, Writers.{Writer}}
+use Rattle.no_std_io2.specs.{inner.Writers.{CallOf}, Moves.{WriterState, Moves}, Calls.{WriteCall, Flushed, Made}}
+use Rattle.no_std_io2.specs.{inner.BufWriter.{InnerCalls, LevelCalls}, inner.LineWriter.{LineCalls}, inner.Copy.{counted, Handed}}
 
 -- A copy took all events of a reader that told this, and no fault. The writer accepted their bytes without a mishap, and n is their count.
 pub record CopiesAll (from : ReaderState) (old : WriterState) (n : ℕ) (new : WriterState) : Type 0 where

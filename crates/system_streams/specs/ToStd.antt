@@ -5,7 +5,7 @@ use Rattle.no_std_io2.specs.declared.io.ErrorKind.TheVariants.{ConnectionReset, 
 use Rattle.no_std_io2.specs.declared.io.ErrorKind.TheVariants.{AddrNotAvailable, BrokenPipe, AlreadyExists, WouldBlock, InvalidInput}
 use Rattle.no_std_io2.specs.declared.io.ErrorKind.TheVariants.{InvalidData, TimedOut, WriteZero, Interrupted, Other, UnexpectedEof}
 use Rattle.no_std_io2.specs.{declared.io.ErrorKind.TheVariants.{Unsupported, OutOfMemory, Uncategorized}, Errors.{error_kind}}
-use Rattle.no_std_io2.specs.{Events.{bytes}, Takes.{Store, ReaderState, to_come}, Write.{WriterState}}
+use Rattle.no_std_io2.specs.{Events.{bytes, Store}, Takes.{ReaderState, to_come}, Moves.{WriterState}}
 use Rattle.system_streams.specs.declared.to_std.ToStd.{ToStd}
 use Rattle.std.specs.IoError as Io
 use Rattle.std.specs.declared.io.Error as Std

@@ -1,7 +1,7 @@
 -- The results of a `Patient`: its errors, and the turns that a result spends.
 use Rattle.std.specs.Prelude.{◌≡◌, ℕ, ◌+◌, ◌<◌, None, Some, Ok, Err, Result, codes, ◌⊎◌}
 use Rattle.no_std_io2.specs.{declared.io.{Error.{Error}, ErrorKind.TheVariants.{TimedOut, Interrupted, Other}}, Errors.{error_kind}}
-use Rattle.no_std_io2.specs.Errors.{error_text}
+use Rattle.no_std_io2.specs.inner.Kinds.{error_text}
 use Rattle.std.specs.IoError as Io
 use Rattle.std.specs.declared.io.Error as Std
 use Rattle.std.specs.declared.io.ErrorKind as StdKind

@@ -2,9 +2,9 @@
 ghost use Rattle.std.specs.Prelude.{◌≡◌, [], Some, IfSome, IfOk, IsOk, IfErr};
 ghost use Rattle.no_std_io2.specs.Events.{HasNoFault};
 ghost use Rattle.no_std_io2.specs.Takes.{to_come};
-ghost use Rattle.no_std_io2.specs.Read.{tells};
+ghost use Rattle.no_std_io2.specs.Takes.{tells};
+ghost use Rattle.no_std_io2.specs.Retries.{IsFaultOf};
 ghost use Rattle.no_std_io2.specs.BufReader.{BufReaderFits};
-ghost use Rattle.no_std_io2.specs.Faults.{IsFaultOf};
 ghost use Rattle.system_streams.specs.Copies.{CopiesAll, HandsAndFlushes, HandsThrough};
 ghost use Rattle.no_std_io2.specs.BufWriter.{BufWriterFits};
 ghost use Rattle.no_std_io2.specs.LineWriter.{LineWriterFits};

@@ -2,7 +2,7 @@
 use Rattle.no_std_io2.proofs.Words.{◌≡◌, ◌⊎◌, List, ℕ, [], ◌∷◌, ◌++◌, Result, Ok, append-nil, inl, inr, WriterState, Moves, MovesFront, Err}
 use Rattle.no_std_io2.proofs.{Words.{Option, Some, None, refl, ⊤, IfOk, Reader, Writer}, MovesLemmas.{Moves-then, MovesFront-whole}}
 use Rattle.std.proofs.{Common.{IsErrAnd, IfSome}, lemmas.{List.{map-append}, List.Folds.{concat-append}}}
-use Rattle.no_std_io2.specs.{declared.io.{Error.{Error}, Take.{Take}}, Text.{IsTextError}}
+use Rattle.no_std_io2.specs.{declared.io.Error.{Error}, declared.io.Take.{Take}, Errors.{IsTextError}}
 use Rattle.tar_reader.specs.{declared.archive.Archive.{Archive}, declared.header.Header.{Header}, Members.{NextHeaderLaw, FindHeaderLaw}}
 use Rattle.tar_reader.proofs.MemberLemmas.{Skipping, comes_to}
 use Rattle.tar_list.specs.Listing.{member_line, member_lines, PrintsMember, ListEnds, Lists, MemberEnds, CopiesMember}

@@ -3,8 +3,8 @@ use Rattle.std.specs.Prelude.{◌≡◌, ◌≢◌, ◌⊎◌, ◌<◌, List, �
 use Rattle.std.specs.Prelude.{IsErr, IsErrAnd}
 use Rattle.std.specs.List.{concat}
 use Rattle.no_std_io2.specs.{Errors.{SaysError}, declared.io.{Error.{Error}, ErrorKind.TheVariants.{InvalidInput, NotFound, UnexpectedEof}}}
-use Rattle.no_std_io2.specs.{Read.{Reader}, Copy.{Copied}, Writers.{Writer, FlushOf}, declared.io.Take.{Take}, Text.{IsTextError}}
-use Rattle.no_std_io2.specs.Write.{WriterState, Moves, MovesFront, call_mishap}
+use Rattle.no_std_io2.specs.{Takes.{Reader}, Copy.{Copied}, Writers.{Writer, FlushOf}, declared.io.Take.{Take}, Errors.{IsTextError}}
+use Rattle.no_std_io2.specs.Moves.{WriterState, Moves, MovesFront, call_mishap}
 use Rattle.tar_reader.specs.declared.archive.Archive.{Archive}
 use Rattle.tar_reader.specs.declared.header.Header.{Header}
 use Rattle.tar_reader.specs.declared.header.Kind.TheVariants.{Directory}

@@ -8,7 +8,7 @@ use Rattle.io_bench.specs.{declared.{runs.Op.{Op}, faulty.{Act.{Act}, Faulty.{Fa
 use Rattle.io_bench.specs.Runs.{Ran, RunBelow}
 use Rattle.tower_play.specs.{declared.{script.Step.{Step}, playing.Shape.{Shape}}, Calls.{IsNext, AreOps}, Report.{printed_report}}
 use Rattle.tower_play.specs.Play.{WritesText, Shows, ShowsRun, TowerCalls, TwoLevels, fresh_told}
-use Rattle.no_std_io2.specs.{declared.io.Error.{Error}, Faults.{MayFail}}
+use Rattle.no_std_io2.specs.{declared.io.Error.{Error}, inner.Faults.{MayFail}}
 use Rattle.io_bench.proofs.RunLemmas.{below_first, below_map, below_more}
 
 -- For `Calls::ops`: the calls of a script, one after another.

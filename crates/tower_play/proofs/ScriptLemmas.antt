@@ -6,8 +6,8 @@ use Rattle.no_std_io2.proofs.Words.{Made, Reader, tells, split_delim, split_read
 use Rattle.no_std_io2.proofs.CallsLemmas.{made_more}
 use Rattle.std.specs.{List.{list_all}, Str.{IsUtf8, IsAscii}, Prelude.{min}, Option.{IfSome}}
 use Rattle.std.proofs.lemmas.Str.{IsUtf8-from_ascii}
-use Rattle.no_std_io2.specs.{declared.io.{ErrorKind.{ErrorKind}, Error.{Error}, Split.{Split}}, Pieces.{split_is_ended}}
-use Rattle.no_std_io2.specs.{Faults.{HasFirstFault}, Errors.{is_interruption}}
+use Rattle.no_std_io2.specs.{declared.io.ErrorKind.{ErrorKind}, declared.io.Error.{Error}, declared.io.Split.{Split}}
+use Rattle.no_std_io2.specs.{inner.Iterators.{split_is_ended}, inner.Faults.{HasFirstFault}, inner.Kinds.{is_interruption}}
 use Rattle.tower_play.specs.{Script.{kind_name, IsTextArgument}, declared.script.Line.{Line}, Lines.{Says, IsNoBad, IsGood}}
 use Rattle.tower_play.specs.{declared.script.Script.{Script}, Reading.{Adds, AddsAll, IsBadAt, IsBadLine, IsFirstBad, IsFreshScript}}
 use Rattle.tower_play.specs.Reading.{IsRead}

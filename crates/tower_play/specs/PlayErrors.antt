@@ -1,6 +1,6 @@
 -- What a fault prints, and what holds for it.
 use Rattle.std.specs.{Prelude.{ℕ, ◌<◌, codes, List, ◌++◌, ⊤}, Fmt.{decimal}}
-use Rattle.no_std_io2.specs.{declared.io.Error.{Error}, Errors.{error_display}}
+use Rattle.no_std_io2.specs.{declared.io.Error.{Error}, inner.Errors.{error_display}}
 use Rattle.tower_play.specs.declared.playing.PlayError.{PlayError, TheVariants.{Io, Line}}
 
 -- an error prints its own text

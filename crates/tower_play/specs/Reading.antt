@@ -1,6 +1,6 @@
 -- The script that lines make.
 use Rattle.std.specs.Prelude.{◌≡◌, ℕ, ◌+◌, ◌-◌, ◌^◌, ◌<◌, ◌⊎◌, min, true, false, List, [], ◌∷◌, ◌++◌, length, vec_len, vec_capacity, None}
-use Rattle.no_std_io2.specs.{Events.{Event}, Pieces.{without}}
+use Rattle.no_std_io2.specs.{Events.{Event}, inner.Pieces.{without}}
 use Rattle.io_bench.specs.PieceRuns.{AllPieces}
 use Rattle.tower_play.specs.declared.script.{Calls.{Calls}, Script.{Script}, Line.{Line, TheVariants.{Empty, Act, Write, WriteAll, Flush}}}
 use Rattle.tower_play.specs.{declared.script.{Line.TheVariants.{Bad}, Step.TheVariants.{Flush as flush_step}}, Script.{unescaped}}

@@ -1,6 +1,6 @@
 -- What `play` prints.
 use Rattle.std.specs.{Prelude.{ℕ, codes, List, ◌++◌}, Fmt.{decimal}, List.{flat_map}}
-use Rattle.no_std_io2.specs.Errors.{error_display}
+use Rattle.no_std_io2.specs.inner.Errors.{error_display}
 use Rattle.io_bench.specs.declared.runs.Reply.{Reply, TheVariants.{Took, Done, Failed}}
 use Rattle.tower_play.specs.Script.{escaped}
 

@@ -2,14 +2,14 @@
 ghost use Rattle.std.specs.Prelude.{◌≡◌, ℕ, ◌+◌, ◌-◌, ◌≤◌, List, [], ◌∷◌, ◌++◌, take, drop, IfSome, IfNone, None, ◌<◌, OnOk, OnErr};
 ghost use Rattle.std.specs.Prelude.{IfOk, IfErr, length, vec_len, vec_capacity, true, false, ◌⊎◌};
 ghost use Rattle.no_std_io2.specs.Errors.{IsOutOfMemory};
-ghost use Rattle.no_std_io2.specs.Faults.{HasFirstFault};
+ghost use Rattle.no_std_io2.specs.inner.Faults.{HasFirstFault};
+ghost use Rattle.no_std_io2.specs.Takes.{tells};
+ghost use Rattle.no_std_io2.specs.inner.Iterators.{split_reader, split_delim, split_is_ended};
 ghost use Rattle.tower_play.specs.PlayErrors.{IsNumbered, IfIo, IfLine};
 ghost use Rattle.tower_play.specs.Script.{kind_name, IsCount, IsTextArgument, unescaped, IsAppended};
 ghost use Rattle.tower_play.specs.Calls.{IsNext, AreCalls, AddsText, IsFull};
 ghost use Rattle.no_std_io2.specs.Takes.{to_come};
-ghost use Rattle.no_std_io2.specs.Read.{tells};
 ghost use Rattle.tower_play.specs.Reading.{Adds, IsBadLine, IsRead, IsBadAt, LineLacksRoom};
-ghost use Rattle.no_std_io2.specs.Pieces.{split_reader, split_delim, split_is_ended};
 ghost use Rattle.tower_play.specs.declared.script.ScriptLine.{ScriptLine as Said};
 ghost use Rattle.tower_play.specs.declared.script.ScriptLine.TheVariants.{Bad};
 ghost use Rattle.tower_play.specs.Lines.{Says, IsGood, text_step};

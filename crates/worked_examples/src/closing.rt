@@ -32,7 +32,7 @@ fn note(notes: &mut Line, call: &str, len: Option<usize>) {
 }
 
 impl Write for Lengths {
-    ghost use Rattle.no_std_io2.specs.Sink.{sink_told};
+    ghost use Rattle.no_std_io2.specs.inner.InMemory.{sink_told};
 
     ghost told = { λ w. sink_told w.sink };
 

@@ -1,7 +1,7 @@
 // A slice in a type without a lifetime, and a buffer of 4 bytes in one without a parameter: the checker refuses boxed
 // objects of their own types (`the borrow checker does not cover this function yet: a trait object needs
 // the block ..`).
-ghost use Rattle.no_std_io2.specs.Write.{PartMay};
+ghost use Rattle.no_std_io2.specs.Calls.{PartMay};
 ghost use Rattle.std.specs.Prelude.{length};
 
 use no_std_io2::io::{BufRead, BufReader, Cursor, Read, Result, Stored};

@@ -21,7 +21,7 @@ pub struct Narrow {
 }
 
 impl Write for Narrow {
-    ghost use Rattle.no_std_io2.specs.Write.{told_out};
+    ghost use Rattle.no_std_io2.specs.Moves.{told_out};
 
     ghost told = { λ d. told_out d.taken.items };
 

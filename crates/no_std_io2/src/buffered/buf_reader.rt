@@ -34,8 +34,9 @@ pub struct BufReader<R, const S: usize> {
 
 impl<R: Read, const S: usize> BufReader<R, S> {
     ghost use Rattle.no_std_io2_base.specs.Takes.{to_come};
-    ghost use Rattle.no_std_io2_base.specs.Read.{tells};
-    ghost use Rattle.no_std_io2.specs.BufReader.{reader_inner, HasNoBuffer};
+    ghost use Rattle.no_std_io2_base.specs.Takes.{tells};
+    ghost use Rattle.no_std_io2.specs.BufReader.{reader_inner};
+    ghost use Rattle.no_std_io2.specs.inner.BufReader.{HasNoBuffer};
 
     /// Puts an empty buffer of `S` bytes in front of `inner`. `S` is from 1 to 2^63 - 1.
     /// Follows `std::io::BufReader::with_capacity`.
@@ -55,7 +56,8 @@ impl<R: Read, const S: usize> BufReader<R, S> {
 
 impl<R, const S: usize> BufReader<R, S> {
     ghost use Rattle.no_std_io2.specs.contracts.buffered.buf_reader.BufReader.{the_row as reader-row};
-    ghost use Rattle.no_std_io2.specs.BufReader.{reader_held, reader_behind, reader_inner, reader_with_inner};
+    ghost use Rattle.no_std_io2.specs.BufReader.{reader_held, reader_behind, reader_inner};
+    ghost use Rattle.no_std_io2.specs.inner.BufReader.{reader_with_inner};
 
     /// Gets a reference to the inner reader, which is ahead of this one by the held
     /// bytes. Follows `std::io::BufReader::get_ref`.

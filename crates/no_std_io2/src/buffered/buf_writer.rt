@@ -3,9 +3,9 @@ ghost use Rattle.std.specs.Prelude.{◌≡◌, ◌≤◌, [], length, OnOk};
 ghost use Rattle.std.specs.Borrow.{Lends, sem};
 ghost use Rattle.no_std_io2.specs.contracts.buffered.buf_writer.BufWriter.{the_row as writer-row};
 ghost use Rattle.no_std_io2_base.specs.Writers.{WriteAllOf, WriteOf, FlushOf};
-ghost use Rattle.no_std_io2.specs.BufWriter.{BufferMay, writer_inner, writer_with_inner, writer_buffer, writer_told, InnerCalls};
-ghost use Rattle.no_std_io2.specs.Unsent.{unsent_bytes};
-ghost use Rattle.no_std_io2.specs.BufWriter.{Unwraps, Buffers, BuffersAll};
+ghost use Rattle.no_std_io2.specs.inner.BufWriter.{BufferMay, writer_with_inner, InnerCalls, Buffers, BuffersAll};
+ghost use Rattle.no_std_io2.specs.BufWriter.{writer_inner, writer_buffer, writer_told, Unwraps};
+ghost use Rattle.no_std_io2.specs.inner.Buffer.{unsent_bytes};
 
 mod seeking;
 mod whole;

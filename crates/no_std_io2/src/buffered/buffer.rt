@@ -3,8 +3,8 @@ ghost use Rattle.std.specs.Prelude.{◌≡◌, ◌+◌, ◌-◌, ◌<◌, ◌≤
 ghost use Rattle.std.specs.Prelude.{vec_len, vec_capacity, slice_range};
 ghost use Rattle.std.specs.Bool.{OnTrue, OnFalse};
 ghost use Rattle.no_std_io2_base.specs.Errors.{IsOutOfMemory};
-ghost use Rattle.no_std_io2_base.specs.Cursor.{HasMoved};
-ghost use Rattle.no_std_io2_base.specs.Read.{GaveLaw, gave_whole, least_room};
+ghost use Rattle.no_std_io2_base.specs.inner.Cursor.{HasMoved};
+ghost use Rattle.no_std_io2_base.specs.inner.Read.{GaveLaw, gave_whole, least_room};
 
 use no_std_io2_base::error::Result;
 use no_std_io2_base::internal::{append_rest, copy_apart, copy_bytes};
@@ -67,7 +67,7 @@ fn move_down<const S: usize>(bytes: &mut [u8; S], start: usize, end: usize)
 }
 
 impl<const S: usize> Buffer<S> {
-    ghost use Rattle.no_std_io2.specs.Buffer.{buffer_held, buffer_behind, IsInBuffer, IsCutOn, ReadsOn};
+    ghost use Rattle.no_std_io2.specs.inner.Buffer.{buffer_held, buffer_behind, IsInBuffer, IsCutOn, ReadsOn};
 
     #[inline]
     pub(crate) fn new() -> Self

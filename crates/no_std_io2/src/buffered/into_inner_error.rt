@@ -1,7 +1,7 @@
 //! [`IntoInnerError`], the error of `into_inner` of a buffered writer.
 ghost use Rattle.std.specs.Prelude.{Some, ◌≡◌};
-ghost use Rattle.no_std_io2_base.specs.Errors.{error_display};
-ghost use Rattle.no_std_io2.specs.BufWriter.{into_inner_error_writer, into_inner_error_cause};
+ghost use Rattle.no_std_io2_base.specs.inner.Errors.{error_display};
+ghost use Rattle.no_std_io2.specs.inner.BufWriter.{into_inner_error_writer, into_inner_error_cause};
 
 use no_std_io2_base::error::Error;
 use std::fmt;

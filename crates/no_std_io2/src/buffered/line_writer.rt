@@ -2,12 +2,14 @@
 ghost use Rattle.std.specs.Prelude.{◌≡◌, ◌+◌, ◌≤◌, [], length, IsOk, IfOk, IfErr, OnOk};
 ghost use Rattle.std.specs.Borrow.{Lends, sem};
 ghost use Rattle.no_std_io2.specs.contracts.buffered.line_writer.LineWriter.{the_row as line-row};
-ghost use Rattle.no_std_io2_base.specs.Lines.{IsLineState};
-ghost use Rattle.no_std_io2_base.specs.Pieces.{Lacks, newline};
-ghost use Rattle.no_std_io2.specs.LineWriter.{line_inner, line_with_inner, line_buffer, line_told, LineCalls};
-ghost use Rattle.no_std_io2.specs.LineWriter.{LineWriteAllCalls, line_buffer_after, line_buffer_filled};
-ghost use Rattle.no_std_io2.specs.LineWriter.{IsShortText, HoldsShort};
-ghost use Rattle.no_std_io2.specs.BufWriter.{TakesStep, Unwraps, into_inner_error_writer, BufferMay};
+ghost use Rattle.no_std_io2_base.specs.inner.Lines.{IsLineState};
+ghost use Rattle.no_std_io2_base.specs.inner.Pieces.{Lacks};
+ghost use Rattle.no_std_io2_base.specs.Pieces.{newline};
+ghost use Rattle.no_std_io2.specs.LineWriter.{line_inner, line_buffer};
+ghost use Rattle.no_std_io2.specs.inner.LineWriter.{line_with_inner, line_told, LineCalls, LineWriteAllCalls, line_buffer_after};
+ghost use Rattle.no_std_io2.specs.inner.LineWriter.{line_buffer_filled, IsShortText, HoldsShort};
+ghost use Rattle.no_std_io2.specs.inner.BufWriter.{TakesStep, into_inner_error_writer, BufferMay};
+ghost use Rattle.no_std_io2.specs.BufWriter.{Unwraps};
 ghost use Rattle.no_std_io2_base.specs.Writers.{TakesAll, WriteAllOf, WriteOf, FlushOf};
 
 mod state;

@@ -6,9 +6,10 @@ ghost use Rattle.std.specs.Prelude.{◌≡◌, ◌+◌, ◌<◌, ◌≤◌, [], 
 ghost use Rattle.std.specs.Bool.{OnTrue, OnFalse};
 ghost use Rattle.std.specs.Borrow.{Lends, sem};
 ghost use Rattle.no_std_io2.specs.contracts.buffered.sender.Sender.{the_row as sender-row};
-ghost use Rattle.no_std_io2.specs.BufWriter.{sender_inner, sender_buffer, TakesStep, SendCalls, RoomCalls};
-ghost use Rattle.no_std_io2.specs.BufWriter.{WriteCalls, WriteAllCalls, FlushCalls, Unwraps};
-ghost use Rattle.no_std_io2.specs.Unsent.{unsent_bytes};
+ghost use Rattle.no_std_io2.specs.inner.BufWriter.{sender_inner, sender_buffer, TakesStep, SendCalls, RoomCalls, WriteCalls, WriteAllCalls};
+ghost use Rattle.no_std_io2.specs.inner.BufWriter.{FlushCalls};
+ghost use Rattle.no_std_io2.specs.BufWriter.{Unwraps};
+ghost use Rattle.no_std_io2.specs.inner.Buffer.{unsent_bytes};
 
 use super::buffer::{Buffer, SMALL};
 use super::into_inner_error::IntoInnerError;

@@ -10,7 +10,7 @@ pub struct Unsent<const S: usize> {
 }
 
 impl<const S: usize> Unsent<S> {
-    ghost use Rattle.no_std_io2.specs.Unsent.{unsent_bytes};
+    ghost use Rattle.no_std_io2.specs.inner.Buffer.{unsent_bytes};
 
     /// Returns the bytes that were held.
     pub fn as_slice(&self) -> &[u8]

@@ -1,5 +1,5 @@
 //! [`copy_lent`], a copy without a buffer of its own.
-ghost use Rattle.no_std_io2.specs.CopyLent.{LentCopied};
+ghost use Rattle.no_std_io2.specs.Copy.{LentCopied};
 
 use super::sides::CopyError;
 use no_std_io2_base::traits::{BufRead, Write};

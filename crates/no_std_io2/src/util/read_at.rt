@@ -1,5 +1,5 @@
 //! [`read_exact_at`], a seek followed by a read.
-ghost use Rattle.no_std_io2_base.specs.ReadAt.{ReadAtLaw};
+ghost use Rattle.no_std_io2_base.specs.Reads.{ReadAtLaw};
 
 use no_std_io2_base::error::Result;
 use no_std_io2_base::traits::{Read, Seek, SeekFrom};

@@ -1,8 +1,8 @@
 //! [`write_with_retries`] and [`flush_with_retries`], a write and a flush that are made again after a fault.
 ghost use Rattle.std.specs.Prelude.{◌≡◌, [], OnOk, IsOk};
-ghost use Rattle.no_std_io2_base.specs.Write.{Sends};
+ghost use Rattle.no_std_io2_base.specs.Moves.{Sends};
+ghost use Rattle.no_std_io2_base.specs.Retries.{FlushTries};
 ghost use Rattle.no_std_io2_base.specs.Retries.{HasAtMost, RestFlushLaw, Tries};
-ghost use Rattle.no_std_io2.specs.FlushTries.{FlushTries};
 
 use no_std_io2_base::error::Result;
 use no_std_io2_base::traits::Write;

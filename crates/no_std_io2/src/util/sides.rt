@@ -1,7 +1,8 @@
 //! [`copy_sided`], a copy whose error says which side failed.
 ghost use Rattle.std.specs.Prelude.{◌≡◌, ◌<◌, ◌^◌, Some, length};
-ghost use Rattle.no_std_io2_base.specs.Errors.{error_display};
-ghost use Rattle.no_std_io2.specs.Copy.{side_error, SidesCopied};
+ghost use Rattle.no_std_io2_base.specs.inner.Errors.{error_display};
+ghost use Rattle.no_std_io2.specs.inner.Copy.{side_error};
+ghost use Rattle.no_std_io2.specs.Copy.{SidesCopied};
 
 use no_std_io2_base::error::{Error, Result};
 use no_std_io2_base::traits::{Read, Write};

@@ -1,10 +1,11 @@
 // The impls of `Stored`, `Read` and `BufRead` for `Cursor`.
 ghost use Rattle.std.specs.Prelude.{◌≡◌, ◌+◌, ◌≤◌, ◌<◌, ◌^◌, ◌↔◌, min, length, take, Some, IsOk, IsOkAnd, IfOk, IfErr, OnErr};
-ghost use Rattle.no_std_io2_base.specs.Cursor.{cursor_position, cursor_inner, cursor_left};
+ghost use Rattle.no_std_io2_base.specs.Cursor.{cursor_position, cursor_inner};
+ghost use Rattle.no_std_io2_base.specs.inner.Cursor.{cursor_left};
+ghost use Rattle.no_std_io2_base.specs.inner.InMemory.{GivesLeft};
 ghost use Rattle.no_std_io2_base.specs.Errors.{IsUnexpectedEnd};
 ghost use Rattle.no_std_io2_base.specs.Events.{events_of};
 ghost use Rattle.no_std_io2_base.specs.Takes.{store_at};
-ghost use Rattle.no_std_io2_base.specs.InMemory.{GivesLeft};
 ghost use Rattle.no_std_io2_base.specs.Read.{ReadLaw, ReadExactLaw, ConsumeLaw};
 
 use super::{AsSlice, Cursor};

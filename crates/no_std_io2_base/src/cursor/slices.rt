@@ -2,9 +2,10 @@
 ghost use Rattle.std.specs.Prelude.{◌≡◌, ◌+◌, ◌-◌, min, Ok};
 ghost use Rattle.std.specs.Prelude.{length};
 ghost use Rattle.std.specs.Box.{boxed_slice_items};
-ghost use Rattle.no_std_io2_base.specs.Cursor.{cursor_position, cursor_inner, cursor_out, PutsFitting, PutsAllFitting, FitsMay};
+ghost use Rattle.no_std_io2_base.specs.Cursor.{cursor_position, cursor_inner, cursor_out};
+ghost use Rattle.no_std_io2_base.specs.inner.Cursor.{PutsFitting, PutsAllFitting, FitsMay};
+ghost use Rattle.no_std_io2_base.specs.Moves.{told_out};
 ghost use Rattle.no_std_io2_base.specs.Writers.{WriteAllOf, WriteOf};
-ghost use Rattle.no_std_io2_base.specs.Write.{told_out};
 
 use super::Cursor;
 use crate::error::{Result, failed_to_write};

@@ -1,9 +1,10 @@
 // The impls of `Write` for a cursor over a vector, owned or borrowed.
 ghost use Rattle.std.specs.Prelude.{◌≡◌, ◌+◌, ◌-◌, ◌≤◌, ◌<◌, ◌++◌, Ok, IsOk, OnErr};
 ghost use Rattle.std.specs.Prelude.{length, replicate, vec_len, vec_capacity, is_ok, if◌then◌else◌};
-ghost use Rattle.no_std_io2_base.specs.Cursor.{cursor_position, cursor_inner, cursor_out, IsPut, PutsWhole, PutsMay, PutsAll};
+ghost use Rattle.no_std_io2_base.specs.Cursor.{cursor_position, cursor_inner, cursor_out};
+ghost use Rattle.no_std_io2_base.specs.inner.Cursor.{IsPut, PutsWhole, PutsMay, PutsAll};
+ghost use Rattle.no_std_io2_base.specs.Moves.{told_out};
 ghost use Rattle.no_std_io2_base.specs.Writers.{WriteAllOf, WriteOf};
-ghost use Rattle.no_std_io2_base.specs.Write.{told_out};
 
 use super::Cursor;
 use crate::error::{Error, ErrorKind, Result};

@@ -1,5 +1,5 @@
 // Boxed objects of `Write`, `Read` and `Seek` as the streams in them.
-ghost use Rattle.no_std_io2_base.specs.Write.{BoxMay};
+ghost use Rattle.no_std_io2_base.specs.inner.Calls.{BoxMay};
 
 use super::dyn_read_to_end::{ReadObject, drain};
 use crate::error::Result;

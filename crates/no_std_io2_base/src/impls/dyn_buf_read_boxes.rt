@@ -1,5 +1,5 @@
 // A boxed object of `BufRead` as the reader in it.
-ghost use Rattle.no_std_io2_base.specs.Write.{BoxMay};
+ghost use Rattle.no_std_io2_base.specs.inner.Calls.{BoxMay};
 
 use super::dyn_read_to_end::{ReadObject, drain};
 use super::vectors::append;

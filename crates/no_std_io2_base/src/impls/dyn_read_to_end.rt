@@ -1,7 +1,8 @@
 // The `read_to_end` of the trait objects. The checker leaves no method with a type parameter to its
 // trait at a trait object, and such a method can't call a function over `Read`. So this function is
 // over a trait that has only the object's `read`. A queue calls it too, once it has made room.
-ghost use Rattle.no_std_io2_base.specs.Read.{Reader, ReadLaw, ReadToEndLaw};
+ghost use Rattle.no_std_io2_base.specs.Takes.{Reader};
+ghost use Rattle.no_std_io2_base.specs.Read.{ReadLaw, ReadToEndLaw};
 
 use crate::error::Result;
 use crate::traits::{LEAST_ROOM, open_room, reserve_first};

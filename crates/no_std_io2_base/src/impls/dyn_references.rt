@@ -1,5 +1,5 @@
 // References to objects of `Write`, `Read` and `Seek` as the streams behind them.
-ghost use Rattle.no_std_io2_base.specs.Write.{LentMay};
+ghost use Rattle.no_std_io2_base.specs.inner.Calls.{LentMay};
 
 use super::dyn_read_to_end::{ReadObject, drain};
 use crate::error::Result;

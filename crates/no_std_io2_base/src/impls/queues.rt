@@ -3,11 +3,10 @@ ghost use Rattle.std.specs.Prelude.{◌≡◌, ◌+◌, ◌-◌, ◌<◌, ◌≤
 ghost use Rattle.std.specs.VecDeque.{deque_len, deque_capacity};
 ghost use Rattle.no_std_io2_base.specs.Errors.{IsOutOfMemory};
 ghost use Rattle.no_std_io2_base.specs.Events.{events_of};
-ghost use Rattle.no_std_io2_base.specs.InMemory.{GivesFront};
+ghost use Rattle.no_std_io2_base.specs.inner.InMemory.{GivesFront, AppendsMay, AppendsWhole};
+ghost use Rattle.no_std_io2_base.specs.Moves.{told_out};
 ghost use Rattle.no_std_io2_base.specs.Read.{ReadLaw};
-ghost use Rattle.no_std_io2_base.specs.Write.{told_out};
 ghost use Rattle.no_std_io2_base.specs.Writers.{WriteAllOf};
-ghost use Rattle.no_std_io2_base.specs.Appends.{AppendsMay, AppendsWhole};
 
 use super::copying::copy_prefix;
 use super::dyn_read_to_end::{ReadObject, drain};

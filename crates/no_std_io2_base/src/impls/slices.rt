@@ -2,9 +2,10 @@
 ghost use Rattle.std.specs.Prelude.{◌≡◌, ◌≤◌, ◌<◌, ◌+◌, ◌++◌, length, [], Some, IfErr, OnOk, OnErr, vec_len, vec_capacity};
 ghost use Rattle.no_std_io2_base.specs.Errors.{IsOutOfMemory};
 ghost use Rattle.no_std_io2_base.specs.Events.{events_of};
-ghost use Rattle.no_std_io2_base.specs.InMemory.{GivesLeft};
-ghost use Rattle.no_std_io2_base.specs.Read.{least_room, ReadExactLaw};
-ghost use Rattle.no_std_io2_base.specs.Cursor.{HasMoved};
+ghost use Rattle.no_std_io2_base.specs.inner.InMemory.{GivesLeft};
+ghost use Rattle.no_std_io2_base.specs.inner.Read.{least_room};
+ghost use Rattle.no_std_io2_base.specs.Read.{ReadExactLaw};
+ghost use Rattle.no_std_io2_base.specs.inner.Cursor.{HasMoved};
 
 use super::copying::copy_prefix;
 use crate::error::{Result, failed_to_fill};

@@ -2,9 +2,9 @@
 ghost use Rattle.std.specs.Prelude.{◌≡◌, ◌+◌, ◌++◌, ◌≤◌, ◌<◌, Ok, IsOk, OnOk, OnErr};
 ghost use Rattle.std.specs.Prelude.{IfErr, length, vec_len, vec_capacity};
 ghost use Rattle.no_std_io2_base.specs.Errors.{IsOutOfMemory};
-ghost use Rattle.no_std_io2_base.specs.Appends.{AppendsMay};
+ghost use Rattle.no_std_io2_base.specs.inner.InMemory.{AppendsMay};
+ghost use Rattle.no_std_io2_base.specs.Moves.{told_out};
 ghost use Rattle.no_std_io2_base.specs.Writers.{WriteAllOf};
-ghost use Rattle.no_std_io2_base.specs.Write.{told_out};
 
 use super::copying::copy_bytes;
 use crate::error::Result;

@@ -4,7 +4,7 @@ ghost use types.Logic.{sem};
 ghost use Rattle.std.specs.Io.BufRead.{Rests};
 ghost use Rattle.no_std_io2_base.specs.BufRead.{FillBufLaw, AfterLoan, ReadUntilLaw, SkipUntilLaw, ReadLineLaw};
 ghost use Rattle.no_std_io2_base.specs.Read.{ConsumeLaw};
-ghost use Rattle.no_std_io2_base.specs.Pieces.{split_reader, split_delim, split_is_ended, lines_reader, lines_is_ended};
+ghost use Rattle.no_std_io2_base.specs.inner.Iterators.{split_reader, split_delim, split_is_ended, lines_reader, lines_is_ended};
 
 use super::lines::Lines;
 use super::pieces::{append_text, find_piece, put_back, take_bytes};

@@ -2,7 +2,7 @@
 ghost use Rattle.std.specs.Prelude.{◌≡◌, ◌≤◌, ◌<◌, IfErr, IfSome, OnSome};
 ghost use Rattle.std.specs.Iterator.{at_most};
 ghost use Rattle.no_std_io2_base.specs.Errors.{IsFault};
-ghost use Rattle.no_std_io2_base.specs.Read.{bytes_reader, NextLaw};
+ghost use Rattle.no_std_io2_base.specs.inner.Iterators.{bytes_reader, NextLaw};
 
 use super::read::Read;
 use crate::error::Result;

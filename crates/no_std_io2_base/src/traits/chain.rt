@@ -3,9 +3,10 @@ ghost use Rattle.std.specs.Prelude.{◌≡◌, ◌≤◌, ◌+◌, true, false, 
 ghost use types.Logic.{sem};
 ghost use Rattle.std.specs.Borrow.{LendsBoth};
 ghost use Rattle.no_std_io2_base.specs.contracts.traits.chain.Chain.{the_row as chain-row};
-ghost use Rattle.no_std_io2_base.specs.Chain.{chain_first, chain_second, chain_is_done, chain_with_readers};
-ghost use Rattle.no_std_io2_base.specs.Chain.{chain_events, chain_held, ChainMay};
-ghost use Rattle.no_std_io2_base.specs.Read.{tells, ReadToEndLaw, ConsumeLaw};
+ghost use Rattle.no_std_io2_base.specs.inner.Chain.{chain_first, chain_second, chain_is_done, chain_with_readers, chain_events, chain_held};
+ghost use Rattle.no_std_io2_base.specs.inner.Chain.{ChainMay};
+ghost use Rattle.no_std_io2_base.specs.Takes.{tells};
+ghost use Rattle.no_std_io2_base.specs.Read.{ReadToEndLaw, ConsumeLaw};
 
 use super::buf_read::BufRead;
 use super::read::Read;

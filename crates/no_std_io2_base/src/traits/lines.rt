@@ -1,8 +1,9 @@
 // [`Lines`], the iterator over lines of text.
 ghost use Rattle.std.specs.Prelude.{◌≡◌, true, false, None, string_bytes};
 ghost use Rattle.std.specs.Iterator.{at_most};
-ghost use Rattle.no_std_io2_base.specs.Pieces.{newline, line_text, lines_reader, lines_is_ended, RefusesLine, ends_at, items_left};
-ghost use Rattle.no_std_io2_base.specs.BufRead.{NextPieceLaw};
+ghost use Rattle.no_std_io2_base.specs.Pieces.{newline};
+ghost use Rattle.no_std_io2_base.specs.inner.Lines.{line_text, RefusesLine};
+ghost use Rattle.no_std_io2_base.specs.inner.Iterators.{lines_reader, lines_is_ended, ends_at, items_left, NextPieceLaw};
 
 use super::buf_read::BufRead;
 use super::pieces::{text_of, trim_line};

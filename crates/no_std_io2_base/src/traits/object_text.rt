@@ -1,7 +1,7 @@
 // The printing of a text to an object, through a buffer on the stack.
 ghost use Rattle.std.specs.Prelude.{◌≡◌, ◌≤◌, ◌<◌, ◌++◌, ◌^◌, ℕ, List, IsOk, length};
-ghost use Rattle.no_std_io2_base.specs.Text.{HasText, PrintsOrRefuses};
-ghost use Rattle.no_std_io2_base.specs.Writers.{PrintsByOne, OfObject};
+ghost use Rattle.no_std_io2_base.specs.inner.Text.{HasText, PrintsOrRefuses};
+ghost use Rattle.no_std_io2_base.specs.inner.Writers.{PrintsByOne, OfObject};
 
 use super::text::Answers;
 use super::write::Write;

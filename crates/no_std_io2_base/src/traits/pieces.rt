@@ -4,8 +4,8 @@ ghost use Rattle.std.specs.Prelude.{string_bytes, string_len, string_capacity, v
 ghost use Rattle.std.specs.String.{string_vec};
 ghost use Rattle.std.specs.Bool.{OnTrue, OnFalse};
 ghost use Rattle.std.specs.List.{AllWithin};
-ghost use Rattle.no_std_io2_base.specs.Pieces.{FindsPiece, ends_in, without, line_text, IsInvalidText, AnswersLine, Follows};
-ghost use Rattle.no_std_io2_base.specs.BufRead.{text_room};
+ghost use Rattle.no_std_io2_base.specs.inner.Pieces.{FindsPiece, ends_in, without};
+ghost use Rattle.no_std_io2_base.specs.inner.Lines.{line_text, IsInvalidText, AnswersLine, Follows, text_room};
 ghost use Rattle.no_std_io2_base.specs.Errors.{error_kind};
 ghost use Rattle.no_std_io2_base.specs.declared.error.ErrorKind.TheVariants.{OutOfMemory};
 

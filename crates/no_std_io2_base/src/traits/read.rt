@@ -1,11 +1,13 @@
 // [`Read`], a source of bytes.
 ghost use Rattle.std.specs.Prelude.{◌≡◌, ℕ, false, List, [], Option, None};
-ghost use Rattle.no_std_io2_base.specs.Chain.{chain_first, chain_second, chain_is_done, chain_events, both_to_come};
+ghost use Rattle.no_std_io2_base.specs.inner.Chain.{chain_first, chain_second, chain_is_done, chain_events, both_to_come};
+ghost use Rattle.no_std_io2_base.specs.Takes.{tells};
+ghost use Rattle.no_std_io2_base.specs.Read.{ReadLaw, ReadExactLaw, ReadFullLaw, ReadToEndLaw, ReadToStringLaw};
+ghost use Rattle.no_std_io2_base.specs.Calls.{ReadCall};
+ghost use Rattle.no_std_io2_base.specs.inner.Iterators.{bytes_reader};
+ghost use Rattle.no_std_io2_base.specs.inner.Take.{limit_inner, limit_left, limit_set, limit_events, cut_to_come};
 ghost use Rattle.no_std_io2_base.specs.Events.{Event};
 ghost use Rattle.no_std_io2_base.specs.Takes.{to_come};
-ghost use Rattle.no_std_io2_base.specs.Read.{tells, ReadLaw, ReadExactLaw, ReadFullLaw, ReadToEndLaw, ReadCall, bytes_reader};
-ghost use Rattle.no_std_io2_base.specs.ReadToString.{ReadToStringLaw};
-ghost use Rattle.no_std_io2_base.specs.Take.{limit_inner, limit_left, limit_set, limit_events, cut_to_come};
 
 use super::bytes::Bytes;
 use super::chain::Chain;

@@ -1,6 +1,6 @@
 // [`Seek`], a stream with a position that can be moved, and [`SeekFrom`], the target of a seek.
 ghost use Rattle.std.specs.Prelude.{ℕ, IfOk, IfErr};
-ghost use Rattle.no_std_io2_base.specs.Errors.{IsInvalidSeek};
+ghost use Rattle.no_std_io2_base.specs.inner.Errors.{IsInvalidSeek};
 ghost use Rattle.no_std_io2_base.specs.Seek.{IsTarget};
 
 use super::stored::Stored;
@@ -58,7 +58,8 @@ impl SeekFrom {
 
 /// A stream with a position that can be moved. Follows Rust's `std::io::Seek`.
 pub trait Seek: Stored {
-    ghost use Rattle.no_std_io2_base.specs.Seek.{SeekCall, SeekLaw, StreamPositionLaw, RewindLaw, StreamLenLaw, SeekRelativeLaw};
+    ghost use Rattle.no_std_io2_base.specs.Calls.{SeekCall};
+    ghost use Rattle.no_std_io2_base.specs.Seek.{SeekLaw, StreamPositionLaw, RewindLaw, StreamLenLaw, SeekRelativeLaw};
 
     // What one call with its result may do to the stream. By default it may do anything.
     ghost may: { Self → SeekCall → Self → Type 0 } = { λ _ _ _. Unit {0} };

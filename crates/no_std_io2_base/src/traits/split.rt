@@ -1,8 +1,8 @@
 // [`Split`], the iterator over pieces.
 ghost use Rattle.std.specs.Prelude.{◌≡◌, true, false, None, vec_items};
 ghost use Rattle.std.specs.Iterator.{at_most};
-ghost use Rattle.no_std_io2_base.specs.Pieces.{without, split_reader, split_delim, split_is_ended, ends_at, items_left};
-ghost use Rattle.no_std_io2_base.specs.BufRead.{NextPieceLaw};
+ghost use Rattle.no_std_io2_base.specs.inner.Pieces.{without};
+ghost use Rattle.no_std_io2_base.specs.inner.Iterators.{split_reader, split_delim, split_is_ended, ends_at, items_left, NextPieceLaw};
 
 use super::buf_read::BufRead;
 use super::pieces::drop_last;

@@ -1,6 +1,6 @@
 // [`Stored`], the store of a stream.
 ghost use Rattle.std.specs.Prelude.{Option, None};
-ghost use Rattle.no_std_io2_base.specs.Takes.{Store};
+ghost use Rattle.no_std_io2_base.specs.Events.{Store};
 
 /// The store of a stream, for contracts: a content, and a position in it. It is the parent of
 /// [`Read`](super::Read) and [`Seek`](super::Seek), so that both have the same store.

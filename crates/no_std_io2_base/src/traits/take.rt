@@ -5,8 +5,11 @@ ghost use Rattle.std.specs.Borrow.{Lends};
 ghost use Rattle.no_std_io2_base.specs.contracts.traits.take.Take.{the_row as take-row};
 ghost use Rattle.std.specs.Io.BufRead.{Rests};
 ghost use Rattle.no_std_io2_base.specs.BufRead.{FillBufLaw, AfterLoan};
-ghost use Rattle.no_std_io2_base.specs.Take.{limit_with_inner, limit_left, limit_set, limit_inner, limit_events, limit_held, LimitMay};
-ghost use Rattle.no_std_io2_base.specs.Read.{tells, least_room, ToEndLaw, ReadToEndLaw, ConsumeLaw};
+ghost use Rattle.no_std_io2_base.specs.inner.Take.{limit_with_inner, limit_left, limit_set, limit_inner, limit_events, limit_held};
+ghost use Rattle.no_std_io2_base.specs.inner.Take.{LimitMay};
+ghost use Rattle.no_std_io2_base.specs.Takes.{tells};
+ghost use Rattle.no_std_io2_base.specs.inner.Read.{least_room};
+ghost use Rattle.no_std_io2_base.specs.Read.{ToEndLaw, ReadToEndLaw, ConsumeLaw};
 
 mod seeking;
 

@@ -1,8 +1,9 @@
 // The printing of a text to a writer, piece by piece, for `write_fmt`.
 ghost use Rattle.std.specs.Prelude.{◌≡◌, ℕ, List, ◌++◌, Ok, IfSome, IsOk, OnOk, OnErr, Result};
 ghost use Rattle.no_std_io2_base.specs.declared.error.Error.{Error};
-ghost use Rattle.no_std_io2_base.specs.Text.{FailsText};
-ghost use Rattle.no_std_io2_base.specs.Writers.{PrintsOf, WriteAllOf};
+ghost use Rattle.no_std_io2_base.specs.inner.Text.{FailsText};
+ghost use Rattle.no_std_io2_base.specs.inner.Writers.{PrintsOf};
+ghost use Rattle.no_std_io2_base.specs.Writers.{WriteAllOf};
 
 use super::write::Write;
 use crate::error::{Error, ErrorKind, Result};

@@ -2,7 +2,8 @@
 ghost use Rattle.std.specs.Prelude.{◌≡◌, ◌+◌, [], Ok, OnOk, length};
 ghost use Rattle.no_std_io2_base.specs.Write.{WriteLaw, FlushLaw, WriteAllLaw, WriteRestLaw};
 ghost use Rattle.no_std_io2_base.specs.Text.{WriteFmtLaw};
-ghost use Rattle.no_std_io2_base.specs.Write.{WriterState, Sends, WriteCall};
+ghost use Rattle.no_std_io2_base.specs.Moves.{WriterState, Sends};
+ghost use Rattle.no_std_io2_base.specs.Calls.{WriteCall};
 
 use super::text::{Answers, LentWriter, PrintedWriter, answer_of, print_to};
 use crate::error::{ErrorKind, Result, failed_to_write};

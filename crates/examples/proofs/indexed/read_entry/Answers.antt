@@ -1,7 +1,7 @@
 -- Three reads are joined by a lemma with the places between them, which the search does not choose.
 use Rattle.no_std_io2.proofs.Words.{◌≡◌, ◌+◌, ◌*◌, Ok, negsuc, arith, subst, ⊤, returned_err}
 use Rattle.no_std_io2.proofs.TakesLemmas.{reader, seeker}
-use Rattle.no_std_io2.specs.{ReadAt.{ReadAtLaw}, declared.io.SeekFrom.TheVariants.{Start, End}}
+use Rattle.no_std_io2.specs.{Reads.{ReadAtLaw}, declared.io.SeekFrom.TheVariants.{Start, End}}
 use Rattle.examples.specs.Indexed.{IsNumberAt, ReadsNumber, no_index, found}
 use Rattle.examples.proofs.EntryLemmas.{content_stays, entry_read, no_place_at}
 use Rattle.examples.proofs.indexed.read_entry.Goals as goal

@@ -1,7 +1,7 @@
 -- The prover does not go over the items of a run.
 use Rattle.std.proofs.Common.{arith, string_bytes}
 use Rattle.no_std_io2.proofs.{Words.{◌≡◌, false, newline}, TakesLemmas.{reader}}
-use Rattle.no_std_io2.specs.Pieces.{RefusesLine, line_text, lines_is_ended, lines_reader}
+use Rattle.no_std_io2.specs.{inner.Lines.{RefusesLine, line_text}, inner.Iterators.{lines_is_ended, lines_reader}}
 use Rattle.io_bench.proofs.PieceRunLemmas.{lines_faults, lines_next, lines_takes, run_faults, run_gathers}
 use Rattle.io_bench.proofs.pieces.run_lines.Goals as goal
 

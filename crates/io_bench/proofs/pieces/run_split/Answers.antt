@@ -1,7 +1,7 @@
 -- The prover does not go over the items of a run.
 use Rattle.std.proofs.Common.{arith, vec_items}
 use Rattle.no_std_io2.proofs.{Words.{◌≡◌, false, refl, split_delim, split_reader, without}, TakesLemmas.{reader}}
-use Rattle.no_std_io2.specs.Pieces.{split_is_ended}
+use Rattle.no_std_io2.specs.inner.Iterators.{split_is_ended}
 use Rattle.io_bench.proofs.PieceRunLemmas.{run_faults, run_gathers, split_faults, split_next, split_takes}
 use Rattle.io_bench.proofs.pieces.run_split.Goals as goal
 

@@ -1,8 +1,8 @@
 // `fill_to`, which reads until enough bytes are held.
 ghost use Rattle.std.specs.Prelude.{◌≡◌, ◌≤◌};
 ghost use Rattle.no_std_io2_base.specs.Takes.{KeepsContent};
-ghost use Rattle.no_std_io2.specs.BufReader.{ReaderIsSound};
-ghost use Rattle.no_std_io2.specs.FillTo.{FillsTo};
+ghost use Rattle.no_std_io2.specs.inner.BufReader.{ReaderIsSound};
+ghost use Rattle.no_std_io2.specs.BufReader.{FillsTo};
 
 use super::BufReader;
 use no_std_io2_base::error::Result;

@@ -1,7 +1,11 @@
 // The `impl` of `Read` for `BufReader`.
 ghost use Rattle.std.specs.Prelude.{◌≡◌, ◌<◌, ◌-◌, ◌++◌, ℕ, List, length, take, nat_le};
-ghost use Rattle.no_std_io2_base.specs.Read.{tells, ReadExactLaw, ReadFullLaw, ReadToEndLaw, GaveAll, ended};
-ghost use Rattle.no_std_io2.specs.BufReader.{reader_held, reader_events, reader_turns, LeavesExact, ReadsThrough, full_ended, ReaderMay};
+ghost use Rattle.no_std_io2_base.specs.Takes.{tells};
+ghost use Rattle.no_std_io2_base.specs.Read.{ReadExactLaw, ReadFullLaw, ReadToEndLaw};
+ghost use Rattle.no_std_io2_base.specs.Calls.{GaveAll};
+ghost use Rattle.no_std_io2_base.specs.inner.Read.{ended};
+ghost use Rattle.no_std_io2.specs.BufReader.{reader_held};
+ghost use Rattle.no_std_io2.specs.inner.BufReader.{reader_events, reader_turns, LeavesExact, ReadsThrough, full_ended, ReaderMay};
 
 use super::BufReader;
 use no_std_io2_base::error::Result;

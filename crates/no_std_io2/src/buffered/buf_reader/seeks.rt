@@ -1,10 +1,13 @@
 // The `impl` of `Seek` for `BufReader`.
 ghost use Rattle.std.specs.Prelude.{◌≡◌, Ok, FitsSigned, SomeIff, ◌<◌, ◌^◌, ◌-ℤ◌, pos, length};
 ghost use Rattle.std.specs.Int.{w64};
-ghost use Rattle.no_std_io2_base.specs.Seek.{WithoutPosition, StreamLenLaw, SeekRelativeLaw, Measured, Moved};
+ghost use Rattle.no_std_io2_base.specs.inner.Seek.{WithoutPosition};
+ghost use Rattle.no_std_io2_base.specs.Seek.{StreamLenLaw, SeekRelativeLaw};
+ghost use Rattle.no_std_io2_base.specs.Calls.{Measured, Moved};
 ghost use Rattle.no_std_io2_base.specs.Takes.{KeepsContent};
-ghost use Rattle.no_std_io2.specs.BufReader.{reader_held, SeeksOnce, ReaderSeeks, ReaderMaySeek, ReaderIsSound, back_by};
-ghost use Rattle.no_std_io2.specs.BufReader.{PositionLaw};
+ghost use Rattle.no_std_io2.specs.BufReader.{reader_held};
+ghost use Rattle.no_std_io2.specs.inner.BufferSeeks.{SeeksOnce, ReaderSeeks, ReaderMaySeek, back_by, PositionLaw};
+ghost use Rattle.no_std_io2.specs.inner.BufReader.{ReaderIsSound};
 
 use super::BufReader;
 use no_std_io2_base::error::Result;

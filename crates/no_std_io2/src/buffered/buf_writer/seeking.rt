@@ -1,6 +1,8 @@
 // The impls of `Stored` and `Seek` for `BufWriter`.
 ghost use Rattle.no_std_io2_base.specs.Seek.{SeekLaw};
-ghost use Rattle.no_std_io2.specs.BufWriter.{writer_inner, writer_buffer, store_unheld, SeeksSent, WriterMaySeek};
+ghost use Rattle.no_std_io2.specs.BufWriter.{writer_inner, writer_buffer};
+ghost use Rattle.no_std_io2.specs.inner.BufWriter.{store_unheld};
+ghost use Rattle.no_std_io2.specs.inner.BufferSeeks.{SeeksSent, WriterMaySeek};
 
 use super::BufWriter;
 use no_std_io2_base::error::Result;

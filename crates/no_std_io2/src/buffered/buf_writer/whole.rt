@@ -1,8 +1,9 @@
 //! The calls of [`BufWriter`] for records, which are written whole or not at all. Rust's std has none of them.
 ghost use Rattle.std.specs.Prelude.{◌+◌, ◌<◌, ◌≤◌, ◌++◌, [], length, OnOk};
 ghost use Rattle.no_std_io2_base.specs.Errors.{IsNoInterruption};
-ghost use Rattle.no_std_io2_base.specs.Write.{Moves, call_mishap};
-ghost use Rattle.no_std_io2.specs.BufWriter.{writer_inner, writer_buffer, writer_told, TakesStep, RoomCalls, Puts};
+ghost use Rattle.no_std_io2_base.specs.Moves.{Moves, call_mishap};
+ghost use Rattle.no_std_io2.specs.BufWriter.{writer_inner, writer_buffer, writer_told, Puts};
+ghost use Rattle.no_std_io2.specs.inner.BufWriter.{TakesStep, RoomCalls};
 
 use super::BufWriter;
 use no_std_io2_base::error::Result;

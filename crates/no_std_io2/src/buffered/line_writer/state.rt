@@ -2,8 +2,8 @@
 ghost use Rattle.std.specs.Prelude.{◌≡◌};
 ghost use Rattle.std.specs.Borrow.{Lends, sem};
 ghost use Rattle.std.proofs.Props.{props};
-ghost use Rattle.no_std_io2_base.specs.Lines.{IsLineState};
-ghost use Rattle.no_std_io2.specs.BufWriter.{sender_inner, sender_buffer};
+ghost use Rattle.no_std_io2_base.specs.inner.Lines.{IsLineState};
+ghost use Rattle.no_std_io2.specs.inner.BufWriter.{sender_inner, sender_buffer};
 
 use crate::buffered::sender::Sender;
 use no_std_io2_base::traits::Write;

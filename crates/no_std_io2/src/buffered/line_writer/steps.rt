@@ -1,10 +1,11 @@
 // The steps of the calls of a `LineWriter`.
 ghost use Rattle.std.specs.Prelude.{◌≡◌, ◌≢◌, ◌+◌, ◌-◌, ◌<◌, ◌≤◌, true, length, slice_range};
 ghost use Rattle.std.specs.List.{AllWithin};
-ghost use Rattle.no_std_io2_base.specs.Lines.{IsLineState, lines_len};
-ghost use Rattle.no_std_io2_base.specs.Pieces.{ends_in, newline};
-ghost use Rattle.no_std_io2.specs.LineWriter.{held_tail, SendLineCalls, SendLinesCalls, LineWriteCalls, LineWriteAllCalls};
-ghost use Rattle.no_std_io2.specs.BufWriter.{sender_inner, sender_buffer, TakesStep, Then, WriteAllCalls};
+ghost use Rattle.no_std_io2_base.specs.inner.Lines.{IsLineState, lines_len};
+ghost use Rattle.no_std_io2_base.specs.inner.Pieces.{ends_in};
+ghost use Rattle.no_std_io2_base.specs.Pieces.{newline};
+ghost use Rattle.no_std_io2.specs.inner.LineWriter.{held_tail, SendLineCalls, SendLinesCalls, LineWriteCalls, LineWriteAllCalls};
+ghost use Rattle.no_std_io2.specs.inner.BufWriter.{sender_inner, sender_buffer, TakesStep, Then, WriteAllCalls};
 
 use crate::buffered::buffer::SMALL;
 use crate::buffered::sender::Sender;

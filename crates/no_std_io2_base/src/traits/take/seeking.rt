@@ -1,11 +1,11 @@
 // How a `Take` seeks.
 ghost use Rattle.std.specs.Int.{w64};
 ghost use Rattle.std.specs.Prelude.{FitsSigned, ◌≡◌, ◌≢◌, ◌<◌, ◌≤◌, ◌^◌, ℕ, Ok, IfOk, IfErr};
-ghost use Rattle.no_std_io2_base.specs.Seek.{IsAtOffset, SeekLaw, StreamLenLaw, StreamPositionLaw, SeekRelativeLaw, Sought, Measured};
-ghost use Rattle.no_std_io2_base.specs.Seek.{Moved};
-ghost use Rattle.no_std_io2_base.specs.Errors.{IsInvalidSeek};
-ghost use Rattle.no_std_io2_base.specs.Take.{limit_set, limit_position};
-ghost use Rattle.no_std_io2_base.specs.LimitSeeks.{IsWithin, IsStep, LimitSteps, LimitGoes, LimitMaySeek};
+ghost use Rattle.no_std_io2_base.specs.inner.Seek.{IsAtOffset};
+ghost use Rattle.no_std_io2_base.specs.Seek.{SeekLaw, StreamLenLaw, StreamPositionLaw, SeekRelativeLaw};
+ghost use Rattle.no_std_io2_base.specs.Calls.{Sought, Measured, Moved};
+ghost use Rattle.no_std_io2_base.specs.inner.Errors.{IsInvalidSeek};
+ghost use Rattle.no_std_io2_base.specs.inner.Take.{limit_set, limit_position, IsWithin, IsStep, LimitSteps, LimitGoes, LimitMaySeek};
 
 use super::Take;
 use crate::error::{Result, invalid_seek};

@@ -2,7 +2,7 @@
 use Rattle.std.proofs.Common.{ap, ◌∙◌, option_and_then}
 use Rattle.base64.specs.{Engines.{standard}, GeneralPurpose.{decoded_of}}
 use Rattle.no_std_io2.proofs.TakesLemmas.{reader}
-use Rattle.no_std_io2.specs.Read.{tells}
+use Rattle.no_std_io2.specs.Takes.{tells}
 use Rattle.system_streams.specs.ToStd.{bytes_to_come}
 use Rattle.over_kit.proofs.TextLemmas.{read_decoded}
 use Rattle.over_kit.proofs.texts.read_encoded.Goals as goal

@@ -1,7 +1,7 @@
 -- The prover does not find that only the bytes are left.
 use Rattle.no_std_io2.proofs.Words.{common_steps, nat_tests, ◌≡◌, ◌<◌, ℕ, List, ◌∷◌, Result, Err, length, drop, map, arith, ap, ◌∙◌}
 use Rattle.no_std_io2.proofs.Words.{answered}
-use Rattle.no_std_io2.specs.{declared.io.{Error.{Error}, ErrorKind.{ErrorKind}}, Errors.{error_of}, Read.{gave}}
+use Rattle.no_std_io2.specs.{declared.io.Error.{Error}, declared.io.ErrorKind.{ErrorKind}, inner.Kinds.{error_of}, Takes.{gave}}
 use Rattle.std.specs.Prelude.{IsErr}
 use Rattle.io_bench.specs.{declared.feed.{Event.{TheVariants.{Byte, Fail}}, Feed.{Feed}}, Feed.{feed_left, feed_answer}}
 use Rattle.io_bench.proofs.DeviceLemmas.{feed_fills}

@@ -1,7 +1,7 @@
 -- The prover does not join the events of three readers.
 use Rattle.no_std_io2.proofs.{Words.{◌++◌, Some, ap, ap₂, ◌∙◌, events_of, bytes}, TakesLemmas.{bytes-append, bytes-events_of}}
 use Rattle.no_std_io2.proofs.CursorLemmas.{told_at}
-use Rattle.no_std_io2.specs.{Events.{cut}, Cursor.{cursor_left}, Chain.{both_to_come}, Take.{cut_to_come}}
+use Rattle.no_std_io2.specs.{inner.Events.{cut}, inner.Cursor.{cursor_left}, inner.Chain.{both_to_come}, inner.Take.{cut_to_come}}
 use Rattle.promises.proofs.PatientReads.{drained}
 use Rattle.promises.proofs.memory.joins_readers.Goals as goal
 

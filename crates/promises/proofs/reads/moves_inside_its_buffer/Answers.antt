@@ -1,7 +1,7 @@
 -- Within the buffer no inner call is made, and the border moves.
 use Rattle.no_std_io2.proofs.{Words.{ℤ, refl, subst, to_z-of_z, w64, tells, reader_held, reader_behind, reader_inner}, TakesLemmas.{reader}}
 use Rattle.no_std_io2.proofs.{TakesLemmas.{seeker}, BufferedReads.{steps_over, held-le}}
-use Rattle.no_std_io2.specs.BufReader.{MovesBelow, moved_within, moved_far}
+use Rattle.no_std_io2.specs.inner.BufferSeeks.{MovesBelow, moved_within, moved_far}
 use Rattle.promises.proofs.reads.moves_inside_its_buffer.Goals as goal
 
 pub returns : goal.returns

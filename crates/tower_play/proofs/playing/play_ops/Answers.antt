@@ -1,6 +1,6 @@
 -- Each tower holds nothing at first, over a device that has taken nothing.
 use Rattle.no_std_io2.proofs.Words.{refl, ap, ◌∙◌, InnerCalls, writer_inner, writer_buffer, line_inner, line_buffer}
-use Rattle.no_std_io2.specs.LineWriter.{LineCalls}
+use Rattle.no_std_io2.specs.inner.LineWriter.{LineCalls}
 use Rattle.tower_play.specs.declared.playing.Shape.TheVariants.{Buf, BufBuf, Line, LineBuf}
 use Rattle.tower_play.proofs.PlayLemmas.{fresh_at, ifok_map, one_level, two_levels}
 use Rattle.tower_play.proofs.playing.play_ops.Goals as goal

@@ -1,6 +1,6 @@
 -- The bytes that are gone were accepted, and each try except the first has used up a mishap, if mishaps are told.
 use Rattle.no_std_io2.proofs.Words.{Ok, Result, List, ℕ}
-use Rattle.no_std_io2_base.specs.{declared.error.Error.{Error}, Write.{Sends}, Retries.{HasSpentTries, RestFlushLaw, Tries}}
+use Rattle.no_std_io2_base.specs.{declared.error.Error.{Error}, Moves.{Sends}, inner.Moves.{HasSpentTries}, Retries.{RestFlushLaw, Tries}}
 use Rattle.no_std_io2.proofs.util.retries.write_with_retries.Given as goal
 
 abbrev pub invariant-tries : goal.invariant-tries

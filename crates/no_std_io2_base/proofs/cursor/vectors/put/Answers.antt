@@ -2,7 +2,7 @@
 use Rattle.std.proofs.Common.{◌≡◌, ◌+◌, ◌-◌, ◌++◌, length, take, drop, replicate, arith, ap, sym, ◌∙◌, inl, inr, append_assoc}
 use Rattle.std.proofs.{Common.{length-append, length-take, length-drop}, lemmas.List.{with_items_is}}
 use borrow.Rule.Slice.PartMut.{put_mid}
-use Rattle.no_std_io2_base.specs.Cursor.{put_at}
+use Rattle.no_std_io2_base.specs.inner.Cursor.{put_at}
 use Rattle.no_std_io2_base.proofs.CursorLemmas.{left_after, IsLengthened, lengthened_reaches, put_lengthened}
 use Rattle.no_std_io2_base.proofs.cursor.vectors.put.Goals as goal
 use Rattle.no_std_io2_base.proofs.cursor.vectors.put.Goals.{then-end-len+in_ok-lengthen, else-end-len}

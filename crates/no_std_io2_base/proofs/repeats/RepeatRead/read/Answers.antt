@@ -2,7 +2,7 @@
 use Rattle.std.proofs.Common.{◌≡◌, ◌≤◌, ◌++◌, arith, length, take, drop, replicate, refl, sym, ap, ◌∙◌, take_at, length-take-le}
 use Rattle.std.proofs.{Common.{length-append, length-drop}, lemmas.List.{take-replicate, drop-replicate, length-replicate}}
 use Rattle.no_std_io2_base.proofs.InMemoryReads.{split_at, takes_left, read_left}
-use Rattle.no_std_io2_base.specs.Repeat.{repeat_left}
+use Rattle.no_std_io2_base.specs.inner.InMemory.{repeat_left}
 use Rattle.no_std_io2_base.proofs.repeats.RepeatRead.read.Goals as goal
 
 pub returns : goal.returns

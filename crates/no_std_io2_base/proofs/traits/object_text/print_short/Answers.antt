@@ -1,6 +1,6 @@
 -- The prover does not find the value of the object after the call, nor the text that the page has (`page_has`). One `write_all` got it.
 use Rattle.std.proofs.{Common.{refl, inl, inr, arith, replicate}, lemmas.Grind.{common_steps}}
-use Rattle.no_std_io2_base.specs.Text.{HasText}
+use Rattle.no_std_io2_base.specs.inner.Text.{HasText}
 use Rattle.no_std_io2_base.proofs.TextLemmas.{when_ok, page_none, page_has, page_over, page_text, short_prints}
 use Rattle.no_std_io2_base.proofs.traits.object_text.print_short.Goals as goal
 

@@ -1,7 +1,7 @@
 -- What became of the line in each of the three cases, for every length and capacity.
 use Rattle.std.proofs.{lemmas.Grind.{common_steps}, Common.{◌≡◌, ℕ, ◌-◌, List, refl, sym, ap, subst, ◌∙◌, take, drop, length, arith}}
 use Rattle.std.proofs.{Common.{take_all, length-drop, string_bytes, IsUtf8}, lemmas.{Str.{IsUtf8-append}, List.{take-append-drop}}}
-use Rattle.no_std_io2_base.specs.Pieces.{AnswersLine}
+use Rattle.no_std_io2_base.specs.inner.Lines.{AnswersLine}
 use Rattle.no_std_io2_base.proofs.LineLemmas.{kept, became, refused}
 use Rattle.no_std_io2_base.proofs.traits.pieces.put_back.Goals as goal
 

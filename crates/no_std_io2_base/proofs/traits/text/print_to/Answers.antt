@@ -1,6 +1,6 @@
 -- What was printed is behind a `∥ ∥₁`, into which the search does not go.
 use Rattle.std.proofs.Common.{[]}
-use Rattle.no_std_io2_base.specs.{Text.{nothing}, Writers.{PrintsOf}}
+use Rattle.no_std_io2_base.specs.{inner.Text.{nothing}, inner.Writers.{PrintsOf}}
 use Rattle.no_std_io2_base.proofs.TextLemmas.{prints_through}
 use Rattle.no_std_io2_base.proofs.traits.text.print_to.Goals as goal
 

@@ -3,7 +3,7 @@ use Rattle.no_std_io2.proofs.Words.{common_steps, ◌<◌, ◌^◌, ℤ, pos, ar
 use Rattle.no_std_io2.proofs.BufReaderSeeks.{far_unless_fits, seeks_again}
 use Rattle.std.proofs.Common.{◌-ℤ◌, FitsSigned}
 use Rattle.no_std_io2_base.specs.declared.traits.seek.SeekFrom.TheVariants.{Current}
-use Rattle.no_std_io2.specs.BufReader.{IsTooFarBack, SeeksOnce}
+use Rattle.no_std_io2.specs.inner.BufferSeeks.{IsTooFarBack, SeeksOnce}
 use Rattle.no_std_io2_base.proofs.TakesLemmas.{seeker}
 use Rattle.no_std_io2.proofs.buffered.buf_reader.BufReader.seek_current.Goals as goal
 

@@ -1,7 +1,7 @@
 -- A comparison of two options is a test of the last byte.
 use Rattle.no_std_io2.proofs.Words.{common_steps, refl, ◌≡◌, ℕ, ◌-◌, ◌==◌, Option, Some, List, length, arith, ◌∙◌, newline}
 use Rattle.std.specs.{Borrow.{Bor}, Option.{option_eq}, Slice.{IsGetResult}}
-use Rattle.no_std_io2_base.specs.Pieces.{ends_in}
+use Rattle.no_std_io2_base.specs.inner.Pieces.{ends_in}
 use Rattle.no_std_io2_base.proofs.PieceLemmas.{is_last, other_last}
 use Rattle.no_std_io2.proofs.buffered.line_writer.steps.ends_in_newline.Goals as goal
 

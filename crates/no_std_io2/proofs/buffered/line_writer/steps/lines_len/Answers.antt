@@ -3,7 +3,7 @@ use Rattle.no_std_io2.proofs.Words.{common_steps, ◌≡◌, ◌+◌, ◌∷◌,
 use Rattle.no_std_io2.proofs.Words.{newline, lines_len, lines_of, unfinished_line, ◌-◌, ◌≢◌, [], List, ℕ, true, false, true≢false, inl, inr}
 use Rattle.no_std_io2.proofs.Words.{nil_from_length, cases_lt, rules}
 use Rattle.std.specs.{List.{AllWithin}, Prelude.{Contains}}
-use Rattle.no_std_io2_base.specs.Pieces.{ends_in}
+use Rattle.no_std_io2_base.specs.inner.Pieces.{ends_in}
 use Rattle.no_std_io2_base.proofs.LineLemmas.{lines_are, lines_none, lines_split, unfinished_none, contains_lacks, ends_in-append}
 use Rattle.no_std_io2.proofs.buffered.line_writer.steps.lines_len.Goals as goal
 

@@ -1,6 +1,6 @@
 -- The last byte decides between the two cases of the step: the search does not choose one.
 use Rattle.no_std_io2.proofs.Words.{arith, common_steps, ap, sym, refl, ◌∙◌, inl, [], newline}
-use Rattle.no_std_io2_base.specs.Pieces.{ends_in}
+use Rattle.no_std_io2_base.specs.inner.Pieces.{ends_in}
 use Rattle.no_std_io2_base.proofs.{CallsLemmas.{by_are}, LineLemmas.{ends_in-contains, unended_lacks}}
 use Rattle.no_std_io2.proofs.buffered.line_writer.steps.send_line.Goals as goal
 

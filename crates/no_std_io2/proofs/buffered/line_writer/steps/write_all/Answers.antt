@@ -1,9 +1,9 @@
 -- A text without a newline is the first case of the step: the search does not join its two calls.
 use Rattle.no_std_io2.proofs.Words.{ap, arith, inl, newline, refl, sym, ◌∙◌, [], Ok, Stepped, sender_inner, sender_buffer}
 use Rattle.no_std_io2.proofs.BufWriterLemmas.{then_goes_on}
-use Rattle.no_std_io2_base.specs.Pieces.{ends_in}
+use Rattle.no_std_io2_base.specs.inner.Pieces.{ends_in}
 use Rattle.no_std_io2_base.proofs.{CallsLemmas.{by_are}, LineLemmas.{lacks_lines, unended_lacks}}
-use Rattle.no_std_io2.specs.LineWriter.{SendLineCalls}
+use Rattle.no_std_io2.specs.inner.LineWriter.{SendLineCalls}
 use Rattle.no_std_io2.proofs.buffered.line_writer.steps.write_all.Goals as goal
 
 -- no line is held, so none is sent

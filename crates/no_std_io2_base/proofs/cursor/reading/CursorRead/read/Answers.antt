@@ -1,6 +1,6 @@
 -- The law: the search does not find where the content is split.
 use Rattle.std.proofs.Common.{◌≡◌, ◌+◌, arith, length, take, drop, ap, ◌∙◌, take_at, length-take-le}
-use Rattle.no_std_io2_base.specs.Cursor.{cursor_left}
+use Rattle.no_std_io2_base.specs.inner.Cursor.{cursor_left}
 use Rattle.no_std_io2_base.proofs.{CursorLemmas.{left_after, takes_at, told_at}, InMemoryReads.{split_at, read_left}}
 use Rattle.no_std_io2_base.proofs.cursor.reading.CursorRead.read.Goals as goal
 

@@ -1,7 +1,7 @@
 -- The appended bytes are a front of those that the cursor had left, and its position is right after them.
 use Rattle.std.proofs.Common.{◌≡◌, ◌+◌, ◌-◌, ◌++◌, Ok, Err, arith, ap, sym, ◌∙◌, length, length-append, drop}
 use Rattle.std.proofs.lemmas.Result.{err_from_is_err_and}
-use Rattle.no_std_io2_base.specs.Cursor.{cursor_left}
+use Rattle.no_std_io2_base.specs.inner.Cursor.{cursor_left}
 use Rattle.no_std_io2_base.proofs.{CursorLemmas.{takes_at, told_at, behind_at}, InMemoryReads.{memory_drained}}
 use Rattle.no_std_io2_base.proofs.cursor.reading.CursorRead.read_to_end.Goals as goal
 

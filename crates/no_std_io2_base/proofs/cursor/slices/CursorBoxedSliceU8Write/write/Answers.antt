@@ -1,7 +1,7 @@
 -- The boxed slice has the written bytes: the search does not find that its length stays.
 use Rattle.std.proofs.Common.{◌≡◌, ◌∙◌, rules, subst, sym, take, take_at}
 use Rattle.std.specs.Box.{boxed_slice_items, boxed_slice_with_items}
-use Rattle.no_std_io2_base.specs.{Cursor.{bytes_before}, Write.{Moves, told_out, zero_write}}
+use Rattle.no_std_io2_base.specs.{inner.Cursor.{bytes_before}, Moves.{Moves, told_out}, inner.Write.{zero_write}}
 use Rattle.no_std_io2_base.proofs.CursorLemmas.{fits_moves}
 use Rattle.no_std_io2_base.proofs.cursor.slices.CursorBoxedSliceU8Write.write.Goals as goal
 

@@ -2,7 +2,7 @@
 use Rattle.std.proofs.{Common.{◌≡◌, ℕ, List, ◌≤◌, ◌++◌, ◌∙◌, Result, Vec, vec_len, vec_capacity}}
 use Rattle.std.proofs.Common.{Ok, Err, inl, inr, ap, arith, le_trans}
 use Rattle.no_std_io2_base.specs.{declared.error.Error.{Error}, Events.{Event, bytes}, Takes.{ReaderState}}
-use Rattle.no_std_io2_base.specs.Read.{Reader, ReadToEndLaw, DrainsOrStops, tells}
+use Rattle.no_std_io2_base.specs.{Takes.{Reader, tells}, Read.{ReadToEndLaw, DrainsOrStops}}
 use Rattle.no_std_io2_base.proofs.impls.queues.VecDequeU8Read.read_to_end.Goals as goal
 
 -- how it ended, with a weaker reason for a failed allocation

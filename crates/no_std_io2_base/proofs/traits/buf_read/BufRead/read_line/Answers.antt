@@ -3,7 +3,7 @@ use Rattle.std.proofs.lemmas.Grind.{common_steps}
 use Rattle.std.proofs.Common.{◌≡◌, ◌≤◌, ℕ, ◌∙◌, sym, ap, subst, arith, take, drop, length-take-le, string_len, string_bytes, vec_len}
 use Rattle.std.proofs.Common.{IsUtf8}
 use Rattle.std.specs.String.{string_vec}
-use Rattle.no_std_io2_base.specs.{BufRead.{ReadUntilLaw}, Pieces.{newline, AnswersLine}}
+use Rattle.no_std_io2_base.specs.{BufRead.{ReadUntilLaw}, Pieces.{newline}, inner.Lines.{AnswersLine}}
 use Rattle.no_std_io2_base.proofs.LineLemmas.{line_law, line_at_once, line_faulted, line_some, memory_grows, memory_text}
 use Rattle.no_std_io2_base.proofs.{PieceLemmas.{until_lent, until_waited}, PieceLoops.{filled_law}, TakesLemmas.{reader}}
 use Rattle.no_std_io2_base.proofs.traits.buf_read.BufRead.read_line.Goals.{in-Ok+else-is_whole}

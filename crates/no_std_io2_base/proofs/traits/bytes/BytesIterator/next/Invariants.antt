@@ -1,6 +1,6 @@
 -- All reads so far were interrupted. The reader's turns bound the loop.
 use Rattle.std.proofs.Common.{◌≡◌, [], length}
-use Rattle.no_std_io2_base.specs.Read.{bytes_reader}
+use Rattle.no_std_io2_base.specs.inner.Iterators.{bytes_reader}
 use Rattle.no_std_io2_base.proofs.{TakesLemmas.{reader}, ReadLoops.{ReadsSoFar}}
 use Rattle.no_std_io2_base.proofs.traits.bytes.BytesIterator.next.Given as goal
 

@@ -17,7 +17,7 @@ use denote.{Triple.Table.{entered}, Triple.Walked.{Stays, stay_dropped, walk_of,
 use denote.{Memory.{part_at}, Laws.{Lawfuls}, Plain.{bool_Lawful}, Param.{param, layout, layouts}, Param.Laws.{Laws, param_laws}}
 use denote.{Builtin.{bool}, Struct.Declared.{shape}, Struct.Members.{Member, rows_of}, Struct.Struct.{within}, Struct.Tuple.{tuple_type}}
 use borrow.Struct.LendTwo.{but_same, kept_but, cuts_but, fills_but, cuts_first, Fills-first}
-use Rattle.no_std_io2_base.specs.Chain.{chain_with_readers}
+use Rattle.no_std_io2_base.specs.inner.Chain.{chain_with_readers}
 use Rattle.no_std_io2_base.specs.contracts.traits.chain.Chain as chain
 use Rattle.no_std_io2_base.specs.contracts.traits.chain.Chain.get_mut as F
 use Rattle.no_std_io2_base.specs.contracts.traits.chain.Chain.get_mut.Key.{name as #self}

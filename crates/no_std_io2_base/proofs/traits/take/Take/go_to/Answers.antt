@@ -1,7 +1,7 @@
 -- A step of the loop, and its exits: the search does not follow the position through the conversion to an `i64`.
 use Rattle.std.proofs.{Common.{◌≢◌, ℤ, Ok, Err, arith, sym, subst, ◌∙◌}, lemmas.Int.{to_z-of_z}, lemmas.Result.{err_from_is_err_and}}
 use Rattle.std.specs.Int.{w64}
-use Rattle.no_std_io2_base.specs.{Take.{limit_position}, LimitSeeks.{IsStep, arrived, and_step, and_fault}}
+use Rattle.no_std_io2_base.specs.inner.Take.{limit_position, IsStep, arrived, and_step, and_fault}
 use Rattle.no_std_io2_base.proofs.traits.take.Take.go_to.Goals as goal
 
 pub steps-preserved : goal.steps-preserved

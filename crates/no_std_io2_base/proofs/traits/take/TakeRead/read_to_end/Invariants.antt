@@ -1,5 +1,5 @@
 -- `read_to_end` ends with its reader's turns.
-use Rattle.no_std_io2_base.specs.Take.{limit_inner}
+use Rattle.no_std_io2_base.specs.inner.Take.{limit_inner}
 use Rattle.no_std_io2_base.proofs.{TakesLemmas.{reader}, LimitLemmas.{limit_reader}, ToEndLemmas.{ToEndSoFar}}
 use Rattle.no_std_io2_base.proofs.traits.take.TakeRead.read_to_end.Given as goal
 

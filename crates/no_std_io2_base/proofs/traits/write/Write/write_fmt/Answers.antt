@@ -1,6 +1,6 @@
 -- What was printed is behind a `∥ ∥₁`, and the writer comes back under another name.
 use Rattle.std.proofs.Common.{sym, subst}
-use Rattle.no_std_io2_base.specs.Writers.{WriteFmtOf}
+use Rattle.no_std_io2_base.specs.inner.Writers.{WriteFmtOf}
 use Rattle.no_std_io2_base.proofs.TextLemmas.{name_kept, law_shown}
 use Rattle.no_std_io2_base.proofs.traits.write.Write.write_fmt.Goals as goal
 

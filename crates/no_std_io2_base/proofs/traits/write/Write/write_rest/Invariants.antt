@@ -1,6 +1,6 @@
 -- What is gone from `rest` was accepted, and each turn shortens it or spends a turn of the writer.
 use Rattle.std.proofs.Common.{◌+◌, codes, length}
-use Rattle.no_std_io2_base.specs.Writers.{CallOf}
+use Rattle.no_std_io2_base.specs.inner.Writers.{CallOf}
 use Rattle.no_std_io2_base.proofs.CallsLemmas.{CallsSoFar}
 use Rattle.no_std_io2_base.proofs.traits.write.Write.write_rest.Given as goal
 

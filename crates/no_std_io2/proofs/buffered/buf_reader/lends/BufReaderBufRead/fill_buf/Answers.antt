@@ -2,7 +2,7 @@
 use Rattle.no_std_io2.proofs.Words.{◌≡◌, ◌<◌, [], Ok, Err, refl, sym, ap, ◌∙◌, arith, length, nil_from_length, err_from_is_err_and, tells}
 use Rattle.no_std_io2.proofs.Words.{reader_held, lent_held, lent_read}
 use Rattle.no_std_io2_base.proofs.TakesLemmas.{reader, takes_none, stays_at_end}
-use Rattle.no_std_io2.specs.Buffer.{buffer_held}
+use Rattle.no_std_io2.specs.inner.Buffer.{buffer_held}
 use Rattle.no_std_io2.proofs.BufferedReads.{takes_fill, begins_lent, begins_filled, ends_unheld}
 use Rattle.no_std_io2.proofs.buffered.buf_reader.lends.BufReaderBufRead.fill_buf.Goals as goal
 

@@ -3,7 +3,7 @@ use Rattle.no_std_io2.proofs.Words.{◌≡◌, [], Ok, Err, ◌++◌, length, ta
 use Rattle.no_std_io2.proofs.Words.{nil_from_length, err_from_is_err_and, tells, reader_held, went_past, was_filled}
 use Rattle.std.proofs.Math.Seq.{drop-nil}
 use Rattle.no_std_io2_base.proofs.TakesLemmas.{reader, read_law, takes_then}
-use Rattle.no_std_io2.specs.Buffer.{buffer_held}
+use Rattle.no_std_io2.specs.inner.Buffer.{buffer_held}
 use Rattle.no_std_io2.proofs.BufferedReads.{by_held, split_held, by_filled, takes_held, takes_direct, takes_fill, ends_unheld, end_read}
 use Rattle.no_std_io2.proofs.buffered.buf_reader.reads.BufReaderRead.read.Goals as goal
 

@@ -2,7 +2,7 @@
 use Rattle.no_std_io2.proofs.Words.{ℤ, subst, rules, to_z-of_z, w64}
 use Rattle.std.proofs.Common.{FitsSigned}
 use Rattle.no_std_io2_base.specs.declared.traits.seek.SeekFrom.TheVariants.{Current}
-use Rattle.no_std_io2.specs.BufReader.{ReaderSeeks}
+use Rattle.no_std_io2.specs.inner.BufferSeeks.{ReaderSeeks}
 use Rattle.no_std_io2.proofs.{BufReaderSeeks.{seek_law, seek_elsewhere}}
 use Rattle.no_std_io2_base.proofs.TakesLemmas.{seeker}
 use Rattle.no_std_io2.proofs.buffered.buf_reader.seeks.BufReaderSeek.seek.Goals as goal

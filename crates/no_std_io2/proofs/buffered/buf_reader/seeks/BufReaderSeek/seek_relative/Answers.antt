@@ -1,7 +1,7 @@
 -- Within the buffer the border moves; outside it is a seek.
 use Rattle.no_std_io2.proofs.Words.{ℤ, length, refl, subst, Ok, Err, to_z-of_z, w64, IsCutOn, reader_held, reader_behind}
 use Rattle.no_std_io2_base.specs.declared.traits.seek.SeekFrom.TheVariants.{Current}
-use Rattle.no_std_io2.specs.{Buffer.{IsInBuffer, buffer_held, buffer_behind}, BufReader.{ReaderSeeks}}
+use Rattle.no_std_io2.specs.{inner.Buffer.{IsInBuffer, buffer_held, buffer_behind}, inner.BufferSeeks.{ReaderSeeks}}
 use Rattle.no_std_io2.proofs.{BufferedReads.{same_buffer}, BufReaderSeeks.{moves_within, moves_far}}
 use Rattle.no_std_io2_base.proofs.TakesLemmas.{seeker}
 use mir.Val.{to_z, of_z}

@@ -1,7 +1,7 @@
--- Whose error a call returned that uses a reader and a writer.
-use Rattle.std.specs.Prelude.{◌≡◌, ◌⊎◌, ◌<◌, ◌==◌, List, ◌++◌, count_by, Option, None, Some, IfSome, ⊤}
-use Rattle.no_std_io2_base.specs.{declared.error.ErrorKind.{ErrorKind}, declared.error.Error.{Error}, Errors.{error_kind, kind_number}}
-use Rattle.no_std_io2_base.specs.{Errors.{IsInterruption}, Events.{Event, EndsInFault}, Takes.{ReaderState, to_come}, Write.{WriterState}}
+-- Which errors a reader or a writer may fail with.
+use Rattle.std.specs.Prelude.{◌≡◌, ◌<◌, ◌==◌, List, ◌++◌, count_by, Option, None, Some, ⊤}
+use Rattle.no_std_io2_base.specs.{declared.error.ErrorKind.{ErrorKind}, declared.error.Error.{Error}, Errors.{error_kind, IsInterruption}}
+use Rattle.no_std_io2_base.specs.{inner.Kinds.{kind_number}, Events.{Event}, inner.Events.{EndsInFault}, Moves.{WriterState}}
 
 -- The first fault of E is e.
 pub record HasFirstFault (E : List Event) (e : Error) : Type 0 where
@@ -20,7 +20,3 @@ TellsMishap (Some kinds) kind = 0 < count_by (λ other. kind_number other == kin
 pub record MayFail (told : WriterState) (e : Error) : Type 0 where
   pub mishap : TellsMishap told.mishaps (error_kind e)
   pub turn : IsInterruption e → 0 < told.turns
-
--- e is the first fault that a reader told, or a failure of a writer that told this
-abbrev pub IsFaultOf : ReaderState → WriterState → Error → Type 0
-IsFaultOf from told e = IfSome (to_come from) (λ E. HasFirstFault E e) ⊎ MayFail told e

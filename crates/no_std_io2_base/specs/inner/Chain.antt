@@ -1,8 +1,8 @@
 -- The two readers of a `Chain`, its mark, what it tells, and what its calls do.
 use Rattle.std.specs.Prelude.{◌≡◌, ℕ, ◌<◌, true, false, Bool, List, [], ◌++◌, if◌then◌else◌, Option, None, Some, Ok, IsErr}
-use Rattle.no_std_io2_base.specs.{declared.traits.chain.Chain.{Chain}, Events.{Event}, Takes.{ReaderState, to_come, IsAtEnd}, Read.{Reader}}
-use Rattle.no_std_io2_base.specs.Read.{tells, ReadCall, Gave, GaveExactly, GaveAll, Filled, Consumed, ReadCallLaw, ToEndCalls}
-use Rattle.no_std_io2_base.specs.Write.{ByCalls}
+use Rattle.no_std_io2_base.specs.{declared.traits.chain.Chain.{Chain}, Events.{Event}, Takes.{ReaderState, to_come, IsAtEnd, Reader, tells}}
+use Rattle.no_std_io2_base.specs.{Calls.{ReadCall, Gave, GaveExactly, GaveAll, Filled, Consumed, ByCalls}, Read.{ReadCallLaw}}
+use Rattle.no_std_io2_base.specs.inner.Read.{ToEndCalls}
 
 -- `c.into_inner().0`
 abbrev pub chain_first : {T U : Type 0} → Chain T U → T
@@ -27,7 +27,7 @@ both_to_come (Some E) None = None
 both_to_come (Some E) (Some F) = Some (E ++ F)
 
 -- the events of both readers, or, once the first is done, those of the second
-abbrev pub chain_to_come : Bool → ReaderState → ReaderState → Option (List Event)
+abbrev chain_to_come : Bool → ReaderState → ReaderState → Option (List Event)
 chain_to_come true first second = to_come second
 chain_to_come false first second = both_to_come (to_come first) (to_come second)
 

@@ -1,0 +1,30 @@
+-- What laws are made of, and what single types and lemmas need: a caller may pass over it.
+pub mod Buffer
+pub mod BufReader
+pub mod BufWriter
+pub mod BufferSeeks
+pub mod LineWriter
+pub mod Copy
+-- those of the base
+pub use Rattle.no_std_io2_base.specs.inner.Kinds
+pub use Rattle.no_std_io2_base.specs.inner.Errors
+pub use Rattle.no_std_io2_base.specs.inner.Events
+pub use Rattle.no_std_io2_base.specs.inner.Calls
+pub use Rattle.no_std_io2_base.specs.inner.Moves
+pub use Rattle.no_std_io2_base.specs.inner.Write
+pub use Rattle.no_std_io2_base.specs.inner.Text
+pub use Rattle.no_std_io2_base.specs.inner.Writers
+pub use Rattle.no_std_io2_base.specs.inner.Takes
+pub use Rattle.no_std_io2_base.specs.inner.Read
+pub use Rattle.no_std_io2_base.specs.inner.Pieces
+pub use Rattle.no_std_io2_base.specs.inner.Lines
+pub use Rattle.no_std_io2_base.specs.inner.Iterators
+pub use Rattle.no_std_io2_base.specs.inner.Seek
+pub use Rattle.no_std_io2_base.specs.inner.Reads
+pub use Rattle.no_std_io2_base.specs.inner.Charges
+pub use Rattle.no_std_io2_base.specs.inner.Meter
+pub use Rattle.no_std_io2_base.specs.inner.Faults
+pub use Rattle.no_std_io2_base.specs.inner.Take
+pub use Rattle.no_std_io2_base.specs.inner.Chain
+pub use Rattle.no_std_io2_base.specs.inner.Cursor
+pub use Rattle.no_std_io2_base.specs.inner.InMemory

@@ -1,0 +1,23 @@
+-- What laws are made of, and what single types and lemmas need: a caller may pass over it.
+pub mod Kinds
+pub mod Errors
+pub mod Events
+pub mod Calls
+pub mod Moves
+pub mod Write
+pub mod Text
+pub mod Writers
+pub mod Takes
+pub mod Read
+pub mod Pieces
+pub mod Lines
+pub mod Iterators
+pub mod Seek
+pub mod Reads
+pub mod Charges
+pub mod Meter
+pub mod Faults
+pub mod Take
+pub mod Chain
+pub mod Cursor
+pub mod InMemory

@@ -1,0 +1,67 @@
+-- Lines, which are the pieces that a newline ends, and the text of one.
+use Rattle.std.specs.Prelude.{ℕ, Vec, String, ◌==◌, if◌then◌else◌, vec_capacity, string_len, string_capacity, ◌≡◌, List, Contains, true}
+use Rattle.std.specs.{Prelude.{not, length, filter, ◌+◌, ◌<◌, ◌++◌, ◌⊎◌, Some, Result, Ok, Err, codes, IsUtf8}, List.{concat}}
+use Rattle.no_std_io2_base.specs.{Pieces.{newline}, inner.Pieces.{ends_in, pieces, without}, declared.error.Error.{Error}}
+use Rattle.no_std_io2_base.specs.{Errors.{error_kind, IsOutOfMemory}, inner.Kinds.{error_text}}
+use Rattle.no_std_io2_base.specs.declared.error.ErrorKind.TheVariants.{InvalidData, OutOfMemory}
+
+abbrev carriage_return : ℕ
+carriage_return = 13
+
+-- a line's text: without its newline, and without one carriage return right before that newline
+abbrev pub line_text : List ℕ → List ℕ
+line_text bs = if ends_in newline bs then without carriage_return (without newline bs) else bs
+
+-- the lines: the pieces that end in a newline, joined
+unfoldable pub lines_of : List ℕ → List ℕ
+lines_of xs = concat (filter (ends_in newline) (pieces newline xs))
+
+-- what follows the lines: the last piece, if it does not end in a newline
+unfoldable pub unfinished_line : List ℕ → List ℕ
+unfinished_line xs = concat (filter (λ piece. not (ends_in newline piece)) (pieces newline xs))
+
+-- the number of bytes up to and including the last newline, or 0 if there is none
+abbrev pub lines_len : List ℕ → ℕ
+lines_len xs = length (lines_of xs)
+
+-- There is no newline, or one at the end: if any byte is a newline, the last one is.
+abbrev pub IsLineState : List ℕ → Type 0
+IsLineState xs = Contains xs newline → ends_in newline xs ≡ true
+
+-- e is the error of bytes that are not UTF-8
+abbrev pub IsInvalidText : Error → Type 0
+IsInvalidText e = (error_kind e ≡ InvalidData) × (error_text e ≡ Some (codes "stream did not contain valid UTF-8"))
+
+-- the line is not UTF-8, and e is the error that says so
+abbrev pub RefusesLine : List ℕ → Error → Type 0
+RefusesLine piece e = (IsUtf8 (line_text piece) → ⊥) × IsInvalidText e
+
+-- the bytes of a line are UTF-8, and were appended to the text
+abbrev pub Follows : List ℕ → List ℕ → List ℕ → Type 0
+Follows line old new = IsUtf8 line × (new ≡ old ++ line)
+
+-- a line is UTF-8, and a text of this length and capacity has no room for it
+abbrev HasNoRoom : List ℕ → ℕ → ℕ → Error → Type 0
+HasNoRoom line len capacity e = IsUtf8 line × (capacity < len + length line) × IsOutOfMemory e
+
+-- `read_line` read a line with the result `read`, and returned `reply`, with a text of this length and capacity. The text does not change
+-- if the line is not UTF-8, if the text could not grow for it, or if the reader's own error is `OutOfMemory`. After any other fault, the
+-- bytes before it are appended if they are UTF-8, and the fault is the result, unless the text could not grow.
+abbrev pub AnswersLine : List ℕ → Result ℕ Error → ℕ → ℕ → Result ℕ Error → List ℕ → List ℕ → Type 0
+AnswersLine line (Ok n) len capacity (Ok m) old new = Follows line old new × (m ≡ n)
+AnswersLine line (Ok n) len capacity (Err e) old new =
+    (new ≡ old) × (((IsUtf8 line → ⊥) × IsInvalidText e) ⊎ HasNoRoom line len capacity e)
+AnswersLine line (Err f) len capacity (Ok m) old new = ⊥
+AnswersLine line (Err f) len capacity (Err e) old new =
+    ((error_kind f ≡ OutOfMemory) × (e ≡ f) × (new ≡ old))
+    ⊎ (((error_kind f ≡ OutOfMemory) → ⊥)
+    × ((Follows line old new × (e ≡ f))
+    ⊎ (((IsUtf8 line → ⊥) × (e ≡ f) × (new ≡ old)) ⊎ (HasNoRoom line len capacity e × (new ≡ old)))))
+
+-- the room for a line that is read for a text: an empty text lends its own memory
+abbrev pub line_room : {A : Type 0} → String A → ℕ
+line_room buf = if string_len buf == 0 then string_capacity buf else 0
+
+-- the capacity of a text: while it is empty, and a vector has its memory, that of the vector
+abbrev pub text_room : {A : Type 0} → String A → Vec ℕ A → ℕ
+text_room buf line = if string_len buf == 0 then vec_capacity line else string_capacity buf

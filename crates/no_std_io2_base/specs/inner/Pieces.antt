@@ -1,0 +1,110 @@
+-- Pieces of bytes, each of which ends in a delimiter, and the calls that take one.
+use Rattle.std.specs.Prelude.{◌≡◌, ◌≢◌, ℕ, ◌<◌, ◌≤◌, ◌==◌, true, false, Bool, List, [], ◌∷◌, ◌++◌, length, take, filter, if◌then◌else◌, ◌⊎◌}
+use Rattle.std.specs.{Prelude.{Option, None, Some, Result, Ok, Err, IfSome}, List.{AllByRecursion, concat}}
+use Rattle.no_std_io2_base.specs.{declared.error.Error.{Error}, Errors.{IsInterruption, IsFault, IsOutOfMemory}}
+use Rattle.no_std_io2_base.specs.{Events.{Event, byte, events_of, bytes}, inner.Events.{bytes_to_fault, first_fault}}
+use Rattle.no_std_io2_base.specs.{Takes.{ReaderState, to_come}, Calls.{ReadCall, Filled, Consumed}, Moves.{IsFront}}
+
+-- d is not among these bytes
+abbrev pub Lacks : ℕ → List ℕ → Type 0
+Lacks d bs = AllByRecursion (λ b. b ≢ d) bs
+
+-- whether the last byte is d
+abbrev pub ends_in : ℕ → List ℕ → Bool
+ends_in d [] = false
+ends_in d (b ∷ []) = b == d
+ends_in d (b ∷ c ∷ bs) = ends_in d (c ∷ bs)
+
+-- the list without its last element
+abbrev pub but_last : {X : Type 0} → List X → List X
+but_last [] = []
+but_last (x ∷ []) = []
+but_last (x ∷ y ∷ xs) = x ∷ but_last (y ∷ xs)
+
+-- the bytes without the d at their end, if there is one
+abbrev pub without : ℕ → List ℕ → List ℕ
+without d bs = if ends_in d bs then but_last bs else bs
+
+-- the pieces with b put in front of the first one; if there is no piece, b alone is the first
+abbrev pub in_front : ℕ → List (List ℕ) → List (List ℕ)
+in_front b [] = (b ∷ []) ∷ []
+in_front b (p ∷ ps) = (b ∷ p) ∷ ps
+
+-- the bytes, cut right after each d
+abbrev pub pieces : ℕ → List ℕ → List (List ℕ)
+pieces d [] = []
+pieces d (b ∷ bs) = if b == d then (b ∷ []) ∷ pieces d bs else in_front b (pieces d bs)
+
+-- These are the pieces of the bytes: exactly one list of pieces has these four properties.
+pub record ArePieces (d : ℕ) (bs : List ℕ) (ps : List (List ℕ)) : Type 0 where
+  -- joined they are the bytes
+  pub joined : concat ps ≡ bs
+  -- none is empty
+  pub none_empty : AllByRecursion (λ p. 0 < length p) ps
+  -- each except possibly the last ends in d
+  pub ended : AllByRecursion (λ p. ends_in d p ≡ true) (but_last ps)
+  -- d is nowhere else in a piece
+  pub nowhere_else : AllByRecursion (λ p. Lacks d (but_last p)) ps
+
+-- these bytes end in d, the only one in them
+abbrev pub EndsPiece : ℕ → List ℕ → Type 0
+EndsPiece d bs = (front : List ℕ) × (bs ≡ front ++ d ∷ []) × Lacks d front
+
+-- the events P end in the byte d, the only d in them
+abbrev pub EndsAt : ℕ → List Event → Type 0
+EndsAt d P = (front : List Event) × (P ≡ front ++ byte d ∷ []) × Lacks d (bytes front)
+
+-- The first n of these bytes belong to the next piece. They complete it if they end in d, or if there are no bytes: then nothing is to
+-- come. If they do not complete it, they are all of these bytes.
+pub record FindsPiece (d : ℕ) (bs : List ℕ) (n : ℕ) (is_whole : Bool) : Type 0 where
+  pub within : n ≤ length bs
+  pub whole : is_whole ≡ true → EndsPiece d (take n bs) ⊎ (bs ≡ [])
+  pub open_ended : is_whole ≡ false → (0 < n) × Lacks d (take n bs) × (n ≡ length bs)
+
+-- these bytes are a part of a piece: there are some, and only the last may be d
+abbrev pub IsPiecePart : ℕ → List ℕ → Type 0
+IsPiecePart d part = (0 < length part) × Lacks d (but_last part)
+
+-- behind the events P these bytes are to come, if events are told
+abbrev pub ComesBehind : ReaderState → List Event → List ℕ → Type 0
+ComesBehind t P x = IfSome (to_come t) (λ E. (rest : List Event) × (E ≡ P ++ (events_of x ++ rest)))
+
+-- P is all that is to come, if events are told
+abbrev pub IsAll : ReaderState → List Event → Type 0
+IsAll t P = IfSome (to_come t) (λ E. E ≡ P)
+
+-- C are the calls of a loop that took x, and no d yet: each `fill_buf` lent some bytes without d, and all of them were consumed;
+-- or it was interrupted
+pub data PartCalls (d : ℕ) : List ReadCall → List ℕ → Type 0 where
+  no_part : PartCalls d [] []
+  and_part : (C : List ReadCall) (x lent : List ℕ) → PartCalls d C x → 0 < length lent → Lacks d lent
+      → PartCalls d (C ++ Filled (Ok lent) ∷ Consumed (length lent) ∷ []) (x ++ lent)
+  and_waited : (C : List ReadCall) (x : List ℕ) (e : Error) → PartCalls d C x → IsInterruption e → PartCalls d (C ++ Filled (Err e) ∷ []) x
+
+-- C are the calls of a loop that took a piece x: the last `fill_buf` lent the end of x, and the bytes up to this end were consumed; or it
+-- lent nothing. If the result is an error, the last `fill_buf` returned this fault; or, if the loop allocates, it lent some bytes, the
+-- allocation for them failed, and none of them were consumed.
+abbrev pub PieceCalls : Type 0 → ℕ → List ReadCall → List ℕ → Result ℕ Error → Type 0
+PieceCalls may_refuse d C x (Ok _) = (D : List ReadCall) × (y : List ℕ) × (lent : List ℕ) × (n : ℕ) × PartCalls d D y
+    × FindsPiece d lent n true × (x ≡ y ++ take n lent) × (C ≡ D ++ Filled (Ok lent) ∷ Consumed n ∷ [])
+PieceCalls may_refuse d C x (Err e) = (D : List ReadCall) × PartCalls d D x × ((IsFault e × (C ≡ D ++ Filled (Err e) ∷ []))
+    ⊎ (may_refuse × IsOutOfMemory e × (lent : List ℕ) × (0 < length lent) × (C ≡ D ++ Filled (Ok lent) ∷ [])))
+
+-- all pieces; or, if a fault comes after them, those that end in d
+abbrev pub pieces_before : ℕ → Option Error → List ℕ → List (List ℕ)
+pieces_before d None bs = pieces d bs
+pieces_before d (Some e) bs = filter (ends_in d) (pieces d bs)
+
+-- the pieces that a reader with these events gives: all, or those that end in d before the first fault
+abbrev pub pieces_given : ℕ → List Event → List (List ℕ)
+pieces_given d E = pieces_before d (first_fault E) (bytes_to_fault E)
+
+-- the events E give these pieces first, and then what those after them give
+pub record GivesFirst (d : ℕ) (E : List Event) (ps : List (List ℕ)) (after : List Event) : Type 0 where
+  pub pieces : pieces_given d E ≡ ps ++ pieces_given d after
+  pub fault : first_fault E ≡ first_fault after
+  pub bytes : bytes_to_fault E ≡ concat ps ++ bytes_to_fault after
+
+-- these bytes come first, before any fault, if the reader tells its events
+abbrev pub ComeFirst : ReaderState → List ℕ → Type 0
+ComeFirst t x = IfSome (to_come t) (λ E. IsFront x (bytes_to_fault E))
