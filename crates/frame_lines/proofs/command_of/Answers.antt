@@ -12,6 +12,9 @@ word_there None is = absurd (cc is)
 pub returns-in-Some : goal.returns-in-Some
 returns-in-Some c =
     let program = c.next-program.ensures in
-    let first = word_there c.next-program.result (program.variant.1 (omega (arith, program.len, c.in-Some.ensures.len))) in
-    (first.0, _, program.items ∙ ap (λ l. l ++ into_iter_items c.next-program.new.self) first.1
-        ∙ ap (λ l. first.0 ∷ l) c.in-Some.ensures.items)
+    let first = word_there c.next-program.result (program.variant.1 (omega (arith, program.len, c.in-Some.ensures.len))) in (
+      first.0,
+      _,
+      program.items ∙ ap (λ l. l ++ into_iter_items c.next-program.new.self) first.1
+          ∙ ap (λ l. first.0 ∷ l) c.in-Some.ensures.items,
+    )

@@ -1,6 +1,6 @@
 -- At the limit, after an error and after a loan: the search does not find the lemmas that cut what comes at the limit.
 use Rattle.std.proofs.{Common.{Err, arith, refl, sym, ap, ◌∙◌}, lemmas.Grind.{common_steps}, lemmas.Result.{err_from_is_err_and}}
-use Rattle.no_std_io2_base.specs.{inner.Read.{lent_bytes}, inner.Take.{lent_within}, Calls.{Filled}}
+use Rattle.no_std_io2_base.specs.{inner.Read.{lent_bytes}, inner.Take.{lent_within}}
 use Rattle.no_std_io2_base.proofs.{ReadsLemmas.{begins_nothing}, ReadLoops.{some_bytes}, TakesLemmas.{takes_none}, PieceLoops.{filled_law}}
 use Rattle.no_std_io2_base.proofs.LimitLemmas.{limit_takes, filled_inner, filled_took, take_most, front_cut}
 use Rattle.no_std_io2_base.proofs.LimitLemmas.{some_within, none_within, cut_end, cut_zero, none_at_limit, none_lent, filled_at_limit}

@@ -1,5 +1,5 @@
 -- The inner reader is read into the part of the buffer that the limit leaves.
-use Rattle.std.proofs.{Common.{◌≤◌, Ok, Err, length, refl, arith, ap}, lemmas.Result.{err_from_is_err_and}}
+use Rattle.std.proofs.{Common.{Ok, Err, refl, arith, ap}, lemmas.Result.{err_from_is_err_and}}
 use lib.Seq.{take-append-le}
 use Rattle.no_std_io2_base.proofs.{LimitLemmas.{reads_inner, part_length, limit_falls}, ReadLoops.{some_bytes}}
 use Rattle.no_std_io2_base.proofs.traits.take.TakeRead.read.Goals as goal
