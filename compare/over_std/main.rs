@@ -409,7 +409,7 @@ impl Stream for Items {
 fn make<'a>(name: &'a str, device: Device, words: &str) -> Option<Box<dyn Stream + 'a>> {
     let names: Vec<&str> = name.split(' ').collect();
     Some(match (names[0], &names[1..]) {
-        ("compare", [.., "&mut", _] | [.., "dyn", _]) => return None,
+        ("bench", [.., "&mut", _] | [.., "dyn", _]) => return None,
         ("cursor" | "queue", rest) => { let top = level(rest, device.clone(), Some(unescape(words))); Box::new(Tower { names, device, top }) }
         ("grown", [kind]) => Box::new(Room(Cursor::new(Vec::with_capacity(words.parse().ok()?)), *kind == "Vec")),
         ("bytes", rest) => Box::new(Items(Box::new(source(rest, &device, words)?.bytes().map(|it| it.map(|b| vec![b]))), "", false)),
@@ -423,7 +423,7 @@ fn make<'a>(name: &'a str, device: Device, words: &str) -> Option<Box<dyn Stream
         ("answers", rest) => Box::new(Reader { top: source(rest, &device, words)?, shows: |_| String::new() }),
         ("noted", [.., "dyn", "Read" | "BufRead"] | ["Take"] | ["Chain"] | ["BufReader", _]) =>
             Box::new(Reader { top: source(&names[1..], &device, words)?, shows: |_| String::new() }),
-        ("writer" | "seeker" | "noted" | "compare", rest) => {
+        ("writer" | "seeker" | "noted" | "bench", rest) => {
             let top = Some(level(rest, device.clone(), None)?);
             Box::new(Tower { names, device, top })
         }
@@ -455,7 +455,7 @@ fn main() {
                 let journal = device.journal.clone();
                 journal.borrow_mut().answers = told(words);
                 let mut stream = make(name, device, words.trim());
-                let notes_calls = !["compare", "cursor", "queue", "grown", "answers"].iter().any(|it| name.starts_with(it))
+                let notes_calls = !["bench", "cursor", "queue", "grown", "answers"].iter().any(|it| name.starts_with(it))
                     && !["Cursor", "&[u8]", "Repeat"].iter().any(|it| name.contains(it));
                 for row in rows.lines().filter(|row| row.contains(" | ") && !row.starts_with('#')) {
                     let call = row.split(" | ").next().unwrap();
