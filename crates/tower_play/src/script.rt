@@ -10,8 +10,8 @@ ghost use Rattle.tower_play.specs.Script.{kind_name, IsCount, IsTextArgument, un
 ghost use Rattle.tower_play.specs.Calls.{IsNext, AreCalls, AddsText, IsFull};
 ghost use Rattle.no_std_io2.specs.Takes.{to_come};
 ghost use Rattle.tower_play.specs.Reading.{Adds, IsBadLine, IsRead, IsBadAt, LineLacksRoom};
-ghost use Rattle.tower_play.specs.declared.script.ScriptLine.{ScriptLine as Said};
-ghost use Rattle.tower_play.specs.declared.script.ScriptLine.TheVariants.{Bad};
+ghost use Rattle.tower_play.specs.declared.script.Line.{Line as Said};
+ghost use Rattle.tower_play.specs.declared.script.Line.TheVariants.{Bad};
 ghost use Rattle.tower_play.specs.Lines.{Says, IsGood, text_step};
 ghost use Rattle.no_std_io2.specs.declared.io.ErrorKind.{ErrorKind as Kind};
 
@@ -23,7 +23,7 @@ use std::alloc::Global;
 
 /// What a line of a script says. Its text is still escaped.
 #[derive(Clone, Copy)]
-enum ScriptLine<'a> {
+enum Line<'a> {
     Empty,
     Act(Act),
     Write(&'a [u8]),
@@ -106,15 +106,15 @@ impl Script {
         ensures full { OnErr result ((said : Said) × Says line.now said × LineLacksRoom said self.old) }
     {
         match parse_line(line) {
-            ScriptLine::Empty => Ok(true),
-            ScriptLine::Act(act) => self.add_act(act),
-            ScriptLine::Write(text) => self.calls.add_text(text, false),
-            ScriptLine::WriteAll(text) => self.calls.add_text(text, true),
-            ScriptLine::Flush => {
+            Line::Empty => Ok(true),
+            Line::Act(act) => self.add_act(act),
+            Line::Write(text) => self.calls.add_text(text, false),
+            Line::WriteAll(text) => self.calls.add_text(text, true),
+            Line::Flush => {
                 self.calls.add_step(Step::Flush)?;
                 Ok(true)
             }
-            ScriptLine::Bad => Ok(false),
+            Line::Bad => Ok(false),
         }
     }
 
@@ -236,33 +236,33 @@ fn unescape(text: &[u8], bytes: &mut Vec<u8>) -> bool
     !is_escaped
 }
 
-fn parse_line(line: &[u8]) -> ScriptLine<'_>
+fn parse_line(line: &[u8]) -> Line<'_>
     ensures says { Says line.now result }
     ensures bad { result ≡ Bad → IsGood line.now → ⊥ }
 {
     let Some((letter, rest)) = line.split_first() else {
-        return ScriptLine::Empty;
+        return Line::Empty;
     };
     match *letter {
         b't' => match argument(rest).and_then(parse_count) {
-            Some(count) => ScriptLine::Act(Act::Take(count)),
-            None => ScriptLine::Bad,
+            Some(count) => Line::Act(Act::Take(count)),
+            None => Line::Bad,
         },
-        b'z' if rest.is_empty() => ScriptLine::Act(Act::Zero),
+        b'z' if rest.is_empty() => Line::Act(Act::Zero),
         b'e' => match argument(rest).and_then(parse_kind) {
-            Some(kind) => ScriptLine::Act(Act::Fail(kind)),
-            None => ScriptLine::Bad,
+            Some(kind) => Line::Act(Act::Fail(kind)),
+            None => Line::Bad,
         },
         b'w' => match text_argument(rest) {
-            Some(text) => ScriptLine::Write(text),
-            None => ScriptLine::Bad,
+            Some(text) => Line::Write(text),
+            None => Line::Bad,
         },
         b'a' => match text_argument(rest) {
-            Some(text) => ScriptLine::WriteAll(text),
-            None => ScriptLine::Bad,
+            Some(text) => Line::WriteAll(text),
+            None => Line::Bad,
         },
-        b'f' if rest.is_empty() => ScriptLine::Flush,
-        _ => ScriptLine::Bad,
+        b'f' if rest.is_empty() => Line::Flush,
+        _ => Line::Bad,
     }
 }
 
