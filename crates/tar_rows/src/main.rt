@@ -3,7 +3,7 @@
 //! The bytes of a file are `x`.
 #![tactic(auto)]
 
-use io_bench::{Act, Faulty};
+use io_bench::{Act, Faulty, Tally};
 use no_std_io2::io::{ErrorKind, repeat};
 use std::alloc::Global;
 use std::process::ExitCode;
@@ -59,12 +59,13 @@ fn put_header(archive: &mut Archive, header: &Header) -> Option<usize> {
     None
 }
 
-// Appends the bytes of a file, and tries again after each fault. Returns how many tries failed.
-fn put_body(archive: &mut Archive) -> Option<usize> {
-    let mut body = repeat(b'x', archive.body_left());
+// Appends the bytes of a file, and tries again after each fault. Returns how many tries failed, and how many reads were
+// made of the bytes: one for each block, and one at the end.
+fn put_body(archive: &mut Archive) -> Option<(usize, u64)> {
+    let mut body = Tally::new(repeat(b'x', archive.body_left()));
     'tries: for failed in 0..TRIES {
         if archive.append_body(&mut body).is_ok() {
-            return Some(failed);
+            return Some((failed, body.reads()));
         }
     }
     None
@@ -80,15 +81,18 @@ fn put_end(archive: &mut Archive) -> Option<usize> {
     None
 }
 
-// Makes the archive of these rows. Returns how many tries failed.
-fn make(archive: &mut Archive, rows: &str) -> Option<usize> {
+// Makes the archive of these rows. Returns how many tries failed, and how many reads were made of bodies.
+fn make(archive: &mut Archive, rows: &str) -> Option<(usize, u64)> {
     let mut failed = 0usize;
+    let mut reads = 0u64;
     'rows: for row in rows.lines() {
         let header = header_of(row)?;
         failed = failed.wrapping_add(put_header(archive, &header)?);
-        failed = failed.wrapping_add(put_body(archive)?);
+        let (again, more) = put_body(archive)?;
+        failed = failed.wrapping_add(again);
+        reads = reads.wrapping_add(more);
     }
-    Some(failed.wrapping_add(put_end(archive)?))
+    Some((failed.wrapping_add(put_end(archive)?), reads))
 }
 
 // Makes the archive on each device, and prints how many are the wanted one.
@@ -97,10 +101,12 @@ fn play(rt: &HostRuntime) -> io::Result<()> {
     let wanted = fs::read(rt, "gnu.tar")?;
     let mut same = 0u32;
     let mut faulty = 0u32;
+    let mut most = 0u64;
     'devices: for device in 0..DEVICES {
         let bytes = Vec::<u8>::new(rt.alloc());
         let mut archive = Archive::new(Faulty::new(bytes, acts(rt.alloc(), device)?));
-        if let Some(failed) = make(&mut archive, rows.as_str()) {
+        if let Some((failed, reads)) = make(&mut archive, rows.as_str()) {
+            most = most.max(reads);
             if archive.get_ref().get_ref().as_slice() == wanted.as_slice() {
                 same = same.wrapping_add(1);
             }
@@ -110,7 +116,8 @@ fn play(rt: &HostRuntime) -> io::Result<()> {
         }
     }
     println!(rt; "{same} archives are that of GNU tar")?;
-    println!(rt; "{faulty} of them after more than 20 faults")
+    println!(rt; "{faulty} of them after more than 20 faults")?;
+    println!(rt; "at most {most} reads of the bodies of one")
 }
 
 fn main(rt: HostRuntime) -> ExitCode {
