@@ -2,10 +2,9 @@
 //! all. Nothing is allocated. After an error nothing of the record was accepted, so it may be logged again.
 //!
 //! ```rust
+//! let before = sink.lost();
 //! info!(sink; "reading {}", reading);
-//! if sink.take_error().is_some() {
-//!     info!(sink; "reading {}", reading);
-//! }
+//! if sink.lost() != before {
 //! ```
 #![tactic(auto)]
 

@@ -26,7 +26,8 @@ pub fn log_reading<W: Write + Drop, const S: usize>(
     log_record(lines, &record)
 }
 
-/// Logs each reading, and a record that failed once more. Returns how many readings were lost.
+/// Logs each reading, and one that was lost once more. Returns how many readings were lost twice. An error that the sink
+/// kept before does not count: no reading that was logged is logged again.
 pub fn log_readings<W: Write + Drop, const S: usize>(
     sink: &LineSink<W, S>,
     readings: &[u32],
@@ -35,12 +36,14 @@ pub fn log_readings<W: Write + Drop, const S: usize>(
 {
     let mut lost = 0;
     'readings: for reading in readings {
+        let before = sink.lost();
         info!(sink; "reading {}", reading);
-        if sink.take_error().is_some() {
+        if sink.lost() != before {
+            let once = sink.lost();
             info!(sink; "reading {}", reading);
-        }
-        if sink.take_error().is_some() {
-            lost += 1;
+            if sink.lost() != once {
+                lost += 1;
+            }
         }
     }
     lost

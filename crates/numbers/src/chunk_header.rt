@@ -1,6 +1,6 @@
 //! A caller: headers of chunks, the kind in two bytes and the length in four, big-endian. What was written is read back.
 ghost use Rattle.std.specs.Prelude.{◌≡◌, ◌<◌, ◌^◌, ◌++◌, ℕ, List, Ok, Some};
-ghost use Rattle.numbers.specs.ChunkHeaders.{chunk_header, ReadsHeader, WritesHeader};
+ghost use Rattle.numbers.specs.ChunkHeaders.{chunk_header, ReadsChunkHeader, WritesChunkHeader};
 ghost use Rattle.no_std_io2.specs.Events.{Event, events_of};
 ghost use Rattle.no_std_io2.specs.Takes.{tells};
 ghost use Rattle.no_std_io2.specs.Moves.{MovesFront};
@@ -15,7 +15,7 @@ use no_std_io2::io::{Read, Result, Write};
 /// Returns the error of a `write_all` that fails. Some front of the header was then accepted.
 pub fn write_chunk_header<W: Write>(w: &mut W, kind: u16, len: u32) -> Result<()>
     ensures moves { MovesFront (W.told w.old) (chunk_header kind len) result (W.told w.new) }
-    ensures writes { WritesHeader W.Write kind len w.old result w.new }
+    ensures writes { WritesChunkHeader W.Write kind len w.old result w.new }
 {
     w.write_u16::<BigEndian>(kind)?;
     w.write_u32::<BigEndian>(len)
@@ -26,7 +26,7 @@ pub fn write_chunk_header<W: Write>(w: &mut W, kind: u16, len: u32) -> Result<()
 /// # Errors
 /// Returns the error of a `read_exact` that fails. Some first bytes of the header may be taken then.
 pub fn read_chunk_header<R: Read>(r: &mut R) -> Result<(u16, u32)>
-    ensures reads { ReadsHeader R.Read r.old result r.new }
+    ensures reads { ReadsChunkHeader R.Read r.old result r.new }
     ensures back { (kind len : ℕ) (rest : List Event) → kind < 256 ^ 2 → len < 256 ^ 4
         → to_come (tells R.Read r.old) ≡ Some (events_of (chunk_header kind len) ++ rest)
         → (result ≡ Ok (kind, len)) × (to_come (tells R.Read r.new) ≡ Some rest) }
