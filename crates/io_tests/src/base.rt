@@ -1,8 +1,8 @@
-// The examples in the comments of `no_std_io2_base`, a function for each.
+// The examples in the comments of `no_std_io2_base`, a function for each. Those on readers are in `readers`.
 use no_std_io2::ghost_bytes::GhostBytes;
 use no_std_io2::io::{
-    AsSlice, BufRead, BufWriter, Cursor, Error, ErrorKind, Read, Seek, SeekFrom, Write, copy,
-    empty, print_to_object, repeat, sink,
+    AsSlice, BufWriter, Cursor, Error, ErrorKind, Read, Seek, SeekFrom, Write, copy, empty,
+    print_to_object, repeat, sink,
 };
 use std::process::Abort;
 use std::test::Fail;
@@ -123,186 +123,6 @@ fn print_object(rt: &(impl Abort + AllocGlobal)) -> Result<(), Fail> {
     Ok(())
 }
 
-fn read_some(rt: &impl Abort) -> Result<(), Fail> {
-    let mut r = Cursor::new(*b"abc");
-    let mut buf = [0u8; 2];
-    assert!(rt; r.read(&mut buf)? == 2); // `ab`
-    assert!(rt; r.read(&mut buf)? == 1); // `c`
-    assert!(rt; r.read(&mut buf)? == 0); // the end
-    Ok(())
-}
-
-fn read_exact(rt: &impl Abort) -> Result<(), Fail> {
-    let mut r = Cursor::new(*b"abcde");
-    let mut header = [0u8; 4];
-    r.read_exact(&mut header)?;
-    assert!(rt; header == *b"abcd");
-    assert!(rt; r.read_exact(&mut header).is_err()); // one byte is left: `UnexpectedEof`
-    Ok(())
-}
-
-fn read_full(rt: &impl Abort) -> Result<(), Fail> {
-    let mut r = Cursor::new(*b"abcde");
-    let mut buf = [0u8; 8];
-    let mut filled = 0;
-    r.read_full(&mut buf, &mut filled)?;
-    assert!(rt; &buf[..filled] == b"abcde".as_slice()); // fewer than 8: the end
-    Ok(())
-}
-
-fn read_to_end(rt: &(impl Abort + AllocGlobal)) -> Result<(), Fail> {
-    let mut r = Cursor::new(*b"abcde");
-    let mut content = Vec::<u8>::new(rt.alloc());
-    assert!(rt; r.read_to_end(&mut content)? == 5);
-    assert!(rt; content.as_slice() == b"abcde".as_slice());
-    Ok(())
-}
-
-fn reader_by_ref(rt: &(impl Abort + AllocGlobal)) -> Result<(), Fail> {
-    let mut r = Cursor::new(*b"abcde");
-    let mut head = Vec::<u8>::new(rt.alloc());
-    Read::by_ref(&mut r).take(2).read_to_end(&mut head)?;
-    assert!(rt; r.position() == 2); // `r` continues after `ab`
-    Ok(())
-}
-
-fn take_some(rt: &(impl Abort + AllocGlobal)) -> Result<(), Fail> {
-    let mut r = Cursor::new(*b"abcde").take(2);
-    let mut content = Vec::<u8>::new(rt.alloc());
-    assert!(rt; r.read_to_end(&mut content)? == 2);
-    Ok(())
-}
-
-fn read_to_string(rt: &(impl Abort + AllocGlobal)) -> Result<(), Fail> {
-    let mut r = Cursor::new(*b"abc");
-    let mut text = String::new(rt.alloc());
-    assert!(rt; r.read_to_string(rt.alloc(), &mut text)? == 3);
-    assert!(rt; text.as_str() == "abc");
-    Ok(())
-}
-
-fn bytes(rt: &(impl Abort + AllocGlobal)) -> Result<(), Fail> {
-    let mut content = Vec::<u8>::new(rt.alloc());
-    'bytes: for byte in Cursor::new(*b"abc").bytes() {
-        content.push(byte?)?;
-    }
-    assert!(rt; content.as_slice() == b"abc".as_slice());
-    Ok(())
-}
-
-fn chain(rt: &(impl Abort + AllocGlobal)) -> Result<(), Fail> {
-    let mut r = Cursor::new(*b"ab").chain(Cursor::new(*b"cd"));
-    let mut content = Vec::<u8>::new(rt.alloc());
-    r.read_to_end(&mut content)?;
-    assert!(rt; content.as_slice() == b"abcd".as_slice());
-    Ok(())
-}
-
-fn chain_get_mut(rt: &(impl Abort + AllocGlobal)) -> Result<(), Fail> {
-    let mut r = Cursor::new(*b"ab").chain(Cursor::new(*b"cd"));
-    let (_, second) = r.get_mut();
-    second.set_position(1); // without its `c`
-    let mut content = Vec::<u8>::new(rt.alloc());
-    assert!(rt; r.read_to_end(&mut content)? == 3);
-    Ok(())
-}
-
-fn chain_get_ref(rt: &impl Abort) -> Result<(), Fail> {
-    let mut r = Cursor::new(*b"ab").chain(Cursor::new(*b"cd"));
-    let mut three = [0u8; 3];
-    r.read_exact(&mut three)?;
-    let (first, second) = r.get_ref();
-    assert!(rt; (first.position(), second.position()) == (2, 1));
-    let (_, second) = r.into_inner();
-    assert!(rt; second.position() == 1);
-    Ok(())
-}
-
-fn take_set_limit(rt: &impl Abort) -> Result<(), Fail> {
-    let mut r = Cursor::new(*b"abcde").take(2);
-    let mut two = [0u8; 2];
-    r.read_exact(&mut two)?;
-    assert!(rt; r.limit() == 0); // the end
-    r.set_limit(2);
-    r.read_exact(&mut two)?;
-    assert!(rt; two == *b"cd");
-    Ok(())
-}
-
-fn take_get_mut(rt: &impl Abort) -> Result<(), Fail> {
-    let mut r = Cursor::new(*b"abcde").take(2);
-    let mut two = [0u8; 2];
-    r.read_exact(&mut two)?;
-    assert!(rt; r.get_ref().position() == 2);
-    r.get_mut().set_position(0);
-    assert!(rt; r.limit() == 0); // the limit stays
-    let inner = r.into_inner();
-    assert!(rt; inner.position() == 0);
-    Ok(())
-}
-
-fn take_seek(rt: &impl Abort) -> Result<(), Fail> {
-    let mut r = Cursor::new(*b"-abc-").take(4);
-    r.seek_relative(1)?;
-    let mut two = [0u8; 2];
-    r.read_exact(&mut two)?;
-    assert!(rt; two == *b"ab");
-    assert!(rt; r.seek(SeekFrom::End(-4))? == 0);
-    assert!(rt; r.limit() == 4);
-    Ok(())
-}
-
-fn fill_buf(rt: &impl Abort) -> Result<(), Fail> {
-    let mut r = Cursor::new(*b"abc");
-    assert!(rt; r.fill_buf()? == b"abc".as_slice());
-    r.consume(1);
-    assert!(rt; r.fill_buf()? == b"bc".as_slice());
-    Ok(())
-}
-
-fn read_until(rt: &(impl Abort + AllocGlobal)) -> Result<(), Fail> {
-    let mut r = Cursor::new(*b"key=value");
-    let mut key = Vec::<u8>::new(rt.alloc());
-    assert!(rt; r.read_until(b'=', &mut key)? == 4);
-    assert!(rt; key.as_slice() == b"key=".as_slice());
-    Ok(())
-}
-
-fn skip_until(rt: &impl Abort) -> Result<(), Fail> {
-    let mut r = Cursor::new(*b"key=value");
-    assert!(rt; r.skip_until(b'=')? == 4);
-    assert!(rt; r.fill_buf()? == b"value".as_slice());
-    Ok(())
-}
-
-fn read_line(rt: &(impl Abort + AllocGlobal)) -> Result<(), Fail> {
-    let mut r = Cursor::new(*b"one\ntwo");
-    let mut line = String::new(rt.alloc());
-    assert!(rt; r.read_line(rt.alloc(), &mut line)? == 4);
-    assert!(rt; line.as_str() == "one\n");
-    assert!(rt; r.read_line(rt.alloc(), &mut line)? == 3);
-    assert!(rt; line.as_str() == "one\ntwo");
-    Ok(())
-}
-
-fn split(rt: &(impl Abort + AllocGlobal)) -> Result<(), Fail> {
-    let mut lens = Vec::<usize>::new(rt.alloc());
-    'pieces: for piece in Cursor::new(*b"ab,,c").split(rt.alloc(), b',') {
-        lens.push(piece?.len())?;
-    }
-    assert!(rt; lens.as_slice() == [2, 0, 1].as_slice());
-    Ok(())
-}
-
-fn lines(rt: &(impl Abort + AllocGlobal)) -> Result<(), Fail> {
-    let mut text = String::new(rt.alloc());
-    'lines: for line in Cursor::new(*b"one\r\ntwo\n").lines(rt.alloc()) {
-        text.push_str(line?.as_str())?;
-    }
-    assert!(rt; text.as_str() == "onetwo");
-    Ok(())
-}
-
 fn seek(rt: &impl Abort) -> Result<(), Fail> {
     let mut r = Cursor::new(*b"abcde");
     assert!(rt; r.seek(SeekFrom::Start(1))? == 1);
@@ -382,26 +202,6 @@ fn each_example(rt: HostRuntime) -> Result<(), Fail> {
     flush(rt)?;
     write_fmt(rt)?;
     print_object(rt)?;
-    read_some(rt)?;
-    read_exact(rt)?;
-    read_full(rt)?;
-    read_to_end(rt)?;
-    reader_by_ref(rt)?;
-    take_some(rt)?;
-    read_to_string(rt)?;
-    bytes(rt)?;
-    chain(rt)?;
-    chain_get_mut(rt)?;
-    chain_get_ref(rt)?;
-    take_set_limit(rt)?;
-    take_get_mut(rt)?;
-    take_seek(rt)?;
-    fill_buf(rt)?;
-    read_until(rt)?;
-    skip_until(rt)?;
-    read_line(rt)?;
-    split(rt)?;
-    lines(rt)?;
     seek(rt)?;
     seek_target(rt)?;
     stream_position(rt)?;
