@@ -10,7 +10,7 @@ use Rattle.no_std_io2.proofs.TakesLemmas.{HasNoFault-front, left_of}
 use Rattle.std.specs.{List.{copy_within}, Prelude.{MatchResult, OnOk, OnErr}, Int.{w32, to_le_bytes}}
 use Rattle.std.proofs.lemmas.List.{drop-take, length-drop, take_min, drop_min, Edits.{take-paste}}
 use Rattle.no_std_io2.specs.{declared.io.Error.{Error}, declared.io.BufWriter.{BufWriter}, declared.io.ErrorKind.{ErrorKind}}
-use Rattle.no_std_io2.specs.{Writers.{FlushOf}, inner.Copy.{Handed, piece, refused}}
+use Rattle.no_std_io2.specs.{Writers.{FlushOf}, inner.Copy.{Handed, handed_piece}}
 use Rattle.no_std_io2.specs.declared.util.sides.CopyError.TheVariants.{Read, Write}
 use Rattle.bare.specs.{declared.queue.Queue.{Queue}, Queue.{waiting, capacity, QueueMay}}
 use Rattle.framing.specs.{Frames.{frame}, Sending.{frame_writer, SendsFrame}, declared.writer.FrameWriter.{FrameWriter}}
@@ -118,9 +118,8 @@ module _ {S : ℕ} where
   -- pieces were passed on, and that failed
   pub handed_full : {T : ℕ} {xs : List (List ℕ)} {C : List WriteCall} {e : Error} → T < S → Handed T xs C (Err e)
       → (a b : BufWriter Queue S) → Made (CallOf buffered) a C b → IsOverfull b
-  handed_full less (piece {C = C} {D = D} some short calls more) a b made =
-      let parts = made_split (CallOf buffered) C a D b made in handed_full less more parts.0 b parts.2
-  handed_full less (refused some short calls) a b made = all_full calls (omega (arith, less, short)) a b made
+  handed_full less (handed_piece {C = C} {D = D} before some short calls) a b made =
+      let parts = made_split (CallOf buffered) C a D b made in all_full calls (omega (arith, less, short)) parts.0 b parts.2
 
   -- bytes were accepted and flushed: the queue has all of them
   pub flush_done : {a : WriterState} {b c : BufWriter Queue S} {x : List ℕ} (q : Result (Unit {0}) Error) → Moves a x [] (buffered.told b)

@@ -2,7 +2,7 @@
 use Rattle.no_std_io2.proofs.Words.{common_steps, ◌≡◌, ℕ, ◌+◌, ◌-◌, ◌^◌, ◌<◌, ◌≤◌, min, List, [], ◌∷◌, ◌++◌, Result, Ok, Err, true, length}
 use Rattle.no_std_io2.proofs.Words.{take, refl, sym, ap, subst, ◌∙◌, arith, append_assoc, append-nil, length-append, length-take-le, concat}
 use Rattle.no_std_io2.proofs.Words.{IsInterruption, IsFault, bytes, ReaderState, Bool, Reader, Gave, ReadLaw, GaveLaw, ReadCallLaw, tells}
-use Rattle.no_std_io2.proofs.Words.{no_read, and_gave, and_again, WriteCall, Made, AllCalls, Moves, Writer, CallOf, TakesAll, Option, None}
+use Rattle.no_std_io2.proofs.Words.{no_read, and_gave, and_again, WriteCall, Made, Moves, Writer, CallOf, TakesAll, Option, None}
 use Rattle.no_std_io2.proofs.Words.{Some, Event, byte, fails, HasNoFault, ReadCall, Takes, to_come, IsAtEnd, WriterState, Copied}
 use Rattle.std.proofs.lemmas.List.{Folds.{concat-append}, Sums.{sum_by-cons}}
 use Rattle.no_std_io2_base.specs.{declared.error.Error.{Error}, declared.error.ErrorKind.{ErrorKind}, Takes.{gave}, Reads.{Took}}
@@ -10,22 +10,10 @@ use Rattle.no_std_io2_base.specs.{Writers.{WriteAllOf}, inner.Events.{EndsInFaul
 use Rattle.no_std_io2_base.proofs.{CallsLemmas.{made_more, made_then}, TakesLemmas.{length-events_of, read_law, nothing_read}}
 use Rattle.no_std_io2_base.proofs.{TakesLemmas.{HasNoFault-front, left_of}, MovesLemmas.{Moves-refl, Moves-then, Moves-steady}}
 use Rattle.no_std_io2_base.proofs.{ReadLoops.{some_bytes}, ReadsLemmas.{Took-none, Took-then, Took-bytes, Took-again, Took-fault}}
-use Rattle.no_std_io2.specs.{inner.Copy.{Handed, nothing, piece, refused, HandsOn, counted, CopyEnds, side_error}, Copy.{SidesCopied}}
+use Rattle.no_std_io2.specs.{inner.Copy.{Handed, handed_none, handed_piece, HandsOn, counted, CopyEnds, side_error}, Copy.{SidesCopied}}
 use Rattle.no_std_io2.specs.declared.util.sides.CopyError.{TheVariants.{Read, Write}, CopyError}
 
 -- The loop of `copy_with`, and so of `copy_sided` and `copy`: it passes on what it reads, piece by piece.
-
--- one piece more
-handed_more : {S : ℕ} {xs : List (List ℕ)} {x : List ℕ} {C D : List WriteCall} {so_far : Result (Unit {0}) Error}
-    (reply : Result (Unit {0}) Error) → Handed S xs C so_far → so_far ≡ Ok tt → 0 < length x → length x ≤ S → AllCalls D x reply
-    → Handed S (xs ++ x ∷ []) (C ++ D) reply
-handed_more {S} {x = x} {D = D} (Ok u) nothing done some fits calls =
-    subst (λ l. Handed S (x ∷ []) l (Ok u)) (append-nil D) (piece some fits calls nothing)
-handed_more (Err e) nothing done some fits calls = refused some fits calls
-handed_more {S} {x = x} {D = D} reply (piece {x = y} {xs = xs} {C = C} {D = B} more room first rest) done some fits calls =
-    subst (λ l. Handed S (y ∷ xs ++ x ∷ []) l reply) (sym (append_assoc C B D))
-    (piece more room first (handed_more reply rest done some fits calls))
-handed_more reply (refused more room first) done some fits calls = absurd (let no : ⊥ = cc in no)
 
 -- the joined bytes with one piece more
 joined_more : (xs : List (List ℕ)) (x : List ℕ) → concat xs ++ x ≡ concat (xs ++ x ∷ [])
@@ -75,7 +63,7 @@ module _ {R W : Type 0} {K : Reader R} {I : Writer W} {S : ℕ} {from : R} {old 
     hands_more x {new} reply law some wrote = record {
       pieces = before.pieces ++ x ∷ [];
       calls = before.calls ++ wrote.calls.calls;
-      handed = handed_more reply before.handed refl some law.bound wrote.calls.are;
+      handed = handed_piece before.handed some law.bound wrote.calls.are;
       made = made_then (CallOf I) before.calls old wrote.calls.calls now new before.made wrote.calls.made;
       reads = before.reads ++ Gave S (Ok x) ∷ [];
       gathered = rw (← joined_more before.pieces x) (and_gave before.reads (concat before.pieces) x S before.gathered refl some);
@@ -90,7 +78,7 @@ module _ {R W : Type 0} {K : Reader R} {I : Writer W} {S : ℕ} {from : R} {old 
     hands = record {
       pieces = [];
       calls = [];
-      handed = nothing;
+      handed = handed_none;
       made = refl;
       reads = [];
       gathered = no_read;

@@ -45,11 +45,9 @@ CopyEnds room (Err (Write e)) P end old new = WriterRefuses room e P old new
 
 -- These calls pass the pieces on, one `write_all` for each, and none after an error. A piece has at least one byte, and at most S.
 pub data Handed (S : ℕ) : List (List ℕ) → List WriteCall → Result (Unit {0}) Error → Type 0 where
-  nothing : Handed S [] [] (Ok tt)
-  piece : {x : List ℕ} {xs : List (List ℕ)} {C D : List WriteCall} {reply : Result (Unit {0}) Error} → 0 < length x → length x ≤ S
-      → AllCalls C x (Ok tt) → Handed S xs D reply → Handed S (x ∷ xs) (C ++ D) reply
-  refused : {x : List ℕ} {C : List WriteCall} {e : Error} → 0 < length x → length x ≤ S → AllCalls C x (Err e)
-      → Handed S (x ∷ []) C (Err e)
+  handed_none : Handed S [] [] (Ok tt)
+  handed_piece : {x : List ℕ} {xs : List (List ℕ)} {C D : List WriteCall} {reply : Result (Unit {0}) Error} → Handed S xs C (Ok tt)
+      → 0 < length x → length x ≤ S → AllCalls D x reply → Handed S (xs ++ x ∷ []) (C ++ D) reply
 
 -- The bytes that a reader gave were passed on to a writer, piece by piece: each piece is what one read gave. After them
 -- the reader got the calls `last`.
