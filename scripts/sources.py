@@ -125,6 +125,25 @@ def defined(text):
     return names
 
 
+def bodies(text, what):
+    """The names of the types of this kind, `data` or `record`, each with what stands below its head."""
+    marks = r"(?:abbrev |unfoldable |opaque )*(?:pub )?"
+    for _, name, body in re.findall(rf"^( *){marks}{what} (\w+)(.*?\n)(?=\1\S|\Z)", text, re.M | re.S):
+        yield name, body.partition(" where\n")[2]
+
+
+def constructors(text):
+    """The constructors of a module, each with its type."""
+    pattern = re.compile(r"^ +([^\s-]\S*) : ", re.M)
+    return [(name, kind) for kind, body in bodies(text, "data") for name in pattern.findall(body)]
+
+
+def members(text):
+    """The members of a module's records, each with its record."""
+    pattern = re.compile(r"^ +pub (\S+) : ", re.M)
+    return [(name, law) for law, body in bodies(text, "record") for name in pattern.findall(body)]
+
+
 def twice(pairs):
     """The names that stand in two places, each with these; pairs are a name and a place."""
     places = {}
@@ -133,12 +152,23 @@ def twice(pairs):
     return {name: sorted(paths) for name, paths in sorted(places.items()) if len(paths) > 1}
 
 
+def clashes(files):
+    """The names that mean two things in these modules: two words or constructors, or one of them and a member."""
+    places = [(name, path) for path, text in files.items() for name in defined(text)]
+    places += [(name, f"{path}: {kind}") for path, text in files.items() for name, kind in constructors(text)]
+    words = {name for name, _ in places}
+    fields = [(name, f"{path}: {law}") for path, text in files.items() for name, law in members(text)]
+    return twice(places + [(name, place) for name, place in fields if name in words])
+
+
 def defined_twice(logic):
-    """The names that two modules define: of all specs/, and of the specs/ and proofs/ of the libraries together."""
+    """The names with two meanings: in all specs/, and in the specs/ and proofs/ of the libraries together."""
     modules = re.compile(rf"crates/(?:{'|'.join(LIBRARIES)})/(?:specs|proofs)/(?:inner/)?\w+\.antt")
-    places = [(name, path) for path, text in logic.items() for name in defined(text)]
-    return (twice((name, path) for name, path in places if "/specs/" in path)
-            | twice((name, path) for name, path in places if modules.fullmatch(path)))
+    found = {}
+    for has in (lambda path: "/specs/" in path, modules.fullmatch):
+        for name, places in clashes({path: text for path, text in logic.items() if has(path)}).items():
+            found.setdefault(name, set()).update(places)
+    return {name: sorted(places) for name, places in sorted(found.items())}
 
 
 def unused(text):
