@@ -1,6 +1,7 @@
 // A `Vec<u8>` as a writer at its end.
 ghost use Rattle.std.specs.Prelude.{◌≡◌, ◌+◌, ◌++◌, ◌≤◌, ◌<◌, Ok, IsOk, OnOk, OnErr};
 ghost use Rattle.std.specs.Prelude.{IfErr, length, vec_len, vec_capacity};
+ghost use Rattle.no_std_io2_base.specs.declared.impls.vectors.TheConstants.{IN_PLACE};
 ghost use Rattle.no_std_io2_base.specs.Errors.{IsOutOfMemory};
 ghost use Rattle.no_std_io2_base.specs.inner.InMemory.{AppendsMay};
 ghost use Rattle.no_std_io2_base.specs.Moves.{told_out};
@@ -17,8 +18,8 @@ const IN_PLACE: usize = 32;
 // Appends a short piece for which there is room, over zeros. This takes no call, and no test for overlap.
 #[inline(always)]
 fn append_in_place<A: Allocator>(buf: &mut Vec<u8, A>, bytes: &[u8])
-    requires short { length bytes.now ≤ 32 }
-    requires room { vec_len buf.old + 32 ≤ vec_capacity buf.old }
+    requires short { length bytes.now ≤ IN_PLACE }
+    requires room { vec_len buf.old + IN_PLACE ≤ vec_capacity buf.old }
     ensures items { buf.new.items ≡ buf.old.items ++ bytes.now }
     ensures len { vec_len buf.new ≡ vec_len buf.old + length bytes.now }
     ensures grows { vec_capacity buf.old ≤ vec_capacity buf.new }
