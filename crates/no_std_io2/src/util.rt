@@ -51,7 +51,8 @@ pub fn copy<R: Read, W: Write, const S: usize>(reader: &mut R, writer: &mut W) -
     requires { S < 2 ^ 63 }
     ensures { Copied R.Read W.Write S reader.old writer.old result reader.new writer.new }
 {
-    let copied = copy_sided::<R, W, S>(reader, writer)?;
+    let mut buf = [0u8; S];
+    let copied = copy_with(reader, writer, &mut buf[..])?;
     Ok(copied)
 }
 

@@ -2,6 +2,7 @@
 ghost use Rattle.std.specs.Prelude.{◌≡◌, ◌+◌, ◌-◌, ◌<◌, ◌≤◌, [], ◌++◌, min, length, take, drop, IfErr, OnOk, OnErr};
 ghost use Rattle.std.specs.Prelude.{vec_len, vec_capacity, slice_range};
 ghost use Rattle.std.specs.Bool.{OnTrue, OnFalse};
+ghost use Rattle.no_std_io2.specs.declared.buffered.buffer.TheConstants.{SMALL};
 ghost use Rattle.no_std_io2_base.specs.Errors.{IsOutOfMemory};
 ghost use Rattle.no_std_io2_base.specs.inner.Cursor.{HasMoved};
 ghost use Rattle.no_std_io2_base.specs.inner.Read.{GaveLaw, gave_whole, least_room};
@@ -40,10 +41,10 @@ fn copy_fitting<const S: usize>(from: &[u8], to: &mut [u8])
     copy_bytes(from, to);
 }
 
-// Copies at most 32 bytes over the first of others.
+// Copies the bytes of a small buffer over the first of others.
 #[inline(always)]
 fn copy_front(from: &[u8], to: &mut [u8])
-    requires short { length from.now ≤ 32 }
+    requires short { length from.now ≤ SMALL }
     requires fits { length from.now ≤ length to.old }
     ensures { to.new ≡ from.now ++ drop (length from.now) to.old }
 {
@@ -301,6 +302,7 @@ impl<const S: usize> Buffer<S> {
     #[inline(always)]
     pub(crate) fn append_if_room(&mut self, more: &[u8]) -> bool
         ensures held { OnTrue result ((length more.now < S - self.old.end)
+            × (length (buffer_held self.old) + length more.now < S)
             × (buffer_held self.new ≡ buffer_held self.old ++ more.now)) }
         ensures same { OnFalse result (self.new ≡ self.old) }
     {

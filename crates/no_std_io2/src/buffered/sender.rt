@@ -2,8 +2,7 @@
 //!
 //! A write that is held is a hot path, which its callers inline. All else is in a cold function, `.._cold`. Through a
 //! small buffer all writes are calls of the cold functions, so that their code is there once.
-ghost use Rattle.std.specs.Prelude.{◌≡◌, ◌+◌, ◌<◌, ◌≤◌, [], ◌++◌, length};
-ghost use Rattle.std.specs.Bool.{OnTrue, OnFalse};
+ghost use Rattle.std.specs.Prelude.{◌≡◌, ◌+◌, ◌≤◌, [], ◌++◌, length};
 ghost use Rattle.std.specs.Borrow.{Lends, sem};
 ghost use Rattle.no_std_io2.specs.contracts.buffered.sender.Sender.{the_row as sender-row};
 ghost use Rattle.no_std_io2.specs.inner.BufWriter.{sender_inner, sender_buffer, TakesStep, SendCalls, RoomCalls, WriteCalls, WriteAllCalls};
@@ -21,7 +20,7 @@ use no_std_io2_base::traits::Write;
 /// ghost field may hold it.
 #[derive(Drop)]
 pub struct Sender<W, const S: usize> {
-    pub(super) inner: W,
+    inner: W,
     buffer: Buffer<S>,
 }
 
@@ -69,39 +68,17 @@ impl<W: Write + Drop, const S: usize> Sender<W, S> {
     ///
     /// # Errors
     /// Returns `WriteZero` if an inner write takes no byte, and the inner writer's fault if one fails.
-    #[inline(always)]
-    pub(crate) fn send(&mut self) -> Result<()>
-        ensures calls { TakesStep W.Write sender_inner sender_buffer SendCalls self.old result self.new }
-        ensures unmoved { self.new.buffer.bytes ≡ self.old.buffer.bytes }
-    {
-        if self.buffer.len() == 0 {
-            return Ok(());
-        }
-        self.send_apart()
-    }
-
-    // The whole of `send`. It is not inlined, since its loop is long and has many callers.
     #[inline(never)]
-    fn send_apart(&mut self) -> Result<()>
+    pub(crate) fn send(&mut self) -> Result<()>
         ensures calls { TakesStep W.Write sender_inner sender_buffer SendCalls self.old result self.new }
         ensures unmoved { self.new.buffer.bytes ≡ self.old.buffer.bytes }
     {
         self.send_held()
     }
 
-    /// Tries once to send the held bytes, ignores a fault, and drops the inner writer. The buffer is moved only if
-    /// bytes are held.
+    /// The body of `send`, for functions that are calls themselves: a call of `send` takes 32 instructions more.
     #[inline(always)]
-    pub(crate) fn send_last(self) {
-        if self.buffer.len() > 0 {
-            let mut held = self;
-            let _ = held.send_apart();
-        }
-    }
-
-    // The body of `send_apart`. The cold functions inline it.
-    #[inline(always)]
-    fn send_held(&mut self) -> Result<()>
+    pub(crate) fn send_held(&mut self) -> Result<()>
         ensures calls { TakesStep W.Write sender_inner sender_buffer SendCalls self.old result self.new }
         ensures unmoved { self.new.buffer.bytes ≡ self.old.buffer.bytes }
     {
@@ -119,17 +96,14 @@ impl<W: Write + Drop, const S: usize> Sender<W, S> {
         Ok(())
     }
 
-    // Sends the held bytes for a `flush` or an `into_inner`. The loop is inlined, since a call of it takes 12 to 25
-    // instructions more. A buffer of at most 32 bytes, as firmware has, makes the call: that is less code.
+    /// Tries once to send the held bytes, ignores a fault, and drops the inner writer. The buffer is moved only if
+    /// bytes are held.
     #[inline(always)]
-    fn send_for_flush(&mut self) -> Result<()>
-        ensures calls { TakesStep W.Write sender_inner sender_buffer SendCalls self.old result self.new }
-        ensures unmoved { self.new.buffer.bytes ≡ self.old.buffer.bytes }
-    {
-        if S > SMALL {
-            return self.send_held();
+    pub(crate) fn send_last(self) {
+        if self.buffer.len() > 0 {
+            let mut held = self;
+            let _ = held.send();
         }
-        self.send()
     }
 
     /// Holds `more` after the held bytes.
@@ -141,34 +115,18 @@ impl<W: Write + Drop, const S: usize> Sender<W, S> {
         self.buffer.push(more);
     }
 
-    /// Sends the held bytes if `more` bytes do not fit beside them. If the caller is cold, the sending is inlined: a
-    /// call of it takes 31 instructions more. If not, only the test is.
+    /// Sends the held bytes if `more` bytes do not fit beside them.
     ///
     /// # Errors
     /// Returns the error of `send`.
     #[inline(always)]
-    pub(crate) fn send_for_room(&mut self, more: usize, is_cold: bool) -> Result<()>
+    pub(crate) fn make_room(&mut self, more: usize) -> Result<()>
         ensures { TakesStep W.Write sender_inner sender_buffer (RoomCalls S more) self.old result self.new }
     {
         if more <= S - self.buffer.len() {
             return Ok(());
         }
-        if is_cold {
-            return self.send_held();
-        }
-        self.send_apart()
-    }
-
-    /// Holds `buf` if it is shorter than the room after the held bytes: the hot path of a write.
-    #[inline(always)]
-    fn hold_if_room(&mut self, buf: &[u8]) -> bool
-        ensures held { OnTrue result ((length buf.now < S)
-            × (length (sender_buffer self.old) + length buf.now ≤ S)
-            × (sender_inner self.new ≡ sender_inner self.old)
-            × (sender_buffer self.new ≡ sender_buffer self.old ++ buf.now)) }
-        ensures same { OnFalse result (self.new ≡ self.old) }
-    {
-        self.buffer.append_if_room(buf)
+        self.send_held()
     }
 
     /// Holds `buf` if it is shorter than `S`, and passes it to the inner `write` if it is not. If both
@@ -184,7 +142,7 @@ impl<W: Write + Drop, const S: usize> Sender<W, S> {
         if S <= SMALL {
             return self.write_out_of_line(buf);
         }
-        if self.hold_if_room(buf) {
+        if self.buffer.append_if_room(buf) {
             return Ok(buf.len());
         }
         if buf.len() >= S && self.buffer.len() == 0 {
@@ -208,7 +166,7 @@ impl<W: Write + Drop, const S: usize> Sender<W, S> {
     fn write_cold(&mut self, buf: &[u8]) -> Result<usize>
         ensures { TakesStep W.Write sender_inner sender_buffer (WriteCalls S buf.now) self.old result self.new }
     {
-        self.send_for_room(buf.len(), S > SMALL)?;
+        self.make_room(buf.len())?;
         if buf.len() >= S {
             return self.inner.write(buf);
         }
@@ -229,7 +187,7 @@ impl<W: Write + Drop, const S: usize> Sender<W, S> {
         if S <= SMALL {
             return self.write_all_out_of_line(buf);
         }
-        if self.hold_if_room(buf) {
+        if self.buffer.append_if_room(buf) {
             return Ok(());
         }
         if buf.len() >= S && self.buffer.len() == 0 {
@@ -252,7 +210,7 @@ impl<W: Write + Drop, const S: usize> Sender<W, S> {
     fn write_all_cold(&mut self, buf: &[u8]) -> Result<()>
         ensures { TakesStep W.Write sender_inner sender_buffer (WriteAllCalls S buf.now) self.old result self.new }
     {
-        self.send_for_room(buf.len(), S > SMALL)?;
+        self.make_room(buf.len())?;
         if buf.len() >= S {
             return self.inner.write_all(buf);
         }
@@ -267,7 +225,7 @@ impl<W: Write + Drop, const S: usize> Sender<W, S> {
     pub(crate) fn flush(&mut self) -> Result<()>
         ensures { TakesStep W.Write sender_inner sender_buffer FlushCalls self.old result self.new }
     {
-        self.send_for_flush()?;
+        self.send()?;
         self.inner.flush()
     }
 
@@ -278,7 +236,7 @@ impl<W: Write + Drop, const S: usize> Sender<W, S> {
     pub(crate) fn into_inner(mut self) -> std::result::Result<W, IntoInnerError<Sender<W, S>>>
         ensures { Unwraps W.Write sender_inner sender_buffer self result }
     {
-        match self.send_for_flush() {
+        match self.send() {
             Ok(()) => Ok(self.inner),
             Err(error) => Err(IntoInnerError::new(self, error)),
         }

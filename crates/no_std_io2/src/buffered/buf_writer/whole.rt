@@ -23,7 +23,7 @@ impl<W: Write + Drop, const S: usize> BufWriter<W, S> {
         ensures never_interrupted { IsNoInterruption result }
         ensures room { n ≤ S → OnOk result (length (writer_buffer self.new) + n ≤ S) }
     {
-        self.sender.send_for_room(n, false)
+        self.sender.make_room(n)
     }
 
     /// Writes a record, `head` followed by `tail`, which has to be shorter than `S`. After `Ok` all of it

@@ -5,7 +5,7 @@ ghost use Rattle.no_std_io2_base.specs.inner.Lines.{IsLineState, lines_len};
 ghost use Rattle.no_std_io2_base.specs.inner.Pieces.{ends_in};
 ghost use Rattle.no_std_io2_base.specs.Pieces.{newline};
 ghost use Rattle.no_std_io2.specs.inner.LineWriter.{held_tail, SendLineCalls, SendLinesCalls, LineWriteCalls, LineWriteAllCalls};
-ghost use Rattle.no_std_io2.specs.inner.BufWriter.{sender_inner, sender_buffer, TakesStep, Then, WriteAllCalls};
+ghost use Rattle.no_std_io2.specs.inner.BufWriter.{sender_inner, sender_buffer, TakesStep};
 
 use crate::buffered::buffer::SMALL;
 use crate::buffered::sender::Sender;
@@ -57,12 +57,16 @@ fn ends_in_newline(bytes: &[u8]) -> bool
     bytes.last() == Some(&b'\n')
 }
 
-// Returns the length of the lines of x: everything up to and including its last newline. Mostly that is the last byte, or there is
-// none; for a short text these two cases take fewer instructions than the search.
-fn lines_len(x: &[u8]) -> usize
+// Returns the length of the lines of x: everything up to and including its last newline. Mostly that is the last byte,
+// or there is none; for a short text these two cases take fewer instructions than the search. For a small buffer it is
+// a loop of little code.
+fn lines_len<const S: usize>(x: &[u8]) -> usize
     ensures lines { result ≡ lines_len x.now }
     ensures within { result ≤ length x.now }
 {
+    if S <= SMALL {
+        return lines_len_by_one(x);
+    }
     if ends_in_newline(x) {
         return x.len();
     }
@@ -95,27 +99,28 @@ fn lines_len_by_one(x: &[u8]) -> usize
 
 // Returns where the held tail of x ends if `sent` bytes of x were sent. The first `len` bytes of x
 // are its lines.
-fn tail_end(x: &[u8], len: usize, sent: usize, room: usize) -> usize
+fn tail_end<const S: usize>(x: &[u8], len: usize, sent: usize) -> usize
     requires lines { len ≡ lines_len x.now }
     requires within { len ≤ length x.now }
     requires some { 0 < sent }
     requires sent { sent ≤ len }
     ensures within { result ≤ length x.now }
     ensures after { sent ≤ result }
-    ensures room { result ≤ sent + room }
-    ensures tail { slice_range x.now sent result ≡ held_tail room x.now sent }
+    ensures room { result ≤ sent + S }
+    ensures tail { slice_range x.now sent result ≡ held_tail S x.now sent }
 {
     if sent >= len {
-        return sent + (x.len() - sent).min(room);
+        return sent + (x.len() - sent).min(S);
     }
-    if len - sent <= room {
+    if len - sent <= S {
         return len;
     }
-    let part = lines_len(&x[sent..sent + room]);
-    if part == 0 { sent + room } else { sent + part }
+    let part = lines_len::<S>(&x[sent..sent + S]);
+    if part == 0 { sent + S } else { sent + part }
 }
 
 // Sends the held bytes if they end in a newline.
+#[inline(always)]
 fn send_line<W: Write + Drop, const S: usize>(w: &mut Sender<W, S>) -> Result<()>
     requires { IsLineState (sender_buffer w.old) }
     ensures { TakesStep W.Write sender_inner sender_buffer SendLineCalls w.old result w.new }
@@ -137,12 +142,12 @@ fn write_lines<W: Write + Drop, const S: usize>(
     requires within { len ≤ length x.now }
     ensures { TakesStep W.Write sender_inner sender_buffer (LineWriteCalls S x.now) w.old result w.new }
 {
-    w.send()?;
-    let n = w.inner.write(&x[..len])?;
+    w.send_held()?;
+    let n = w.get_mut().write(&x[..len])?;
     if n == 0 || n == x.len() {
         return Ok(n);
     }
-    let end = tail_end(x, len, n, S);
+    let end = tail_end::<S>(x, len, n);
     w.hold(&x[n..end]);
     Ok(end)
 }
@@ -156,7 +161,7 @@ pub(super) fn write<W: Write + Drop, const S: usize>(
     requires { IsLineState (sender_buffer w.old) }
     ensures { TakesStep W.Write sender_inner sender_buffer (LineWriteCalls S x.now) w.old result w.new }
 {
-    let len = lines_len(x);
+    let len = lines_len::<S>(x);
     if len > 0 {
         return write_lines(w, x, len);
     }
@@ -164,69 +169,15 @@ pub(super) fn write<W: Write + Drop, const S: usize>(
     w.write(x)
 }
 
-// Writes all of x, which consists of lines: straight to the inner writer if nothing is held. If not, x goes through
-// the buffer, which is then sent.
-fn send_lines<W: Write + Drop, const S: usize>(w: &mut Sender<W, S>, x: &[u8]) -> Result<()>
-    ensures { TakesStep W.Write sender_inner sender_buffer (SendLinesCalls S x.now) w.old result w.new }
+// Passes on lines: straight to the inner writer if nothing is held. If not, they go through the buffer, which is then sent.
+fn send_lines<W: Write + Drop, const S: usize>(w: &mut Sender<W, S>, lines: &[u8]) -> Result<()>
+    ensures { TakesStep W.Write sender_inner sender_buffer (SendLinesCalls S lines.now) w.old result w.new }
 {
     if w.buffer().is_empty() {
-        return w.inner.write_all(x);
+        return w.get_mut().write_all(lines);
     }
-    w.write_all(x)?;
+    w.write_all(lines)?;
     w.send()
-}
-
-// Writes all of x, whose first `len` bytes are lines.
-fn write_all_lines<W: Write + Drop, const S: usize>(
-    w: &mut Sender<W, S>,
-    x: &[u8],
-    len: usize,
-) -> Result<()>
-    requires some { 0 < len }
-    requires lines { len ≡ lines_len x.now }
-    requires within { len ≤ length x.now }
-    ensures { TakesStep W.Write sender_inner sender_buffer (LineWriteAllCalls S x.now) w.old result w.new }
-{
-    send_lines(w, &x[..len])?;
-    if len == x.len() {
-        return Ok(());
-    }
-    w.write_all(&x[len..])
-}
-
-// Sends the held bytes if they end in a newline, or writes the lines, of which there are some.
-fn send_first<W: Write + Drop, const S: usize>(w: &mut Sender<W, S>, lines: &[u8]) -> Result<()>
-    requires { IsLineState (sender_buffer w.old) }
-    ensures none { length lines.now ≡ 0 → TakesStep W.Write sender_inner sender_buffer SendLineCalls w.old result w.new }
-    ensures some { 0 < length lines.now
-        → TakesStep W.Write sender_inner sender_buffer (SendLinesCalls S lines.now) w.old result w.new }
-{
-    if lines.is_empty() {
-        return send_line(w);
-    }
-    send_lines(w, lines)
-}
-
-// Writes all of x through a small buffer.
-#[inline(never)]
-fn write_all_apart<W: Write + Drop, const S: usize>(w: &mut Sender<W, S>, x: &[u8]) -> Result<()>
-    requires { IsLineState (sender_buffer w.old) }
-    ensures { TakesStep W.Write sender_inner sender_buffer (LineWriteAllCalls S x.now) w.old result w.new }
-{
-    let len = lines_len_by_one(x);
-    send_first(w, &x[..len])?;
-    w.write_all(&x[len..])
-}
-
-// Writes all of x, which has no newline, after the held bytes, which are sent first if they end in one.
-#[cold]
-#[inline(never)]
-fn write_all_behind<W: Write + Drop, const S: usize>(w: &mut Sender<W, S>, x: &[u8]) -> Result<()>
-    requires { IsLineState (sender_buffer w.old) }
-    ensures { TakesStep W.Write sender_inner sender_buffer (Then SendLineCalls (WriteAllCalls S x.now)) w.old result w.new }
-{
-    send_line(w)?;
-    w.write_all(x)
 }
 
 // Writes all of x.
@@ -238,15 +189,14 @@ pub(super) fn write_all<W: Write + Drop, const S: usize>(
     requires { IsLineState (sender_buffer w.old) }
     ensures { TakesStep W.Write sender_inner sender_buffer (LineWriteAllCalls S x.now) w.old result w.new }
 {
-    if S <= SMALL {
-        return write_all_apart(w, x);
-    }
-    let len = lines_len(x);
-    if len > 0 {
-        return write_all_lines(w, x, len);
-    }
-    if !ends_in_newline(w.buffer()) {
+    let len = lines_len::<S>(x);
+    if len == 0 {
+        send_line(w)?;
         return w.write_all(x);
     }
-    write_all_behind(w, x)
+    send_lines(w, &x[..len])?;
+    if len == x.len() {
+        return Ok(());
+    }
+    w.write_all(&x[len..])
 }

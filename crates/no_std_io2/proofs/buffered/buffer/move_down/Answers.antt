@@ -1,5 +1,5 @@
 -- The copied bytes stand at the front: the search does not cut them out of the array.
-use Rattle.no_std_io2.proofs.Words.{common_steps, ◌≡◌, ℕ, ◌-◌, ◌≤◌, List, ◌++◌, length, take, drop, ap, arith, length-take, length-drop}
+use Rattle.no_std_io2.proofs.Words.{common_steps, ◌≡◌, ℕ, ◌-◌, ◌≤◌, List, ◌++◌, length, take, drop, arith, length-take, length-drop}
 use Rattle.no_std_io2.proofs.Words.{take-append-le}
 use Rattle.std.proofs.Common.{take_all, slice_range}
 use Rattle.no_std_io2.proofs.buffered.buffer.move_down.Goals as goal

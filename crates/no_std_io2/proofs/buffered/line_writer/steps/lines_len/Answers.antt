@@ -8,7 +8,7 @@ use Rattle.no_std_io2_base.proofs.LineLemmas.{lines_are, lines_none, lines_split
 use Rattle.no_std_io2.proofs.buffered.line_writer.steps.lines_len.Goals as goal
 
 pub returns-in-Some-clause-lines : goal.returns-in-Some-clause-lines
-returns-in-Some-clause-lines c =
+returns-in-Some-clause-lines g c =
     let x = c.args.x.now in
     let at = c.in-Some.at in
     let last = c.in-Some.ensures in
@@ -18,7 +18,7 @@ returns-in-Some-clause-lines c =
     grind (arith, common_steps, ap lines_len whole, lines_are (take at x) (drop (at + 1) x) plain)
 
 pub returns-in-None-clause-lines : goal.returns-in-None-clause-lines
-returns-in-None-clause-lines c =
+returns-in-None-clause-lines g c =
     ap length (sym (lines_none c.args.x.now (contains_lacks newline c.args.x.now (λ has.
     c.in-None.ensures has.0 (omega arith) has.1 (grind (arith, common_steps, has.2))))))
 
@@ -37,13 +37,13 @@ lacks_all x other before has = elim (cases_lt has.0 (length x - 1)) [
 ]
 
 pub returns-then-lacks_before_last-clause-lines : goal.returns-then-lacks_before_last-clause-lines
-returns-then-lacks_before_last-clause-lines c =
+returns-then-lacks_before_last-clause-lines g c =
     let x = c.args.x.now in
     let other = sym c.ends_in_newline.ensures ∙ c.if-ends_in_newline.false in
     ap length (sym (lines_none x (contains_lacks newline x (lacks_all x other (search rules)))))
 
 pub returns-then-ends_in_newline-clause-lines : goal.returns-then-ends_in_newline-clause-lines
-returns-then-ends_in_newline-clause-lines c =
+returns-then-ends_in_newline-clause-lines g c =
     let x = c.args.x.now in
     let none = unfinished_none x (sym c.ends_in_newline.ensures ∙ c.if-ends_in_newline.true) in
     omega (arith, ap length (lines_split x), length-append (lines_of x) (unfinished_line x), ap length none)

@@ -6,14 +6,14 @@ use Rattle.no_std_io2.proofs.LineWriterStates.{lines_rest}
 use Rattle.no_std_io2.proofs.buffered.line_writer.steps.tail_end.Goals as goal
 
 pub returns-then-sent-len-clause-tail : goal.returns-then-sent-len-clause-tail
-returns-then-sent-len-clause-tail c = grind (arith, common_steps, take_min)
+returns-then-sent-len-clause-tail g c = grind (arith, common_steps, take_min)
 
 pub returns-then-len-sent-clause-tail : goal.returns-then-len-sent-clause-tail
-returns-then-len-sent-clause-tail c = grind (arith, common_steps, lines_rest)
+returns-then-len-sent-clause-tail g c = grind (arith, common_steps, lines_rest)
 
 pub returns-then-part-eq0-clause-tail : goal.returns-then-part-eq0-clause-tail
-returns-then-part-eq0-clause-tail c = grind (arith, common_steps)
+returns-then-part-eq0-clause-tail g c = grind (arith, common_steps)
 
 pub returns-else-part-eq0-clause-tail : goal.returns-else-part-eq0-clause-tail
-returns-else-part-eq0-clause-tail c =
-    grind (arith, common_steps, take_lines (take c.args.room (drop c.args.sent c.args.x.now)) refl)
+returns-else-part-eq0-clause-tail g c =
+    grind (arith, common_steps, take_lines (take g.row.S (drop c.args.sent c.args.x.now)) refl)

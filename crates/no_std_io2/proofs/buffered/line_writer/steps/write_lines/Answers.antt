@@ -6,31 +6,31 @@ use Rattle.no_std_io2_base.proofs.{CallsLemmas.{by_are, writes_whole}, LineLemma
 use Rattle.no_std_io2.proofs.{BufWriterLemmas.{then_stops, then_goes_on}, LineWriterStates.{wrote_lines, tail_none}}
 use Rattle.no_std_io2.proofs.buffered.line_writer.steps.write_lines.Goals as goal
 
-pub returns-in_err-send : goal.returns-in_err-send
-returns-in_err-send g c =
+pub returns-in_err-send_held : goal.returns-in_err-send_held
+returns-in_err-send_held g c =
     let p = err_from_is_err_and c.from_residual.result c.from_residual.ensures.1 in
-    let stopped = then_stops c.in_err-send.ensures.calls in
+    let stopped = then_stops c.in_err-send_held.ensures.calls in
     rw (p.1, p.2) (by_are stopped (λ C calls. inr (contains_lines _ c.requires.lines c.requires.some, calls)))
 
 -- the write of the lines failed
 pub returns-in_err-n : goal.returns-in_err-n
 returns-in_err-n g c =
     let p = err_from_is_err_and c.from_residual-in_err-n.result c.from_residual-in_err-n.ensures.1 in
-    let none = writes_whole c.in_ok-send.ensures.calls.are in
-    let went = then_goes_on _ c.in_ok-send.ensures.calls
-    (wrote_lines g.row.S _ c.requires.lines c.in_err-n.ensures.law none (none, refl)) in
+    let none = writes_whole c.in_ok-send_held.ensures.calls.are in
+    let went = then_goes_on _ c.in_ok-send_held.ensures.calls
+    (wrote_lines g.row.S _ c.requires.lines (rw c.get_mut.ensures.value at c.in_err-n.ensures.law) none (none, refl)) in
     rw (p.1, p.2) (by_are went (λ C calls. inr (contains_lines _ c.requires.lines c.requires.some, calls)))
 
 -- none of them were taken, or all bytes were
 pub returns-then-n-eq0 : goal.returns-then-n-eq0
 returns-then-n-eq0 g c =
     let x = c.args.x.now in
-    let none = writes_whole c.in_ok-send.ensures.calls.are in
+    let none = writes_whole c.in_ok-send_held.ensures.calls.are in
     let empty = none ∙ sym (tail_none g.row.S x c.in_ok-n.n (search rules)) in
     let count = ap Ok
-    (let sum : c.in_ok-n.n ≡ c.in_ok-n.n + length (sender_buffer c.send.new.self) = omega (arith, ap length none) in sum) in
-    let went = then_goes_on _ c.in_ok-send.ensures.calls
-    (wrote_lines g.row.S _ c.requires.lines c.in_ok-n.ensures.law none (empty, count)) in
+    (let sum : c.in_ok-n.n ≡ c.in_ok-n.n + length (sender_buffer c.send_held.new.self) = omega (arith, ap length none) in sum) in
+    let went = then_goes_on _ c.in_ok-send_held.ensures.calls
+    (wrote_lines g.row.S _ c.requires.lines (rw c.get_mut.ensures.value at c.in_ok-n.ensures.law) none (empty, count)) in
     by_are went (λ C calls. inr (contains_lines _ c.requires.lines c.requires.some, calls))
 
 pub hold-requires : goal.hold-requires
@@ -42,7 +42,7 @@ returns g c =
     let x = c.args.x.now in
     let n = c.in_ok-n.n in
     let end = c.tail_end-end.result in
-    let none = writes_whole c.in_ok-send.ensures.calls.are in
+    let none = writes_whole c.in_ok-send_held.ensures.calls.are in
     let held = c.hold.ensures.buffer ∙ ap (λ l. l ++ slice_range x n end) none in
     let count : end ≡ n + length (sender_buffer c.hold.new.self) = omega (
       arith,
@@ -52,7 +52,7 @@ returns g c =
       c.tail_end-end.ensures.after,
       c.tail_end-end.ensures.within,
     ) in
-    let law = rw (sym c.hold.ensures.same) at c.in_ok-n.ensures.law in
-    let went = then_goes_on _ c.in_ok-send.ensures.calls
+    let law = rw (sym c.hold.ensures.same) at (rw c.get_mut.ensures.value at c.in_ok-n.ensures.law) in
+    let went = then_goes_on _ c.in_ok-send_held.ensures.calls
     (wrote_lines g.row.S _ c.requires.lines law none (held ∙ c.tail_end-end.ensures.tail, ap Ok count)) in
     by_are went (λ C calls. inr (contains_lines _ c.requires.lines c.requires.some, calls))
