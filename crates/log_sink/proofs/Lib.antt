@@ -1,1 +1,2 @@
 pub mod RecordAdds
+pub mod EachLemmas

@@ -3,8 +3,8 @@
 //!
 //! ```rust
 //! let before = sink.lost();
-//! info!(sink; "reading {}", reading);
-//! if sink.lost() != before {
+//! info!(sink; target: sensor, "{}", reading);
+//! sink.lost() == before
 //! ```
 #![tactic(auto)]
 
@@ -21,7 +21,7 @@ use log::kv::Source;
 use log::span::Spans;
 use log::{Line, Record};
 use no_std_io2::io::{Result, Write};
-pub use readings::{log_reading, log_readings};
+pub use readings::{log_each, log_reading, log_readings};
 pub use sink::LineSink;
 use std::fmt::Display;
 
