@@ -6,12 +6,21 @@
 //! longer, it is cut. The status is 0 if nothing failed, and else 1.
 #![tactic(auto)]
 
-use no_std_io2::io::{BufRead, BufReader, Error, repeat};
+ghost use Rattle.std.specs.Prelude.{◌≡◌, ◌≢◌, Ok, Err, true, IfOk, IfErr, codes};
+ghost use Rattle.std.specs.Process.{exit_status};
+ghost use Rattle.system_streams.specs.About.{TellsLine, error_line};
+ghost use Rattle.tar_make.specs.Adding.{AddsBody, AddsHeader, AddsFile, AddsMember, EndsAll, HasName, member_fault, reason_text};
+
+use no_std_io2::io::{BufReader, BufWriter, CopyError, Error, Read, Write};
+use std::alloc::Global;
+use std::fmt::Display;
 use std::os::unix::fs::{MetadataExt, PermissionsExt};
 use std::process::ExitCode;
-use std::rt::Files;
-use std::{env, fs, io};
-use system_streams::{Patient, about, open, report, stdout};
+use std::rt::{Env, Files};
+use std::{env, fmt, fs, io};
+use system_streams::{
+    FileFault, Patient, PerFile, SystemMessages, about, each_file, named, open, report, stdout,
+};
 use tar_writer::{Builder, Header, Metadata};
 
 // What `--help` prints.
@@ -27,18 +36,25 @@ output. Of a directory it has the name, and not what is in it.
 // The size in bytes of each buffer: of a file, and of the archive.
 const BUFFER: usize = 65536;
 
-// The archive on standard output.
-type Archive<'a> = Builder<Patient<io::Printer<'a, HostRuntime>>, BUFFER>;
-
-// Why a member is not what it should be.
+// Why a member is not what it should be, or why there is no archive.
 #[derive(Drop)]
-enum AddError {
+enum Reason {
     // The system's reason: the file cannot be found or opened.
     System(io::Error),
-    // No header can hold it, it cannot be read, or it has another size by now.
-    Member(Error),
-    // Standard output failed.
-    Output(Error),
+    // No header can hold it, it cannot be read, or it has another size by now; or standard output failed.
+    Own(Error),
+}
+
+// Prints the reason.
+impl Display for Reason {
+    ghost output = { reason_text };
+
+    fn fmt<W: fmt::Write>(&self, f: &mut fmt::Formatter<W>) -> fmt::Result {
+        match self {
+            Reason::System(e) => Display::fmt(e, f),
+            Reason::Own(e) => Display::fmt(e, f),
+        }
+    }
 }
 
 // Returns the permissions and the time of a file. A time before 1970 is 1970.
@@ -49,111 +65,182 @@ fn described(found: &fs::Metadata) -> Metadata {
     }
 }
 
+// Returns the header that was made, or why there is none.
+fn header_or_reason(made: no_std_io2::io::Result<Header>) -> Result<Header, Reason>
+    ensures { IfOk result (λ header. made ≡ Ok header) }
+{
+    match made {
+        Ok(header) => Ok(header),
+        Err(e) => Err(Reason::Own(e)),
+    }
+}
+
 // Returns the header of a file, a directory or a symbolic link.
-fn header_of(rt: &HostRuntime, name: &str, found: &fs::Metadata) -> Result<Header, AddError> {
+fn header_of(rt: &HostRuntime, name: &str, found: &fs::Metadata) -> Result<Header, Reason>
+    ensures { IfOk result (HasName name.now) }
+{
     let metadata = described(found);
-    let made = if found.is_symlink() {
-        match rt.read_link(rt.alloc(), name) {
-            Ok(target) => Header::symlink(name.as_bytes(), target.as_os_str().as_bytes(), metadata),
-            Err(e) => return Err(AddError::System(e)),
-        }
-    } else if found.is_dir() {
-        Header::directory(name.as_bytes(), metadata)
-    } else {
-        Header::file(name.as_bytes(), found.len(), metadata)
-    };
-    made.map_err(AddError::Member)
+    let bytes = name.as_bytes();
+    if found.is_symlink() {
+        return match rt.read_link(rt.alloc(), name) {
+            Ok(target) => {
+                header_or_reason(Header::symlink(bytes, target.as_os_str().as_bytes(), metadata))
+            }
+            Err(e) => Err(Reason::System(e)),
+        };
+    }
+    if found.is_dir() {
+        return header_or_reason(Header::directory(bytes, metadata));
+    }
+    header_or_reason(Header::file(bytes, found.len(), metadata))
 }
 
 // Appends the bytes of a file. What it lacks is filled with zeros.
-fn add_body(archive: &mut Archive<'_>, file: Patient<fs::File>) -> Result<(), AddError> {
-    let mut body = BufReader::<_, BUFFER>::new(file);
-    let Err(fault) = archive.append_body(&mut body) else {
-        return Ok(());
-    };
-    // If bytes of the member are to come and the file has some, the archive could not take them.
-    let has_more = match body.fill_buf() {
-        Ok(lent) => !lent.is_empty(),
-        Err(_) => false,
-    };
-    if has_more && archive.body_left() > 0 {
-        return Err(AddError::Output(fault));
-    }
-    let mut zeros = repeat(0, archive.body_left());
-    match archive.append_body(&mut zeros) {
-        Ok(()) => Err(AddError::Member(fault)),
-        Err(e) => Err(AddError::Output(e)),
+fn add_body<R: Read, W: Write + Drop, const S: usize>(
+    archive: &mut Builder<W, S>,
+    body: &mut R,
+) -> Result<(), FileFault<Reason>>
+    ensures { AddsBody R.Read W.Write body.old archive.old result body.new archive.new }
+{
+    match archive.append_filled(body) {
+        Ok(()) => Ok(()),
+        Err(CopyError::Read(e)) => Err(FileFault::File(Reason::Own(e))),
+        Err(CopyError::Write(e)) => Err(FileFault::Output(Reason::Own(e))),
     }
 }
 
-// Appends a file.
-fn add_file(
-    rt: &HostRuntime,
-    archive: &mut Archive<'_>,
-    name: &str,
+// Appends a header.
+fn add_header<W: Write + Drop, const S: usize>(
+    archive: &mut Builder<W, S>,
     header: &Header,
-) -> Result<(), AddError> {
-    let file = open(rt, name).map_err(AddError::System)?;
-    archive.append_header(header).map_err(AddError::Output)?;
-    add_body(archive, file)
-}
-
-// Appends a member, and returns why it is not what it should be, if so.
-fn add(rt: &HostRuntime, archive: &mut Archive<'_>, name: &str) -> Result<(), AddError> {
-    let found = fs::symlink_metadata(rt, name).map_err(AddError::System)?;
-    let header = header_of(rt, name, &found)?;
-    if found.is_file() {
-        return add_file(rt, archive, name, &header);
+) -> Result<(), FileFault<Reason>>
+    ensures { AddsHeader W.Write header.now archive.old result archive.new }
+{
+    match archive.append_header(header) {
+        Ok(()) => Ok(()),
+        Err(e) => Err(FileFault::Output(Reason::Own(e))),
     }
-    archive.append_header(&header).map_err(AddError::Output)
 }
 
-// Adds the members with these names, and returns whether all are what they should be. Stops if standard output fails.
-fn add_all(
-    rt: &HostRuntime,
-    archive: &mut Archive<'_>,
-    mut names: env::Args,
-) -> Result<bool, Error> {
-    let mut whole = true;
-    let _program = names.next();
-    'names: while let Some(name) = names.next() {
-        let name = name.as_str();
-        match add(rt, archive, name) {
-            Ok(()) => {}
-            Err(AddError::Output(e)) => return Err(e),
-            Err(AddError::Member(e)) => {
-                let _ = eprintln!(rt; "tar_make: {name}: {e}");
-                whole = false;
+// Appends a header, and the bytes of its file.
+fn add_file<R: Read, W: Write + Drop, const S: usize>(
+    archive: &mut Builder<W, S>,
+    header: &Header,
+    body: &mut R,
+) -> Result<(), FileFault<Reason>>
+    ensures { AddsFile R.Read W.Write header.now body.old archive.old result body.new archive.new }
+{
+    match archive.append_header(header) {
+        Ok(()) => add_body(archive, body),
+        Err(e) => Err(FileFault::Output(Reason::Own(e))),
+    }
+}
+
+// A run: where the files are, where messages go, and the archive.
+#[derive(Drop)]
+struct Making<'a, M, W: Write + Drop, const S: usize> {
+    files: &'a HostRuntime,
+    messages: &'a M,
+    archive: Builder<W, S>,
+}
+
+impl<M: SystemMessages, W: Write + Drop, const S: usize> PerFile for Making<'_, M, W, S> {
+    type Reason = Reason;
+
+    // The member is added, or left out.
+    ghost may_try = { λ old name reply new. AddsMember ⟦<BufReader<Patient<fs::File>, BUFFER> as Read>⟧ W.Write
+        name old.archive reply new.archive };
+
+    // A line with its name goes to standard error, and nothing to the archive.
+    ghost may_tell_of = { λ old name why new. (new ≡ old)
+        × TellsLine M.may_tell old.messages.now (member_fault name (reason_text why)) };
+
+    fn try_file(&mut self, name: &str) -> Result<(), FileFault<Reason>> {
+        let found = match fs::symlink_metadata(self.files, name) {
+            Ok(found) => found,
+            Err(e) => return Err(FileFault::File(Reason::System(e))),
+        };
+        let header = match header_of(self.files, name, &found) {
+            Ok(header) => header,
+            Err(why) => return Err(FileFault::File(why)),
+        };
+        if !found.is_file() {
+            return add_header(&mut self.archive, &header);
+        }
+        match open(self.files, name) {
+            Ok(file) => {
+                let mut body = BufReader::<_, BUFFER>::new(file);
+                add_file(&mut self.archive, &header, &mut body)
             }
-            Err(AddError::System(e)) => {
-                let _ = eprintln!(rt; "tar_make: {name}: {e}");
-                whole = false;
-            }
+            Err(e) => Err(FileFault::File(Reason::System(e))),
         }
     }
-    archive.finish()?;
-    Ok(whole)
+
+    fn tell_of(&mut self, name: &str, why: Reason) {
+        let _ = self.messages.tell(format_args!("tar_make: {name}: {why}"));
+    }
+}
+
+// Ends the archive, if the members were tried with this result.
+fn end_all<W: Write + Drop, const S: usize>(
+    archive: &mut Builder<W, S>,
+    tried: Result<bool, Reason>,
+) -> Result<bool, Reason>
+    ensures { EndsAll ⟦<BufWriter<W, S> as Write>⟧ W.Write tried archive.old result archive.new }
+{
+    match tried {
+        Ok(whole) => match archive.finish() {
+            Ok(()) => Ok(whole),
+            Err(e) => Err(Reason::Own(e)),
+        },
+        Err(why) => Err(why),
+    }
+}
+
+// Adds the members with these names, and the end. Returns whether all are what they should be. It stops if standard
+// output fails.
+fn make(rt: &HostRuntime, names: &[String]) -> Result<bool, Reason> {
+    let mut making = Making {
+        files: rt,
+        messages: rt,
+        archive: Builder::<_, BUFFER>::new(stdout(rt)),
+    };
+    let tried = each_file(&mut making, names);
+    end_all(&mut making.archive, tried)
+}
+
+// Returns the arguments after the program's name.
+fn names<R: Env + Alloc<A = Global>>(rt: &R) -> io::Result<Vec<String>> {
+    named(rt.alloc(), env::args(rt)?)
 }
 
 // Answers the first argument, if it asks for the help or the version.
-fn told(rt: &HostRuntime) -> Option<ExitCode> {
-    let mut words = env::args(rt).ok()?;
-    let _program = words.next();
-    about(rt, "tar_make", HELP, words.next()?.as_str())
+fn told<R: Print + Eprint>(rt: &R, names: &[String]) -> Option<ExitCode> {
+    about(rt, "tar_make", HELP, names.first()?.as_str())
+}
+
+// Returns the status of a run. If standard output failed, it tells why.
+fn status<R: SystemMessages>(rt: &R, made: Result<bool, Reason>) -> ExitCode
+    ensures done { made ≡ Ok true → exit_status result ≡ 0 }
+    ensures failed { made ≢ Ok true → exit_status result ≡ 1 }
+    ensures told { IfErr made (λ why. TellsLine R.may_tell rt.now (error_line (codes "tar_make") (reason_text why))) }
+{
+    match made {
+        Ok(true) => ExitCode::SUCCESS,
+        Ok(false) => ExitCode::FAILURE,
+        Err(why) => {
+            let failed: Result<(), Reason> = Err(why);
+            report(rt, "tar_make", failed)
+        }
+    }
 }
 
 fn main(rt: HostRuntime) -> ExitCode {
-    if let Some(status) = told(&rt) {
-        return status;
-    }
-    let names = match env::args(&rt) {
-        Ok(names) => names,
-        Err(e) => return report(&rt, "tar_make", Err(e)),
-    };
-    let mut archive = Archive::new(stdout(&rt));
-    match add_all(&rt, &mut archive, names) {
-        Ok(true) => ExitCode::SUCCESS,
-        Ok(false) => ExitCode::FAILURE,
+    match names(&rt) {
+        Ok(names) => match told(&rt, names.as_slice()) {
+            Some(told) => told,
+            None => status(&rt, make(&rt, names.as_slice())),
+        },
         Err(e) => report(&rt, "tar_make", Err(e)),
     }
 }
