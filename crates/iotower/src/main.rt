@@ -5,17 +5,24 @@
 //! if the arguments are no command.
 #![tactic(auto)]
 
-ghost use Rattle.std.specs.Prelude.{◌≡◌, length, IfSome, IfNone};
-ghost use Rattle.iotower.specs.declared.Command.{Command as Asked};
-ghost use Rattle.iotower.specs.Words.{verb_of, mode_of, AreWords};
+ghost use Rattle.std.specs.Prelude.{◌≡◌, length, codes, Some, IfSome, IfNone};
+ghost use Rattle.std.specs.Process.{exit_status};
 ghost use Rattle.std.specs.Vec.Iter.{into_iter_items};
+ghost use Rattle.no_std_io2.specs.BufReader.{BufReaderFits};
+ghost use Rattle.no_std_io2.specs.BufWriter.{BufWriterFits};
+ghost use Rattle.no_std_io2.specs.LineWriter.{LineWriterFits};
+ghost use Rattle.system_streams.specs.About.{TellsLine, error_line};
+ghost use Rattle.tower_play.specs.PlayErrors.{fault_display};
+ghost use Rattle.iotower.specs.declared.Command.{Command as Asked};
+ghost use Rattle.iotower.specs.Words.{verb_of, mode_of, AreWords, NamesCommand, AsksOf};
+ghost use Rattle.iotower.specs.Ending.{Does, Answers};
 
-use no_std_io2::io::{Error, ErrorKind};
+use io_bench::Faulty;
+use no_std_io2::io::{Read, Write};
 use std::alloc::Global;
 use std::process::ExitCode;
-use std::rt::Env;
 use std::{env, io};
-use system_streams::{copy_through, report, stdin, stdout};
+use system_streams::{SystemMessages, arguments, copy_through, report, stdin, stdout, usage};
 use tower_play::{PlayError, Shape, play};
 
 const USAGE: &str = "usage: iotower copy buf|line, iotower play buf|line|buf-buf|line-buf";
@@ -41,21 +48,6 @@ fn two_words(mut words: env::Args) -> Option<(String, String)>
     Some((verb, mode))
 }
 
-// Returns the command, or `None` if the arguments are no command or not UTF-8.
-fn parse_words<R: Env + Alloc<A = Global>>(rt: &R) -> Result<Option<Command>, PlayError> {
-    let words = match env::args(rt) {
-        Ok(words) => words,
-        Err(e) if e.kind() == io::ErrorKind::OutOfMemory => {
-            return Err(PlayError::Io(Error::from(ErrorKind::OutOfMemory)));
-        }
-        Err(_) => return Ok(None),
-    };
-    let Some((verb, mode)) = two_words(words) else {
-        return Ok(None);
-    };
-    Ok(command_of(verb.as_str(), mode.as_str()))
-}
-
 fn command_of(verb: &str, mode: &str) -> Option<Command>
     ensures some { IfSome result (λ command. (verb.now ≡ verb_of command) × (mode.now ≡ mode_of command)) }
     ensures none { IfNone result ((command : Asked) → verb.now ≡ verb_of command → mode.now ≡ mode_of command → ⊥) }
@@ -71,27 +63,82 @@ fn command_of(verb: &str, mode: &str) -> Option<Command>
     }
 }
 
-fn run(rt: &HostRuntime, command: Command) -> Result<(), PlayError> {
-    let input = stdin(rt);
-    let output = stdout(rt);
-    match command {
-        Command::Copy { line } => {
-            copy_through(input, output, line)?;
-        }
-        Command::Play(shape) => {
-            play(rt.alloc(), input, output, shape)?;
-        }
+// Returns the command that the arguments name.
+fn named_command(words: env::Args) -> Option<Command>
+    ensures some { IfSome result (λ command. NamesCommand command (into_iter_items words)) }
+    ensures none { IfNone result ((command : Asked) → NamesCommand command (into_iter_items words) → ⊥) }
+{
+    match two_words(words) {
+        Some((verb, mode)) => command_of(verb.as_str(), mode.as_str()),
+        None => None,
     }
-    Ok(())
+}
+
+// Returns the command, or `None` if the arguments are no command or not UTF-8. If memory for them was refused, that is
+// a fault.
+fn asked(found: io::Result<env::Args>) -> Result<Option<Command>, PlayError>
+    ensures { AsksOf into_iter_items found result }
+{
+    match arguments(found) {
+        Ok(Some(words)) => Ok(named_command(words)),
+        Ok(None) => Ok(None),
+        Err(refused) => Err(PlayError::Io(refused)),
+    }
+}
+
+// Does what a command says, from this input to this output, and returns the output.
+fn run<R: Read + Drop, W: Write + Drop>(
+    alloc: Global,
+    command: Command,
+    input: R,
+    output: W,
+) -> Result<W, PlayError>
+    requires reader_fits { BufReaderFits R.row 64 }
+    requires buffer_fits { BufWriterFits W.row 64 }
+    requires lines_fit { LineWriterFits W.row 64 }
+    ensures { Does ⟦<Faulty<Vec<u8>> as Write>⟧ R.Read W.Write command input output result }
+{
+    match command {
+        Command::Copy { line } => match copy_through(input, output, line) {
+            Ok((_count, output)) => Ok(output),
+            Err(fault) => Err(PlayError::Io(fault)),
+        },
+        Command::Play(shape) => play(alloc, input, output, shape),
+    }
+}
+
+// Tells a fault, and returns the status after it.
+fn failed<R: SystemMessages>(rt: &R, fault: PlayError) -> ExitCode
+    ensures status { exit_status result ≡ 1 }
+    ensures told { TellsLine R.may_tell rt.now (error_line (codes "iotower") (Some (fault_display fault))) }
+{
+    let ran: Result<(), PlayError> = Err(fault);
+    report(rt, "iotower", ran)
+}
+
+// Does what the arguments ask for, from this input to this output, and returns the status.
+fn answer<S: SystemMessages, R: Read + Drop, W: Write + Drop>(
+    rt: &S,
+    alloc: Global,
+    found: io::Result<env::Args>,
+    input: R,
+    output: W,
+) -> ExitCode
+    requires reader_fits { BufReaderFits R.row 64 }
+    requires buffer_fits { BufWriterFits W.row 64 }
+    requires lines_fit { LineWriterFits W.row 64 }
+    ensures { Answers S.may_tell rt.now ⟦<Faulty<Vec<u8>> as Write>⟧ R.Read W.Write into_iter_items found input output result }
+{
+    match asked(found) {
+        Ok(Some(command)) => match run(alloc, command, input, output) {
+            Ok(_output) => ExitCode::SUCCESS,
+            Err(fault) => failed(rt, fault),
+        },
+        Ok(None) => usage(rt, USAGE),
+        Err(fault) => failed(rt, fault),
+    }
 }
 
 fn main(rt: HostRuntime) -> ExitCode {
-    match parse_words(&rt) {
-        Ok(Some(command)) => report(&rt, "iotower", run(&rt, command)),
-        Ok(None) => {
-            let _ = eprintln!(rt; "{USAGE}");
-            ExitCode::from(2)
-        }
-        Err(fault) => report(&rt, "iotower", Err(fault)),
-    }
+    answer(&rt, rt.alloc(), env::args(&rt), stdin(&rt), stdout(&rt))
 }

@@ -70,7 +70,7 @@ pub fn named(alloc: Global, mut words: env::Args) -> io::Result<Vec<String>>
 /// program's name; if that fails, nothing more is done. Rust's std has no such call.
 ///
 /// ```rust
-/// Ok(Some(command)) => report(&rt, "iotower", run(&rt, command)),
+/// Ok(Some(Command::Print)) => report(&rt, "frame_lines", run(&rt)),
 /// ```
 pub fn report<R: SystemMessages, E: Display + Drop>(
     rt: &R,
