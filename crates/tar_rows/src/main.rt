@@ -1,10 +1,12 @@
 //! Makes the archive of `members.rows` over devices that fail, and compares it with the archive that GNU tar made of the
 //! same members, `gnu.tar`. A row has a kind, a mode in octal digits, a time, a size, a name, and the target of a link.
 //! The bytes of a file are `x`.
+//!
+//! It also makes archives of files that fail once in the middle and then give bytes again.
 #![tactic(auto)]
 
-use io_bench::{Act, Faulty, Tally};
-use no_std_io2::io::{ErrorKind, repeat};
+use io_bench::{Act, Event, Faulty, Feed, Tally};
+use no_std_io2::io::{CopyError, ErrorKind, repeat};
 use std::alloc::Global;
 use std::process::ExitCode;
 use std::{fs, io};
@@ -12,6 +14,9 @@ use tar_writer::{Builder, Header, Metadata};
 
 // The archive over a device that fails.
 type Archive = Builder<Faulty<Vec<u8>>, 1536>;
+
+// The size of a file that fails.
+const SIZE: usize = 1000;
 
 // The number of devices, each with other acts, and the most tries of a call.
 const DEVICES: usize = 40;
@@ -95,6 +100,78 @@ fn make(archive: &mut Archive, rows: &str) -> Option<(usize, u64)> {
     Some((failed.wrapping_add(put_end(archive)?), reads))
 }
 
+// Returns a file that gives `len` bytes `a`, then fails once, and then gives as many bytes `b` as the file has.
+fn failing_file(alloc: Global, len: usize) -> io::Result<Feed> {
+    let mut events = Vec::new(alloc);
+    'given: for _ in 0..len {
+        events.push(Event::Byte(b'a'))?;
+    }
+    events.push(Event::Fail(ErrorKind::PermissionDenied))?;
+    'behind: for _ in 0..SIZE {
+        events.push(Event::Byte(b'b'))?;
+    }
+    Ok(Feed::new(events, 100))
+}
+
+// Appends such a file, on a device that does these acts. Returns the result, and the archive after its end.
+fn fill_up(
+    alloc: Global,
+    len: usize,
+    acts: Vec<Act>,
+) -> io::Result<(Result<(), CopyError>, Archive)> {
+    let mut body = failing_file(alloc, len)?;
+    let mut archive = Archive::new(Faulty::new(Vec::new(alloc), acts));
+    let metadata = Metadata {
+        mode: 0o644,
+        mtime: 0,
+    };
+    if let Ok(header) = Header::file(b"f", SIZE as u64, metadata) {
+        let _ = archive.append_header(&header);
+    }
+    let filled = archive.append_filled(&mut body);
+    let _ = archive.finish();
+    Ok((filled, archive))
+}
+
+// Returns whether an archive has `len` bytes `a` behind its first header, then zeros, and the length of one such file.
+fn is_filled(archive: &[u8], len: usize) -> bool {
+    let mut is = archive.len() == 512 + 1024 + 1024;
+    'bytes: for (at, byte) in archive.iter().enumerate() {
+        if at >= 512 {
+            let wanted = if at - 512 < len { b'a' } else { 0 };
+            is = is && *byte == wanted;
+        }
+    }
+    is
+}
+
+// Prints how many archives of files that fail are filled with zeros, and how often the error is the file's and not the
+// device's; and that of one whose device fails.
+fn play_failing(rt: &HostRuntime) -> io::Result<()> {
+    let alloc = rt.alloc();
+    let mut filled = 0u32;
+    let mut told = 0u32;
+    'lengths: for len in [0, 1, 511, 512, 513, 999] {
+        let (reply, archive) = fill_up(alloc, len, Vec::new(alloc))?;
+        if is_filled(archive.get_ref().get_ref().as_slice(), len) {
+            filled = filled.wrapping_add(1);
+        }
+        if matches!(reply, Err(CopyError::Read(e)) if e.kind() == ErrorKind::PermissionDenied) {
+            told = told.wrapping_add(1);
+        }
+    }
+    println!(rt; "{filled} archives of files that fail are filled with zeros")?;
+    println!(rt; "{told} errors are those of the files")?;
+    let (reply, archive) = fill_up(
+        alloc,
+        600,
+        vec![in alloc; Act::Fail(ErrorKind::WouldBlock)]?,
+    )?;
+    let left = archive.body_left();
+    let is_device = matches!(reply, Err(CopyError::Write(_)));
+    println!(rt; "a device that fails is told: {is_device}, and {left} bytes are to come")
+}
+
 // Makes the archive on each device, and prints how many are the wanted one.
 fn play(rt: &HostRuntime) -> io::Result<()> {
     let rows = fs::read_to_string(rt, "members.rows")?;
@@ -117,7 +194,8 @@ fn play(rt: &HostRuntime) -> io::Result<()> {
     }
     println!(rt; "{same} archives are that of GNU tar")?;
     println!(rt; "{faulty} of them after more than 20 faults")?;
-    println!(rt; "at most {most} reads of the bodies of one")
+    println!(rt; "at most {most} reads of the bodies of one")?;
+    play_failing(rt)
 }
 
 fn main(rt: HostRuntime) -> ExitCode {
