@@ -88,6 +88,17 @@ pub fn by_queue(alloc: Global, text: &[u8], len: usize) -> Outcome {
         .and(Outcome::of(&to.write(front(text, len))))
 }
 
+/// Writes `len` bytes to a new vector, one in each call.
+pub fn by_writes(alloc: Global, text: &[u8], len: usize) -> Outcome {
+    let mut to = Vec::new(alloc);
+    'bytes: for byte in front(text, len) {
+        if let Err(e) = to.write_all(&[*byte]) {
+            return Outcome::of_error(&e);
+        }
+    }
+    Outcome::Whole.if_right(to.as_slice() == front(text, len))
+}
+
 /// Reads a message of `len` bytes.
 pub fn by_read_message(alloc: Global, text: &[u8], len: usize) -> Outcome {
     let Ok(count) = u16::try_from(len) else {

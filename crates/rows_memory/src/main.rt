@@ -25,6 +25,7 @@ fn play_long(alloc: Global, text: &[u8], word: &str, len: usize) -> Outcome {
     match word {
         "gap" => large::by_gap(alloc, len),
         "queue" => large::by_queue(alloc, text, len),
+        "writes" => large::by_writes(alloc, text, len),
         "read_to_end" => large::by_known(alloc, text, len),
         "read_to_end_unknown" => large::by_unknown(alloc, text, len),
         "read_to_string" => large::by_read_to_string(alloc, text, len),

@@ -2,9 +2,9 @@
 //
 // A row of an encoder is a call; then its result, the text out and the calls that reached the device; `drop` ends the
 // encoder. A row of a writer of numbers is `TYPE NUMBER`, with the same columns. A row of a reader of numbers is a type;
-// then the number and the calls.
+// then the number and the calls. A row of base64 is `encoded BYTES` or `decoded TEXT`, and what that returned.
 use base64::engine::general_purpose::STANDARD;
-use base64_stream::EncoderWriter;
+use base64_stream::{EncoderWriter, decoded, encoded};
 use no_std_io2::io::Result as IoResult;
 use numbers::{BigEndian, LittleEndian, ReadBytesExt, WriteBytesExt};
 use rows_play::calls::{Call, make_call, new_journal, show_calls, show_out};
@@ -43,6 +43,23 @@ impl Stream for Encoding {
         }
         show_out(&self.journal, line);
         show_calls(&self.journal, line);
+    }
+}
+
+// The calls over a whole text.
+#[derive(Drop)]
+struct Texts;
+
+impl Stream for Texts {
+    fn play(&mut self, alloc: Global, call: &Call<'_>, line: &mut Line) {
+        let made = match call.word {
+            "encoded" => encoded(alloc, &call.bytes),
+            _ => decoded(alloc, &call.bytes),
+        };
+        match made {
+            Ok(bytes) => line.bytes(&bytes),
+            Err(e) => line.error(&e),
+        }
     }
 }
 
@@ -169,6 +186,7 @@ pub fn lend(name: &str, words: &str, player: &mut Player<'_, '_>) -> Made<()> {
             let writer = Some(EncoderWriter::new(device, STANDARD));
             player.play(&mut Encoding { writer, journal })
         }
+        "base64" => player.play(&mut Texts),
         "WriteBytesExt" => player.play(&mut Writing { device, journal }),
         "ReadBytesExt" => player.play(&mut Reading { device, journal }),
         _ => Err(Fault::NoStream),

@@ -3,8 +3,10 @@
 // A row of a sender is a call; then its result, for a log whether it is behind, the bytes out and the calls that
 // reached the device; `drop` and `into_inner` end the sender. A row of a reader is a call; then its result and
 // the calls.
+use crate::readings::values_of;
 use framing::{FrameReader, FrameWriter};
 use line_log::LineLog;
+use log_sink::log_each;
 use no_std_io2::io::Result as IoResult;
 use rows_play::calls::{Call, new_journal, show_calls, show_out};
 use rows_play::fault::{Fault, Made};
@@ -139,9 +141,14 @@ fn log(to: &mut LineLog<Recorder, 12>, call: &Call<'_>, line: &mut Line) {
     }
 }
 
-fn log_by(to: &mut LineLog<Recorder, 12>, call: &Call<'_>, line: &mut Line) {
+// Makes the call of a row. `log_each` logs readings, and shows how many were lost twice.
+fn log_by(alloc: Global, to: &mut LineLog<Recorder, 12>, call: &Call<'_>, line: &mut Line) {
     match call.word {
         "log" | "log_text" | "log_broken" => log(to, call, line),
+        "log_each" => {
+            let values = values_of(alloc, call.rest, line);
+            line.number(log_each(to, "", &values) as u64);
+        }
         "flush" => line.done(&to.flush()),
         _ => line.tell(Fault::NoCall),
     }
@@ -164,7 +171,7 @@ fn unwrap_log(log: LineLog<Recorder, 12>, journal: &RefCell<Journal>, line: &mut
 }
 
 impl Stream for Logging {
-    fn play(&mut self, _alloc: Global, call: &Call<'_>, line: &mut Line) {
+    fn play(&mut self, alloc: Global, call: &Call<'_>, line: &mut Line) {
         match (call.word, self.log.take()) {
             ("drop", Some(log)) => {
                 drop(log);
@@ -173,7 +180,7 @@ impl Stream for Logging {
             }
             ("into_inner", Some(log)) => unwrap_log(log, &self.journal, line),
             (_, Some(mut log)) => {
-                log_by(&mut log, call, line);
+                log_by(alloc, &mut log, call, line);
                 show_sent(&self.journal, line);
                 self.log = Some(log);
             }

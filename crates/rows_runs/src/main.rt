@@ -1,6 +1,6 @@
 //! Plays the rows of what no clause says of the clients: the calls of a `Patient`, of `copy` and of `copy_through`, what
-//! a drop sends, printed readings, runs of base64 and of numbers, records that become lines of a log, and two runs of
-//! frames, of lines of a log and of `joined`.
+//! a drop sends, printed readings, a checksum, runs of base64 and of numbers, records that become lines of a log, and two
+//! runs of frames, of lines of a log and of `joined`.
 #![tactic(auto)]
 
 mod copies;
@@ -11,6 +11,7 @@ mod joined;
 mod patience;
 mod readings;
 mod records;
+mod sums;
 
 use rows_play::fault::Made;
 use rows_play::files::play_files;
@@ -30,7 +31,8 @@ impl Streams for RunTables {
             "copy" => copies::lend_plain(words, player),
             "DecoderReader" => decoding::lend(words, player),
             "LineSink" => records::lend(words, player),
-            "EncoderWriter" | "WriteBytesExt" | "ReadBytesExt" => {
+            "checksum_of" => sums::lend(words, player),
+            "EncoderWriter" | "base64" | "WriteBytesExt" | "ReadBytesExt" => {
                 encoding::lend(name, words, player)
             }
             _ => frames::lend(name, words, player),

@@ -22,7 +22,7 @@ struct Readings {
 }
 
 // Returns the values of a row. A word that is no number makes the row unplayable.
-fn values_of(alloc: Global, words: &str, line: &mut Line) -> Vec<u32> {
+pub fn values_of(alloc: Global, words: &str, line: &mut Line) -> Vec<u32> {
     let mut values = Vec::new(alloc);
     'words: for word in words.split(" ") {
         match word.parse::<u32>() {

@@ -2,10 +2,12 @@
 //
 // A row is a record, `LEVEL TEXT`, or a call; then the error that was taken, or whether the unwrapped log is behind, how
 // many records are lost, the bytes out and the calls that reached the device. `pairs TEXT` and `span TEXT` have a pair and
-// a span too. The value of `broken` fails as it is printed, and that of `nested` logs a record meanwhile.
+// a span too. The value of `broken` fails as it is printed, and that of `nested` logs a record meanwhile. `log_readings`
+// shows how many of its readings were lost twice.
+use crate::readings::values_of;
 use line_log::LineLog;
 use log::{Level, Log, info};
-use log_sink::LineSink;
+use log_sink::{LineSink, log_readings};
 use rows_play::calls::{Call, new_journal, show_calls, show_out};
 use rows_play::fault::{Fault, Made};
 use rows_play::journal::Journal;
@@ -68,17 +70,26 @@ fn show_error(sink: &Sink, line: &mut Line) {
     }
 }
 
+// Logs the record of a row, or flushes.
 fn make_call(sink: &Sink, call: &Call<'_>, line: &mut Line) {
-    if call.word == "take_error" {
-        show_error(sink, line);
-        return;
-    }
     match std::str::from_utf8(&call.bytes) {
         Ok(_) if call.word == "flush" => sink.flush(),
         Ok(text) => log_record(sink, call, text, line),
         Err(_) => line.tell(Fault::NoWord),
     }
     line.word("-");
+}
+
+// Makes the call of a row that keeps the sink, and prints its result.
+fn call_sink(alloc: Global, sink: &Sink, call: &Call<'_>, line: &mut Line) {
+    match call.word {
+        "take_error" => show_error(sink, line),
+        "log_readings" => {
+            let values = values_of(alloc, call.rest, line);
+            line.number(log_readings(sink, "io", &values) as u64);
+        }
+        _ => make_call(sink, call, line),
+    }
 }
 
 // A sink until it is dropped or unwrapped, and the journal of its device.
@@ -99,7 +110,7 @@ impl Recording {
 }
 
 impl Stream for Recording {
-    fn play(&mut self, _alloc: Global, call: &Call<'_>, line: &mut Line) {
+    fn play(&mut self, alloc: Global, call: &Call<'_>, line: &mut Line) {
         let Some(sink) = self.sink.take() else {
             line.tell(Fault::NotReady);
             return;
@@ -118,7 +129,7 @@ impl Stream for Recording {
                 self.show(lost, line);
             }
             _ => {
-                make_call(&sink, call, line);
+                call_sink(alloc, &sink, call, line);
                 self.show(sink.lost(), line);
                 self.sink = Some(sink);
             }
