@@ -3,9 +3,12 @@ use Rattle.no_std_io2.proofs.Words.{◌≡◌, ℕ, ◌+◌, ◌<◌, ◌^◌, B
 use Rattle.no_std_io2.proofs.Words.{sym, ap, subst, arith, length-drop, byte, events_of, ReaderState, Takes, AreTaken, ◌-◌, ◌*◌, Option}
 use Rattle.no_std_io2.proofs.Words.{Some, Result, Ok, Err, IsSomeAnd, OnOk, ⊤, negsuc, ◌∙◌, Store, step_back, store_if, store_before}
 use Rattle.no_std_io2.proofs.{Words.{Reader}, CursorLemmas.{fits_at, keeps_at}, BufferedReads.{before_decides, IsBefore}}
-use Rattle.std.proofs.{Common.{set, slice_index, add-one, IfSome}, Math.Seq.{drop-cons}}
+use Rattle.std.proofs.{Common.{set, slice_index, add-one, IfOk, IfSome}, Math.Seq.{drop-cons}}
 use Rattle.no_std_io2.specs.{inner.Takes.{events_by, store_by, fits_u64, fits_by}, Takes.{store_at}, declared.io.Error.{Error}}
 use Rattle.no_std_io2.specs.{declared.io.SeekFrom.TheVariants.{Start, End}, inner.Buffer.{is_before}, inner.Reads.{ReadsAt}, Seek.{Seeker}}
+use Rattle.no_std_io2.specs.declared.io.SeekFrom.{SeekFrom}
+use Rattle.byteorder.specs.Endian.{little_number}
+use Rattle.numbers.specs.Numbers.{ReadsValue, outcome}
 use Rattle.examples.specs.Indexed.{u32_at, IsNumberAt, ReadsNumber, ReadsEntry, no_place, entry_place}
 
 -- What a read of a file in flash takes.
@@ -42,6 +45,19 @@ flash_takes content buf place b within small some is =
     by true false fits fits' still = absurd (true≢false (sym (still refl)))
 
 -- An entry of a file with an index, found by two numbers of it.
+
+-- a number that was read after a seek is the one at its target
+pub number_there : {X : Type 0} {R : Reader X} {mid new : X} (at : SeekFrom) (before after : Option Store) (reply : Result ℕ Error)
+    (read : ReadsValue R (little_number 4) 4 mid reply new)
+    → IfSome before (λ s. IsSomeAnd after (λ t. (t.content ≡ s.content) × OnOk (outcome reply) (ReadsAt s at read.buf t.position)))
+    → IfSome before (λ s. IsSomeAnd after (λ t. (t.content ≡ s.content) × IfOk reply (IsNumberAt s at)))
+number_there at None after reply read there = tt
+number_there at (Some s) None reply read there = absurd there
+number_there at (Some s) (Some t) (Err e) read there = (there.0, tt)
+number_there at (Some s) (Some t) (Ok n) read there =
+    let found = there.1 in
+    let four = ap (λ m. take m (drop found.place s.content)) read.long in
+    (there.0, (found.place, found.target, read.spells ∙ ap (little_number 4) (found.there ∙ four)))
 
 -- the place of the index, the place of the entry, and the entry itself were read, one after another
 pub entry_read : (a b c d : Option Store) (i index slot place found_at : ℕ) (old entry : List ℕ) (reply : Result (Unit {0}) Error)

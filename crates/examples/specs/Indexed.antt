@@ -1,6 +1,7 @@
 -- The numbers in a file with an index.
-use Rattle.std.specs.Prelude.{◌≡◌, ℕ, ◌+◌, ◌-◌, ◌*◌, negsuc, List, length, take, drop, replicate, Result, Ok, Err}
-use Rattle.std.specs.Int.{w32, from_le_bytes}
+use Rattle.std.specs.Prelude.{◌≡◌, ◌⊎◌, ℕ, ◌+◌, ◌-◌, ◌*◌, negsuc, List, length, take, drop, Result, Ok, Err}
+use Rattle.byteorder.specs.Endian.{little_number}
+use Rattle.numbers.specs.Numbers.{ReadsValue}
 use Rattle.std.specs.Prelude.{IfSome}
 use Rattle.std.specs.declared.io.Error as Std
 use Rattle.std.specs.declared.io.ErrorKind.TheVariants as std
@@ -11,14 +12,14 @@ use Rattle.system_streams.specs.Patient.{patient_error}
 use Rattle.system_streams.specs.ToStd.{std_kind}
 use Rattle.system_streams.specs.Turns.{IsDeviceFault}
 use Rattle.no_std_io2.specs.{Takes.{Reader}, Reads.{ReadAtLaw}, Events.{Store}}
-use Rattle.no_std_io2.specs.Seek.{IsTarget, Seeker}
+use Rattle.no_std_io2.specs.Seek.{IsTarget, Seeker, SeekLaw}
 use Rattle.no_std_io2.specs.declared.io.Error.{Error}
 use Rattle.no_std_io2.specs.declared.io.SeekFrom.{SeekFrom}
 use Rattle.no_std_io2.specs.declared.io.SeekFrom.TheVariants.{Start, End}
 
 -- the number at a place
 abbrev pub u32_at : ℕ → List ℕ → ℕ
-u32_at p content = from_le_bytes w32 (take 4 (drop p content))
+u32_at p content = little_number 4 (take 4 (drop p content))
 
 -- n is the number at the target of this seek
 abbrev pub IsNumberAt : Store → SeekFrom → ℕ → Type 0
@@ -28,10 +29,10 @@ IsNumberAt s at n = (p : ℕ) × IsTarget (length s.content) s.position at p × 
 abbrev pub entry_place : ℕ → List ℕ → ℕ
 entry_place i content = u32_at (u32_at (length content - 4) content + 4 * i) content
 
--- four bytes were read at a place, and the result is their number
+-- a seek failed, and its error is the result; or it succeeded, and a number of four bytes was read after it
 abbrev pub ReadsNumber : {X : Type 0} → Seeker X → Reader X → X → SeekFrom → Result ℕ Error → X → Type 0
-ReadsNumber S R old at (Ok n) new = (bs : List ℕ) × ReadAtLaw S R old at (replicate 4 0) (Ok tt) bs new × (n ≡ from_le_bytes w32 bs)
-ReadsNumber S R old at (Err e) new = (bs : List ℕ) × ReadAtLaw S R old at (replicate 4 0) (Err e) bs new
+ReadsNumber {X} S R old at reply new = ((e : Error) × (reply ≡ Err e) × SeekLaw S old at (Err e) new)
+    ⊎ ((mid : X) × (place : ℕ) × SeekLaw S old at (Ok place) mid × ReadsValue R (little_number 4) 4 mid reply new)
 
 -- The place of the index was read, then the place of entry i, then the entry. The first error ended it.
 pub data ReadsEntry {X : Type 0} (S : Seeker X) (R : Reader X) (i : ℕ) (old : X) (entry : List ℕ)

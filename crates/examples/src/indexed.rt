@@ -8,6 +8,7 @@ ghost use Rattle.examples.specs.Indexed.{TellsReason};
 ghost use Rattle.system_streams.specs.declared.patient.Patient.{Patient};
 
 use no_std_io2::io::{BufReader, Cursor, Read, Result, Seek, SeekFrom, read_exact_at};
+use numbers::{LittleEndian, ReadBytesExt};
 use std::io;
 use std::rt::Files;
 use system_streams::{Patient, SystemRead, SystemSeek, open};
@@ -18,15 +19,14 @@ fn read_u32_at<R: Read + Seek>(r: &mut R, at: SeekFrom) -> Result<u32>
         × IfOk result (IsNumberAt s at))) }
     ensures reads { ReadsNumber R.Seek R.Read r.old at result r.new }
 {
-    let mut bytes = [0u8; 4];
-    read_exact_at(r, at, &mut bytes)?;
-    Ok(u32::from_le_bytes(bytes))
+    r.seek(at)?;
+    r.read_u32::<LittleEndian>()
 }
 
 /// Fills `entry` with the first bytes of entry number `i` of a file, which is any `Read + Seek`.
 ///
 /// # Errors
-/// Returns the error of a `seek` or `read_exact` that fails. The position may have moved then, and `entry` have some of
+/// Returns the error of a `seek`, `read_u32` or `read_exact` that fails. The position may have moved then, and `entry` have some of
 /// the bytes.
 pub fn read_entry<R: Read + Seek>(r: &mut R, i: u32, entry: &mut [u8]) -> Result<()>
     ensures store { IfSome (R.store r.old) (λ s. IsSomeAnd (R.store r.new) (λ t. (t.content ≡ s.content)
