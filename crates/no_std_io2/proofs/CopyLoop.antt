@@ -1,5 +1,5 @@
 -- The loop of a copy, and what follows from its law.
-use Rattle.no_std_io2.proofs.Words.{common_steps, ◌≡◌, ℕ, ◌+◌, ◌-◌, ◌^◌, ◌<◌, ◌≤◌, min, List, [], ◌∷◌, ◌++◌, Result, Ok, Err, true, length}
+use Rattle.no_std_io2.proofs.Words.{common_steps, ◌≡◌, ℕ, ◌+◌, ◌-◌, ◌^◌, ◌<◌, min, List, [], ◌∷◌, ◌++◌, Result, Ok, Err, true, length}
 use Rattle.no_std_io2.proofs.Words.{take, refl, sym, ap, subst, ◌∙◌, arith, append_assoc, append-nil, length-append, length-take-le, concat}
 use Rattle.no_std_io2.proofs.Words.{IsInterruption, IsFault, bytes, ReaderState, Bool, Reader, Gave, ReadLaw, GaveLaw, ReadCallLaw, tells}
 use Rattle.no_std_io2.proofs.Words.{no_read, and_gave, and_again, WriteCall, Made, Moves, Writer, CallOf, TakesAll, Option, None}
