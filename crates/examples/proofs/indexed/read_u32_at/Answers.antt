@@ -1,5 +1,5 @@
 -- The prover does not find that the number is the one at the target of the seek (`number_there`), nor which calls were made.
-use Rattle.no_std_io2.proofs.Words.{refl, inl, inr, returned_err, rules}
+use Rattle.no_std_io2.proofs.Words.{refl, inl, inr, returned_err}
 use Rattle.no_std_io2.proofs.KnownBytes.{stands_there}
 use Rattle.numbers.specs.Numbers.{outcome}
 use Rattle.examples.proofs.EntryLemmas.{number_there}
