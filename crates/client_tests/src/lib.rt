@@ -13,6 +13,8 @@ mod limits;
 #[cfg(test)]
 mod ports;
 #[cfg(test)]
+mod programs;
+#[cfg(test)]
 mod tables;
 #[cfg(test)]
 mod whole;
