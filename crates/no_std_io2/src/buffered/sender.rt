@@ -1,7 +1,8 @@
 //! An inner writer with a buffer in front of it, from which both buffered writers are built.
 //!
 //! A write that is held is a hot path, which its callers inline. All else is in a cold function, `.._cold`. Through a
-//! small buffer all writes are calls of the cold functions, so that their code is there once.
+//! small buffer all writes are calls of the cold functions, and all sendings calls of `send`, so that their code is
+//! there once.
 ghost use Rattle.std.specs.Prelude.{◌≡◌, ◌+◌, ◌≤◌, [], ◌++◌, length};
 ghost use Rattle.std.specs.Borrow.{Lends, sem};
 ghost use Rattle.no_std_io2.specs.contracts.buffered.sender.Sender.{the_row as sender-row};
@@ -125,6 +126,9 @@ impl<W: Write + Drop, const S: usize> Sender<W, S> {
     {
         if more <= S - self.buffer.len() {
             return Ok(());
+        }
+        if S <= SMALL {
+            return self.send();
         }
         self.send_held()
     }
