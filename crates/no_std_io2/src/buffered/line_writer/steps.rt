@@ -180,12 +180,33 @@ fn send_lines<W: Write + Drop, const S: usize>(w: &mut Sender<W, S>, lines: &[u8
     w.send()
 }
 
-// Writes all of x.
+// Writes all of x. Through a small buffer it is a call: inlined into a `write_str` it takes 64 bytes of stack more.
 #[inline]
 pub(super) fn write_all<W: Write + Drop, const S: usize>(
     w: &mut Sender<W, S>,
     x: &[u8],
 ) -> Result<()>
+    requires { IsLineState (sender_buffer w.old) }
+    ensures { TakesStep W.Write sender_inner sender_buffer (LineWriteAllCalls S x.now) w.old result w.new }
+{
+    if S <= SMALL {
+        return write_all_apart(w, x);
+    }
+    write_all_parts(w, x)
+}
+
+// A call of `write_all_parts`.
+#[inline(never)]
+fn write_all_apart<W: Write + Drop, const S: usize>(w: &mut Sender<W, S>, x: &[u8]) -> Result<()>
+    requires { IsLineState (sender_buffer w.old) }
+    ensures { TakesStep W.Write sender_inner sender_buffer (LineWriteAllCalls S x.now) w.old result w.new }
+{
+    write_all_parts(w, x)
+}
+
+// The whole of `write_all`.
+#[inline(always)]
+fn write_all_parts<W: Write + Drop, const S: usize>(w: &mut Sender<W, S>, x: &[u8]) -> Result<()>
     requires { IsLineState (sender_buffer w.old) }
     ensures { TakesStep W.Write sender_inner sender_buffer (LineWriteAllCalls S x.now) w.old result w.new }
 {

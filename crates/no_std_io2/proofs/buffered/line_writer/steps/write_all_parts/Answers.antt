@@ -5,7 +5,7 @@ use Rattle.no_std_io2.proofs.{BufWriterLemmas.{then_stops, then_goes_on}, BufWri
 use Rattle.no_std_io2.proofs.LineWriterStates.{send_lines_leaves}
 use Rattle.std.proofs.lemmas.List.{take_rest}
 use Rattle.no_std_io2_base.proofs.{CallsLemmas.{by_are}, LineLemmas.{take_lines, drop_lines, contains_lines, lacks_lines}}
-use Rattle.no_std_io2.proofs.buffered.line_writer.steps.write_all.Goals as goal
+use Rattle.no_std_io2.proofs.buffered.line_writer.steps.write_all_parts.Goals as goal
 
 -- no newline: a held line was not sent
 pub returns-in_err-send_line : goal.returns-in_err-send_line
