@@ -1,16 +1,17 @@
 -- What a buffer in front of a writer tells, and how its steps follow one another.
+use Rattle.std.proofs.Common.{take_all, inl, inr}
 use Rattle.no_std_io2.proofs.Words.{common_steps, nil_from_length, ◌≡◌, ℕ, ◌-◌, ◌≤◌, length-take, length-append, Result, Ok, Err, OnOk, []}
 use Rattle.no_std_io2.proofs.Words.{List, ◌++◌, length, drop, sym, ap, subst, ◌∙◌, arith, append_assoc, append-nil, WriterState, Moves}
 use Rattle.no_std_io2.proofs.Words.{MovesFront, with_buffer, writer_inner, writer_buffer, writer_told, line_inner, line_buffer, IsSuffix}
 use Rattle.no_std_io2.proofs.Words.{TakesAll, CallOf, Writer, WriteCall, Made, call_mishap, charges, false, true, ◌+◌, IsOk, Step, Stepped}
 use Rattle.no_std_io2.proofs.Words.{Then, stops, goes_on, nat_tests, FlushCalls, ◌∷◌, refl, LevelCalls}
 use Rattle.no_std_io2_base.specs.{declared.error.ErrorKind.{ErrorKind}, declared.error.Error.{Error}, Errors.{IsNoInterruption}}
-use Rattle.no_std_io2_base.specs.Calls.{ByCalls}
-use Rattle.no_std_io2_base.specs.Write.{CallAdds, RestAdds}
+use Rattle.no_std_io2_base.specs.{Calls.{ByCalls, Wrote, WroteAll}, Write.{CallAdds, RestAdds, taken}, inner.Write.{AllCalls}}
+use Rattle.no_std_io2.specs.inner.BufWriter.{WriteCalls, WriteAllCalls, RoomCalls, PutCalls, SingleCall}
 use Rattle.no_std_io2.specs.declared.buffered.{buf_writer.BufWriter.{BufWriter}, line_writer.LineWriter.{LineWriter}}
 use Rattle.no_std_io2.specs.inner.LineWriter.{line_told}
-use Rattle.no_std_io2_base.proofs.{MovesLemmas.{MovesFront-whole, charges-append, after_ok}, CallsLemmas.{by_are, by_then, made_split}}
-use Rattle.no_std_io2_base.proofs.{CallsLemmas.{law_may}, CallsAdd.{Joins, writes_add}}
+use Rattle.no_std_io2_base.proofs.MovesLemmas.{MovesFront-whole, charges-append, after_ok, IsFront-refl}
+use Rattle.no_std_io2_base.proofs.{CallsLemmas.{by_are, by_then, made_split, law_may}, CallsAdd.{Joins, writes_add, all_adds}}
 
 -- What a buffer in front of a writer tells. For both buffered writers, and for callers with a new buffer in front of a device.
 
@@ -180,6 +181,12 @@ then_does {I} first next {G = G} {k = k} follows one two a b held left _ reply (
 
 -- What each inner call adds to an inner writer's own state, the calls of a buffer in front of it add together.
 
+-- Of the held bytes and of x after them, these were added, and the rest is held.
+pub record AddsThrough {W : Type 0} (Adds : W → List ℕ → W → Type 0) (held left : List ℕ) (a : W) (x : List ℕ) (b : W) : Type 0 where
+  pub sent : List ℕ
+  pub split : held ++ x ≡ sent ++ left
+  pub adds : Adds a sent b
+
 module _ {W : Type 0} {may : W → WriteCall → W → Type 0} {Adds : W → List ℕ → W → Type 0} (joins : Joins Adds) where
   module _ (each : (a b : W) (call : WriteCall) → may a call b → CallAdds Adds a call b) where
     -- those of a `flush`: the bytes that are no longer held were added, after `Ok` all held bytes
@@ -191,6 +198,62 @@ module _ {W : Type 0} {may : W → WriteCall → W → Type 0} {Adds : W → Lis
     pub flush_adds : {held left : List ℕ} {reply : Result (Unit {0}) Error} {a b : W} → ByCalls may a (λ C. FlushCalls held C reply left) b
         → RestAdds Adds a held reply b left
     flush_adds {a = a} {b} calls = flushed_adds calls.are a b calls.made
+
+    -- Room was made: the bytes that are no longer held were added, after an error too.
+    room_adds : (S n : ℕ) {C : List WriteCall} {held left : List ℕ} {reply : Result (Unit {0}) Error} → RoomCalls S n held C reply left
+        → (a b : W) → Made may a C b → AddsThrough Adds held left a [] b
+    room_adds = grind (arith, writes_add, append-nil)
+
+    -- room was made, and then y was taken
+    then_adds : {held mid left y : List ℕ} {a m b : W} → AddsThrough Adds held mid a [] m → AddsThrough Adds mid left m y b
+        → AddsThrough Adds held left a y b
+    then_adds {held} {mid} {left} {y} p q = record {
+      sent = p.sent ++ q.sent;
+      split = ap (λ h. h ++ y) (sym (append-nil held) ∙ p.split) ∙ append_assoc p.sent mid y ∙ ap (λ l. p.sent ++ l) q.split
+          ∙ sym (append_assoc p.sent q.sent left);
+      adds = joins.more _ _ _ p.sent q.sent p.adds q.adds;
+    }
+
+    -- x was held, or passed on by one `write`
+    put_write : (S : ℕ) {C : List WriteCall} {x held left : List ℕ} {reply : Result ℕ Error}
+        → PutCalls S x (length x) (SingleCall (Wrote x)) held C reply left → (a b : W) → Made may a C b
+        → AddsThrough Adds held left a (taken reply x) b
+    put_write = grind (arith, nat_tests, common_steps, take_all, append-nil)
+
+    -- by the calls of one `write_all`
+    put_all : (S : ℕ) {C : List WriteCall} {x held left : List ℕ} {reply : Result (Unit {0}) Error}
+        → PutCalls S x tt (λ C. AllCalls C x) held C reply left → (a b : W) → Made may a C b
+        → CallAdds (AddsThrough Adds held left) a (WroteAll x reply) b
+    put_all S {x = x} {reply = reply} (inl short) a b made =
+        (x, IsFront-refl x, after_ok reply refl, record { sent = []; split = grind (arith); adds = grind (arith) })
+    put_all S {C} {x} {reply = reply} (inr past) a b made =
+        let r = all_adds joins each C x reply a b made past.1.2 in
+        (r.0, r.1, r.2, record { sent = r.0; split = grind (arith, append-nil); adds = r.3 })
+
+    -- room was made for x, and then that
+    written_adds : {S : ℕ} {C : List WriteCall} {x held left : List ℕ} {reply : Result ℕ Error} → WriteCalls S x held C reply left
+        → (a b : W) → Made may a C b → CallAdds (AddsThrough Adds held left) a (Wrote x reply) b
+    written_adds {S} {x = x} (stops room) a b made = room_adds S (length x) room a b made
+    written_adds {S} {x = x} (goes_on {C} {D} room put) a b made =
+        let m = made_split may C a D b made in then_adds (room_adds S (length x) room a m.0 m.1) (put_write S put m.0 b m.2)
+
+    -- The calls of a `write` of x add what is no longer held of the held bytes and of those that the `write` took, after an error too.
+    pub buffered_write_adds : {S : ℕ} {x held left : List ℕ} {reply : Result ℕ Error} {a b : W}
+        → ByCalls may a (λ C. WriteCalls S x held C reply left) b → CallAdds (AddsThrough Adds held left) a (Wrote x reply) b
+    buffered_write_adds {a = a} {b} calls = written_adds calls.are a b calls.made
+
+    -- the same of a `write_all`
+    written_all_adds : {S : ℕ} {C : List WriteCall} {x held left : List ℕ} {reply : Result (Unit {0}) Error}
+        → WriteAllCalls S x held C reply left → (a b : W) → Made may a C b → CallAdds (AddsThrough Adds held left) a (WroteAll x reply) b
+    written_all_adds {S} {x = x} (stops room) a b made = ([], (x, refl), tt, room_adds S (length x) room a b made)
+    written_all_adds {S} {x = x} (goes_on {C} {D} room put) a b made =
+        let m = made_split may C a D b made in
+        let p = put_all S put m.0 b m.2 in (p.0, p.1, p.2, then_adds (room_adds S (length x) room a m.0 m.1) p.3)
+
+    -- The same of a `write_all` of x, which took all of x after `Ok`, and some front of x after an error.
+    pub buffered_all_adds : {S : ℕ} {x held left : List ℕ} {reply : Result (Unit {0}) Error} {a b : W}
+        → ByCalls may a (λ C. WriteAllCalls S x held C reply left) b → CallAdds (AddsThrough Adds held left) a (WroteAll x reply) b
+    buffered_all_adds {a = a} {b} calls = written_all_adds calls.are a b calls.made
 
 -- The calls of a tower are calls of the device below it. For callers over towers.
 
