@@ -2,7 +2,8 @@
 use Rattle.no_std_io2.proofs.Words.{◌^◌, Ok, refl, sum, Reader, ReadCall, Gave, GaveAll, Filled, ReadCallLaw, ◌≡◌, ◌+◌, ◌%◌, ℕ, List, []}
 use Rattle.no_std_io2.proofs.{Words.{◌++◌, true, arith, ReaderState}, CallsAdd.{Joins, joins_modulo, EachAdds}, ReadsLemmas.{Took-none}}
 use Rattle.std.proofs.lemmas.List.Sums.{sum_by-append}
-use Rattle.no_std_io2.specs.{Calls.{GaveExactly}, Reads.{Took}}
+use Rattle.no_std_io2.specs.{Calls.{GaveExactly}, Reads.{Took}, Write.{CallAdds, RestAdds}}
+use Rattle.no_std_io2.proofs.{Words.{◌∙◌, append-nil, ap, sym, Result, WroteAll}, BufWriterLemmas.{AddsThrough}}
 use Rattle.examples.specs.{declared.summed.Summed.{Summed}, Summed.{summed_sum, Sums, ReadSums}}
 
 -- A sum of no bytes is nothing, and a sum of bytes and then others is that of both.
@@ -10,6 +11,21 @@ use Rattle.examples.specs.{declared.summed.Summed.{Summed}, Summed.{summed_sum, 
 -- sums modulo 2^64 join
 pub sums_join : {W : Type 0} → Joins {W = Summed W} Sums
 sums_join = joins_modulo summed_sum sum (2 ^ 64) refl (sum_by-append (λ b. b))
+
+-- All of x was summed up through a buffer, by a `write_all` and a `flush`, if nothing was held before them.
+pub sums_sent : {W : Type 0} (a m b : Summed W) (x held left last : List ℕ) → held ≡ []
+    → CallAdds (AddsThrough Sums held left) a (WroteAll x (Ok tt)) m → RestAdds Sums m left (Ok tt) b last
+    → summed_sum a ≡ 0 → summed_sum b % 2 ^ 64 ≡ sum x % 2 ^ 64
+sums_sent a m b x held left last none (accepted, front, whole, through) (rest, split, empty, adds) zero =
+    let sent_then = split ∙ ap (λ l. rest ++ l) empty ∙ append-nil rest in
+    let all : x ≡ through.sent ++ rest = sym whole ∙ ap (λ h. h ++ accepted) (sym none) ∙ through.split
+    ∙ ap (λ l. through.sent ++ l) sent_then in
+    let joined = sums_join.more a m b through.sent rest through.adds adds in
+    omega (arith, joined, zero, ap sum all)
+
+-- the sum of the stream that a result has
+pub same_sum : {W E : Type 0} {x y : Summed W} → (let r : Result (Summed W) E = Ok x in r ≡ Ok y) → summed_sum x ≡ summed_sum y
+same_sum same = cc
 
 -- each read adds what it gave
 pub reads_sum : {X : Type 0} (R : Reader (Summed X)) → ((a b : Summed X) (call : ReadCall) → R.may a call b → ReadSums a call b)

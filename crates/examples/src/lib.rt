@@ -50,7 +50,7 @@ pub use readings::{send_reading, write_reading, write_readings};
 pub use retries::save_with_retries;
 pub use serial::{Port, Serial};
 pub use settings::find_setting;
-pub use summed::{Summed, flush_summed, write_summed};
+pub use summed::{Summed, flush_summed, save_summed, write_summed};
 pub use tables::{add_lines, add_table, print_table, table_at, table_of};
 pub use uart::{Registers, Uart};
 

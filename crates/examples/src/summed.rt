@@ -1,5 +1,5 @@
 //! [`Summed`], an adaptor with a state of its own. Its promise holds through the trait's loops and through a buffer.
-ghost use Rattle.std.specs.Prelude.{◌≡◌, ℕ, List, ◌++◌, ◌+◌, ◌%◌, ◌^◌, sum, OnOk};
+ghost use Rattle.std.specs.Prelude.{◌≡◌, ℕ, List, ◌++◌, ◌+◌, ◌%◌, ◌^◌, sum, OnOk, IfOk};
 ghost use Rattle.no_std_io2.specs.BufWriter.{writer_inner, writer_buffer};
 ghost use Rattle.no_std_io2.specs.Takes.{tells};
 ghost use Rattle.no_std_io2.specs.Takes.{to_come};
@@ -73,6 +73,27 @@ pub fn flush_summed<W: Write + Drop, const S: usize>(w: &mut BufWriter<Summed<W>
     ensures { RestAdds Sums (writer_inner w.old) (writer_buffer w.old) result (writer_inner w.new) (writer_buffer w.new) }
 {
     w.flush()
+}
+
+/// Appends `text` to `device` through a buffer in front of a checksum. Returns the vector, and the sum of the text
+/// modulo 2^64.
+///
+/// # Errors
+/// Returns `OutOfMemory` if the vector cannot grow.
+pub fn save_summed(device: Vec<u8>, text: &[u8]) -> Result<(Vec<u8>, u64)>
+    ensures saved { IfOk result (λ r. r.0.items ≡ device.items ++ text.now) }
+    ensures summed { IfOk result (λ r. r.1 % 2 ^ 64 ≡ sum text.now % 2 ^ 64) }
+{
+    let mut w = BufWriter::<Summed<Vec<u8>>, 32>::new(Summed::new(device));
+    w.write_all(text)?;
+    w.flush()?;
+    match w.into_inner() {
+        Ok(summed) => {
+            let total = summed.sum;
+            Ok((summed.inner, total))
+        }
+        Err(e) => Err(e.into()),
+    }
 }
 
 impl<R> Stored for Summed<R> {}
