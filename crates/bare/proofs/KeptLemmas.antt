@@ -5,7 +5,8 @@ use Rattle.no_std_io2.proofs.{Words.{Ok, Err, inl, inr, WriterState, Moves, Move
 use Rattle.no_std_io2.proofs.MovesLemmas.{Moves-ends, MovesFront-whole}
 use Rattle.std.proofs.{lemmas.List.{length-take}, Common.{slice_index, IsErrAnd}}
 use Rattle.no_std_io2.specs.{declared.io.Error.{Error}, Writers.{WriteRestOf}, Errors.{IsTextError}}
-use Rattle.bare.specs.{declared.queue.Queue.{Queue}, Queue.{waiting, capacity}, Status.{done, kept}, Kept.{Resumes, resume_status}}
+use Rattle.bare.specs.{declared.queue.Queue.{Queue}, Queue.{waiting, queue_capacity}, Status.{status_done, status_kept}}
+use Rattle.bare.specs.Kept.{Resumes, resume_status}
 use Rattle.bare.specs.{Log.{line}, Report.{texts_from}}
 use Rattle.bare.proofs.QueueLemmas.{queue, blocked}
 
@@ -14,7 +15,8 @@ use Rattle.bare.proofs.QueueLemmas.{queue, blocked}
 -- the status says how it ended
 ends : (r : Result (Unit {0}) Error) {text : List ℕ} {C : List WriteCall} {x left : List ℕ} (a b : Queue) → OnOk r (left ≡ [])
     → Made (CallOf queue) a C b → Writes text C x r left
-    → ((resume_status r ≡ done) × (left ≡ [])) ⊎ ((resume_status r ≡ kept) × (0 < length left) × (length (waiting b) ≡ capacity))
+    → ((resume_status r ≡ status_done) × (left ≡ []))
+    ⊎ ((resume_status r ≡ status_kept) × (0 < length left) × (length (waiting b) ≡ queue_capacity))
 ends r a b whole made calls = grind (arith, common_steps, blocked, writes_left)
 
 -- the bytes that the port took are no longer kept
@@ -42,9 +44,9 @@ resumed_more old mid new before port after more first next = record {
 }
 
 -- a line that fits is put whole
-pub line_put : (before mid after text : List ℕ) (n m : ℕ) → length before + length text < capacity
-    → n ≡ min (length text) (capacity - length before) → mid ≡ before ++ take n text
-    → m ≡ min 1 (capacity - length mid) → after ≡ mid ++ take m (10 ∷ []) → after ≡ before ++ line text
+pub line_put : (before mid after text : List ℕ) (n m : ℕ) → length before + length text < queue_capacity
+    → n ≡ min (length text) (queue_capacity - length before) → mid ≡ before ++ take n text
+    → m ≡ min 1 (queue_capacity - length mid) → after ≡ mid ++ take m (10 ∷ []) → after ≡ before ++ line text
 line_put before mid after text n m fits first text_put second newline_put =
     grind (arith, common_steps, length-append, length-take, append_assoc)
 

@@ -1,10 +1,11 @@
 -- A queue: what waits in it, what does not fit, and what copies and frames put into it.
 use Rattle.no_std_io2.proofs.Words.{◌≡◌, ℕ, ◌-◌, ◌≤◌, List, min, length, take, drop, arith, common_steps, ◌+◌, ◌<◌, [], ◌++◌, Result, Ok}
 use Rattle.no_std_io2.proofs.Words.{Err, sym, ap, subst, true≢false, length-append, inl, inr, refl, ◌∙◌, WriterState, WriteCall, Made}
-use Rattle.no_std_io2.proofs.Words.{Moves, Writes, took, again, stuck, fault, AllCalls, told_out, Writer, CallOf, writer_inner}
+use Rattle.no_std_io2.proofs.Words.{Moves, Writes, write_took, write_again, write_stuck, write_fault, AllCalls, told_out, Writer, CallOf}
+use Rattle.no_std_io2.proofs.Words.{writer_inner}
 use Rattle.no_std_io2.proofs.Words.{writer_buffer, writer_told, BufferMay, InnerCalls, Buffered, FlushCalls, SendCalls, Step, TakesStep}
-use Rattle.no_std_io2.proofs.Words.{stops, goes_on, Some, events_of, bytes, HasNoFault, to_come, Reader, tells, Copied}
-use Rattle.no_std_io2.proofs.{CallsLemmas.{made_split}, CopyLoop.{flushed as out_after, copied_ok, took_told, no_fault_at_end}}
+use Rattle.no_std_io2.proofs.Words.{first_stops, first_goes_on, Some, events_of, event_bytes, HasNoFault, to_come, Reader, tells, Copied}
+use Rattle.no_std_io2.proofs.{CallsLemmas.{made_split}, CopyLoop.{out_after_flush as out_after, copied_ok, took_told, no_fault_at_end}}
 use Rattle.no_std_io2.proofs.{MovesLemmas.{writes_left}, TakesLemmas.{bytes-append, bytes-events_of, HasNoFault-events_of}}
 use Rattle.no_std_io2.proofs.TakesLemmas.{HasNoFault-front, left_of}
 use Rattle.std.specs.{List.{copy_within}, Prelude.{MatchResult, OnOk, OnErr}, Int.{w32, to_le_bytes}}
@@ -12,7 +13,7 @@ use Rattle.std.proofs.lemmas.List.{drop-take, length-drop, take_min, drop_min, E
 use Rattle.no_std_io2.specs.{declared.io.Error.{Error}, declared.io.BufWriter.{BufWriter}, declared.io.ErrorKind.{ErrorKind}}
 use Rattle.no_std_io2.specs.{Writers.{FlushOf}, inner.Copy.{Handed, handed_piece}}
 use Rattle.no_std_io2.specs.declared.util.sides.CopyError.TheVariants.{Read, Write}
-use Rattle.bare.specs.{declared.queue.Queue.{Queue}, Queue.{waiting, capacity, QueueMay}}
+use Rattle.bare.specs.{declared.queue.Queue.{Queue}, Queue.{waiting, queue_capacity, QueueMay}}
 use Rattle.framing.specs.{Frames.{frame}, Sending.{frame_writer, SendsFrame}, declared.writer.FrameWriter.{FrameWriter}}
 
 -- What waits once the first bytes are removed.
@@ -37,11 +38,12 @@ queue = record { told = λ q. told_out (waiting q); takes_all = λ _. ⊥; may =
 
 -- if writes to a queue end in an error, it is full
 pub blocked : {text : List ℕ} {C : List WriteCall} {x left : List ℕ} {e : Error} → Writes text C x (Err e) left
-    → (a b : Queue) → Made (CallOf queue) a C b → length (waiting b) ≡ capacity
-blocked (took some more w) a b made = blocked w made.0 b made.2
-blocked (again some interrupted w) a b made = blocked w made.0 b made.2
-blocked (stuck some says) a b made = absurd (let none = made.1.call.1 some in omega (arith, none))
-blocked (fault some is) a b made = subst (λ q. length (waiting q) ≡ capacity) (sym made.2) (ap length made.1.call.1 ∙ made.1.call.0)
+    → (a b : Queue) → Made (CallOf queue) a C b → length (waiting b) ≡ queue_capacity
+blocked (write_took some more w) a b made = blocked w made.0 b made.2
+blocked (write_again some interrupted w) a b made = blocked w made.0 b made.2
+blocked (write_stuck some says) a b made = absurd (let none = made.1.call.1 some in omega (arith, none))
+blocked (write_fault some is) a b made =
+    subst (λ q. length (waiting q) ≡ queue_capacity) (sym made.2) (ap length made.1.call.1 ∙ made.1.call.0)
 
 -- how many bytes are out and held
 abbrev pub size : WriterState → ℕ
@@ -62,7 +64,7 @@ module _ {S : ℕ} where
 
   -- more bytes wait in the queue, and are held in front of it, than a queue has room for
   abbrev pub IsOverfull : BufWriter Queue S → Type 0
-  IsOverfull w = capacity < size (buffered.told w)
+  IsOverfull w = queue_capacity < size (buffered.told w)
 
   -- this step was taken
   abbrev Taken : {A : Type 0} → Step A → BufWriter Queue S → Result A Error → BufWriter Queue S → Type 0
@@ -77,11 +79,11 @@ module _ {S : ℕ} where
   put_by : {A : Type 0} {x : List ℕ} {v : A} {past : List WriteCall → Result A Error → Type 0} {C : List WriteCall} {reply : Result A Error}
       (a b : BufWriter Queue S) → length x < S → Made (CallOf queue) (writer_inner a) C (writer_inner b)
       → Buffered S x v past (writer_buffer a) C reply (writer_buffer b) → MatchResult reply (λ n. n ≡ v) (λ _. IsOverfull b)
-  put_by a b short made (stops way) = elim way [
+  put_by a b short made (first_stops way) = elim way [
     | inl kept ↦ absurd (let no : ⊥ = cc (kept.2) in no)
     | inr calls ↦ send_failed a b made calls.1
   ]
-  put_by {v = v} a b short made (goes_on way next) = elim next [
+  put_by {v = v} a b short made (first_goes_on way next) = elim next [
     | inl held ↦ subst (λ r. MatchResult r (λ n. n ≡ v) (λ _. IsOverfull b)) (sym held.2) refl
     | inr past ↦ absurd (omega (arith, short, past.0))
   ]
@@ -94,19 +96,19 @@ module _ {S : ℕ} where
   -- a flush failed
   flush_failed : {C : List WriteCall} {e : Error} (a b : BufWriter Queue S) → Made (CallOf queue) (writer_inner a) C (writer_inner b)
       → FlushCalls (writer_buffer a) C (Err e) (writer_buffer b) → IsOverfull b
-  flush_failed a b made (stops calls) = send_failed a b made calls
-  flush_failed a b made (goes_on {C = D} {D = E} calls next) =
+  flush_failed a b made (first_stops calls) = send_failed a b made calls
+  flush_failed a b made (first_goes_on {C = D} {D = E} calls next) =
       let parts = made_split (CallOf queue) D (writer_inner a) E (writer_inner b) made in
       let one = subst (λ K. Made (CallOf queue) parts.0 K (writer_inner b)) next.2 parts.2 in absurd (true≢false (sym one.1.call))
 
   -- writes failed
   writes_full : {text : List ℕ} {C : List WriteCall} {x left : List ℕ} {e : Error} → Writes text C x (Err e) left → length x < S
       → (a b : BufWriter Queue S) → Made (CallOf buffered) a C b → IsOverfull b
-  writes_full (took {x = x} {n = n} some more w) short a b made =
+  writes_full (write_took {x = x} {n = n} some more w) short a b made =
       writes_full w (omega (arith, short, length-drop n x)) made.0 b made.2
-  writes_full (again some interrupted w) short a b made = writes_full w short made.0 b made.2
-  writes_full (stuck some says) short a b made = absurd (let none = put a made.0 short made.1.call in omega (arith, some, none))
-  writes_full (fault some is) short a b made = subst IsOverfull (sym made.2) (put a made.0 short made.1.call)
+  writes_full (write_again some interrupted w) short a b made = writes_full w short made.0 b made.2
+  writes_full (write_stuck some says) short a b made = absurd (let none = put a made.0 short made.1.call in omega (arith, some, none))
+  writes_full (write_fault some is) short a b made = subst IsOverfull (sym made.2) (put a made.0 short made.1.call)
 
   -- a `write_all` failed
   all_full : {C : List WriteCall} {x : List ℕ} {e : Error} → AllCalls C x (Err e) → length x < S → (a b : BufWriter Queue S)
@@ -128,7 +130,7 @@ module _ {S : ℕ} where
 
   -- or they do not fit
   pub flush_full : {a : WriterState} {b c : BufWriter Queue S} {x : List ℕ} (q : Result (Unit {0}) Error) → Moves a x [] (buffered.told b)
-      → FlushOf buffered b q c → OnErr q (capacity < size a + length x)
+      → FlushOf buffered b q c → OnErr q (queue_capacity < size a + length x)
   flush_full (Ok u) moved law = tt
   flush_full {b = b} {c = c} (Err e) moved law =
       omega (arith, flush_failed b c law.call.made law.call.are, size-moves moved, size-moves law.moves)
@@ -143,8 +145,8 @@ module _ {S : ℕ} {w w' : FrameWriter Queue S} (payload : List ℕ) where
   frame_moved ok sends = grind (arith, common_steps)
 
   -- or that failed: if the buffer is longer than all for which a queue has room, it does not fit
-  pub frame_full : capacity < S → {r : Result (Unit {0}) Error} {e : Error} → r ≡ Err e → SendsFrame queue payload w r w'
-      → capacity < size (buffered.told (frame_writer w)) + length (frame payload)
+  pub frame_full : queue_capacity < S → {r : Result (Unit {0}) Error} {e : Error} → r ≡ Err e → SendsFrame queue payload w r w'
+      → queue_capacity < size (buffered.told (frame_writer w)) + length (frame payload)
   frame_full less err sends = grind (arith, header, put, queue, size-moves)
     where
       header : length (frame payload) ≡ 4 + length payload
@@ -161,7 +163,7 @@ module _ {R : Type 0} {K : Reader R} {a a' : R} {w w' : BufWriter Queue 32} (fro
 
   -- else they do not fit
   pub copy_full : {r : Result ℕ Error} {e : Error} → r ≡ Err e → Copied K buffered 16 a w r a' w'
-      → capacity < size (buffered.told w) + length from
+      → queue_capacity < size (buffered.told w) + length from
   copy_full err (Ok n, same, law) = absurd (let no : ⊥ = cc in no)
   copy_full err (Err (Read e), same, law) =
       let left = left_of law.takes is in
@@ -171,5 +173,5 @@ module _ {R : Type 0} {K : Reader R} {a a' : R} {w w' : BufWriter Queue 32} (fro
       let refuses = law.ends in
       let full = handed_full (omega arith) law.calls.handed w w' law.calls.made in
       let front = simp length-append at (ap length refuses.nearly.front.1) in
-      let all = simp (bytes-events_of, bytes-append, length-append) at (ap (λ E. length (bytes E)) (left_of law.takes is).2) in
+      let all = simp (bytes-events_of, bytes-append, length-append) at (ap (λ E. length (event_bytes E)) (left_of law.takes is).2) in
       omega (arith, full, size-moves refuses.moves, front, all)

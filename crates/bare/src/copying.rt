@@ -1,7 +1,7 @@
 //! A copy through buffers.
 ghost use Rattle.std.specs.Prelude.{◌≡◌, ◌+◌, ◌<◌, ◌++◌, length, OnOk, OnErr};
 ghost use Rattle.no_std_io2.specs.BufWriter.{writer_inner, writer_buffer};
-ghost use Rattle.bare.specs.Queue.{waiting, capacity};
+ghost use Rattle.bare.specs.Queue.{waiting, queue_capacity};
 ghost use Rattle.bare.specs.Kept.{Appends};
 
 use crate::REFUSED;
@@ -13,7 +13,7 @@ use no_std_io2::io::{BufReader, BufWriter, Result, Write, copy};
 fn copy_whole(from: &[u8], w: &mut BufWriter<Queue, 32>) -> Result<()>
     ensures ok { OnOk result (waiting (writer_inner w.new)
         ≡ waiting (writer_inner w.old) ++ writer_buffer w.old ++ from.now) }
-    ensures full { OnErr result (capacity < length (waiting (writer_inner w.old))
+    ensures full { OnErr result (queue_capacity < length (waiting (writer_inner w.old))
         + length (writer_buffer w.old) + length from.now) }
 {
     let mut r = BufReader::<&[u8], 16>::new(from);

@@ -2,7 +2,7 @@
 ghost use Rattle.std.specs.Prelude.{◌≡◌, ◌+◌, ◌++◌, ◌<◌, ◌≤◌, ◌^◌, length, OnOk, OnErr, IfNone, IfSome};
 ghost use Rattle.framing.specs.Frames.{frame, told_length};
 ghost use Rattle.framing.specs.Sending.{writes_to, frames_held};
-ghost use Rattle.bare.specs.Queue.{waiting, capacity};
+ghost use Rattle.bare.specs.Queue.{waiting, queue_capacity};
 ghost use Rattle.bare.specs.Kept.{Appends};
 ghost use Rattle.bare.specs.Frames.{Unframes, IsToDrop, Skips};
 
@@ -19,7 +19,7 @@ const ROOM: usize = CAPACITY + 1;
 fn send_whole(w: &mut FrameWriter<Queue, ROOM>, payload: &[u8]) -> Result<()>
     ensures ok { OnOk result (waiting (writes_to w.new)
         ≡ waiting (writes_to w.old) ++ frames_held w.old ++ frame payload.now) }
-    ensures full { OnErr result (capacity < length (waiting (writes_to w.old))
+    ensures full { OnErr result (queue_capacity < length (waiting (writes_to w.old))
         + length (frames_held w.old) + length (frame payload.now)) }
 {
     w.send(payload)?;

@@ -1,7 +1,7 @@
 //! [`Queue`], bytes that C keeps between two calls.
 ghost use Rattle.std.specs.Prelude.{◌≡◌, [], ◌-◌, ◌++◌, length, min, take, drop};
 ghost use Rattle.no_std_io2.specs.Moves.{told_out};
-ghost use Rattle.bare.specs.Queue.{waiting, capacity, QueueMay};
+ghost use Rattle.bare.specs.Queue.{waiting, queue_capacity, QueueMay};
 
 use no_std_io2::io::{Error, ErrorKind, Result, Write};
 
@@ -92,7 +92,7 @@ fn copy_over(from: &[u8], to: &mut [u8])
 #[inline(never)]
 #[unsafe(no_mangle)]
 pub extern "C" fn bare_put(queue: &mut Queue, bytes: &[u8]) -> usize
-    ensures count { result ≡ min (length bytes.now) (capacity - length (waiting queue.old)) }
+    ensures count { result ≡ min (length bytes.now) (queue_capacity - length (waiting queue.old)) }
     ensures puts { waiting queue.new ≡ waiting queue.old ++ take result bytes.now }
 {
     let start = queue.len.min(CAPACITY);

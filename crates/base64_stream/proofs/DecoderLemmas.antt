@@ -3,7 +3,7 @@ use Rattle.no_std_io2.proofs.Words.{◌≡◌, ℕ, ◌+◌, ◌<◌, ◌≤◌,
 use Rattle.no_std_io2.proofs.Words.{Some, None}
 use Rattle.no_std_io2.proofs.Words.{Ok, Err, refl, sym, ap, ap₂, subst, ◌∙◌, arith, inl, inr, append_assoc}
 use Rattle.no_std_io2.proofs.Words.{append-nil}
-use Rattle.no_std_io2.proofs.Words.{length-append, length-take, nil_from_length, common_steps, Event, byte, fails, events_of, bytes}
+use Rattle.no_std_io2.proofs.Words.{length-append, length-take, nil_from_length, common_steps, Event, byte, fails, events_of, event_bytes}
 use Rattle.no_std_io2.proofs.Words.{HasNoFault}
 use Rattle.no_std_io2.proofs.Words.{Reader, ReadLaw, tells, Takes, to_come, IsAtEnd, AreTaken}
 use Rattle.no_std_io2.proofs.Words.{nat_lt, cases_lt}
@@ -23,7 +23,7 @@ use Rattle.base64_stream.specs.Decoder.{decoder_events, decoder_gives, decoder_i
 use Rattle.base64_stream.proofs.DecodingLemmas.{collects, completes, passes_fault, last_group_given, group_given, closed_by}
 
 -- no more bytes than events
-pub bytes_fewer : (P : List Event) → length (bytes P) ≤ length P
+pub bytes_fewer : (P : List Event) → length (event_bytes P) ≤ length P
 bytes_fewer [] = omega arith
 bytes_fewer (byte b ∷ P) = omega (arith, bytes_fewer P)
 bytes_fewer (fails e ∷ P) = omega (arith, bytes_fewer P)
@@ -104,17 +104,22 @@ module _ {R : Type 0} (I : Reader R) where
 
   -- no more bytes come than there was room for
   full_within : {old new : R} {buf buf' : List ℕ} {k n : ℕ} {u : Unit {0}} (law : ReadFullLaw I old buf k (Ok u) buf' n new)
-      → length (bytes law.taken) ≤ length buf - k
+      → length (event_bytes law.taken) ≤ length buf - k
   full_within {buf = buf} {k = k} law =
       let room = length buf - k in
-      omega (arith, ap (λ l. length (bytes l)) law.ends.1, ap length (bytes-cut room law.taken), length-take room (bytes law.taken))
+      omega (
+        arith,
+        ap (λ l. length (event_bytes l)) law.ends.1,
+        ap length (bytes-cut room law.taken),
+        length-take room (event_bytes law.taken),
+      )
 
   -- the reads that a `read_full` of what is missing makes
   missing : {old new : R} {buf buf' : List ℕ} {k n m : ℕ} {reply : Result (Unit {0}) Error}
       (law : ReadFullLaw I old buf k reply buf' n new) → length buf ≡ 4 → k ≡ m
-      → ByCalls (ReadCallLaw I) old (λ C. FullCalls C (4 - m) (bytes law.taken) reply) new
+      → ByCalls (ReadCallLaw I) old (λ C. FullCalls C (4 - m) (event_bytes law.taken) reply) new
   missing {reply = reply} law long count =
-      by_are law.calls (λ C are. subst (λ room. FullCalls C room (bytes law.taken) reply) (ap₂ (λ a b. a - b) long count) are)
+      by_are law.calls (λ C are. subst (λ room. FullCalls C room (event_bytes law.taken) reply) (ap₂ (λ a b. a - b) long count) are)
 
   -- the rest of a group was read, or the text has ended
   pub gathers_all : {old new : DecoderReader R} {buf buf' : List ℕ} {k n : ℕ} {u : Unit {0}}
@@ -127,8 +132,8 @@ module _ {R : Type 0} (I : Reader R) where
         text = record { takes = law.takes; reads = inr (Ok u, law.ends.0, missing law long count) };
         ends = (
           law.ends.0,
-          law.fills ∙ ap (λ l. l ++ bytes law.taken) front,
-          law.counts ∙ ap (λ m. m + length (bytes law.taken)) count,
+          law.fills ∙ ap (λ l. l ++ event_bytes law.taken) front,
+          law.counts ∙ ap (λ m. m + length (event_bytes law.taken)) count,
           omega (arith, law.counts, more, long, count, decoder_short old),
           λ few. law.ends.2 (omega (arith, law.counts, long, few)),
           empty,
@@ -144,7 +149,7 @@ module _ {R : Type 0} (I : Reader R) where
   gathers_some {e = e} law count front long kept keeps = record {
     taken = law.taken;
     text = record { takes = law.takes; reads = inr (Err e, law.ends.0, missing law long count) };
-    ends = (law.ends.0, kept ∙ law.fills ∙ ap (λ l. l ++ bytes law.taken) front);
+    ends = (law.ends.0, kept ∙ law.fills ∙ ap (λ l. l ++ event_bytes law.taken) front);
     keeps = keeps;
   }
 
@@ -168,7 +173,7 @@ module _ {R : Type 0} (I : Reader R) where
       let (engine, closed, waiting) = gathers.keeps in
       let idle : decoder_waiting mid ≡ [] = ap few_items waiting ∙ none in
       let no_text : decoder_text old ≡ [] = nil_from_length (decoder_text old) (omega (arith, long, zero)) in
-      let no_bytes : bytes P ≡ [] = nil_from_length (bytes P) (omega (arith, long, zero)) in
+      let no_bytes : event_bytes P ≡ [] = nil_from_length (event_bytes P) (omega (arith, long, zero)) in
       let gives = λ (E : List Event).
       text_next old (P ++ E) none ∙ collects old.engine old.closed (decoder_text old) P E free (omega (arith, long, zero))
       ∙ ap₂ (λ s t. decoded_events old.engine old.closed (s ++ t) E) no_text no_bytes
@@ -195,7 +200,8 @@ module _ {R : Type 0} (I : Reader R) where
             ∙ ap (λ g. group_events (decoded_group e c g) ++ decoded_events e (closed_after c (decoded_group e c g)) [] E) (sym text),
         λ some few. text_next old P none ∙ ap (decoded_events e c (decoder_text old)) (sym (append-nil P))
             ∙ collects e c (decoder_text old) P [] free (omega (arith, long, few))
-            ∙ last_group_given e c (decoder_text old ++ bytes P) (omega (arith, some, long, length-append (decoder_text old) (bytes P)))
+            ∙ last_group_given e c (decoder_text old ++ event_bytes P)
+            (omega (arith, some, long, length-append (decoder_text old) (event_bytes P)))
             ∙ ap (λ g. group_events (decoded_group e c g)) (sym text),
       )
 
@@ -271,15 +277,15 @@ module _ {R : Type 0} (I : Reader R) where
       let (Q, split, free, fault) = fault_last in
       let (engine_kept, closed_kept, waiting_kept) = gathers.keeps in
       let idle : decoder_waiting mid ≡ [] = ap few_items waiting_kept ∙ none in
-      let before : bytes P ≡ bytes Q = ap bytes split ∙ bytes-append Q (fails e ∷ []) ∙ append-nil (bytes Q) in
-      let kept : decoder_text mid ≡ decoder_text old ++ bytes Q = chars ∙ ap (λ l. decoder_text old ++ l) before in
-      let few : length (decoder_text old) + length (bytes Q) < 4 =
-      omega (arith, ap length kept, length-append (decoder_text old) (bytes Q), decoder_short mid) in
+      let before : event_bytes P ≡ event_bytes Q = ap event_bytes split ∙ bytes-append Q (fails e ∷ []) ∙ append-nil (event_bytes Q) in
+      let kept : decoder_text mid ≡ decoder_text old ++ event_bytes Q = chars ∙ ap (λ l. decoder_text old ++ l) before in
+      let few : length (decoder_text old) + length (event_bytes Q) < 4 =
+      omega (arith, ap length kept, length-append (decoder_text old) (event_bytes Q), decoder_short mid) in
       let some : 0 < length P = omega (arith, ap length split, length-append Q (fails e ∷ [])) in (
         goes_on P gathers.text (λ E. text_next old (P ++ E) none
             ∙ ap (λ l. decoded_events old.engine old.closed (decoder_text old) (l ++ E)) split
             ∙ passes_fault old.engine old.closed (decoder_text old) Q E free fault few
-            ∙ ap₂ (λ g c. fails e ∷ decoded_events g c (decoder_text old ++ bytes Q) E) (sym engine_kept) (sym closed_kept)
+            ∙ ap₂ (λ g c. fails e ∷ decoded_events g c (decoder_text old ++ event_bytes Q) E) (sym engine_kept) (sym closed_kept)
             ∙ ap (λ t. fails e ∷ decoded_events mid.engine mid.closed t E) (sym kept)
             ∙ ap (λ l. fails e ∷ l) (sym (text_next mid E idle))),
         omega (arith, gathers.text.takes.turns, some, ap length none, ap length idle),
@@ -345,12 +351,12 @@ module _ {R : Type 0} (I : Reader R) where
 
 -- all that was told was read, without a fault
 pub drained_whole : {X A : Type 0} {R : Reader X} {old new : X} {buf buf' : Vec ℕ A} {n : ℕ} (E : List Event)
-    → ReadToEndLaw R old buf (Ok n) buf' new → to_come (tells R old) ≡ Some E → HasNoFault E × (buf'.items ≡ buf.items ++ bytes E)
+    → ReadToEndLaw R old buf (Ok n) buf' new → to_come (tells R old) ≡ Some E → HasNoFault E × (buf'.items ≡ buf.items ++ event_bytes E)
 drained_whole {buf = buf} E law told =
     let (after, still, split) = left_of law.takes told in
     let none : after ≡ [] = subst (λ o. IfSome o (λ l. l ≡ [])) still law.ends.1 in
     let all : E ≡ law.taken = split ∙ ap (λ l. law.taken ++ l) none ∙ append-nil law.taken in
-    (subst HasNoFault (sym all) law.ends.0, law.appends.0 ∙ ap (λ l. buf.items ++ bytes l) (sym all))
+    (subst HasNoFault (sym all) law.ends.0, law.appends.0 ∙ ap (λ l. buf.items ++ event_bytes l) (sym all))
 
 -- an error that has only a kind
 pub only_kind : (e : Error) (kind : ErrorKind) → error_kind e ≡ kind → error_text e ≡ None → e ≡ error_of kind

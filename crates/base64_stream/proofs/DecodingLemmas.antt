@@ -3,7 +3,7 @@ use Rattle.no_std_io2.proofs.Words.{◌≡◌, ℕ, suc, ◌+◌, ◌<◌, ◌�
 use Rattle.no_std_io2.proofs.Words.{nat_lt}
 use Rattle.no_std_io2.proofs.Words.{refl, sym, ap, ◌∙◌, arith, inl, inr, append_assoc, append-nil, length-append, cases_lt}
 use Rattle.no_std_io2.proofs.Words.{nat_tests}
-use Rattle.no_std_io2.proofs.Words.{nil_from_length, Event, byte, fails, events_of, bytes, HasNoFault, IsFault}
+use Rattle.no_std_io2.proofs.Words.{nil_from_length, Event, byte, fails, events_of, event_bytes, HasNoFault, IsFault}
 use Rattle.no_std_io2.proofs.TakesLemmas.{events_of-append, bytes-events_of, HasNoFault-events_of}
 use Rattle.no_std_io2.specs.declared.io.Error.{Error}
 use Rattle.base64.specs.declared.engine.general_purpose.GeneralPurpose.{GeneralPurpose}
@@ -37,28 +37,28 @@ module _ (engine : GeneralPurpose) where
   last_group_given closed (b ∷ text) some = refl
 
   -- characters that do not make the group whole are collected
-  pub collects : (closed : Bool) (text : List ℕ) (P E : List Event) → HasNoFault P → length text + length (bytes P) < 4
-      → decoded_events engine closed text (P ++ E) ≡ decoded_events engine closed (text ++ bytes P) E
+  pub collects : (closed : Bool) (text : List ℕ) (P E : List Event) → HasNoFault P → length text + length (event_bytes P) < 4
+      → decoded_events engine closed text (P ++ E) ≡ decoded_events engine closed (text ++ event_bytes P) E
   collects closed text [] E no_fault short = ap (λ l. decoded_events engine closed l E) (sym (append-nil text))
   collects closed text (byte b ∷ P) E no_fault short =
       let few : nat_lt (length text) 3 ≡ true = below_is_true (length text) 3 (omega (arith, short)) in
       let more = collects closed (text ++ b ∷ []) P E no_fault (omega (arith, short, length-append text (b ∷ []))) in
-      rw few (more ∙ ap (λ l. decoded_events engine closed l E) (append_assoc text (b ∷ []) (bytes P)))
+      rw few (more ∙ ap (λ l. decoded_events engine closed l E) (append_assoc text (b ∷ []) (event_bytes P)))
   collects closed text (fails e ∷ P) E (again, no_fault) short = rw again (collects closed text P E no_fault short)
 
   -- the fourth character makes it whole
   pub completes : (closed : Bool) (text : List ℕ) (P E : List Event) → HasNoFault P → length text < 4
-      → length text + length (bytes P) ≡ 4
-      → decoded_events engine closed text (P ++ E) ≡ group_events (decoded_group engine closed (text ++ bytes P))
-      ++ decoded_events engine (closed_after closed (decoded_group engine closed (text ++ bytes P))) [] E
+      → length text + length (event_bytes P) ≡ 4
+      → decoded_events engine closed text (P ++ E) ≡ group_events (decoded_group engine closed (text ++ event_bytes P))
+      ++ decoded_events engine (closed_after closed (decoded_group engine closed (text ++ event_bytes P))) [] E
   completes closed text [] E no_fault short whole = absurd (omega (arith, short, whole))
   completes closed text (byte b ∷ P) E no_fault short whole = elim (cases_lt (length text) 3) [
     | inl less ↦
         let more = completes closed (text ++ b ∷ []) P E no_fault (omega (arith, less, length-append text (b ∷ [])))
         (omega (arith, whole, length-append text (b ∷ []))) in
-        rw (below_is_true (length text) 3 less) (rw (append_assoc text (b ∷ []) (bytes P)) at more)
+        rw (below_is_true (length text) 3 less) (rw (append_assoc text (b ∷ []) (event_bytes P)) at more)
     | inr full ↦
-        let none : bytes P ≡ [] = nil_from_length (bytes P) (omega (arith, whole, full)) in
+        let none : event_bytes P ≡ [] = nil_from_length (event_bytes P) (omega (arith, whole, full)) in
         let rest = λ (c : Bool). collects c [] P E no_fault (omega (arith, ap length none)) ∙ ap (λ l. decoded_events engine c l E) none in
         rw (above_is_false (length text) 3 full, none)
         (ap (λ l. group_events (decoded_group engine closed (text ++ b ∷ [])) ++ l) (rest _))
@@ -67,8 +67,8 @@ module _ (engine : GeneralPurpose) where
 
   -- a fault stays at its place
   pub passes_fault : (closed : Bool) (text : List ℕ) (Q E : List Event) {e : Error} → HasNoFault Q → IsFault e
-      → length text + length (bytes Q) < 4
-      → decoded_events engine closed text ((Q ++ fails e ∷ []) ++ E) ≡ fails e ∷ decoded_events engine closed (text ++ bytes Q) E
+      → length text + length (event_bytes Q) < 4
+      → decoded_events engine closed text ((Q ++ fails e ∷ []) ++ E) ≡ fails e ∷ decoded_events engine closed (text ++ event_bytes Q) E
   passes_fault closed text Q E {e} no_fault fault short =
       ap (decoded_events engine closed text) (append_assoc Q (fails e ∷ []) E) ∙ collects closed text Q (fails e ∷ E) no_fault short
       ∙ rw fault refl

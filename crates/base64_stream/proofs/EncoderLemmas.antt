@@ -9,7 +9,8 @@ use Rattle.std.specs.Prelude.{OnErr}
 use Rattle.base64.specs.GeneralPurpose.{encode_of}
 use Rattle.base64.proofs.EngineFacts.{encode_of-append, encode_of-nil}
 use Rattle.no_std_io2.specs.{declared.io.Error.{Error}, declared.io.ErrorKind.{ErrorKind}, declared.io.BufWriter.{BufWriter}}
-use Rattle.no_std_io2.specs.{inner.Kinds.{is_interruption}, Write.{CallAdds, WriteLaw, FlushLaw, taken, write_mishap}, Moves.{call_mishap}}
+use Rattle.no_std_io2.specs.{inner.Kinds.{is_interruption}, Write.{CallAdds, WriteLaw, FlushLaw, accepted_of, write_mishap}}
+use Rattle.no_std_io2.specs.Moves.{call_mishap}
 use Rattle.no_std_io2.proofs.CallsAdd.{write_law, flush_law, err_turns, zero_none, Joins}
 use Rattle.base64_stream.specs.{declared.encoder.EncoderWriter.{EncoderWriter}, Encoder.{Encodes64, KeepsGroup, PutsText, encoder_accepted}}
 use Rattle.base64_stream.specs.Encoder.{encoder_engine, encoder_held, encoder_inner, encoder_told, encoder_writer, is_closed, passed_on}
@@ -50,9 +51,9 @@ module _ {W : Type 0} {S : ℕ} (I : Writer W) where
 
   -- the law of `write` of an encoder
   pub write_of : {old new : EncoderWriter W S} {x : List ℕ} {reply : Result ℕ Error} → IfOk reply (λ n. n ≤ length x)
-      → encoder_accepted new ≡ encoder_accepted old ++ taken reply x
+      → encoder_accepted new ≡ encoder_accepted old ++ accepted_of reply x
       → (I.told (encoder_inner new)).turns + count_by is_interruption (write_mishap reply x) ≤ (I.told (encoder_inner old)).turns
-      → Encodes64 I.told old (taken reply x) new
+      → Encodes64 I.told old (accepted_of reply x) new
       → WriteLaw (encoder_told I.told) (λ _. ⊥) (CallAdds (Encodes64 I.told)) old x reply new
   write_of bound more turns adds = write_law {Adds = Encodes64 I.told} encoder_accepted (told_below I.told) bound more (tt, turns) adds
 

@@ -3,7 +3,7 @@ use Rattle.no_std_io2.proofs.Words.{◌≡◌, ℕ, suc, ◌+◌, ◌%◌, ◌<�
 use Rattle.no_std_io2.proofs.Words.{Err}
 use Rattle.no_std_io2.proofs.Words.{refl, sym, ap, ap₂, subst, ◌∙◌, arith, inl, inr, nat_lt, true≢false, append-nil, length-append}
 use Rattle.no_std_io2.proofs.Words.{cases_lt}
-use Rattle.no_std_io2.proofs.Words.{nil_from_length, events_of, bytes, HasNoFault}
+use Rattle.no_std_io2.proofs.Words.{nil_from_length, events_of, event_bytes, HasNoFault}
 use Rattle.no_std_io2.proofs.TakesLemmas.{bytes-events_of, bytes-behind, HasNoFault-front, HasNoFault-behind, left_of}
 use Rattle.base64.specs.{declared.decode.DecodeError.{DecodeError}, declared.engine.general_purpose.GeneralPurpose.{GeneralPurpose}}
 use Rattle.base64.specs.{GeneralPurpose.{IsBytes, IsStrict, decode_of, encode_of}, Rfc4648.{encode_symbols}}
@@ -47,15 +47,15 @@ module _ (engine : GeneralPurpose) where
 module _ (engine : GeneralPurpose) (strict : IsStrict engine) where
   -- of a text that is one group
   group_exact : (s : List ℕ) → IsBytes s → HasNoFault (group_events (decoded_group engine false s))
-      → s ≡ encode_of engine (bytes (group_events (decoded_group engine false s)))
+      → s ≡ encode_of engine (event_bytes (group_events (decoded_group engine false s)))
   group_exact s all free =
       let (ok, given, some) = group_clean (decode_of engine s) free in
       decode_of_strict engine s (decoded_group engine false s) strict all ok
-      ∙ ap (encode_of engine) (sym (ap bytes given ∙ bytes-events_of (decoded_group engine false s)))
+      ∙ ap (encode_of engine) (sym (ap event_bytes given ∙ bytes-events_of (decoded_group engine false s)))
 
   -- Text that is decoded without an error is the encoding of these bytes.
   pub only_encoding : (s : List ℕ) → IsBytes s → HasNoFault (decoded_events engine false [] (events_of s))
-      → s ≡ encode_of engine (bytes (decoded_events engine false [] (events_of s)))
+      → s ≡ encode_of engine (event_bytes (decoded_events engine false [] (events_of s)))
   only_encoding [] all free = sym (encode_of-nil engine)
   only_encoding (a ∷ []) all free = group_exact (a ∷ []) all free
   only_encoding (a ∷ b ∷ []) all free = group_exact (a ∷ b ∷ []) all free
@@ -69,7 +69,7 @@ module _ (engine : GeneralPurpose) (strict : IsStrict engine) where
       let there : HasNoFault E = HasNoFault-behind (group_events x) E free in
       let (ok, given, some) = group_clean (decode_of engine head) here in
       let first : head ≡ encode_of engine x = decode_of_strict engine head x strict (front_bytes head s all) ok in
-      let both : bytes (group_events x ++ E) ≡ x ++ bytes E = ap (λ l. bytes (l ++ E)) given ∙ bytes-behind x E in
+      let both : event_bytes (group_events x ++ E) ≡ x ++ event_bytes E = ap (λ l. event_bytes (l ++ E)) given ∙ bytes-behind x E in
       let most : length x ≤ 3 = three_most engine x (ap length (sym first)) in
       let test : closed ≡ nat_lt (length x) 3 = closed_by false x some in
       elim (cases_lt (length x) 3) [
@@ -79,15 +79,15 @@ module _ (engine : GeneralPurpose) (strict : IsStrict engine) where
             let none : s ≡ [] = nil_from_length s (omega (arith, closed_refuses engine [] s later)) in
             let nothing : E ≡ [] = ap₂ (λ t l. decoded_events engine t [] (events_of l)) padded none in
             ap (λ l. head ++ l) none ∙ append-nil head ∙ first ∙ ap (encode_of engine)
-            (sym (both ∙ ap (λ l. x ++ bytes l) nothing ∙ append-nil x))
+            (sym (both ∙ ap (λ l. x ++ event_bytes l) nothing ∙ append-nil x))
         | inr full ↦
             let three : length x ≡ 3 = omega (arith, most, full) in
             let whole : length x % 3 ≡ 0 = ap (λ n. n % 3) three in
             let still : closed ≡ false = test ∙ above_is_false (length x) 3 full in
             let same : decoded_events engine false [] (events_of s) ≡ E = ap (λ t. decoded_events engine t [] (events_of s)) (sym still) in
             let rest = only_encoding s (λ i. all (suc (suc (suc (suc i))))) (subst HasNoFault (sym same) there) in
-            ap (λ l. head ++ l) rest ∙ ap₂ (λ l m. l ++ encode_of engine (bytes m)) first same
-            ∙ sym (encode_of-append engine x (bytes E) whole) ∙ ap (encode_of engine) (sym both)
+            ap (λ l. head ++ l) rest ∙ ap₂ (λ l m. l ++ encode_of engine (event_bytes m)) first same
+            ∙ sym (encode_of-append engine x (event_bytes E) whole) ∙ ap (encode_of engine) (sym both)
       ]
 
 -- every error among these events is that of a refused group

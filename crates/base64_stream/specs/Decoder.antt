@@ -2,7 +2,8 @@
 use Rattle.std.specs.Prelude.{◌≡◌, ◌⊎◌, ℕ, ◌+◌, ◌-◌, ◌*◌, ◌<◌, ◌≤◌, min, Bool, List, [], ◌∷◌, ◌++◌, length, take, Option, Result, Ok, Err}
 use Rattle.std.specs.Option.{option_map}
 use Rattle.base64.specs.declared.engine.general_purpose.GeneralPurpose.{GeneralPurpose}
-use Rattle.no_std_io2.specs.{declared.io.Error.{Error}, Events.{Event, fails, events_of, bytes, HasNoFault}, inner.Events.{EndsInFault}}
+use Rattle.no_std_io2.specs.{declared.io.Error.{Error}, Events.{Event, fails, events_of, event_bytes, HasNoFault}}
+use Rattle.no_std_io2.specs.inner.Events.{EndsInFault}
 use Rattle.no_std_io2.specs.{Takes.{ReaderState, Takes, to_come, IsAtEnd, Reader, tells, answered}, Calls.{ReadCall, Gave, ByCalls}}
 use Rattle.no_std_io2.specs.{Read.{ReadCallLaw}, inner.Read.{FullCalls}}
 use Rattle.base64_stream.specs.{declared.decoder.DecoderReader.{DecoderReader}, FewBytes.{few_items}, Decoding.{decoded_events}}
@@ -49,7 +50,7 @@ module _ {R : Type 0} where
   abbrev ReadsRest : Reader R → DecoderReader R → List Event → R → Type 0
   ReadsRest I old taken below = ((taken ≡ []) × (below ≡ decoder_inner old))
       ⊎ ((reply : Result (Unit {0}) Error) × FullEnds reply taken × ByCalls (ReadCallLaw I) (decoder_inner old)
-      (λ C. FullCalls C (4 - length (decoder_text old)) (bytes taken) reply) below)
+      (λ C. FullCalls C (4 - length (decoder_text old)) (event_bytes taken) reply) below)
 
   -- the reader below gave these events, and is now this
   pub record TakesText (I : Reader R) (old : DecoderReader R) (taken : List Event) (below : R) : Type 0 where
@@ -76,10 +77,10 @@ module _ {R : Type 0} where
 
   -- how the gathering of a group ended, of which this text was taken: it is whole, or the last; or a fault came, and the text is kept
   abbrev pub GroupEnds : Reader R → DecoderReader R → List Event → List ℕ → Result ℕ Error → DecoderReader R → Type 0
-  GroupEnds I old taken buf (Ok n) new = HasNoFault taken × (take n buf ≡ decoder_text old ++ bytes taken)
-      × (n ≡ length (decoder_text old) + length (bytes taken)) × (n ≤ 4)
+  GroupEnds I old taken buf (Ok n) new = HasNoFault taken × (take n buf ≡ decoder_text old ++ event_bytes taken)
+      × (n ≡ length (decoder_text old) + length (event_bytes taken)) × (n ≤ 4)
       × (n < 4 → IsAtEnd (tells I (decoder_inner new))) × (decoder_text new ≡ [])
-  GroupEnds I old taken buf (Err e) new = EndsInFault taken e × (decoder_text new ≡ decoder_text old ++ bytes taken)
+  GroupEnds I old taken buf (Err e) new = EndsInFault taken e × (decoder_text new ≡ decoder_text old ++ event_bytes taken)
 
   -- a group was gathered in this buffer
   pub record GathersGroup (I : Reader R) (old : DecoderReader R) (buf : List ℕ) (reply : Result ℕ Error)

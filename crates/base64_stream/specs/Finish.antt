@@ -2,7 +2,7 @@
 use Rattle.std.specs.Prelude.{◌≡◌, ◌≢◌, ◌⊎◌, ℕ, ◌%◌, ◌<◌, ◌≤◌, true, List, [], ◌++◌, length, take, codes, Result, Ok, Err, IsErrAnd}
 use Rattle.base64.specs.GeneralPurpose.{encode_of}
 use Rattle.no_std_io2.specs.{declared.io.{Error.{Error}, BufWriter.{BufWriter}, ErrorKind.TheVariants.{InvalidInput}}, Errors.{SaysError}}
-use Rattle.no_std_io2.specs.{inner.Read.{ended}, Moves.{WriterState}, Writers.{Writer, FlushOf}}
+use Rattle.no_std_io2.specs.{inner.Read.{without_number}, Moves.{WriterState}, Writers.{Writer, FlushOf}}
 use Rattle.base64_stream.specs.{declared.encoder.EncoderWriter.{EncoderWriter}, Encoder.{encoder_writer, encoder_inner, encoder_held}}
 use Rattle.base64_stream.specs.Encoder.{unfinished, is_closed, encoder_engine, KeepsGroup, PutsText, will_have}
 
@@ -14,13 +14,14 @@ SaysClosed e = SaysError InvalidInput (codes "the text is finished") e
 pub data PutsGroups {W : Type 0} {S : ℕ} (I : Writer W) (old : EncoderWriter W S) (x : List ℕ)
     : Result ℕ Error → EncoderWriter W S → Type 0 where
   -- the text is finished: it is refused, and nothing has changed
-  refused : {e : Error} → is_closed old ≡ true → 0 < length x → SaysClosed e → PutsGroups I old x (Err e) old
+  closed_refused : {e : Error} → is_closed old ≡ true → 0 < length x → SaysClosed e → PutsGroups I old x (Err e) old
   -- no group is whole yet: all of x is kept, and no call is made
-  kept : {n : ℕ} {new : EncoderWriter W S} → length (unfinished old ++ x) < 3 → n ≡ length x → unfinished new ≡ unfinished old ++ x
+  all_kept : {n : ℕ} {new : EncoderWriter W S} → length (unfinished old ++ x) < 3 → n ≡ length x → unfinished new ≡ unfinished old ++ x
       → encoder_writer new ≡ encoder_writer old → PutsGroups I old x (Ok n) new
   -- the encoding of whole groups is put into the buffer, whole or not at all: of the unfinished one and some first bytes of x
-  put : {reply : Result ℕ Error} {new : EncoderWriter W S} (n : ℕ) → 0 < n → n ≤ length x → length (unfinished old ++ take n x) % 3 ≡ 0
-      → PutsText I (encode_of (encoder_engine old) (unfinished old ++ take n x)) old (ended reply) new
+  groups_put : {reply : Result ℕ Error} {new : EncoderWriter W S} (n : ℕ) → 0 < n → n ≤ length x
+      → length (unfinished old ++ take n x) % 3 ≡ 0
+      → PutsText I (encode_of (encoder_engine old) (unfinished old ++ take n x)) old (without_number reply) new
       → (reply ≡ Ok n) ⊎ IsErrAnd reply (λ _. KeepsGroup old new) → PutsGroups I old x reply new
 
 -- the device has what it was to have, nothing waits, and the text is closed
@@ -37,9 +38,9 @@ LastPut I old new = ((unfinished old ≡ []) × (encoder_writer new ≡ encoder_
 pub data FinishesText {W : Type 0} {S : ℕ} (I : Writer W) (B : Writer (BufWriter W S)) (old : EncoderWriter W S)
     : Result (Unit {0}) Error → EncoderWriter W S → Type 0 where
   -- the last group could not be put into the buffer, and is kept
-  stopped : {e : Error} {new : EncoderWriter W S} → unfinished old ≢ []
+  group_stopped : {e : Error} {new : EncoderWriter W S} → unfinished old ≢ []
       → PutsText I (encode_of (encoder_engine old) (unfinished old)) old (Err e) new → KeepsGroup old new → FinishesText I B old (Err e) new
   -- it is in there, the text is closed, and this is the result of one flush of the buffer
-  flushed : {reply : Result (Unit {0}) Error} {new : EncoderWriter W S} (mid : EncoderWriter W S) → LastPut I old mid
+  text_flushed : {reply : Result (Unit {0}) Error} {new : EncoderWriter W S} (mid : EncoderWriter W S) → LastPut I old mid
       → FlushOf B (encoder_writer mid) reply (encoder_writer new) → is_closed new ≡ true → unfinished new ≡ []
       → FinishesText I B old reply new

@@ -1,6 +1,7 @@
 -- One line more, in a loop that passes lines on to a writer.
 use Rattle.no_std_io2.proofs.Words.{◌≡◌, ◌<◌, ◌≤◌, ◌+◌, ℕ, List, [], ◌∷◌, ◌++◌, Result, Ok, Err, refl, subst, inl, inr, arith, Vec}
-use Rattle.no_std_io2.proofs.Words.{concat, length-append, append-nil, bytes, newline, Reader, tells, ReaderState, WriterState, MovesFront}
+use Rattle.no_std_io2.proofs.Words.{concat, length-append, append-nil, event_bytes, newline, Reader, tells, ReaderState, WriterState}
+use Rattle.no_std_io2.proofs.Words.{MovesFront}
 use Rattle.no_std_io2.proofs.Words.{true, false, common_steps}
 use Rattle.std.proofs.lemmas.List.{Folds.{concat-append}, Elements.{filter-append}}
 use Rattle.std.specs.Result.{result_and}
@@ -27,39 +28,39 @@ module _ {X A : Type 0} {R : Reader X} {kept : List (List ℕ) → List (List �
   module _ {k : ℕ} (law : ReadUntilLaw R mid newline buf (Ok k) buf' new) where
     module _ (some : k ≡ 0 → ⊥) where
       -- a line that is not kept
-      pub passed_over : n < wanted → kept (before.lines ++ bytes law.taken ∷ []) ≡ kept before.lines
+      pub passed_over : n < wanted → kept (before.lines ++ event_bytes law.taken ∷ []) ≡ kept before.lines
           → LinesPassed kept wanted n old (tells R new) a b
       passed_over few is = record {
-        lines = before.lines ++ bytes law.taken ∷ [];
+        lines = before.lines ++ event_bytes law.taken ∷ [];
         gives = pieces_more before.gives law some;
         count = rw is before.count;
         within = before.within;
-        needed = inr (before.lines, bytes law.taken, refl, omega (arith, before.count));
+        needed = inr (before.lines, event_bytes law.taken, refl, omega (arith, before.count));
         moves = rw is before.moves;
       }
 
       module _ {line : List ℕ} {c : WriterState}
-          (is : kept (before.lines ++ bytes law.taken ∷ []) ≡ kept before.lines ++ bytes law.taken ∷ [])
-          (same : line ≡ bytes law.taken) where
+          (is : kept (before.lines ++ event_bytes law.taken ∷ []) ≡ kept before.lines ++ event_bytes law.taken ∷ [])
+          (same : line ≡ event_bytes law.taken) where
         -- a line that the writer accepted
         pub passed_more : {u : Unit {0}} → n < wanted → MovesFront b line (Ok u) c
             → LinesPassed kept wanted (n + 1) old (tells R new) a c
         passed_more few wrote = record {
-          lines = before.lines ++ bytes law.taken ∷ [];
+          lines = before.lines ++ event_bytes law.taken ∷ [];
           gives = pieces_more before.gives law some;
-          count = rw is (omega (arith, before.count, length-append (kept before.lines) (bytes law.taken ∷ [])));
+          count = rw is (omega (arith, before.count, length-append (kept before.lines) (event_bytes law.taken ∷ [])));
           within = omega arith;
-          needed = inr (before.lines, bytes law.taken, refl, omega (arith, before.count));
+          needed = inr (before.lines, event_bytes law.taken, refl, omega (arith, before.count));
           moves = rw is (Moves-piece (kept before.lines) before.moves wrote same);
         }
 
         -- one that it did not accept whole
         pub stops_writing : {e : Error} → MovesFront b line (Err e) c → StopsWriting kept e old (tells R new) a c
         stops_writing {e = e} wrote = record {
-          lines = before.lines ++ bytes law.taken ∷ [];
+          lines = before.lines ++ event_bytes law.taken ∷ [];
           gives = pieces_more before.gives law some;
-          accepts = rw (is, concat-append (kept before.lines) (bytes law.taken ∷ []), append-nil (bytes law.taken))
-              (MovesFront-join (concat (kept before.lines)) (bytes law.taken) (Err e) (MovesFront-all before.moves)
+          accepts = rw (is, concat-append (kept before.lines) (event_bytes law.taken ∷ []), append-nil (event_bytes law.taken))
+              (MovesFront-join (concat (kept before.lines)) (event_bytes law.taken) (Err e) (MovesFront-all before.moves)
               (subst (λ l. MovesFront b l (Err e) c) same wrote));
         }
 
@@ -85,15 +86,15 @@ module _ {X A : Type 0} {R : Reader X} {kept : List (List ℕ) → List (List �
 pub stops_at_part : {X A : Type 0} {R : Reader X} {wanted n : ℕ} {old : ReaderState} {a b c : WriterState} {mid new : X}
     {buf buf' : Vec ℕ A}
     {fault e : Error} {line : List ℕ} (wrote : Result (Unit {0}) Error) (before : LinesPassed every_line wanted n old (tells R mid) a b)
-    (law : ReadUntilLaw R mid newline buf (Err fault) buf' new) → line ≡ bytes law.taken → MovesFront b line wrote c
+    (law : ReadUntilLaw R mid newline buf (Err fault) buf' new) → line ≡ event_bytes law.taken → MovesFront b line wrote c
     → Err e ≡ result_and {U = Unit {0}} wrote (Err fault) → StopsAtPart e old (tells R new) a c
 stops_at_part {b = b} {c = c} {fault = fault} wrote before law same moves is = record {
   lines = before.lines;
-  part = bytes law.taken;
+  part = event_bytes law.taken;
   fault = fault;
   stops = stops_reading before.gives law;
   wrote = wrote;
-  accepts = MovesFront-join (concat before.lines) (bytes law.taken) wrote (MovesFront-all before.moves)
+  accepts = MovesFront-join (concat before.lines) (event_bytes law.taken) wrote (MovesFront-all before.moves)
       (subst (λ l. MovesFront b l wrote c) same moves);
   is = is;
 }

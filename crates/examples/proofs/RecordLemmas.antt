@@ -2,7 +2,8 @@
 use Rattle.no_std_io2.proofs.Words.{◌≡◌, ℕ, ◌+◌, ◌≤◌, List, [], ◌∷◌, ◌++◌, length, take, Bool, true, false, Option, None, Some, Result, Ok}
 use Rattle.no_std_io2.proofs.Words.{Err, refl, sym, ap, subst, ◌∙◌, arith, inl, inr, IsSomeAnd, append_assoc, append-nil, length-append}
 use Rattle.no_std_io2.proofs.Words.{if◌then◌else◌, drop, take-append_seam, drop-append_seam, common_steps, reader_held, reader_inner}
-use Rattle.no_std_io2.proofs.Words.{behind_held, Event, fails, bytes, events_of, bytes_to_fault, first_fault, Reader, tells, ReaderState}
+use Rattle.no_std_io2.proofs.Words.{behind_held, Event, fails, event_bytes, events_of, bytes_to_fault, first_fault, Reader, tells}
+use Rattle.no_std_io2.proofs.Words.{ReaderState}
 use Rattle.no_std_io2.proofs.Words.{Takes, AreTaken, to_come, IsFront, ◌<◌, get_or, IsInterruption, IsFault, ◌^◌, IsOk}
 use Rattle.no_std_io2.proofs.{BufferedReads.{buf_reader, told_behind}, TakesLemmas.{bytes-append, bytes-behind, bytes-events_of}}
 use Rattle.no_std_io2.proofs.{TakesLemmas.{HasNoFault-append, HasNoFault-events_of, events_of-append}, GivenPieces.{first_fault-append}}
@@ -12,7 +13,7 @@ use Rattle.std.proofs.{Common.{slice_index_or, IfSome}, lemmas.Nat.{from_be_byte
 use Rattle.no_std_io2.specs.{declared.{io.Error.{Error}, buffered.buf_reader.BufReader.{BufReader}}, Errors.{IsUnexpectedEnd}}
 use Rattle.no_std_io2.specs.{inner.Buffer.{HasTo}, BufReader.{FillsTo}, inner.Reads.{GathersTo}, Reads.{Took, Skipped}, Takes.{LosesFirst}}
 use Rattle.no_std_io2.specs.{inner.Read.{FilledLaw}, Read.{ConsumeLaw, ReadExactLaw}}
-use Rattle.examples.specs.{Headers.{LooksAhead, SeesHeader, PeeksAt}, Lengths.{AreRecords, none, more, IsCutOff, SkipsRecords}}
+use Rattle.examples.specs.{Headers.{LooksAhead, SeesHeader, PeeksAt}, Lengths.{AreRecords, no_record, and_record, IsCutOff, SkipsRecords}}
 use Rattle.examples.specs.Messages.{message}
 use Rattle.std.specs.Int.{w16, to_be_bytes, from_be_bytes}
 
@@ -25,26 +26,26 @@ told_of {S = room} K r = told_behind room (reader_held r) (tells K (reader_inner
 
 -- what the look returns, by how the `fill_to` ended
 peeks_at : (how : Result Bool Error) (reply : Result (ℕ × ℕ) Error) (held given : List ℕ) (P E' : List Event) (now : ReaderState)
-    → SeesHeader how reply (held ++ given) → HasTo 2 how (length (held ++ given)) → bytes P ≡ given → GathersTo P how now
+    → SeesHeader how reply (held ++ given) → HasTo 2 how (length (held ++ given)) → event_bytes P ≡ given → GathersTo P how now
     → to_come now ≡ Some E' → PeeksAt (events_of held ++ (P ++ E')) reply
 peeks_at (Ok true) (Ok header) held given P E' now sees enough is ends told =
-    let whole : bytes (events_of held ++ (P ++ E')) ≡ (header.0 ∷ header.1 ∷ sees.0) ++ bytes E' =
+    let whole : event_bytes (events_of held ++ (P ++ E')) ≡ (header.0 ∷ header.1 ∷ sees.0) ++ event_bytes E' =
     grind (arith, append_assoc, bytes-append, bytes-behind, is, sees.1) in
     sym (ap (take 2) whole)
 peeks_at (Ok false) (Err e) held given P E' now sees few is ends told =
     let nothing : E' ≡ [] = subst (λ o. IfSome o (λ l. l ≡ [])) told ends.1 in
     let clean = HasNoFault-append (events_of held) (P ++ []) (HasNoFault-events_of held) (HasNoFault-append P [] ends.0 tt) in
-    let read : bytes_to_fault (events_of held ++ (P ++ [])) ≡ bytes (events_of held ++ (P ++ [])) =
+    let read : bytes_to_fault (events_of held ++ (P ++ [])) ≡ event_bytes (events_of held ++ (P ++ [])) =
     ap bytes_to_fault (sym (append-nil (events_of held ++ (P ++ []))))
     ∙ bytes_to_fault-append (events_of held ++ (P ++ [])) [] clean ∙ append-nil _ in
-    let all : bytes (events_of held ++ (P ++ [])) ≡ held ++ given =
-    ap (λ l. bytes (events_of held ++ l)) (append-nil P) ∙ bytes-behind held P ∙ ap (λ l. held ++ l) is in
+    let all : event_bytes (events_of held ++ (P ++ [])) ≡ held ++ given =
+    ap (λ l. event_bytes (events_of held ++ l)) (append-nil P) ∙ bytes-behind held P ∙ ap (λ l. held ++ l) is in
     rw nothing (omega (arith, few, ap length (read ∙ all)), inl (sees, clean))
 peeks_at (Err fault) (Err e) held given P E' now sees few is ends told =
     let (Q, split, clean, real) = ends in
     let front = HasNoFault-append (events_of held) Q (HasNoFault-events_of held) clean in
     let order : events_of held ++ (P ++ E') ≡ (events_of held ++ Q) ++ fails fault ∷ E' = rw split (grind (arith, append_assoc)) in
-    let given_is : bytes Q ≡ given = grind (arith, common_steps, bytes-append, ap bytes split, is) in
+    let given_is : event_bytes Q ≡ given = grind (arith, common_steps, bytes-append, ap event_bytes split, is) in
     let mine : first_fault (fails fault ∷ E') ≡ Some fault = ap (λ t. if t then first_fault E' else Some fault) real in
     let gone : bytes_to_fault (fails fault ∷ E') ≡ [] = ap (λ t. if t then bytes_to_fault E' else []) real in
     rw (sees, order) (
@@ -57,8 +58,8 @@ peeks_at (Err fault) (Err e) held given P E' now sees few is ends told =
         ap length (bytes-events_of held),
         ap length given_is,
         length-append held given,
-        length-append (bytes (events_of held ++ Q)) (bytes_to_fault (fails fault ∷ E')),
-        length-append (bytes (events_of held)) (bytes Q),
+        length-append (event_bytes (events_of held ++ Q)) (bytes_to_fault (fails fault ∷ E')),
+        length-append (event_bytes (events_of held)) (event_bytes Q),
       ),
       inr (first_fault-append (events_of held ++ Q) (fails fault ∷ E') front ∙ mine),
     )
@@ -131,7 +132,7 @@ pub record RecordsTaken {X : Type 0} (R : Reader X) (old now : X) : Type 0 where
 
 -- at the start there are none
 pub records_none : {X : Type 0} (R : Reader X) (old : X) → RecordsTaken R old old
-records_none R old = record { xs = []; records = none; took = Took-none _ }
+records_none R old = record { xs = []; records = no_record; took = Took-none _ }
 
 -- some lent bytes begin with their first one
 first_of : (lent : List ℕ) → 0 < length lent → take 1 lent ≡ get_or lent 0 0 ∷ []
@@ -164,8 +165,8 @@ module _ {X : Type 0} {R : Reader X} {old now after : X} (before : RecordsTaken 
       -- and so was the rest of it
       pub records_more : {new : X} {left : ℕ} {u : Unit {0}} → Skipped R mid len (Ok u) left new → RecordsTaken R old new
       records_more s = record {
-        xs = before.xs ++ len ∷ bytes s.taken;
-        records = more before.xs (bytes s.taken) len before.records (omega (arith, s.count, s.ends.1));
+        xs = before.xs ++ len ∷ event_bytes s.taken;
+        records = and_record before.xs (event_bytes s.taken) len before.records (omega (arith, s.count, s.ends.1));
         took = Took-then before.took
             (Took-then length_taken (record { taken = s.taken; takes = s.takes; are = refl; ends = s.ends.0 }));
       }
@@ -173,17 +174,17 @@ module _ {X : Type 0} {R : Reader X} {old now after : X} (before : RecordsTaken 
       -- a fault or the end came first
       pub records_cut : {new : X} {left : ℕ} {e : Error} → Skipped R mid len (Err e) left new → SkipsRecords R old (Err e) new
       records_cut {new} {e = e} s =
-          let cut : IsCutOff (len ∷ bytes s.taken) = (len, bytes s.taken, refl, omega (arith, s.count, s.ends.0)) in (
+          let cut : IsCutOff (len ∷ event_bytes s.taken) = (len, event_bytes s.taken, refl, omega (arith, s.count, s.ends.0)) in (
             before.xs,
-            len ∷ bytes s.taken,
+            len ∷ event_bytes s.taken,
             before.records,
             elim s.ends.1 [
               | inl fault ↦
-                  let rest : Took (tells R mid) (bytes s.taken) (Err e) (tells R new) =
+                  let rest : Took (tells R mid) (event_bytes s.taken) (Err e) (tells R new) =
                   record { taken = s.taken; takes = s.takes; are = refl; ends = fault } in
                   inl (Took-then before.took (Took-then length_taken rest), inr cut)
               | inr end ↦
-                  let rest : Took (tells R mid) (bytes s.taken) (Ok false) (tells R new) =
+                  let rest : Took (tells R mid) (event_bytes s.taken) (Ok false) (tells R new) =
                   record { taken = s.taken; takes = s.takes; are = refl; ends = (end.1, end.2) } in
                   inr (Took-then before.took (Took-then length_taken rest), end.0, cut)
             ],

@@ -3,7 +3,8 @@ use Rattle.no_std_io2.proofs.Words.{◌≡◌, ℕ, List, [], length, Result, Ok
 use Rattle.no_std_io2.proofs.Words.{common_steps}
 use Rattle.no_std_io2.proofs.Words.{nil_from_length, with_buffer, writer_inner, writer_buffer, writer_told, WriterState, Moves, MovesFront}
 use Rattle.std.specs.Result.{is_ok}
-use Rattle.no_std_io2.specs.{declared.io.Error.{Error}, declared.buffered.buf_writer.BufWriter.{BufWriter}, Retries.{Tries, last, again}}
+use Rattle.no_std_io2.specs.{declared.io.Error.{Error}, declared.buffered.buf_writer.BufWriter.{BufWriter}}
+use Rattle.no_std_io2.specs.Retries.{Tries, last_try, next_try}
 use Rattle.no_std_io2.proofs.BufWriterLemmas.{MovesFront-device}
 
 -- if a buffer in front of a writer holds nothing, neither does the writer
@@ -23,11 +24,11 @@ module _ {W : Type 0} {law : W → List ℕ → Result (Unit {0}) Error → W �
   -- one try that succeeded
   pub tried_once : {old new : W} {x left : List ℕ} (reply : Result (Unit {0}) Error) → is_ok reply ≡ true → law old x reply new left
       → Tries law 1 old x (Ok tt) new left
-  tried_once reply was made = grind (arith, common_steps, last)
+  tried_once reply was made = grind (arith, common_steps, last_try)
 
   -- one that failed, and another one
   pub tried_twice : {old new : W} {x left : List ℕ} (mid : W) (rest : List ℕ) (first reply : Result (Unit {0}) Error)
       → is_ok first ≡ false → law old x first mid rest → law mid rest reply new left → Tries law 1 old x reply new left
-  tried_twice mid rest (Err e) (Ok u) was made next = again made (last next tt)
-  tried_twice mid rest (Err e) (Err f) was made next = again made (last next refl)
+  tried_twice mid rest (Err e) (Ok u) was made next = next_try made (last_try next tt)
+  tried_twice mid rest (Err e) (Err f) was made next = next_try made (last_try next refl)
   tried_twice mid rest (Ok u) reply was made next = cc

@@ -1,5 +1,5 @@
 -- One line more, in the search for a key.
-use Rattle.no_std_io2.proofs.Words.{◌≡◌, ℕ, List, [], ◌∷◌, ◌++◌, Option, None, Some, Ok, Err, refl, sym, ap, ◌∙◌, Vec, bytes, newline}
+use Rattle.no_std_io2.proofs.Words.{◌≡◌, ℕ, List, [], ◌∷◌, ◌++◌, Option, None, Some, Ok, Err, refl, sym, ap, ◌∙◌, Vec, event_bytes, newline}
 use Rattle.no_std_io2.proofs.Words.{Reader, tells, ReaderState}
 use Rattle.no_std_io2.specs.{BufRead.{ReadUntilLaw}, Errors.{IsOutOfMemory}, Pieces.{GivesPieces}, declared.io.Error.{Error}}
 use Rattle.no_std_io2.proofs.GivenPieces.{pieces_more, pieces_end, stops_reading, stops_copying}
@@ -31,22 +31,22 @@ module _ {X A : Type 0} {R : Reader X} {key : List ℕ} {old : ReaderState} {mid
     (before : LinesWithout key old (tells R mid)) where
   -- a line without the key
   pub without_more : {n : ℕ} (law : ReadUntilLaw R mid newline buf (Ok n) buf' new) → (n ≡ 0 → ⊥)
-      → None ≡ setting_in key (bytes law.taken) → LinesWithout key old (tells R new)
+      → None ≡ setting_in key (event_bytes law.taken) → LinesWithout key old (tells R new)
   without_more law some none = record {
-    lines = before.lines ++ bytes law.taken ∷ [];
+    lines = before.lines ++ event_bytes law.taken ∷ [];
     gives = pieces_more before.gives law some;
-    none = first_value-last key before.lines (bytes law.taken) before.none ∙ sym none;
+    none = first_value-last key before.lines (event_bytes law.taken) before.none ∙ sym none;
   }
 
   -- the line that has it
   pub finds_here : {n : ℕ} (law : ReadUntilLaw R mid newline buf (Ok n) buf' new) → (n ≡ 0 → ⊥) → (x : List ℕ)
-      → Some x ≡ setting_in key (bytes law.taken) → FindsSetting key old (Some x) (tells R new)
+      → Some x ≡ setting_in key (event_bytes law.taken) → FindsSetting key old (Some x) (tells R new)
   finds_here law some x is = record {
-    lines = before.lines ++ bytes law.taken ∷ [];
+    lines = before.lines ++ event_bytes law.taken ∷ [];
     gives = pieces_more before.gives law some;
-    first = is ∙ sym (first_value-last key before.lines (bytes law.taken) before.none);
+    first = is ∙ sym (first_value-last key before.lines (event_bytes law.taken) before.none);
     all = λ none. cc;
-    needed = (before.lines, bytes law.taken, refl, before.none);
+    needed = (before.lines, event_bytes law.taken, refl, before.none);
   }
 
   -- no line has it

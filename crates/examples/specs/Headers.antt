@@ -3,7 +3,7 @@ use Rattle.std.specs.Prelude.{◌≡◌, ◌<◌, ◌⊎◌, ℕ, List, [], ◌�
 use Rattle.std.specs.Prelude.{Bool, true, false, Result, Ok, Err}
 use Rattle.no_std_io2.specs.BufReader.{reader_held}
 use Rattle.no_std_io2.specs.Errors.{IsUnexpectedEnd}
-use Rattle.no_std_io2.specs.{Events.{Event, bytes, HasNoFault}, inner.Events.{bytes_to_fault, first_fault}, BufReader.{FillsTo}}
+use Rattle.no_std_io2.specs.{Events.{Event, event_bytes, HasNoFault}, inner.Events.{bytes_to_fault, first_fault}, BufReader.{FillsTo}}
 use Rattle.no_std_io2.specs.{Takes.{Reader}, Moves.{IsFront}}
 use Rattle.no_std_io2.specs.declared.buffered.buf_reader.BufReader.{BufReader}
 use Rattle.no_std_io2.specs.declared.io.Error.{Error}
@@ -24,7 +24,7 @@ pub record LooksAhead {R : Type 0} {S : ℕ} (inner : Reader R) (old : BufReader
 
 -- What a look at the header returns if E is to come: the next two bytes; or an error, if fewer come before the first fault or the end.
 abbrev pub PeeksAt : List Event → Result (ℕ × ℕ) Error → Type 0
-PeeksAt E (Ok header) = header.0 ∷ header.1 ∷ [] ≡ take 2 (bytes E)
+PeeksAt E (Ok header) = header.0 ∷ header.1 ∷ [] ≡ take 2 (event_bytes E)
 PeeksAt E (Err e) = (length (bytes_to_fault E) < 2) × ((IsUnexpectedEnd e × HasNoFault E) ⊎ (first_fault E ≡ Some e))
 
 -- the bytes of the record that was returned

@@ -40,7 +40,7 @@ pub data ReadsEntry {X : Type 0} (S : Seeker X) (R : Reader X) (i : ℕ) (old : 
   no_index : {e : Error} {new : X} → ReadsNumber S R old (End (negsuc 3)) (Err e) new → ReadsEntry S R i old entry (Err e) entry new
   no_place : {index : ℕ} {e : Error} {mid new : X} → ReadsNumber S R old (End (negsuc 3)) (Ok index) mid
       → ReadsNumber S R mid (Start (index + 4 * i)) (Err e) new → ReadsEntry S R i old entry (Err e) entry new
-  found : {index place : ℕ} {reply : Result (Unit {0}) Error} {entry' : List ℕ} {mid late new : X}
+  entry_was_read : {index place : ℕ} {reply : Result (Unit {0}) Error} {entry' : List ℕ} {mid late new : X}
       → ReadsNumber S R old (End (negsuc 3)) (Ok index) mid → ReadsNumber S R mid (Start (index + 4 * i)) (Ok place) late
       → ReadAtLaw S R late (Start place) entry reply entry' new → ReadsEntry S R i old entry reply entry' new
 

@@ -4,8 +4,8 @@ use Rattle.no_std_io2.specs.{Errors.{IsUnexpectedEnd}, Reads.{Took}, Takes.{Read
 
 -- these bytes are whole records: each is a length, in one byte, followed by that many bytes
 pub data AreRecords : List ℕ → Type 0 where
-  none : AreRecords []
-  more : (xs body : List ℕ) (len : ℕ) → AreRecords xs → length body ≡ len → AreRecords (xs ++ len ∷ body)
+  no_record : AreRecords []
+  and_record : (xs body : List ℕ) (len : ℕ) → AreRecords xs → length body ≡ len → AreRecords (xs ++ len ∷ body)
 
 -- these bytes are a record whose end is missing
 abbrev pub IsCutOff : List ℕ → Type 0

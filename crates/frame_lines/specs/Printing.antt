@@ -17,8 +17,8 @@ pub record PrintsPayload {W : Type 0} (told : W → WriterState) (old new : Line
 -- From `from` frames with these payloads were taken, one after another, into a room, and for each one line was printed to `to`.
 pub data PrintsEach {R W : Type 0} (I : Reader R) (told : W → WriterState) (from : FrameReader R 512) (room : List ℕ) (to : LineLog W 16386)
     : List (List ℕ) → FrameReader R 512 → List ℕ → LineLog W 16386 → Type 0 where
-  nothing : PrintsEach I told from room to [] from room to
-  frame : {payloads : List (List ℕ)} {mid new : FrameReader R 512} {held room' : List ℕ} {log log' : LineLog W 16386} (n : ℕ)
+  no_frame : PrintsEach I told from room to [] from room to
+  and_frame : {payloads : List (List ℕ)} {mid new : FrameReader R 512} {held room' : List ℕ} {log log' : LineLog W 16386} (n : ℕ)
       → PrintsEach I told from room to payloads mid held log → TakesFrame I mid held (Ok (Some n)) new room' → PrintsPayload told log log'
       → PrintsEach I told from room to (payloads ++ take n room' ∷ []) new room' log'
 

@@ -2,7 +2,8 @@
 use Rattle.no_std_io2.proofs.Words.{◌≡◌, ℕ, ◌+◌, ◌<◌, ◌≤◌, ◌^◌, List, [], ◌∷◌, ◌++◌, length, take, drop, Option, Some, None, if◌then◌else◌}
 use Rattle.no_std_io2.proofs.Words.{Bool, false, Result, Ok, Err, IsSomeAnd, refl, sym, ap, subst, ◌∙◌, inl, inr, arith, append_assoc}
 use Rattle.no_std_io2.proofs.Words.{append-nil, length-append, length-take, take-append_seam, drop-append_seam, take-append-le, IsFault}
-use Rattle.no_std_io2.proofs.Words.{Event, fails, bytes, events_of, HasNoFault, first_fault, AreTaken, to_come, IsAtEnd, Reader, tells}
+use Rattle.no_std_io2.proofs.Words.{Event, fails, event_bytes, events_of, HasNoFault, first_fault, AreTaken, to_come, IsAtEnd, Reader}
+use Rattle.no_std_io2.proofs.Words.{tells}
 use Rattle.no_std_io2.proofs.Words.{WriterState, behind_held}
 use Rattle.std.proofs.{Common.{All}, lemmas.{List.{append_cancel_left}, List.Elements.{All-head}}}
 use Rattle.std.specs.Int.{w32, to_le_bytes, from_le_bytes}
@@ -115,13 +116,13 @@ module _ {R : Type 0} {S : ℕ} {I : Reader R} {old new : FrameReader R S} {room
       by (Some E) (Some E') is are told = of reply whole law.ends
         where
           -- all that was to come is the frame that was given, and then what is to come
-          whole : frames sent ≡ given_frame reply room' ++ bytes (events_of seen' ++ E')
+          whole : frames sent ≡ given_frame reply room' ++ event_bytes (events_of seen' ++ E')
           whole = grind (arith, append_assoc, bytes-append, bytes-behind, seen, seen', took)
 
-          none_left : IsAtEnd (tells I (reads_from new)) → seen' ≡ bytes (events_of seen' ++ E')
+          none_left : IsAtEnd (tells I (reads_from new)) → seen' ≡ event_bytes (events_of seen' ++ E')
           none_left end = rw (bytes-behind seen', (rw is at end)) (sym (append-nil seen'))
 
-          of : (reply : Result (Option ℕ) Error) → frames sent ≡ given_frame reply room' ++ bytes (events_of seen' ++ E')
+          of : (reply : Result (Option ℕ) Error) → frames sent ≡ given_frame reply room' ++ event_bytes (events_of seen' ++ E')
               → EndsFrame (length room) law.how reply seen' → GivesBack (length room) sent (Some (events_of seen ++ E)) reply room'
               (Some (events_of seen' ++ E'))
           of (Ok (Some n)) whole ends = first_frame sent room' n _ small ends.2 whole
@@ -140,7 +141,8 @@ module _ {R : Type 0} {S : ℕ} {I : Reader R} {old new : FrameReader R S} {room
                   let end = ended (Ok false) is in
                   absurd (no_part seen' sent (none_left end.1 ∙ sym whole) small inside.0 inside.1)
               | inr (inr (is, long)) ↦
-                  let first = first_long (length room) seen' (bytes E') sent (sym (whole ∙ bytes-behind seen' E')) small long.0 long.1 in
+                  let first =
+                  first_long (length room) seen' (event_bytes E') sent (sym (whole ∙ bytes-behind seen' E')) small long.0 long.1 in
                   inr (first.0, first.1, first.2, first.3, long.2)
             ],
           )
@@ -150,7 +152,7 @@ went_out : {a b : WriterState} (sent : List (List ℕ)) (bs : List ℕ) → Went
 went_out {a} sent bs w = append_cancel_left a.out bs (frames sent) (sym w.out ∙ device_empty w.moves w.empty w.flushed)
 
 -- and if they are told to come, so are the frames
-pub round : (a b : WriterState) (sent : List (List ℕ)) (told : Option (List Event)) → IsSomeAnd told (λ E. WentOut a sent b (bytes E))
+pub round : (a b : WriterState) (sent : List (List ℕ)) (told : Option (List Event)) → IsSomeAnd told (λ E. WentOut a sent b (event_bytes E))
     → AreToCome sent told
 round a b sent None went = absurd went
-round a b sent (Some E) went = went_out sent (bytes E) went
+round a b sent (Some E) went = went_out sent (event_bytes E) went

@@ -1,12 +1,12 @@
 -- What a reader of frames gives back of the frames that a writer sent.
 use Rattle.std.specs.Prelude.{◌≡◌, ◌⊎◌, ℕ, ◌<◌, List, [], ◌∷◌, ◌++◌, length, take, Option, Some, None, Result, Ok, Err, IfSome, IsSomeAnd}
-use Rattle.no_std_io2.specs.{Events.{Event, bytes}, inner.Events.{first_fault}, Moves.{WriterState, Moves}}
+use Rattle.no_std_io2.specs.{Events.{Event, event_bytes}, inner.Events.{first_fault}, Moves.{WriterState, Moves}}
 use Rattle.no_std_io2.specs.declared.io.{Error.{Error}, ErrorKind.{ErrorKind}}
 use Rattle.framing.specs.{Frames.{frames}, Taking.{SaysNoRoom}}
 
 -- events are told, and their bytes are the frames of these payloads
 abbrev pub AreToCome : List (List ℕ) → Option (List Event) → Type 0
-AreToCome payloads told = IsSomeAnd told (λ E. bytes E ≡ frames payloads)
+AreToCome payloads told = IsSomeAnd told (λ E. event_bytes E ≡ frames payloads)
 
 -- the first of these payloads is longer than `limit`, and e says so
 abbrev RefusesFirst : ℕ → List (List ℕ) → Error → Type 0

@@ -1,7 +1,7 @@
 //! [`FrameReader`], which reads frames. A fault loses no frame, and no frame is given twice.
 ghost use Rattle.std.specs.Prelude.{◌≡◌, ◌+◌, ◌<◌, ◌≤◌, ◌^◌, ℕ, List, [], ◌++◌, All, true, take, drop, length, Ok, IfOk, IfSome, IfNone};
 ghost use Rattle.std.specs.Prelude.{IsSomeAnd};
-ghost use Rattle.no_std_io2.specs.Events.{bytes};
+ghost use Rattle.no_std_io2.specs.Events.{event_bytes};
 ghost use Rattle.no_std_io2.specs.Takes.{to_come};
 ghost use Rattle.no_std_io2.specs.Takes.{tells};
 ghost use Rattle.no_std_io2.specs.Moves.{WriterState};
@@ -90,7 +90,7 @@ impl<R: Read, const S: usize> FrameReader<R, S> {
             (frame_to_come R.Read self.new room.new) }
         // So do those that a writer of frames sent.
         ensures round { (old new : WriterState) (sent : List (List ℕ))
-            → IsSomeAnd (frame_to_come R.Read self.old room.old) (λ E. WentOut old sent new (bytes E))
+            → IsSomeAnd (frame_to_come R.Read self.old room.old) (λ E. WentOut old sent new (event_bytes E))
             → All (λ p. length p < 2 ^ 32) sent → GivesBack (length room.old) sent (frame_to_come R.Read self.old room.old) result room.new
             (frame_to_come R.Read self.new room.new) }
         ensures within { IfOk result (λ o. IfSome o (λ n. n ≤ length room.new)) }

@@ -3,12 +3,13 @@ use Rattle.std.proofs.{lemmas.{Grind.{common_steps}, Nat.{le-div}}, Common.{◌&
 use Rattle.no_std_io2.proofs.Words.{ℕ, zero, suc, ◌<◌, Bool, List, [], ◌∷◌, ◌++◌, length, get_or, Result, arith, Event, Takes, Reader}
 use Rattle.no_std_io2.proofs.Words.{tells, ◌≡◌, ◌+◌, ◌-◌, ◌*◌, ◌/◌, ◌≤◌, ⊎_elim, cases_lt, min, nat_eq, nat_lt, true, false, if◌then◌else◌}
 use Rattle.no_std_io2.proofs.Words.{take, drop, Some, Ok, Err, refl, sym, ap, ap₂, subst, ◌∙◌, inl, inr, length-append, length-drop}
-use Rattle.no_std_io2.proofs.Words.{length-take-le, le_refl, drop-append_seam, nil_from_length, nat_tests, fails, events_of, bytes}
+use Rattle.no_std_io2.proofs.Words.{length-take-le, le_refl, drop-append_seam, nil_from_length, nat_tests, fails, events_of, event_bytes}
 use Rattle.no_std_io2.proofs.Words.{AreTaken, to_come, IsAtEnd, ReadCall, bytes_given, GaveLaw, ReadCallLaw, Gathers, no_read, and_gave}
 use Rattle.no_std_io2.proofs.Words.{and_again, ExactCalls, FillsRoom, IsReadMeter, bytes_left, Made, reader_held, reader_behind}
 use Rattle.no_std_io2.proofs.Words.{reader_inner, behind_held, PassesOn, ReadsBelow, of_held, went_past, was_filled, FillsBelow, lent_held}
 use Rattle.no_std_io2.proofs.{Words.{lent_read}, TakesLemmas.{takes_none, takes_then, made_takes, stays_at_end, left_of, bytes-append}}
-use Rattle.no_std_io2.proofs.{TakesLemmas.{bytes-events_of, events_of-append}, CallsLemmas.{made_split}, BufferedReads.{some_room, held-le}}
+use Rattle.no_std_io2.proofs.{TakesLemmas.{bytes-events_of, events_of-append}, CallsLemmas.{made_split}}
+use Rattle.no_std_io2.proofs.BufferedReads.{reader_has_room, held-le}
 use Rattle.no_std_io2.proofs.{BufferedReads.{told_behind, buf_reader}, InMemoryReads.{drawn, fills_told}}
 use Rattle.no_std_io2.specs.{declared.io.Error.{Error}, declared.buffered.buf_reader.BufReader.{BufReader}, inner.Read.{FilledLaw}}
 use Rattle.no_std_io2.specs.Read.{ConsumeLaw}
@@ -147,7 +148,7 @@ module _ {R : Type 0} {S : ℕ} (I : Reader R) where
       let one = drawn answer fills law in
       let read : OneCall S (length (reader_held a)) (behind a) (length (reader_held b)) (behind b) 1 =
       one_read (length one.gave) none (omega (arith, one.rest)) (kept one.gave one.is) (λ few. omega (arith, one.count, one.rest)) in
-      (1, λ cost meter. omega (arith, meter _ _ room answer law.call, some_room a), read, one.fills)
+      (1, λ cost meter. omega (arith, meter _ _ room answer law.call, reader_has_room a), read, one.fills)
 
   once_read : (a b : BufReader R S) (room : ℕ) (answer : Result (List ℕ) Error) → Filling a → ReadsBelow I a room answer b → Once a b
   once_read a b room answer fills read =
@@ -177,8 +178,9 @@ module _ {R : Type 0} {S : ℕ} (I : Reader R) (start : BufReader R S) where
       subst (λ E. AreTaken E P (Some (events_of (all b)))) (told a fills)
       (subst (λ E. AreTaken (to_come (tells L a)) P E) (told b after) takes.events)
 
-  drew : (a b : BufReader R S) (P : List Event) → Filling I a → Filling I b → Takes (tells L a) P (tells L b) → all a ≡ bytes P ++ all b
-  drew a b P fills after takes = simp (bytes-append, bytes-events_of) at (ap bytes (taken a b P fills after takes))
+  drew : (a b : BufReader R S) (P : List Event) → Filling I a → Filling I b → Takes (tells L a) P (tells L b)
+      → all a ≡ event_bytes P ++ all b
+  drew a b P fills after takes = simp (bytes-append, bytes-events_of) at (ap event_bytes (taken a b P fills after takes))
 
   took : (a b : BufReader R S) (x : List ℕ) → Filling I a → Filling I b → Takes (tells L a) (events_of x) (tells L b) → all a ≡ x ++ all b
   took a b x fills after takes = drew a b (events_of x) fills after takes ∙ ap (λ l. l ++ all b) (bytes-events_of x)
@@ -189,7 +191,7 @@ module _ {R : Type 0} {S : ℕ} (I : Reader R) (start : BufReader R S) where
 
   -- at the end no byte is to come
   ended : (b : BufReader R S) → Filling I b → IsAtEnd (tells L b) → all b ≡ []
-  ended b fills end = simp bytes-events_of at (ap bytes (subst (λ E. IfSome E (λ l. l ≡ [])) (told b fills) end))
+  ended b fills end = simp bytes-events_of at (ap event_bytes (subst (λ E. IfSome E (λ l. l ≡ [])) (told b fills) end))
 
   -- the calls so far are paid for, if z asks met the end, and the inner reader fills its room
   pub record Paid (z : ℕ) (r : BufReader R S) : Type 0 where
@@ -248,7 +250,7 @@ module _ {R : Type 0} {S : ℕ} (I : Reader R) (start : BufReader R S) where
       let whole = length-append (reader_held a) (bytes_left I (reader_inner a)) in
       let rest = length-append (reader_held b) (bytes_left I (reader_inner b)) in
       let met : (nat_eq (length x) 0 && nat_eq (length (reader_held b)) 0) ≡ nat_lt (length (all a)) 1 =
-      read_ends (length x) (length (all a)) (some_room a) once.2 (omega (arith, ap length gave, length-append x (all b), whole, rest))
+      read_ends (length x) (length (all a)) (reader_has_room a) once.2 (omega (arith, ap length gave, length-append x (all b), whole, rest))
       whole in (
         is ∙ ap Ok met,
         drops len x (all a) (all b) gave law.bound (λ none some. ended b once.3 (law.end (ap Ok none) some)),
@@ -281,7 +283,7 @@ module _ {R : Type 0} {S : ℕ} (I : Reader R) (start : BufReader R S) where
       let now = gathers_paid before z a mid first paid in
       let once = once_read I mid b room (Ok []) now.fills last.call in
       let over = ended b once.3 (last.end refl asked.1) in
-      let whole = ap length (drew a b law.taken paid.fills once.3 law.takes) ∙ length-append (bytes law.taken) (all b) in
+      let whole = ap length (drew a b law.taken paid.fills once.3 law.takes) ∙ length-append (event_bytes law.taken) (all b) in
       let short : length (all a) < len = omega (arith, whole, ap length over, law.ends.0, long) in
       let met : true ≡ nat_lt (length (all a)) len = grind (arith, nat_tests, short) in (
         is ∙ ap (λ k. end_or_error k e) end.0 ∙ ap Ok met,
@@ -353,6 +355,6 @@ module _ {R : Type 0} {S : ℕ} (I : Reader R) (start : BufReader R S) where
   pub few_reads : (z : ℕ) (b : BufReader R S) → Paid z b → (cost : R → ℕ) → IsReadMeter I.may cost
       → cost (reader_inner b) ≤ cost (reader_inner start) + ((length (all start) - length (all b)) / S + 1 + z)
   few_reads z b paid cost meter =
-      let bound = paid_bound S (length (all start)) (some_room start) (held-le b) paid.paid in
+      let bound = paid_bound S (length (all start)) (reader_has_room start) (held-le b) paid.paid in
       let long = length-append (reader_held b) (bytes_left I (reader_inner b)) in
       omega (arith, paid.cost cost meter, subst (λ n. paid.reads ≤ (length (all start) - n) / S + 1 + z) (sym long) bound)

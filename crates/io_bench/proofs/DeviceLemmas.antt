@@ -7,7 +7,7 @@ use Rattle.no_std_io2.proofs.{MovesLemmas.{Moves-refl, Moves-forget, count_by-ap
 use Rattle.no_std_io2.proofs.InMemoryReads.{fills_by, drawn, fills_told}
 use Rattle.std.proofs.{Common.{take-take, take_all, set, IsOkAnd}, Math.Seq.{take-add}, lemmas.List.{take_more_set, drop-drop}}
 use Rattle.no_std_io2.specs.{declared.io.Error.{Error}, declared.io.ErrorKind.TheVariants.{WriteZero}, declared.io.ErrorKind.{ErrorKind}}
-use Rattle.no_std_io2.specs.{inner.Moves.{HasSpent}, Write.{taken, write_mishap}, inner.Write.{zero_write}}
+use Rattle.no_std_io2.specs.{inner.Moves.{HasSpent}, Write.{accepted_of, write_mishap}, inner.Write.{zero_write}}
 use Rattle.std.specs.Option.{option_map}
 use Rattle.io_bench.specs.{declared.faulty.{Act.{Act, TheVariants.{Take}}, Faulty.{Faulty}}, Faulty.{act_mishap, act_mishaps, acts_left}}
 use Rattle.io_bench.specs.{Faulty.{faulty_inner, faulty_told, first_act, with_acts, WritesBehind}, declared.feed.Event.{Event}}
@@ -70,8 +70,8 @@ moves_past {a} {b} {x} {k} acts {acts'} same m is left = grind (arith, common_st
 
 -- a writer that was given a front of some bytes took a front of these
 pub taken_of_front : {a b : WriterState} (reply : Result ℕ Error) (n : ℕ) {most : ℕ} (buf : List ℕ) → 0 < n → most ≡ min n (length buf)
-    → IfOk reply (λ m. m ≤ length (take most buf)) → Moves a (taken reply (take most buf)) (write_mishap reply (take most buf)) b
-    → Moves a (taken reply buf) (write_mishap reply buf) b
+    → IfOk reply (λ m. m ≤ length (take most buf)) → Moves a (accepted_of reply (take most buf)) (write_mishap reply (take most buf)) b
+    → Moves a (accepted_of reply buf) (write_mishap reply buf) b
 taken_of_front reply n buf some is bound m = grind (arith, common_steps, length-take, take-take)
 
 -- what the call did after it used up its act

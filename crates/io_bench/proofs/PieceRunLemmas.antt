@@ -1,7 +1,8 @@
 -- For `run_split` and `run_lines`: how the items of a run come to be all pieces, by what each `next` says.
 use Rattle.no_std_io2.proofs.Words.{◌≡◌, ℕ, true, false, Bool, Option, Some, None, Result, Ok, Err, List, [], ◌∷◌, ◌++◌, map, refl, ap, ap₂}
 use Rattle.no_std_io2.proofs.Words.{◌∙◌, subst, sym, inl, inr, ◌<◌, ◌⊎◌, length, arith, length-append, append-nil, append_assoc, IfErr}
-use Rattle.no_std_io2.proofs.Words.{concat, common_steps, IsFault, IsOutOfMemory, Event, byte, fails, bytes, HasNoFault, bytes_to_fault}
+use Rattle.no_std_io2.proofs.Words.{concat, common_steps, IsFault, IsOutOfMemory, Event, byte, fails, event_bytes, HasNoFault}
+use Rattle.no_std_io2.proofs.Words.{bytes_to_fault}
 use Rattle.no_std_io2.proofs.Words.{first_fault, to_come, Reader, tells, Made, newline, without, split_reader, split_delim}
 use Rattle.no_std_io2.proofs.{GivenPieces.{GivesNext, GivesNone, next_error, next_fault, next_item, next_none}, CallsLemmas.{made_more}}
 use Rattle.std.proofs.Common.{IfSome}
@@ -50,7 +51,7 @@ law_at : {X T : Type 0} {R : Reader X} {old new : X} {view : T → List ℕ} (tr
 law_at trim same is law = rw (same, is) at law
 
 -- if there is no first fault, there is no fault
-fault_free : (E : List Event) → first_fault E ≡ None → HasNoFault E × (bytes_to_fault E ≡ bytes E)
+fault_free : (E : List Event) → first_fault E ≡ None → HasNoFault E × (bytes_to_fault E ≡ event_bytes E)
 fault_free [] h = (tt, refl)
 fault_free (byte b ∷ E) h = let rest = fault_free E h in (rest.0, ap (λ l. b ∷ l) rest.1)
 fault_free (fails e ∷ E) h = grind (arith, common_steps, fault_free E)

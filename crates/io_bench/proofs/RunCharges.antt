@@ -2,7 +2,8 @@
 use Rattle.no_std_io2.proofs.Words.{◌≡◌, ◌+◌, ℕ, ◌<◌, List, Result, IsOk, arith, nat_tests, TakesAll, Writer, IsMeter, Step, TakesStep}
 use Rattle.no_std_io2.proofs.Words.{WriterState, writing_calls, common_steps, ◌*◌, ◌/◌, ◌≤◌, min, length, ⊎_elim, buffer_after, calls_for}
 use Rattle.no_std_io2.proofs.Words.{cases_lt, [], ◌∷◌, Ok, OnOk, length-drop, refl, sym, subst, inl, inr, WriteCall, Wrote, Made, Writes}
-use Rattle.no_std_io2.proofs.Words.{none, took, again, BufferMay, SendCalls, Stepped, InnerCalls, ◌++◌, ap, ◌∙◌, CallOf, Moves}
+use Rattle.no_std_io2.proofs.Words.{no_write, write_took, write_again, BufferMay, SendCalls, Stepped, InnerCalls, ◌++◌, ap, ◌∙◌, CallOf}
+use Rattle.no_std_io2.proofs.Words.{Moves}
 use Rattle.no_std_io2.proofs.{Words.{writer_buffer, writer_inner, writer_told}, BufWriterLemmas.{Always, effect_of, Exactly, Moves-device}}
 use Rattle.no_std_io2.proofs.{BufWriterLemmas.{buffer-le}, BufWriterCalls.{writing_all_calls, send_does, write_does, write_all_does}}
 use Rattle.no_std_io2.proofs.{BufWriterCalls.{flush_does, write_takes}, MovesLemmas.{meter_made, Moves-ends}, CallsLemmas.{made_split}}
@@ -13,7 +14,7 @@ use Rattle.std.proofs.{lemmas.{Nat.{le-div}, List.{length-append}}, Common.{take
 use Rattle.io_bench.proofs.RunLemmas.{made_one}
 use Rattle.io_bench.specs.declared.runs.{Op.{Op, TheVariants.{Write, WriteAll, Flush}}, Reply.{Reply, TheVariants.{Took, Done}}}
 use Rattle.io_bench.specs.{Runs.{OpCalls, JoinsEach, IsWhole, AreWhole, Accepts, Ran, Run, RunCalls}, Closed.{op_bytes, given_bytes}}
-use Rattle.io_bench.specs.{Closed.{op_flushes, flushes}, declared.tally.Tally.{Tally}, Tally.{TallyMay, tally_inner, tally_writes}}
+use Rattle.io_bench.specs.{Closed.{op_flushes, flush_count}, declared.tally.Tally.{Tally}, Tally.{TallyMay, tally_inner, tally_writes}}
 
 -- What the calls of a buffered writer cost, by each number that counts the calls of the inner writer, if
 -- that takes all.
@@ -130,13 +131,13 @@ module _ {W B : Type 0} (I : Writer W) (cost : W → ℕ) (meter : IsMeter I.may
   -- a loop that wrote all
   loop_paid : {text : List ℕ} {C : List WriteCall} {x left : List ℕ} {f n : ℕ} → Writes text C x (Ok tt) left → (a b : B)
       → Made May a C b → PaidTo f n a → PaidTo (f + 0) (n + length x) b
-  loop_paid {f = f} {n} none a b made paid = subst (PaidTo (f + 0) (n + 0)) (sym made) (paid_at a (omega arith) (omega arith) paid)
-  loop_paid (took {x = x} {n = k} any more w) a b made paid =
+  loop_paid {f = f} {n} no_write a b made paid = subst (PaidTo (f + 0) (n + 0)) (sym made) (paid_at a (omega arith) (omega arith) paid)
+  loop_paid (write_took {x = x} {n = k} any more w) a b made paid =
       let is = write_takes I S made.1 paid.0 in
       let all : k ≡ length x = cc in
       paid_at b (omega arith) (omega (arith, length-drop k x, all))
       (loop_paid w made.0 b made.2 (wrote_paid a made.0 x (Ok k) made.1 paid))
-  loop_paid (again any interrupted w) a b made paid =
+  loop_paid (write_again any interrupted w) a b made paid =
       let is = write_takes I S made.1 paid.0 in absurd (let no : ⊥ = cc in no)
 
   -- a call of the run that was whole
@@ -153,7 +154,7 @@ module _ {W B : Type 0} (I : Writer W) (cost : W → ℕ) (meter : IsMeter I.may
 
   -- a run
   ops_paid : (ops : List Op) (replies : List Reply) (C : List WriteCall) → JoinsEach OpCalls ops replies C → AreWhole ops replies
-      → {f n : ℕ} (a b : B) → Made May a C b → PaidTo f n a → PaidTo (f + flushes ops) (n + length (given_bytes ops)) b
+      → {f n : ℕ} (a b : B) → Made May a C b → PaidTo f n a → PaidTo (f + flush_count ops) (n + length (given_bytes ops)) b
   ops_paid [] [] C idle whole {f} {n} a b made paid =
       subst (PaidTo (f + 0) (n + 0)) (sym (rw idle at made)) (paid_at a (omega arith) (omega arith) paid)
   ops_paid (op ∷ ops) (reply ∷ replies) C (first, rest, one, more, is) whole a b made paid =
@@ -166,12 +167,12 @@ module _ {W B : Type 0} (I : Writer W) (cost : W → ℕ) (meter : IsMeter I.may
   pub closed_bound : (last : B) (w : W) (ops : List Op) (replies : List Reply) (C : List WriteCall) → JoinsEach OpCalls ops replies C
       → AreWhole ops replies → Made May old C last → buffer old ≡ [] → TakesAll I (inner old)
       → Stepped I SendCalls (inner last) (buffer last) (Ok tt) [] w
-      → cost w ≤ cost (inner old) + (2 * (length (given_bytes ops) / (S + 1)) + flushes ops + 1)
+      → cost w ≤ cost (inner old) + (2 * (length (given_bytes ops) / (S + 1)) + flush_count ops + 1)
   closed_bound last w ops replies C joined whole made empty takes send =
       let start : PaidTo 0 0 old = (takes, 0, omega arith, rw empty (Paid-start S)) in
-      let run : PaidTo (flushes ops) (length (given_bytes ops)) last =
+      let run : PaidTo (flush_count ops) (length (given_bytes ops)) last =
       paid_at last (omega arith) (omega arith) (ops_paid ops replies C joined whole old last made start) in
-      let bound = Paid-bound S run.1 (flushes ops) (length (given_bytes ops)) (length (buffer last)) run.3 in
+      let bound = Paid-bound S run.1 (flush_count ops) (length (given_bytes ops)) (length (buffer last)) run.3 in
       let last_one = (effect_of (send_does I) send).counts run.0 in
       omega (arith, meter_made I cost meter send.calls (inner last) w send.made, last_one.2, run.2, calls_for-min (buffer last), bound)
 
@@ -193,7 +194,7 @@ module _ {W : Type 0} (I : Writer W) {S : ℕ} (some : 0 < S) (w : W) (ops : Lis
   -- what such a run did to the writer below
   pub record Closes : Type 0 where
     pub bytes : Moves (I.told w) (given_bytes ops) [] (I.told t)
-    pub bound : CostsAtMost I w (2 * (length (given_bytes ops) / (S + 1)) + flushes ops + 1) t
+    pub bound : CostsAtMost I w (2 * (length (given_bytes ops) / (S + 1)) + flush_count ops + 1) t
 
   -- It did it, by the laws of `run_writes` and of `into_inner`.
   pub closes : {J : Writer (BufWriter W S)}

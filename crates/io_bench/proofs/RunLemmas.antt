@@ -3,7 +3,7 @@ use Rattle.no_std_io2.proofs.Words.{common_steps, arith, [], ◌≡◌, List, �
 use Rattle.no_std_io2.proofs.Words.{Moves, WriterState, CallOf, TakesAll, Writer, sym, ap, ◌∙◌, append_assoc, append-nil, WriteCall, Made}
 use Rattle.no_std_io2.proofs.Words.{ByCalls, LevelCalls, take, zero, suc, ◌+◌, ◌<◌, ◌≤◌, get_or, ap₂, subst, inl, inr, take_more}
 use Rattle.no_std_io2.proofs.{Words.{nil_from_length}, MovesLemmas.{all_calls, Moves-refl, Moves-steady, Moves-trans}, CallsLemmas.{by_are}}
-use Rattle.no_std_io2.proofs.{CallsLemmas.{by_then, made_split}, BufWriterLemmas.{through}}
+use Rattle.no_std_io2.proofs.{CallsLemmas.{by_then, made_split}, BufWriterLemmas.{level_by_level}}
 use Rattle.io_bench.specs.{Appended.{appended}, declared.runs.{Op.{Op}, Reply.{Reply}}, Runs.{EndsFlushed, HasFewer, IsShorterBy, Ran, Run}}
 use Rattle.io_bench.specs.Runs.{failures, failures_of, is_failure, mishap_of, mishaps_of, Accepts, AreWhole, IsFlushed, IsWhole, JoinsEach}
 use Rattle.io_bench.specs.{Runs.{OpCalls, RunBelow, RunCalls, RunLaw}, declared.runs.Op.TheVariants.{Write, WriteAll, Flush}}
@@ -197,7 +197,7 @@ pub below_first : {W B : Type 0} (I : Writer W) {K : Writer B} (inner : B → W)
     → {a b : B} (ops : List Op) (replies : List Reply) → RunCalls K a ops replies b
     → RunBelow I (λ calls below. LevelCalls level (buffer a) calls below (buffer b)) (inner a) ops replies (inner b)
 below_first I {K = K} inner buffer level each {a = a} {b = b} ops replies r =
-    by_are (through I K inner buffer level each r.calls a b r.made) (λ below is. (r.calls, r.are, is))
+    by_are (level_by_level I K inner buffer level each r.calls a b r.made) (λ below is. (r.calls, r.are, is))
 
 -- and one through two buffers
 pub below_more : {W B : Type 0} (I : Writer W) {K : Writer B} (inner : B → W) (buffer : B → List ℕ)
@@ -210,7 +210,7 @@ pub below_more : {W B : Type 0} (I : Writer W) {K : Writer B} (inner : B → W) 
     (inner a) ops replies (inner b)
 below_more I {K = K} inner buffer level each {a = a} {b = b} ops replies r =
     let (calls, joined, upper) = r.are in
-    by_are (through I K inner buffer level each r.calls a b r.made) (λ below is. (calls, joined, (r.calls, upper, is)))
+    by_are (level_by_level I K inner buffer level each r.calls a b r.made) (λ below is. (calls, joined, (r.calls, upper, is)))
 
 -- such a run, if the calls of the device are related otherwise too
 pub below_map : {W : Type 0} (I : Writer W) {tower tower' : List WriteCall → List WriteCall → Type 0} {a b : W} (ops : List Op)

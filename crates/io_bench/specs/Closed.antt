@@ -18,6 +18,6 @@ op_flushes Flush = 1
 op_flushes _ = 0
 
 -- how many calls are `Flush`
-abbrev pub flushes : List Op → ℕ
-flushes [] = 0
-flushes (op ∷ ops) = op_flushes op + flushes ops
+abbrev pub flush_count : List Op → ℕ
+flush_count [] = 0
+flush_count (op ∷ ops) = op_flushes op + flush_count ops

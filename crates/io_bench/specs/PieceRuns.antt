@@ -1,12 +1,12 @@
 -- The items of a whole `split` or `lines`.
 use Rattle.std.specs.{Prelude.{◌≡◌, ℕ, ◌⊎◌, ◌<◌, List, ◌∷◌, ◌++◌, length, map, Option, None, Some, Result, Ok, Err}, List.{concat}}
-use Rattle.no_std_io2.specs.{declared.io.Error.{Error}, Errors.{IsOutOfMemory}, Events.{Event, bytes, HasNoFault}}
-use Rattle.no_std_io2.specs.{inner.Events.{bytes_to_fault, first_fault}, Calls.{Made}, inner.Pieces.{pieces, pieces_given}}
+use Rattle.no_std_io2.specs.{declared.io.Error.{Error}, Errors.{IsOutOfMemory}, Events.{Event, event_bytes, HasNoFault}}
+use Rattle.no_std_io2.specs.{inner.Events.{bytes_to_fault, first_fault}, Calls.{Made}, inner.Pieces.{pieces_of, pieces_given}}
 
 -- no fault was to come, and these are the pieces of all bytes, trimmed
 pub record AllPieces (trim : List ℕ → List ℕ) (d : ℕ) (E : List Event) (items : List (List ℕ)) : Type 0 where
   pub no_fault : HasNoFault E
-  pub are : items ≡ map trim (pieces d (bytes E))
+  pub are : items ≡ map trim (pieces_of d (event_bytes E))
 
 -- e is the first fault, and these are the pieces that a d ended before it, trimmed
 pub record PiecesToFault (trim : List ℕ → List ℕ) (d : ℕ) (E : List Event) (e : Error) (items : List (List ℕ)) : Type 0 where

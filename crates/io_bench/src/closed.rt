@@ -5,7 +5,7 @@ ghost use Rattle.no_std_io2.specs.Errors.{IsOutOfMemory};
 ghost use Rattle.no_std_io2.specs.Moves.{Moves};
 ghost use Rattle.no_std_io2.specs.Writers.{TakesAll};
 ghost use Rattle.io_bench.specs.Appended.{appended};
-ghost use Rattle.io_bench.specs.Closed.{flushes, given_bytes};
+ghost use Rattle.io_bench.specs.Closed.{flush_count, given_bytes};
 ghost use Rattle.io_bench.specs.Runs.{AreWhole};
 ghost use Rattle.io_bench.specs.Tally.{tally_inner, tally_writes};
 ghost use Rattle.io_bench.specs.contracts.tally.Tally.{the_row as tally-row};
@@ -43,7 +43,7 @@ pub fn run_closed<W: Write + Drop, const S: usize>(
     ensures bytes { IfOk result (λ t. Moves (W.told (tally_inner w)) (given_bytes ops.now) [] (W.told (tally_inner t))) }
     ensures all { IfOk result (λ t. TakesAll W.Write (tally_inner t)) }
     ensures bound { IfOk result (λ t. tally_writes t
-        ≤ tally_writes w + (2 * (length (given_bytes ops.now) / (S + 1)) + flushes ops.now + 1)) }
+        ≤ tally_writes w + (2 * (length (given_bytes ops.now) / (S + 1)) + flush_count ops.now + 1)) }
     ensures kind { IfErr result IsOutOfMemory }
     // It does not fail if there is room for the replies.
     ensures full { OnErr result (vec_capacity replies.old < vec_len replies.old + length ops.now) }

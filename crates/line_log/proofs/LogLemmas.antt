@@ -1,6 +1,6 @@
 -- A line is put into a buffer, and then all is sent.
 use Rattle.no_std_io2.proofs.Words.{Some, nil_from_length, ◌≡◌, ℕ, ◌+◌, ◌≤◌, List, [], length, Result, Ok, Err, OnOk, refl, arith, inl, inr}
-use Rattle.no_std_io2.proofs.Words.{Writer, error_kind, Moves, WriteCall, call_mishap, none as no_write, writer_inner, writer_buffer}
+use Rattle.no_std_io2.proofs.Words.{Writer, error_kind, Moves, WriteCall, call_mishap, no_write, writer_inner, writer_buffer}
 use Rattle.no_std_io2.proofs.Words.{writer_told, TakesStep, RoomCalls, SendCalls}
 use Rattle.no_std_io2.specs.{declared.io.Error.{Error}, declared.io.BufWriter.{BufWriter}, BufWriter.{Puts}}
 use Rattle.no_std_io2.proofs.{CallsLemmas.{by_are}, MovesLemmas.{Moves-ends, Moves-steady, writes_left}, BufWriterLemmas.{then_stops}}

@@ -2,15 +2,15 @@
 use Rattle.no_std_io2.proofs.Words.{common_steps, ◌≡◌, ℕ, ◌-◌, ◌<◌, ◌≤◌, ◌⊎◌, List, [], ◌∷◌, ◌++◌, Bool, true, false, Result, Ok, Err}
 use Rattle.no_std_io2.proofs.Words.{length, take, drop, refl, sym, ap, subst, ◌∙◌, arith, append_assoc, append-nil, length-append}
 use Rattle.no_std_io2.proofs.Words.{take-append-drop, length-take, length-take-le, length-drop, inl, inr, le_refl, nil_from_length}
-use Rattle.no_std_io2.proofs.Words.{IsInterruption, bytes, events_of, Takes, Made, Reader, ReadCall, Gave, Gathers, no_read, and_gave}
+use Rattle.no_std_io2.proofs.Words.{IsInterruption, event_bytes, events_of, Takes, Made, Reader, ReadCall, Gave, Gathers, no_read, and_gave}
 use Rattle.no_std_io2.proofs.Words.{and_again, IsRest, GathersUntil, tells, ReadCallLaw, GaveLaw, bytes_given, IsSuffix, reader_held}
 use Rattle.no_std_io2.proofs.Words.{reader_behind, reader_inner, ReadsBelow, AsksExact, of_held, went_past, was_filled, ◌+◌, Vec, vec_len}
 use Rattle.no_std_io2.proofs.{Words.{OnOk, IfOk, IsOutOfMemory, Event, GaveAll}, BufferedReads.{takes_held, buf_reader, held-le}}
 use Rattle.no_std_io2.proofs.BufferedReads.{takes_through, ends_unheld}
 use Rattle.std.proofs.{Common.{max, nat_le, take_all, le_trans, vec_capacity}, lemmas.{Bool.{le-leb, lt-leb}, List.{append_cancel_right}}}
 use Rattle.no_std_io2_base.specs.{declared.error.Error.{Error}, Errors.{IsUnexpectedEnd}}
-use Rattle.no_std_io2_base.specs.inner.Read.{gave_whole, FullCalls, least_room, ended}
-use Rattle.no_std_io2_base.specs.{Read.{FillsOrEnds, ReadFullLaw, ReadExactLaw, ReadToEndLaw, DrainsOrStops}, inner.Reads.{Reads}}
+use Rattle.no_std_io2_base.specs.inner.Read.{gave_whole, FullCalls, least_room, without_number}
+use Rattle.no_std_io2_base.specs.{Read.{ReadFullLaw, ReadExactLaw, ReadToEndLaw}, inner.Reads.{Reads}}
 use Rattle.no_std_io2_base.specs.inner.Cursor.{HasMoved}
 use Rattle.no_std_io2_base.proofs.{CallsLemmas.{made_split, exact_own, to_end_own}, TakesLemmas.{gives_whole, bytes-append}}
 use Rattle.no_std_io2_base.proofs.TakesLemmas.{bytes-events_of, HasNoFault-append, HasNoFault-events_of, drains_ended}
@@ -18,6 +18,8 @@ use Rattle.no_std_io2_base.proofs.{ReadsLemmas.{Reads-none, Reads-more, Reads-ag
 use Rattle.no_std_io2.specs.inner.BufReader.{HasNoBuffer, LeavesThrough, ReadsThrough, full_ended, LeavesExact, only_held, read_whole}
 use Rattle.no_std_io2.specs.declared.buffered.buf_reader.BufReader.{BufReader}
 use Rattle.no_std_io2.specs.{inner.BufReader.{read_to_end, read_to_fault, GivesHeld, ReaderMay}, inner.Buffer.{HasTo}}
+use Rattle.no_std_io2_base.specs.inner.Read.{FillsOrEnds}
+use Rattle.no_std_io2_base.specs.inner.Read.{DrainsOrStops}
 
 -- Which inner reads a `BufReader` makes for its reads, one after another, and what is in the buffer then: for `read_full` and `read_exact`.
 
@@ -169,10 +171,10 @@ pub full_through : {R : Type 0} {S : ℕ} {inner : Reader R} {old new : BufReade
     → (x : List ℕ) × (take filled' buf' ≡ take filled buf ++ x)
     × ReadsThrough inner old (length buf - filled) x (full_ended reply (nat_le (length buf') filled')) new
 full_through {inner = inner} {old} {new} {buf} {buf'} {filled} {filled'} reply law long =
-    (bytes law.taken, law.fills, by reply law.calls.are)
+    (event_bytes law.taken, law.fills, by reply law.calls.are)
   where
-    by : (reply : Result (Unit {0}) Error) → FullCalls law.calls.calls (length buf - filled) (bytes law.taken) reply
-        → ReadsThrough inner old (length buf - filled) (bytes law.taken) (full_ended reply (nat_le (length buf') filled')) new
+    by : (reply : Result (Unit {0}) Error) → FullCalls law.calls.calls (length buf - filled) (event_bytes law.taken) reply
+        → ReadsThrough inner old (length buf - filled) (event_bytes law.taken) (full_ended reply (nat_le (length buf') filled')) new
     by (Ok u) (inl (reads, all)) =
         rw (le-leb (length buf') filled' (omega (arith, long, law.counts, all))) (through_whole inner old _ reads law.calls.made all)
     by (Ok u) (inr until) =
@@ -256,7 +258,7 @@ exact_held {S = S} {inner} {old} {new} {buf} {buf'} fits same gave left front no
 -- the law, and that it is a call of its own
 abbrev pub ToEndOwn : {R A : Type 0} {S : ℕ} → Reader R → BufReader R S → Vec ℕ A → Result ℕ Error → Vec ℕ A → BufReader R S → Type 0
 ToEndOwn K old buf reply buf' new = ReadToEndLaw (buf_reader K) old buf reply buf' new
-    × ((x : List ℕ) × (buf'.items ≡ buf.items ++ x) × ReaderMay K old (GaveAll x (ended reply)) new)
+    × ((x : List ℕ) × (buf'.items ≡ buf.items ++ x) × ReaderMay K old (GaveAll x (without_number reply)) new)
 
 -- all that was held was appended
 pub moved_all : (held rest old : List ℕ) {mid : List ℕ} → HasMoved held rest old mid → rest ≡ [] → mid ≡ old ++ held
@@ -286,31 +288,31 @@ module _ {R A : Type 0} {S : ℕ} {K : Reader R} {old new : BufReader R S} {buf 
       taken = events_of held ++ inner.taken
 
       all : List ℕ
-      all = held ++ bytes inner.taken
+      all = held ++ event_bytes inner.taken
 
-      gave : bytes taken ≡ all
-      gave = bytes-append (events_of held) inner.taken ∙ ap (λ l. l ++ bytes inner.taken) (bytes-events_of held)
+      gave : event_bytes taken ≡ all
+      gave = bytes-append (events_of held) inner.taken ∙ ap (λ l. l ++ event_bytes inner.taken) (bytes-events_of held)
 
-      shown_all : mid.items ++ bytes inner.taken ≡ buf.items ++ all
-      shown_all = ap (λ l. l ++ bytes inner.taken) first ∙ append_assoc buf.items held (bytes inner.taken)
+      shown_all : mid.items ++ event_bytes inner.taken ≡ buf.items ++ all
+      shown_all = ap (λ l. l ++ event_bytes inner.taken) first ∙ append_assoc buf.items held (event_bytes inner.taken)
 
-      shown : buf'.items ≡ buf.items ++ bytes taken
+      shown : buf'.items ≡ buf.items ++ event_bytes taken
       shown = inner.appends.0 ∙ shown_all ∙ ap (λ l. buf.items ++ l) (sym gave)
 
       takes : Takes (tells (buf_reader K) old) taken (tells (buf_reader K) new)
       takes = takes_through S held inner.takes empty.1
 
-      long : length (bytes taken) ≡ length held + length (bytes inner.taken)
-      long = ap length gave ∙ length-append held (bytes inner.taken)
+      long : length (event_bytes taken) ≡ length held + length (event_bytes inner.taken)
+      long = ap length gave ∙ length-append held (event_bytes inner.taken)
 
       counts : (reply : Result ℕ Error) → OnOk reply (k ≡ vec_len buf' - vec_len buf)
-          → IfOk (recount reply k) (λ n. n ≡ length (bytes taken))
+          → IfOk (recount reply k) (λ n. n ≡ length (event_bytes taken))
       counts reply is = grind (arith, common_steps, shown, length-append, taken)
 
       ends : (reply : Result ℕ Error)
-          → DrainsOrStops (vec_capacity mid < vec_len mid + (length (bytes inner.taken) + least_room)) inner.taken reply
+          → DrainsOrStops (vec_capacity mid < vec_len mid + (length (event_bytes inner.taken) + least_room)) inner.taken reply
           (tells K (reader_inner new))
-          → DrainsOrStops (vec_capacity buf < vec_len buf + (length (bytes taken) + least_room)) taken (recount reply k)
+          → DrainsOrStops (vec_capacity buf < vec_len buf + (length (event_bytes taken) + least_room)) taken (recount reply k)
           (tells (buf_reader K) new)
       ends (Ok n) (none, end) = (
         HasNoFault-append (events_of held) inner.taken (HasNoFault-events_of held) none,
@@ -328,10 +330,10 @@ module _ {R A : Type 0} {S : ℕ} {K : Reader R} {old new : BufReader R S} {buf 
         omega (arith, why, grown, long, mid.ok.0, buf.ok.0, ap length first, length-append buf.items held),
       )
 
-      call : ReaderMay K old (GaveAll all (ended (recount reply k))) new
-      call = inr (bytes inner.taken, refl, rw (sym (same reply)) inner.calls, empty)
+      call : ReaderMay K old (GaveAll all (without_number (recount reply k))) new
+      call = inr (event_bytes inner.taken, refl, rw (sym (same reply)) inner.calls, empty)
         where
-          same : (reply : Result ℕ Error) → ended reply ≡ ended (recount reply k)
+          same : (reply : Result ℕ Error) → without_number reply ≡ without_number (recount reply k)
           same reply = grind (arith, common_steps)
 
   -- nothing was held: it is just that inner call
@@ -339,7 +341,7 @@ module _ {R A : Type 0} {S : ℕ} {K : Reader R} {old new : BufReader R S} {buf 
       → HasNoBuffer new → ToEndOwn K old buf reply buf' new
   to_end_alone (Ok n) none inner empty =
       held_through (Ok n) n (sym (append-nil buf.items) ∙ ap (λ l. buf.items ++ l) (sym none)) (le_refl _) inner empty
-      (omega (arith, inner.appends.1, ap length inner.appends.0, length-append buf.items (bytes inner.taken), buf'.ok.0, buf.ok.0))
+      (omega (arith, inner.appends.1, ap length inner.appends.0, length-append buf.items (event_bytes inner.taken), buf'.ok.0, buf.ok.0))
   to_end_alone (Err e) none inner empty =
       held_through (Err e) 0 (sym (append-nil buf.items) ∙ ap (λ l. buf.items ++ l) (sym none)) (le_refl _) inner empty tt
 

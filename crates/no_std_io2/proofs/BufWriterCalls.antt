@@ -1,13 +1,13 @@
 -- The calls of a buffered writer, by its steps.
 use Rattle.no_std_io2.proofs.Words.{TakesAll, CallOf, Writer, WriterState, Moves, MovesFront, WriteCall, Made, ByCalls, call_mishap, Wrote}
-use Rattle.no_std_io2.proofs.Words.{Flushed, AllCalls, calls_for, none as no_write, charges, [], ◌≡◌, ◌+◌, ℕ, ◌<◌, ◌≤◌, List, ◌∷◌, ◌++◌}
+use Rattle.no_std_io2.proofs.Words.{Flushed, AllCalls, calls_for, no_write, charges, [], ◌≡◌, ◌+◌, ℕ, ◌<◌, ◌≤◌, List, ◌∷◌, ◌++◌}
 use Rattle.no_std_io2.proofs.Words.{length, Result, Ok, OnOk, IfOk, refl, subst, arith, le_refl, append-nil, if◌then◌else◌, nat_lt, inl}
-use Rattle.no_std_io2.proofs.Words.{inr, common_steps, nil_from_length, cases_lt, nat_tests, stops, goes_on, Stepped, TakesStep}
+use Rattle.no_std_io2.proofs.Words.{inr, common_steps, nil_from_length, cases_lt, nat_tests, first_stops, first_goes_on, Stepped, TakesStep}
 use Rattle.no_std_io2.proofs.Words.{sender_inner, sender_buffer, SingleCall, SendCalls, RoomCalls, Buffered, WriteCalls, WriteAllCalls}
 use Rattle.no_std_io2.proofs.Words.{FlushCalls, writing_calls, buffer_after, Store, KeepsContent, Err, IsOk, Option, with_buffer}
 use Rattle.no_std_io2.proofs.BufWriterLemmas.{Moves-kept, Moves-emptied, MovesFront-emptied, no_ok, then_goes_on, then_does, effect_by}
 use Rattle.no_std_io2.proofs.BufWriterLemmas.{effect_of, StepEffect, Effect, Always, Exactly, Emptied, Sending, StepsJoin}
-use Rattle.no_std_io2_base.specs.{declared.error.Error.{Error}, Errors.{IsNoInterruption}, Write.{taken, write_mishap}}
+use Rattle.no_std_io2_base.specs.{declared.error.Error.{Error}, Errors.{IsNoInterruption}, Write.{accepted_of, write_mishap}}
 use Rattle.no_std_io2_base.specs.{declared.traits.seek.SeekFrom.{SeekFrom}, inner.Seek.{IsPosition}, Seek.{Seeker}}
 use Rattle.std.proofs.{Common.{take_all, nat_le, eq-zero-or-pos}, lemmas.Result.{on_ok_weaker}}
 use Rattle.no_std_io2_base.proofs.MovesLemmas.{IsFront-refl, Moves-then, zero_write-whole, writes_fault, writes_sends, all_calls}
@@ -15,7 +15,7 @@ use Rattle.no_std_io2_base.proofs.MovesLemmas.{call_steady, writes_count, all_co
 use Rattle.no_std_io2_base.proofs.CallsLemmas.{by_are, by_call, made_split, writes_whole}
 use Rattle.no_std_io2.specs.inner.BufWriter.{PutCalls, WithNothingHeld, room_calls, Buffers, BuffersAll, store_unheld}
 use Rattle.no_std_io2.specs.{declared.buffered.sender.Sender.{Sender}, inner.BufWriter.{into_inner_error_writer, into_inner_error_cause}}
-use Rattle.no_std_io2.specs.{inner.BufferSeeks.{SeeksSent, failed}, BufWriter.{Unwraps}}
+use Rattle.no_std_io2.specs.{inner.BufferSeeks.{SeeksSent, sending_failed}, BufWriter.{Unwraps}}
 use Rattle.no_std_io2.specs.declared.buffered.into_inner_error.IntoInnerError.{IntoInnerError}
 
 -- What the steps of a buffered writer do, and what follows for its calls. For `Sender` and `BufWriter`, and for counts of calls.
@@ -39,22 +39,22 @@ module _ {W : Type 0} {I : Writer W} {S : ℕ} where
 
   module _ {A : Type 0} (x : List ℕ) {v : A} (past : List WriteCall → Result A Error → Type 0) where
     -- x is held after the held bytes,
-    pub puts : {held left : List ℕ} {a b : W} → length x < S → b ≡ a → left ≡ held ++ x
+    pub put_beside : {held left : List ℕ} {a b : W} → length x < S → b ≡ a → left ≡ held ++ x
         → Stepped I (PutCalls S x v past) a held (Ok v) left b
-    puts short same put = record { calls = []; made = same; are = inl (short, refl, refl, put) }
+    put_beside short same put = record { calls = []; made = same; are = inl (short, refl, refl, put) }
 
     -- or goes past it
-    pub passes : {held left : List ℕ} {reply : Result A Error} {a b : W} → S ≤ length x → held ≡ [] → left ≡ []
+    pub put_past : {held left : List ℕ} {reply : Result A Error} {a b : W} → S ≤ length x → held ≡ [] → left ≡ []
         → ByCalls (CallOf I) a (λ C. past C reply) b → Stepped I (PutCalls S x v past) a held reply left b
-    passes long none empty calls = by_are calls (λ C is. inr (long, (none, empty, is)))
+    put_past long none empty calls = by_are calls (λ C is. inr (long, (none, empty, is)))
 
 -- a `write_all` of nothing, if nothing is held, makes no call
 pub nothing_put : {W : Type 0} {I : Writer W} (S : ℕ) (a : W) → Stepped I (WriteAllCalls S []) a [] (Ok tt) [] a
 nothing_put S a = elim (eq-zero-or-pos S) [
   | inl zero ↦
-      then_goes_on _ (room_kept 0 (omega arith)) (passes [] (λ C. AllCalls C []) (omega (arith, zero)) refl refl
+      then_goes_on _ (room_kept 0 (omega arith)) (put_past [] (λ C. AllCalls C []) (omega (arith, zero)) refl refl
       (record { calls = []; made = refl; are = inr ([], no_write) }))
-  | inr some ↦ then_goes_on _ (room_kept 0 (omega arith)) (puts [] (λ C. AllCalls C []) some refl refl)
+  | inr some ↦ then_goes_on _ (room_kept 0 (omega arith)) (put_beside [] (λ C. AllCalls C []) some refl refl)
 ]
 
 -- past a buffer with nothing held
@@ -64,7 +64,7 @@ pub buffered_past : {W A : Type 0} {S : ℕ} {I : Writer W} {old mid : Sender W 
     → TakesStep I sender_inner sender_buffer (Buffered S x v past) old reply (record mid { inner = inner })
 buffered_past {S} {I} {mid = mid} {inner = inner} x v past {reply = reply} same none long calls =
     subst (λ w. TakesStep I sender_inner sender_buffer (Buffered S x v past) w reply (record mid { inner = inner })) same
-    (then_goes_on _ (room_empty (length x) none) (passes x past long none none calls))
+    (then_goes_on _ (room_empty (length x) none) (put_past x past long none none calls))
 
 -- one call
 pub one_made : {W : Type 0} {I : Writer W} (call : WriteCall) {a b : W} → CallOf I a call b
@@ -104,15 +104,15 @@ Flushing old reply new = Moves old [] (call_mishap reply) new
 
 -- it may follow a sending,
 flushing_joins : StepsJoin Sending Flushing Flushing
-flushing_joins = record { fails = λ s t e f. f.1; joins = λ s m t r f g. Moves-then {k = []} f.1 g }
+flushing_joins = record { first_fails = λ s t e f. f.1; joins = λ s m t r f g. Moves-then {k = []} f.1 g }
 
 -- a `write` accepts the bytes that its result reports
 abbrev pub Writing : List ℕ → Effect ℕ
-Writing x old reply new = Moves old (taken reply x) (write_mishap reply x) new
+Writing x old reply new = Moves old (accepted_of reply x) (write_mishap reply x) new
 
 -- so may it,
 pub writing_joins : (x : List ℕ) → StepsJoin Sending (Writing x) (Writing x)
-writing_joins x = record { fails = λ s t e f. f.1; joins = λ s m t r f g. Moves-then {k = []} f.1 g }
+writing_joins x = record { first_fails = λ s t e f. f.1; joins = λ s m t r f g. Moves-then {k = []} f.1 g }
 
 -- a `write_all` accepts some front of x, all of it after `Ok`, and returns no interruption
 abbrev pub WritingAll : List ℕ → Effect (Unit {0})
@@ -121,7 +121,7 @@ WritingAll x old reply new = IsNoInterruption reply × MovesFront old x reply ne
 -- and so may it
 pub writing_all_joins : (x : List ℕ) → StepsJoin Sending (WritingAll x) (WritingAll x)
 writing_all_joins x = record {
-  fails = λ s t e f. (f.0, record { accepted = []; front = (x, refl); whole = tt; moves = f.1 });
+  first_fails = λ s t e f. (f.0, record { accepted = []; front = (x, refl); whole = tt; moves = f.1 });
   joins = λ s m t r f g.
       let all = g.1 in
       (g.0, record { accepted = all.accepted; front = all.front; whole = all.whole; moves = Moves-then {k = []} f.1 all.moves });
@@ -135,7 +135,7 @@ module _ {W : Type 0} (I : Writer W) where
   -- what a sending does,
   pub send_does : Always I SendCalls Sending Emptied calls_for
   send_does a b held left C reply sends made = record {
-    tells = (writes_fault sends, let sent = writes_sends I sends a b made in grind (arith, common_steps));
+    told = (writes_fault sends, let sent = writes_sends I sends a b made in grind (arith, common_steps));
     leaves = writes_whole sends;
     counts = writes_count I sends a b made;
   }
@@ -153,7 +153,7 @@ module _ {W : Type 0} (I : Writer W) where
       (grind (arith, nat_tests, kept.0)) made
   room_does S n a b held left C reply (inr sent) made =
       let sends = effect_by send_does sent.1 made in record {
-        tells = sends.tells;
+        told = sends.told;
         leaves = grind (arith, common_steps, on_ok_weaker, sends.leaves, sent.0);
         counts = λ t. grind (arith, common_steps, sends.counts t, sent.0);
       }
@@ -164,13 +164,13 @@ module _ {W : Type 0} (I : Writer W) where
       put_does : Always I (PutCalls S x v past) R (Exactly (put_left S x)) (λ _. past_calls S (length x) m)
       put_does a b held left C reply (inl kept) made =
           let same = subst (λ K. Made (CallOf I) a K b) kept.1 made in record {
-            tells = rw kept.2 (hold _ _ (Moves-kept I.told a b held left x same kept.3));
+            told = rw kept.2 (hold _ _ (Moves-kept I.told a b held left x same kept.3));
             leaves = grind (arith, common_steps, kept.3, kept.0);
             counts = λ t. grind (arith, nat_tests, common_steps, same, kept.0, kept.1, kept.2);
           }
       put_does a b held left C reply (inr passed) made =
           let past = effect_by gone passed.1 made in record {
-            tells = past.tells;
+            told = past.told;
             leaves = grind (arith, common_steps, past.leaves, passed.0);
             counts = λ t. grind (arith, common_steps, past.counts t, passed.0);
           }
@@ -181,7 +181,7 @@ module _ {W : Type 0} (I : Writer W) where
       buffered_does follows a b held left C reply write made =
           let both = effect_by
           (then_does (RoomCalls S (length x)) (PutCalls S x v past) follows (room_does S (length x)) put_does) write made in
-          record { tells = both.tells; leaves = grind (arith, common_steps, on_ok_weaker, both.leaves); counts = both.counts }
+          record { told = both.told; leaves = grind (arith, common_steps, on_ok_weaker, both.leaves); counts = both.counts }
 
   -- `write(x)`,
   pub write_does : (S : ℕ) (x : List ℕ)
@@ -201,7 +201,7 @@ module _ {W : Type 0} (I : Writer W) where
       passed : Always I (WithNothingHeld (λ C. AllCalls C x)) (WritingAll x) Emptied (λ _. calls_for x)
       passed a b held left C reply gone made =
           let all = all_calls I gone.2 a b made in record {
-            tells = (all.0, MovesFront-emptied gone.0 gone.1 all.1);
+            told = (all.0, MovesFront-emptied gone.0 gone.1 all.1);
             leaves = grind (arith, common_steps, gone.1);
             counts = all_count I gone.2 a b made;
           }
@@ -210,7 +210,7 @@ module _ {W : Type 0} (I : Writer W) where
   pub flush_does : Always I FlushCalls Flushing Emptied calls_for
   flush_does a b held left C reply flush made =
       let both = effect_by (then_does SendCalls (WithNothingHeld (SingleCall Flushed)) flushing_joins send_does passed) flush made in
-      record { tells = both.tells; leaves = both.leaves; counts = λ t. let c = both.counts t in (c.0, c.1, omega (arith, c.2)) }
+      record { told = both.told; leaves = both.leaves; counts = λ t. let c = both.counts t in (c.0, c.1, omega (arith, c.2)) }
     where
       passed : Always I (WithNothingHeld (SingleCall Flushed)) Flushing Emptied (λ _. 0)
       passed a b held left C reply gone made = grind (arith, common_steps, one_inner_call, Moves-emptied, call_steady, charges)
@@ -228,9 +228,9 @@ module _ {W : Type 0} (I : Writer W) where
       where
         by : {C : List WriteCall} {reply : Result ℕ Error} → WriteCalls S x held C reply left → Made (CallOf I) a C b
             → reply ≡ Ok (length x)
-        by (stops way) made = no_ok ((effect_by (room_does S (length x)) way made).counts takes).1
-        by (goes_on {C = C} {D = D} way (inl kept)) made = kept.2
-        by (goes_on {C = C} {D = D} way (inr gone)) made =
+        by (first_stops way) made = no_ok ((effect_by (room_does S (length x)) way made).counts takes).1
+        by (first_goes_on {C = C} {D = D} way (inl kept)) made = kept.2
+        by (first_goes_on {C = C} {D = D} way (inr gone)) made =
             let parts = made_split (CallOf I) C a D b made in
             ((one_inner_call parts.0 b gone.1.2 parts.2).all ((effect_by (room_does S (length x)) way parts.1).counts takes).0).1
 
@@ -283,7 +283,7 @@ module _ {W B : Type 0} {I : Writer W} {inner : B → W} {buffer : B → List �
   -- the sending before a seek failed
   pub seek_failed : {K : Seeker W} {to : SeekFrom} {new : B} {e : Error} → TakesStep I inner buffer SendCalls old (Err e) new
       → SeeksSent I K inner buffer old to (Err e) new
-  seek_failed calls = failed calls (effect_of (send_does I) calls).tells.1 (writes_left calls.are)
+  seek_failed calls = sending_failed calls (effect_of (send_does I) calls).told.1 (writes_left calls.are)
 
   -- after an `Ok` of a seek nothing is held
   pub seek_empties : {K : Seeker W} {to : SeekFrom} {reply : Result ℕ Error} {new : B} → SeeksSent I K inner buffer old to reply new
@@ -303,9 +303,9 @@ module _ {W B : Type 0} {I : Writer W} {inner : B → W} {buffer : B → List �
       record {
         calls = calls;
         ok = tt;
-        err = done.tells.1;
-        fault = done.tells.0;
+        err = done.told.1;
+        fault = done.told.0;
         empty = λ none. no_ok (sent_idle calls none).1;
-        steady = λ none. absurd (Moves-steady none done.tells.1);
+        steady = λ none. absurd (Moves-steady none done.told.1);
         all = λ t. no_ok (done.counts t).1;
       }

@@ -4,9 +4,9 @@ use Rattle.no_std_io2.proofs.Words.{common_steps, nil_from_length, ◌≡◌, �
 use Rattle.no_std_io2.proofs.Words.{List, ◌++◌, length, drop, sym, ap, subst, ◌∙◌, arith, append_assoc, append-nil, WriterState, Moves}
 use Rattle.no_std_io2.proofs.Words.{MovesFront, with_buffer, writer_inner, writer_buffer, writer_told, line_inner, line_buffer, IsSuffix}
 use Rattle.no_std_io2.proofs.Words.{TakesAll, CallOf, Writer, WriteCall, Made, call_mishap, charges, false, true, ◌+◌, IsOk, Step, Stepped}
-use Rattle.no_std_io2.proofs.Words.{Then, stops, goes_on, nat_tests, FlushCalls, ◌∷◌, refl, LevelCalls}
+use Rattle.no_std_io2.proofs.Words.{Then, first_stops, first_goes_on, nat_tests, FlushCalls, ◌∷◌, refl, LevelCalls}
 use Rattle.no_std_io2_base.specs.{declared.error.ErrorKind.{ErrorKind}, declared.error.Error.{Error}, Errors.{IsNoInterruption}}
-use Rattle.no_std_io2_base.specs.{Calls.{ByCalls, Wrote, WroteAll}, Write.{CallAdds, RestAdds, taken}, inner.Write.{AllCalls}}
+use Rattle.no_std_io2_base.specs.{Calls.{ByCalls, Wrote, WroteAll}, Write.{CallAdds, RestAdds, accepted_of}, inner.Write.{AllCalls}}
 use Rattle.no_std_io2.specs.inner.BufWriter.{WriteCalls, WriteAllCalls, RoomCalls, PutCalls, SingleCall}
 use Rattle.no_std_io2.specs.declared.buffered.{buf_writer.BufWriter.{BufWriter}, line_writer.LineWriter.{LineWriter}}
 use Rattle.no_std_io2.specs.inner.LineWriter.{line_told}
@@ -102,12 +102,12 @@ module _ {W A : Type 0} {I : Writer W} {first : Step (Unit {0})} {next : Step A}
   -- the first step failed, and its error is the result
   pub then_stops : {held left : List ℕ} {e : Error} {a b : W} → Stepped I first a held (Err e) left b
       → Stepped I (Then first next) a held (Err e) left b
-  then_stops p = by_are p (λ C f. stops f)
+  then_stops p = by_are p (λ C f. first_stops f)
 
   -- it did not, and the next one followed
   pub then_goes_on : {held left : List ℕ} {reply : Result A Error} {a m b : W} (mid : List ℕ)
       → Stepped I first a held (Ok tt) mid m → Stepped I next m mid reply left b → Stepped I (Then first next) a held reply left b
-  then_goes_on mid p q = by_then p q (λ C D f g. goes_on f g)
+  then_goes_on mid p q = by_then p q (λ C D f g. first_goes_on f g)
 
 -- how a step with its result changes what is told
 abbrev pub Effect : Type 0 → Type 1
@@ -117,7 +117,7 @@ Effect A = WriterState → Result A Error → WriterState → Type 0
 pub record StepEffect {W A : Type 0} (I : Writer W) (R : Effect A) (F : List ℕ → List ℕ → Type 0)
     (n : List ℕ → ℕ) (a : W) (held : List ℕ) (C : List WriteCall) (reply : Result A Error) (left : List ℕ) (b : W) : Type 0 where
   -- how it changes what is told
-  pub tells : R (with_buffer (I.told a) held) reply (with_buffer (I.told b) left)
+  pub told : R (with_buffer (I.told a) held) reply (with_buffer (I.told b) left)
   -- what is held after an `Ok`
   pub leaves : OnOk reply (F held left)
   -- over an inner writer that takes all: it still does, there is no error, and so many calls are counted
@@ -155,7 +155,7 @@ Sending old reply new = IsNoInterruption reply × Moves old [] (call_mishap repl
 -- What P tells of a first step and Q of the next, R tells of both.
 pub record StepsJoin {A : Type 0} (P : Effect (Unit {0})) (Q R : Effect A) : Type 0 where
   -- the first failed
-  pub fails : (s t : WriterState) (e : Error) → P s (Err e) t → R s (Err e) t
+  pub first_fails : (s t : WriterState) (e : Error) → P s (Err e) t → R s (Err e) t
   -- it did not, and the next one followed
   pub joins : (s m t : WriterState) (reply : Result A Error) → P s (Ok tt) m → Q m reply t → R s reply t
 
@@ -165,15 +165,15 @@ pub then_does : {W A : Type 0} {I : Writer W} {P : Effect (Unit {0})}
     {G : List ℕ → List ℕ → Type 0} {k : List ℕ → ℕ}
     → StepsJoin P Q R → Always I first P (Exactly f) n → Always I next Q G k
     → Always I (Then first next) R (λ held. G (f held)) (λ held. n held + k (f held))
-then_does first next follows one two a b held left _ _ (stops p) made =
+then_does first next follows one two a b held left _ _ (first_stops p) made =
     let x = effect_by one p made in
-    record { tells = follows.fails _ _ _ x.tells; leaves = tt; counts = λ t. no_ok (x.counts t).1 }
-then_does {I} first next {G = G} {k = k} follows one two a b held left _ reply (goes_on {C = C} {D = D} p q) made =
+    record { told = follows.first_fails _ _ _ x.told; leaves = tt; counts = λ t. no_ok (x.counts t).1 }
+then_does {I} first next {G = G} {k = k} follows one two a b held left _ reply (first_goes_on {C = C} {D = D} p q) made =
     let parts = made_split (CallOf I) C a D b made in
     let x = effect_by one p parts.1 in
     let y = effect_by two q parts.2 in
     record {
-      tells = follows.joins _ _ _ reply x.tells y.tells;
+      told = follows.joins _ _ _ reply x.told y.told;
       leaves = subst (λ l. OnOk reply (G l left)) x.leaves y.leaves;
       counts = λ t. let c = x.counts t in let d = y.counts c.0 in
           (d.0, d.1, omega (arith, charges-append C D, c.2, d.2, ap k x.leaves));
@@ -217,7 +217,7 @@ module _ {W : Type 0} {may : W → WriteCall → W → Type 0} {Adds : W → Lis
     -- x was held, or passed on by one `write`
     put_write : (S : ℕ) {C : List WriteCall} {x held left : List ℕ} {reply : Result ℕ Error}
         → PutCalls S x (length x) (SingleCall (Wrote x)) held C reply left → (a b : W) → Made may a C b
-        → AddsThrough Adds held left a (taken reply x) b
+        → AddsThrough Adds held left a (accepted_of reply x) b
     put_write = grind (arith, nat_tests, common_steps, take_all, append-nil)
 
     -- by the calls of one `write_all`
@@ -233,8 +233,8 @@ module _ {W : Type 0} {may : W → WriteCall → W → Type 0} {Adds : W → Lis
     -- room was made for x, and then that
     written_adds : {S : ℕ} {C : List WriteCall} {x held left : List ℕ} {reply : Result ℕ Error} → WriteCalls S x held C reply left
         → (a b : W) → Made may a C b → CallAdds (AddsThrough Adds held left) a (Wrote x reply) b
-    written_adds {S} {x = x} (stops room) a b made = room_adds S (length x) room a b made
-    written_adds {S} {x = x} (goes_on {C} {D} room put) a b made =
+    written_adds {S} {x = x} (first_stops room) a b made = room_adds S (length x) room a b made
+    written_adds {S} {x = x} (first_goes_on {C} {D} room put) a b made =
         let m = made_split may C a D b made in then_adds (room_adds S (length x) room a m.0 m.1) (put_write S put m.0 b m.2)
 
     -- The calls of a `write` of x add what is no longer held of the held bytes and of those that the `write` took, after an error too.
@@ -245,8 +245,8 @@ module _ {W : Type 0} {may : W → WriteCall → W → Type 0} {Adds : W → Lis
     -- the same of a `write_all`
     written_all_adds : {S : ℕ} {C : List WriteCall} {x held left : List ℕ} {reply : Result (Unit {0}) Error}
         → WriteAllCalls S x held C reply left → (a b : W) → Made may a C b → CallAdds (AddsThrough Adds held left) a (WroteAll x reply) b
-    written_all_adds {S} {x = x} (stops room) a b made = ([], (x, refl), tt, room_adds S (length x) room a b made)
-    written_all_adds {S} {x = x} (goes_on {C} {D} room put) a b made =
+    written_all_adds {S} {x = x} (first_stops room) a b made = ([], (x, refl), tt, room_adds S (length x) room a b made)
+    written_all_adds {S} {x = x} (first_goes_on {C} {D} room put) a b made =
         let m = made_split may C a D b made in
         let p = put_all S put m.0 b m.2 in (p.0, p.1, p.2, then_adds (room_adds S (length x) room a m.0 m.1) p.3)
 
@@ -258,13 +258,13 @@ module _ {W : Type 0} {may : W → WriteCall → W → Type 0} {Adds : W → Lis
 -- The calls of a tower are calls of the device below it. For callers over towers.
 
 -- if each call makes such inner calls, calls one after another do
-pub through : {W B : Type 0} (I : Writer W) (K : Writer B) (inner : B → W) (buffer : B → List ℕ)
+pub level_by_level : {W B : Type 0} (I : Writer W) (K : Writer B) (inner : B → W) (buffer : B → List ℕ)
     (level : List ℕ → WriteCall → List WriteCall → List ℕ → Type 0)
     → ((a b : B) (call : WriteCall) → K.may a call b
     → ByCalls (CallOf I) (inner a) (λ D. level (buffer a) call D (buffer b)) (inner b))
     → (C : List WriteCall) (a b : B) → Made (CallOf K) a C b
     → ByCalls (CallOf I) (inner a) (λ D. LevelCalls level (buffer a) C D (buffer b)) (inner b)
-through I K inner buffer level each [] a b made = record { calls = []; made = ap inner made; are = (refl, ap buffer made) }
-through I K inner buffer level each (call ∷ C) a b made =
+level_by_level I K inner buffer level each [] a b made = record { calls = []; made = ap inner made; are = (refl, ap buffer made) }
+level_by_level I K inner buffer level each (call ∷ C) a b made =
     let one = each a made.0 call (law_may K a made.0 call made.1) in
-    by_then one (through I K inner buffer level each C made.0 b made.2) (λ D E f g. (buffer made.0, D, E, f, g, refl))
+    by_then one (level_by_level I K inner buffer level each C made.0 b made.2) (λ D E f g. (buffer made.0, D, E, f, g, refl))

@@ -2,7 +2,8 @@
 use Rattle.no_std_io2.proofs.Words.{◌≡◌, ℕ, ◌-◌, ◌<◌, ◌≤◌, ◌^◌, length, drop, ap, ◌∙◌, arith, length-take, reader_held, common_steps, ℤ}
 use Rattle.no_std_io2.proofs.Words.{pos, ◌+◌, List, ◌++◌, take, sym, take-take, IsCutOn, negsuc, zero, suc, ◌*◌, min, Bool, true, false}
 use Rattle.no_std_io2.proofs.Words.{true≢false, [], refl, ap₂, subst, append_assoc, append-nil, length-append, take-append-drop, Option}
-use Rattle.no_std_io2.proofs.Words.{None, Some, Result, Ok, Err, IfOk, drop-append_seam, Event, events_of, bytes, Store, ReaderState, Takes}
+use Rattle.no_std_io2.proofs.Words.{None, Some, Result, Ok, Err, IfOk, drop-append_seam, Event, events_of, event_bytes, Store, ReaderState}
+use Rattle.no_std_io2.proofs.Words.{Takes}
 use Rattle.no_std_io2.proofs.Words.{AreTaken, KeepsContent, to_come, IsAtEnd, answered, bytes_given, behind_held, step_back, store_if}
 use Rattle.no_std_io2.proofs.Words.{store_before, Reader, tells, ReadCallLaw, ReadLaw, Gave, reader_behind, reader_inner, PassesOn}
 use Rattle.no_std_io2.proofs.Words.{ReadsBelow, of_held, was_filled}
@@ -23,8 +24,8 @@ use Rattle.no_std_io2_base.proofs.TakesLemmas.{bytes-append, bytes-events_of, le
 -- How much a `BufReader` holds.
 
 -- it has some room
-pub some_room : {R : Type 0} {S : ℕ} (r : BufReader R S) → 0 < S
-some_room r = r.some_room
+pub reader_has_room : {R : Type 0} {S : ℕ} (r : BufReader R S) → 0 < S
+reader_has_room r = r.some_room
 
 -- and holds no more than that
 pub held-le : {R : Type 0} {S : ℕ} (r : BufReader R S) → length (reader_held r) ≤ S
@@ -70,8 +71,8 @@ pub front_more : (l : List ℕ) (start end n : ℕ) → n ≤ end - start
 front_more l start end n fits = grind (arith, common_steps, take-add, take-take)
 
 -- the bytes up to the end are those before the window, and then those in it
-pub whole : (l : List ℕ) (start end : ℕ) → start ≤ end → take start l ++ take (end - start) (drop start l) ≡ take end l
-whole l start end ordered =
+pub window_whole : (l : List ℕ) (start end : ℕ) → start ≤ end → take start l ++ take (end - start) (drop start l) ≡ take end l
+window_whole l start end ordered =
     let split : end ≡ start + (end - start) = omega arith in
     sym (ap (λ n. take n l) split ∙ take-add start (end - start) l)
 
@@ -82,7 +83,7 @@ at_offset_sum = grind (arith, common_steps)
 -- the border moved inside the same bytes
 pub cut_on : (l : List ℕ) (o : ℤ) (start end at : ℕ) → start ≤ end → at ≤ end → end ≤ length l → pos at ≡ pos start +ℤ o
     → IsCutOn o (take start l) (take (end - start) (drop start l)) (take at l) (take (end - at) (drop at l))
-cut_on l o start end at ordered within room is = grind (arith, common_steps, length-take-le, whole, at_offset_sum)
+cut_on l o start end at ordered within room is = grind (arith, common_steps, length-take-le, window_whole, at_offset_sum)
 
 -- What a buffer in front of a reader tells, and what it takes.
 
@@ -149,25 +150,26 @@ stays_before s s' whole whole' front y read same moved is before =
     )
 
 -- The inner reader took Q. Its bytes came after these, and some left in front.
-pub goes_before : (whole whole' front : List ℕ) (Q : List Event) {a b : ReaderState} → Takes a Q b → whole ++ bytes Q ≡ front ++ whole'
+pub goes_before : (whole whole' front : List ℕ) (Q : List Event) {a b : ReaderState} → Takes a Q b
+    → whole ++ event_bytes Q ≡ front ++ whole'
     → KeepsContent (store_before whole a.store) (λ len was now. now ≡ was + length front) (store_before whole' b.store)
     × (AreBefore whole a.store → AreBefore whole' b.store)
 goes_before whole whole' front Q {a} {b} takes stands = by a.store b.store takes.events takes.store
   where
     by : (s s' : Option Store) → AreTaken (events_by s a.events) Q (events_by s' b.events)
-        → KeepsContent s (λ len was now. now ≡ was + length (bytes Q)) s'
+        → KeepsContent s (λ len was now. now ≡ was + length (event_bytes Q)) s'
         → KeepsContent (store_before whole s) (λ len was now. now ≡ was + length front) (store_before whole' s')
         × (AreBefore whole s → AreBefore whole' s')
     by None s' taken moved = (tt, λ before. absurd before)
     by (Some s) None taken moved = absurd moved
     by (Some s) (Some s') taken moved =
-        let on : IsBefore whole s → IsBefore whole' s' = stays_before s s' whole whole' front (bytes Q)
-        (sym (bytes-events_of (drop s.position s.content)) ∙ ap bytes taken
+        let on : IsBefore whole s → IsBefore whole' s' = stays_before s s' whole whole' front (event_bytes Q)
+        (sym (bytes-events_of (drop s.position s.content)) ∙ ap event_bytes taken
         ∙ bytes-append Q (events_of (drop s'.position s'.content))
-        ∙ ap (λ l. bytes Q ++ l) (bytes-events_of (drop s'.position s'.content)))
+        ∙ ap (λ l. event_bytes Q ++ l) (bytes-events_of (drop s'.position s'.content)))
         moved.0 moved.1 stands in
-        let long : length whole + length (bytes Q) ≡ length front + length whole' =
-        sym (length-append whole (bytes Q)) ∙ ap length stands ∙ length-append front whole' in (
+        let long : length whole + length (event_bytes Q) ≡ length front + length whole' =
+        sym (length-append whole (event_bytes Q)) ∙ ap length stands ∙ length-append front whole' in (
           keeps_before (λ len was now. now ≡ was + length front) whole whole' s s' moved.0
               (λ before. (on before, omega (arith, long, moved.1, before.0))),
           λ before. (before_decides whole' s').1 (on ((before_decides whole s).0 before)),
@@ -195,9 +197,9 @@ takes_behind room held held' P Q {a} {b} takes is fits = record {
       subst (λ E. AreTaken (to_come (reader_told room held a)) P E) (sym (told_behind room held' b))
       (subst (λ E. AreTaken E P (behind_held held' (to_come b))) (sym (told_behind room held a))
       (taken_behind held held' P Q (to_come a) (to_come b) takes.events is));
-  store = (goes_before held held' (bytes P) Q takes
-      (ap (λ l. l ++ bytes Q) (sym (bytes-events_of held)) ∙ sym (bytes-append (events_of held) Q) ∙ ap bytes is
-      ∙ bytes-append P (events_of held') ∙ ap (λ l. bytes P ++ l) (bytes-events_of held'))).0;
+  store = (goes_before held held' (event_bytes P) Q takes
+      (ap (λ l. l ++ event_bytes Q) (sym (bytes-events_of held)) ∙ sym (bytes-append (events_of held) Q) ∙ ap event_bytes is
+      ∙ bytes-append P (events_of held') ∙ ap (λ l. event_bytes P ++ l) (bytes-events_of held'))).0;
   turns = turns_behind room (length held) (length held') (length P) (length Q) a.turns b.turns
       (ap (λ n. n + length Q) (sym (length-events_of held)) ∙ sym (length-append (events_of held) Q) ∙ ap length is
       ∙ length-append P (events_of held') ∙ ap (λ n. length P + n) (length-events_of held')) fits takes.turns;

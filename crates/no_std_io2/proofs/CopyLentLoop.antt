@@ -8,7 +8,7 @@ use Rattle.no_std_io2_base.specs.Writers.{WriteAllOf}
 use Rattle.std.proofs.Common.{take_all}
 use Rattle.no_std_io2_base.proofs.{CallsLemmas.{made_then}, MovesLemmas.{Moves-refl, Moves-then}, ReadsLemmas.{Took-none, Took-then}}
 use Rattle.no_std_io2_base.proofs.ReadsLemmas.{Took-bytes, Took-again, Took-end, Took-fault}
-use Rattle.no_std_io2.specs.inner.Copy.{counted, HandsLent, lends_none, lends_fault, again_lent, piece_lent, piece_refused}
+use Rattle.no_std_io2.specs.inner.Copy.{counted, HandsLent, lends_none, lends_fault, again_lent, piece_lent, lends_refused}
 use Rattle.no_std_io2.specs.{Copy.{LentCopied}, declared.util.sides.CopyError.{CopyError}}
 use Rattle.no_std_io2.specs.declared.util.sides.CopyError.TheVariants.{Read, Write}
 
@@ -115,7 +115,7 @@ module _ {R W : Type 0} {K : Reader R} {I : Writer W} {from : R} {old : W} where
               ),
             );
             all = λ t. wrote.all (before.all t);
-            calls = calls_end before.calls (Filled (Ok x) ∷ []) calls (after, filled, refl) made (piece_refused some are);
+            calls = calls_end before.calls (Filled (Ok x) ∷ []) calls (after, filled, refl) made (lends_refused some are);
           }
 
       -- the piece was passed on, and taken

@@ -1,11 +1,12 @@
 -- The loop of a copy, and what follows from its law.
 use Rattle.no_std_io2.proofs.Words.{common_steps, ◌≡◌, ℕ, ◌+◌, ◌-◌, ◌^◌, ◌<◌, min, List, [], ◌∷◌, ◌++◌, Result, Ok, Err, true, length}
 use Rattle.no_std_io2.proofs.Words.{take, refl, sym, ap, subst, ◌∙◌, arith, append_assoc, append-nil, length-append, length-take-le, concat}
-use Rattle.no_std_io2.proofs.Words.{IsInterruption, IsFault, bytes, ReaderState, Bool, Reader, Gave, ReadLaw, GaveLaw, ReadCallLaw, tells}
+use Rattle.no_std_io2.proofs.Words.{IsInterruption, IsFault, event_bytes, ReaderState, Bool, Reader, Gave, ReadLaw, GaveLaw, ReadCallLaw}
+use Rattle.no_std_io2.proofs.Words.{tells}
 use Rattle.no_std_io2.proofs.Words.{no_read, and_gave, and_again, WriteCall, Made, Moves, Writer, CallOf, TakesAll, Option, None}
 use Rattle.no_std_io2.proofs.Words.{Some, Event, byte, fails, HasNoFault, ReadCall, Takes, to_come, IsAtEnd, WriterState, Copied}
 use Rattle.std.proofs.lemmas.List.{Folds.{concat-append}, Sums.{sum_by-cons}}
-use Rattle.no_std_io2_base.specs.{declared.error.Error.{Error}, declared.error.ErrorKind.{ErrorKind}, Takes.{gave}, Reads.{Took}}
+use Rattle.no_std_io2_base.specs.{declared.error.Error.{Error}, declared.error.ErrorKind.{ErrorKind}, Takes.{gave_front}, Reads.{Took}}
 use Rattle.no_std_io2_base.specs.{Writers.{WriteAllOf}, inner.Events.{EndsInFault}, inner.Moves.{HasSpent}}
 use Rattle.no_std_io2_base.proofs.{CallsLemmas.{made_more, made_then}, TakesLemmas.{length-events_of, read_law, nothing_read}}
 use Rattle.no_std_io2_base.proofs.{TakesLemmas.{HasNoFault-front, left_of}, MovesLemmas.{Moves-refl, Moves-then, Moves-steady}}
@@ -92,8 +93,8 @@ module _ {R W : Type 0} {K : Reader R} {I : Writer W} {S : ℕ} {from : R} {old 
   }
 
   module _ {copied : ℕ} {buf part ys : List ℕ} {mid mid' : R} {now : W} (before : CopySoFar K I S from old copied buf mid now) where
-    law : length ys ≡ S → (reply : Result ℕ Error) → ReadLaw K mid part reply ys mid' → GaveLaw K mid S (gave reply ys) mid'
-    law long reply read = subst (λ n. GaveLaw K mid n (gave reply ys) mid') long (read_law reply read)
+    law : length ys ≡ S → (reply : Result ℕ Error) → ReadLaw K mid part reply ys mid' → GaveLaw K mid S (gave_front reply ys) mid'
+    law long reply read = subst (λ n. GaveLaw K mid n (gave_front reply ys) mid') long (read_law reply read)
 
     -- the reader's interruption is ignored
     pub copy_again : {e : Error} → length ys ≡ S → ReadLaw K mid part (Err e) ys mid' → IsInterruption e
@@ -174,7 +175,7 @@ module _ {R W : Type 0} {K : Reader R} {I : Writer W} {S : ℕ} {from : R} {old 
           let start = concat before.hands.pieces in
           let accepted = wrote.moves.accepted in
           let lost = wrote.moves.front.0 in
-          let whole : bytes took.taken ≡ (start ++ accepted) ++ lost =
+          let whole : event_bytes took.taken ≡ (start ++ accepted) ++ lost =
           took.are ∙ ap (λ l. start ++ l) wrote.moves.front.1 ∙ sym (append_assoc start accepted lost) in
           let rest = ap length wrote.moves.front.1 ∙ length-append accepted lost in
           let fits = ap length whole ∙ length-append (start ++ accepted) lost in
@@ -238,9 +239,9 @@ stays_steady {a} {c} {x} steady m = none_left c.mishaps (subst (λ k. HasSpent k
     none_left (Some (k ∷ ks)) h = absurd (omega (arith, h (λ _. true), sum_by-cons (λ _. 1) k ks))
 
 -- what is out after a flush
-pub flushed : (a : WriterState) {b c : WriterState} {x : List ℕ}
+pub out_after_flush : (a : WriterState) {b c : WriterState} {x : List ℕ}
     → Moves a x [] b → Moves b [] [] c → c.held ≡ [] → c.out ≡ a.out ++ a.held ++ x
-flushed a {b = b} {c = c} m n empty = grind (arith, common_steps)
+out_after_flush a {b = b} {c = c} m n empty = grind (arith, common_steps)
 
 -- no piece fits an empty buffer, so nothing was passed on
 none_handed : {xs : List (List ℕ)} {C : List WriteCall} {reply : Result (Unit {0}) Error} → Handed 0 xs C reply → C ≡ []

@@ -2,7 +2,8 @@
 use Rattle.no_std_io2.proofs.Words.{TakesAll, CallOf, Writer, WriteCall, Wrote, Made, calls_for, IsLineState, lines_of, lines_len}
 use Rattle.no_std_io2.proofs.Words.{unfinished_line, charges, [], ◌≡◌, ◌+◌, ℕ, ◌<◌, ◌≤◌, ◌==◌, List, ◌++◌, length, take, Result, Ok, Err}
 use Rattle.no_std_io2.proofs.Words.{OnOk, IsOk, IfOk, refl, subst, arith, if◌then◌else◌, inl, inr, common_steps, nat_lt}
-use Rattle.no_std_io2.proofs.Words.{nat_tests, stops, goes_on, with_buffer, Stepped, SendCalls, WriteCalls, WriteAllCalls, buffer_after}
+use Rattle.no_std_io2.proofs.Words.{nat_tests, first_stops, first_goes_on, with_buffer, Stepped, SendCalls, WriteCalls, WriteAllCalls}
+use Rattle.no_std_io2.proofs.Words.{buffer_after}
 use Rattle.no_std_io2.proofs.Words.{writing_calls, SendLinesCalls, LineWriteCalls, LineWriteAllCalls, Then}
 use Rattle.no_std_io2_base.specs.declared.error.Error.{Error}
 use lib.Seq.{take-take}
@@ -49,14 +50,14 @@ at_ok = grind (arith, common_steps)
 -- lines that go through a buffer, and then a sending
 behind_joins : (y : List ℕ) → StepsJoin (WritingAll y) Sending (WritingAll y)
 behind_joins y = record {
-  fails = λ s t e f. f;
+  first_fails = λ s t e f. f;
   joins = λ s m t reply f g. (g.0, MovesFront-ends y reply (MovesFront-whole y tt f.1) g.1);
 }
 
 -- the lines of x, and then the bytes after them
 lines_joins : (x : List ℕ) → StepsJoin (WritingAll (lines_of x)) (WritingAll (unfinished_line x)) (WritingAll x)
 lines_joins x = record {
-  fails = λ s t e f. subst (λ l. WritingAll l s (Err e) t) (lines_split x)
+  first_fails = λ s t e f. subst (λ l. WritingAll l s (Err e) t) (lines_split x)
       (f.0, MovesFront-first (lines_of x) (unfinished_line x) e f.1);
   joins = λ s m t reply f g. subst (λ l. WritingAll l s reply t) (lines_split x)
       (g.0, MovesFront-join (lines_of x) (unfinished_line x) reply f.1 g.1);
@@ -65,7 +66,7 @@ lines_joins x = record {
 -- What a `write` does: it accepts the bytes that its result reports, and over an inner writer that takes all it makes three calls at most.
 pub record LineWrites {W : Type 0} (I : Writer W) (S : ℕ) (x : List ℕ) (a : W) (held : List ℕ) (C : List WriteCall) (reply : Result ℕ Error)
     (left : List ℕ) (b : W) : Type 0 where
-  pub tells : Writing x (with_buffer (I.told a) held) reply (with_buffer (I.told b) left)
+  pub told : Writing x (with_buffer (I.told a) held) reply (with_buffer (I.told b) left)
   pub keeps : TakesAll I a → TakesAll I b × IsOk reply × (charges C ≤ 3)
   -- then this is held, if a line state was
   pub filled : IsLineState held → TakesAll I a → left ≡ line_buffer_filled S held x
@@ -73,7 +74,7 @@ pub record LineWrites {W : Type 0} (I : Writer W) (S : ℕ) (x : List ℕ) (a : 
 -- What a `write_all` does: it accepts some front of x, all of it after `Ok`, and makes three calls at most too.
 pub record LineWritesAll {W : Type 0} (I : Writer W) (S : ℕ) (x : List ℕ) (a : W) (held : List ℕ) (C : List WriteCall)
     (reply : Result (Unit {0}) Error) (left : List ℕ) (b : W) : Type 0 where
-  pub tells : WritingAll x (with_buffer (I.told a) held) reply (with_buffer (I.told b) left)
+  pub told : WritingAll x (with_buffer (I.told a) held) reply (with_buffer (I.told b) left)
   pub keeps : TakesAll I a → TakesAll I b × IsOk reply × (charges C ≤ 3)
   -- this is held after an `Ok`, if a line state was
   pub leaves : IsLineState held → OnOk reply (left ≡ line_buffer_after S held x)
@@ -87,7 +88,7 @@ module _ {W : Type 0} (I : Writer W) where
   send_line_does a b held left C reply (inr sent) made =
       let sends = effect_by (send_does I) sent.1 made in
       let some = lines_some held sent.0 in record {
-        tells = sends.tells;
+        told = sends.told;
         leaves = grind (arith, common_steps, on_ok_weaker, sends.leaves, some);
         counts = λ t. grind (arith, common_steps, sends.counts t, some);
       }
@@ -96,13 +97,13 @@ module _ {W : Type 0} (I : Writer W) where
   send_lines_does : (S : ℕ) (y : List ℕ) → Always I (SendLinesCalls S y) (WritingAll y) Emptied (lines_calls S y)
   send_lines_does S y a b held left C reply (inl past) made =
       let all = all_calls I past.2 a b made in record {
-        tells = (all.0, MovesFront-emptied past.0 past.1 all.1);
+        told = (all.0, MovesFront-emptied past.0 past.1 all.1);
         leaves = after_ok reply past.1;
         counts = λ t. grind (arith, common_steps, all_count I past.2 a b made t, past.0);
       }
   send_lines_does S y a b held left C reply (inr behind) made =
       let both = effect_by (then_does (WriteAllCalls S y) SendCalls (behind_joins y) (write_all_does I S y) (send_does I)) behind.1 made in
-      record { tells = both.tells; leaves = both.leaves; counts = λ t. grind (arith, common_steps, both.counts t, behind.0) }
+      record { told = both.told; leaves = both.leaves; counts = λ t. grind (arith, common_steps, both.counts t, behind.0) }
 
   module _ (S : ℕ) (x : List ℕ) where
     -- one write of lines took n bytes, and then the next bytes t are held
@@ -130,8 +131,8 @@ module _ {W : Type 0} (I : Writer W) where
     -- over an inner writer that takes all, this is held after it
     tail_filled : {held left : List ℕ} {C : List WriteCall} {reply : Result ℕ Error} → Then SendCalls (LinesCalls S x) held C reply left
         → 0 < lines_len x → (a b : W) → Made (CallOf I) a C b → TakesAll I a → left ≡ take S (unfinished_line x)
-    tail_filled (stops p) some a b made takes = no_ok ((effect_by (send_does I) p made).counts takes).1
-    tail_filled (goes_on {C = C} {D = D} {left = left} {reply = reply} p q) some a b made takes =
+    tail_filled (first_stops p) some a b made takes = no_ok ((effect_by (send_does I) p made).counts takes).1
+    tail_filled (first_goes_on {C = C} {D = D} {left = left} {reply = reply} p q) some a b made takes =
         let parts = made_split (CallOf I) C a D b made in
         let law = one_inner_call I parts.0 b q.2 parts.2 in
         (tail_whole S x q.1 reply left (law.all ((effect_by (send_does I) p parts.1).counts takes).0).1 some q.3).1
@@ -145,7 +146,7 @@ module _ {W : Type 0} (I : Writer W) where
           let both = effect_by
           (then_does SendLineCalls (WriteCalls S x) (writing_joins x) send_line_does (write_does I S x)) plain.1 p.made in
           record {
-            tells = both.tells;
+            told = both.told;
             keeps = λ t. let c = both.counts t in (c.0, c.1, omega (arith, c.2, line_write_few S held x));
             filled = λ line t.
                 let after = at_ok reply (both.counts t).1 both.leaves in
@@ -155,7 +156,7 @@ module _ {W : Type 0} (I : Writer W) where
           let some = lines_some x lines.0 in
           let both = effect_by (then_does SendCalls (LinesCalls S x) (writing_joins x) (send_does I) (lines_do S x some)) lines.1 p.made in
           record {
-            tells = both.tells;
+            told = both.told;
             keeps = λ t. let c = both.counts t in (c.0, c.1, omega (arith, c.2, lines_few held));
             filled = λ line t. grind (arith, nat_tests, tail_filled S x lines.1 some a b p.made t, some);
           }
@@ -174,7 +175,7 @@ module _ {W : Type 0} (I : Writer W) where
           let both = effect_by (then_does SendLineCalls (WriteAllCalls S x) (writing_all_joins x) send_line_does (write_all_does I S x))
           plain.1 p.made in
           record {
-            tells = both.tells;
+            told = both.told;
             keeps = λ t. let c = both.counts t in (c.0, c.1, omega (arith, c.2, line_write_all_few S held x));
             leaves = λ line. on_ok_weaker reply
                 (λ e. grind (arith, nat_tests, e, line_left-is held line, lines_none x plain.0, unfinished_all x plain.0)) both.leaves;
@@ -183,7 +184,7 @@ module _ {W : Type 0} (I : Writer W) where
           let both = effect_by (then_does (SendLinesCalls S (lines_of x)) (WriteAllCalls S (unfinished_line x)) (lines_joins x)
           (send_lines_does S (lines_of x)) (write_all_does I S (unfinished_line x))) lines.1 p.made in
           record {
-            tells = both.tells;
+            told = both.told;
             keeps = λ t. let c = both.counts t in (c.0, c.1, omega (arith, c.2, all_lines_few S held (lines_of x) (unfinished_line x)));
             leaves = λ line. on_ok_weaker reply (λ e. grind (arith, nat_tests, e, lines_some x lines.0)) both.leaves;
           }

@@ -2,8 +2,10 @@
 use Rattle.no_std_io2.proofs.Words.{common_steps, ◌≡◌, ℕ, ◌+◌, ◌-◌, ◌<◌, ◌≤◌, List, ◌++◌, length, take, drop, refl, ap, ◌∙◌, arith}
 use Rattle.no_std_io2.proofs.Words.{length-take, length-drop, length-append, subst, take-append-drop, nat_tests, newline, IsLineState}
 use Rattle.no_std_io2.proofs.Words.{lines_len, lines_of, unfinished_line, [], ◌⊎◌, Stepped, CallOf, Writer, WriteCall, Wrote, Writes}
-use Rattle.no_std_io2.proofs.Words.{none as no_write, took, again, stuck, fault, AllCalls, ◌==◌, Result, Ok, OnOk, IsOk, IfOk, sym}
-use Rattle.no_std_io2.proofs.Words.{if◌then◌else◌, inl, inr, IsSuffix, Then, stops, goes_on, SendCalls, RoomCalls, Buffered, WriteCalls}
+use Rattle.no_std_io2.proofs.Words.{no_write, write_took, write_again, write_stuck, write_fault, AllCalls, ◌==◌, Result, Ok, OnOk, IsOk}
+use Rattle.no_std_io2.proofs.Words.{IfOk, sym}
+use Rattle.no_std_io2.proofs.Words.{if◌then◌else◌, inl, inr, IsSuffix, Then, first_stops, first_goes_on, SendCalls, RoomCalls, Buffered}
+use Rattle.no_std_io2.proofs.Words.{WriteCalls}
 use Rattle.no_std_io2.proofs.Words.{WriteAllCalls, FlushCalls, SendLinesCalls, LineWriteCalls, LineWriteAllCalls}
 use Rattle.no_std_io2.proofs.{BufWriterLemmas.{IsSuffix-trans}, BufWriterCalls.{buffered_fits, write_whole}}
 use Rattle.std.proofs.lemmas.List.{take_min}
@@ -67,11 +69,11 @@ tail_fits S x n within =
 pub writes_end : {text : List ℕ} {C : List WriteCall} {x left : List ℕ} {reply : Result (Unit {0}) Error}
     → Writes text C x reply left → IsSuffix x left
 writes_end no_write = ([], refl)
-writes_end (took {x = x} {left = left} {n = n} some more w) =
+writes_end (write_took {x = x} {left = left} {n = n} some more w) =
     IsSuffix-trans x (drop n x) left (take n x, sym (take-append-drop n x)) (writes_end w)
-writes_end (again some interrupted w) = writes_end w
-writes_end (stuck some says) = ([], refl)
-writes_end (fault some is) = ([], refl)
+writes_end (write_again some interrupted w) = writes_end w
+writes_end (write_stuck some says) = ([], refl)
+writes_end (write_fault some is) = ([], refl)
 
 -- the end of bytes without a newline has none,
 lacks_end : {whole end : List ℕ} → IsSuffix whole end → Lacks newline whole → Lacks newline end
@@ -120,8 +122,8 @@ module _ {A : Type 0} (S : ℕ) (x : List ℕ) (v : A) (past : List WriteCall �
   -- if neither the held bytes nor x have a newline, the buffer has none after x went through it
   buffered_plain : {held left : List ℕ} {C : List WriteCall} {reply : Result A Error} → Buffered S x v past held C reply left
       → Lacks newline held → Lacks newline x → Lacks newline left
-  buffered_plain (stops way) p q = lacks_end (room_end S (length x) way) p
-  buffered_plain (goes_on {mid = mid} {left = left} way put) p q = elim put [
+  buffered_plain (first_stops way) p q = lacks_end (room_end S (length x) way) p
+  buffered_plain (first_goes_on {mid = mid} {left = left} way put) p q = elim put [
     | inl kept ↦ subst (Lacks newline) (sym kept.3) (Lacks-append newline mid x (lacks_end (room_end S (length x) way) p) q)
     | inr gone ↦ nothing_lacks gone.1.1
   ]
@@ -129,8 +131,8 @@ module _ {A : Type 0} (S : ℕ) (x : List ℕ) (v : A) (past : List WriteCall �
   -- and if x ends in one, the buffer is a line state
   buffered_line : {held left : List ℕ} {C : List WriteCall} {reply : Result A Error} → Buffered S x v past held C reply left
       → IsLineState held → ((front : List ℕ) → IsLineState (front ++ x)) → IsLineState left
-  buffered_line (stops way) p q = state_end (room_end S (length x) way) p
-  buffered_line (goes_on {mid = mid} {left = left} way put) p q = elim put [
+  buffered_line (first_stops way) p q = state_end (room_end S (length x) way) p
+  buffered_line (first_goes_on {mid = mid} {left = left} way put) p q = elim put [
     | inl kept ↦ subst IsLineState (sym kept.3) (q mid)
     | inr gone ↦ nothing_state gone.1.1
   ]
@@ -139,8 +141,8 @@ module _ {A : Type 0} (S : ℕ) (x : List ℕ) (v : A) (past : List WriteCall �
   text_state : {held left : List ℕ} {C : List WriteCall} {reply : Result A Error}
       → Then SendLineCalls (Buffered S x v past) held C reply left → IsLineState held → Lacks newline x
       → IsLineState left × OnOk reply (Lacks newline left)
-  text_state (stops p) line plain = (state_end (send_line_end p) line, tt)
-  text_state (goes_on {reply = reply} p q) line plain =
+  text_state (first_stops p) line plain = (state_end (send_line_end p) line, tt)
+  text_state (first_goes_on {reply = reply} p q) line plain =
       let none = buffered_plain q (send_line_plain p) plain in (plain_state _ none, after_ok reply none)
 
   -- if no line is held and it fits, it is held without a call
@@ -161,8 +163,8 @@ tail_whole S x answer reply left is some tail = grind (arith, common_steps, drop
 -- a `write` leaves a line state
 lines_state : (S : ℕ) (x : List ℕ) {held left : List ℕ} {C : List WriteCall} {reply : Result ℕ Error}
     → Then SendCalls (LinesCalls S x) held C reply left → IsLineState held → IsLineState left
-lines_state S x (stops p) line = state_end (writes_end p) line
-lines_state S x (goes_on {left = left} {reply = reply} p q) line = holds_state S x q.1 reply left q.3
+lines_state S x (first_stops p) line = state_end (writes_end p) line
+lines_state S x (first_goes_on {left = left} {reply = reply} p q) line = holds_state S x q.1 reply left q.3
 
 -- with or without lines
 pub line_write_state : (S : ℕ) {x held left : List ℕ} {C : List WriteCall} {reply : Result ℕ Error} → LineWriteCalls S x held C reply left
@@ -187,8 +189,8 @@ line_write_fits S {x} write short plain room = grind (arith, common_steps, plain
 -- a `flush` leaves one too
 pub flush_state : {held left : List ℕ} {C : List WriteCall} {reply : Result (Unit {0}) Error} → FlushCalls held C reply left
     → IsLineState held → IsLineState left
-flush_state (stops sent) line = state_end (writes_end sent) line
-flush_state (goes_on {left = left} sent past) line = nothing_state past.1
+flush_state (first_stops sent) line = state_end (writes_end sent) line
+flush_state (first_goes_on {left = left} sent past) line = nothing_state past.1
 
 -- after `Ok` of lines that are passed on, nothing is held
 pub send_lines_leaves : (S : ℕ) (y : List ℕ) {held left : List ℕ} {C : List WriteCall} {reply : Result (Unit {0}) Error}
@@ -199,8 +201,8 @@ send_lines_leaves S y {reply = reply} sends = grind (arith, common_steps, after_
 behind_lines_state : (S : ℕ) {y held left : List ℕ} {C : List WriteCall} {reply : Result (Unit {0}) Error}
     → Then (WriteAllCalls S y) SendCalls held C reply left → IsLineState held → ((front : List ℕ) → IsLineState (front ++ y))
     → IsLineState left
-behind_lines_state S {y} (stops w) line ended = buffered_line S y tt (λ C. AllCalls C y) w line ended
-behind_lines_state S {y} (goes_on w s) line ended =
+behind_lines_state S {y} (first_stops w) line ended = buffered_line S y tt (λ C. AllCalls C y) w line ended
+behind_lines_state S {y} (first_goes_on w s) line ended =
     state_end (writes_end s) (buffered_line S y tt (λ C. AllCalls C y) w line ended)
 
 -- lines that follow other bytes end in a newline
@@ -211,14 +213,14 @@ lines_ended x some front has = ends_in-append newline front (lines_of x) some �
 all_lines_state : (S : ℕ) (x : List ℕ) {held left : List ℕ} {C : List WriteCall} {reply : Result (Unit {0}) Error}
     → Then (SendLinesCalls S (lines_of x)) (WriteAllCalls S (unfinished_line x)) held C reply left → IsLineState held → 0 < lines_len x
     → IsLineState left × OnOk reply (Lacks newline left)
-all_lines_state S x (stops {left = left} p) line some = (
+all_lines_state S x (first_stops {left = left} p) line some = (
   elim p [
     | inl past ↦ nothing_state past.1
     | inr behind ↦ behind_lines_state S behind.1 line (lines_ended x some)
   ],
   tt,
 )
-all_lines_state S x (goes_on {mid = mid} {reply = reply} p q) line some =
+all_lines_state S x (first_goes_on {mid = mid} {reply = reply} p q) line some =
     let empty = nothing_lacks (send_lines_leaves S (lines_of x) p) in
     let rest = unfinished_line x in
     let none = buffered_plain S rest tt (λ C. AllCalls C rest) q empty (unfinished_lacks x) in

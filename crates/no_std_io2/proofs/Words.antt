@@ -20,14 +20,14 @@ pub use Rattle.no_std_io2.specs.inner.BufReader.{AsksExact, FillsBelow, PassesOn
 pub use Rattle.no_std_io2.specs.inner.BufReader.{went_past}
 pub use Rattle.no_std_io2.specs.inner.Buffer.{behind_held, step_back, store_before, store_if, IsCutOn, IsSuffix}
 pub use Rattle.no_std_io2.specs.inner.BufWriter.{BufferMay, Buffered, FlushCalls, InnerCalls, SingleCall, SendCalls, Step, Stepped}
-pub use Rattle.no_std_io2.specs.inner.BufWriter.{TakesStep, Then, RoomCalls, WriteAllCalls, WriteCalls, buffer_after, goes_on}
+pub use Rattle.no_std_io2.specs.inner.BufWriter.{TakesStep, Then, RoomCalls, WriteAllCalls, WriteCalls, buffer_after, first_goes_on}
 pub use Rattle.no_std_io2.specs.BufReader.{reader_behind, reader_held, reader_inner}
-pub use Rattle.no_std_io2.specs.inner.BufWriter.{sender_buffer, sender_inner, stops, with_buffer, writing_calls, LevelCalls}
+pub use Rattle.no_std_io2.specs.inner.BufWriter.{sender_buffer, sender_inner, first_stops, with_buffer, writing_calls, LevelCalls}
 pub use Rattle.no_std_io2.specs.BufWriter.{writer_buffer, writer_inner, writer_told}
 pub use Rattle.no_std_io2.specs.{inner.LineWriter.{LineWriteAllCalls, LineWriteCalls, SendLinesCalls}, LineWriter.{line_buffer, line_inner}}
 pub use Rattle.no_std_io2.specs.Copy.{Copied}
 pub use Rattle.no_std_io2_base.specs.Errors.{IsFault, IsInterruption, IsOutOfMemory, error_kind}
-pub use Rattle.no_std_io2_base.specs.Events.{Event, HasNoFault, byte, bytes, events_of, fails, Store}
+pub use Rattle.no_std_io2_base.specs.Events.{Event, HasNoFault, byte, event_bytes, events_of, fails, Store}
 pub use Rattle.no_std_io2_base.specs.inner.Events.{bytes_to_fault, first_fault}
 pub use Rattle.no_std_io2_base.specs.inner.Lines.{IsLineState, lines_len, lines_of, unfinished_line}
 pub use Rattle.no_std_io2_base.specs.{Meter.{IsMeter, FillsRoom, IsReadMeter}, inner.Charges.{charges, calls_for}, Pieces.{newline}}
@@ -36,7 +36,8 @@ pub use Rattle.no_std_io2_base.specs.inner.Read.{ExactCalls, Gathers, GathersUnt
 pub use Rattle.no_std_io2_base.specs.Calls.{Consumed, Filled, Gave, GaveAll, ReadCall, ByCalls, Flushed, Made, WriteCall, Wrote, WroteAll}
 pub use Rattle.no_std_io2_base.specs.{inner.Read.{no_read}, Read.{ReadCallLaw, ReadLaw}}
 pub use Rattle.no_std_io2_base.specs.Takes.{Reader, answered, tells, bytes_left, IsAtEnd, KeepsContent, Takes, ReaderState, to_come}
-pub use Rattle.no_std_io2_base.specs.{inner.Takes.{AreTaken}, inner.Write.{AllCalls, Writes, again, fault, none, stuck, took}}
+pub use Rattle.no_std_io2_base.specs.inner.Takes.{AreTaken}
+pub use Rattle.no_std_io2_base.specs.inner.Write.{AllCalls, Writes, write_again, write_fault, no_write, write_stuck, write_took}
 pub use Rattle.no_std_io2_base.specs.{Moves.{IsFront, Moves, MovesFront, WriterState, call_mishap, told_out}, inner.Writers.{CallOf}}
 pub use Rattle.no_std_io2_base.specs.Writers.{TakesAll, Writer}
 pub use Rattle.no_std_io2_base.specs.Reads.{Fetches}

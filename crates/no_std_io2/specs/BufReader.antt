@@ -22,13 +22,9 @@ reader_behind r = buffer_behind r.buffer
 abbrev pub reader_store : {R : Type 0} {S : ℕ} → (R → Option Store) → BufReader R S → Option Store
 reader_store store r = store_before (reader_held r) (store (reader_inner r))
 
--- these bytes lie behind, and these are held
-abbrev pub HasBuffer : {R : Type 0} {S : ℕ} → BufReader R S → List ℕ → List ℕ → Type 0
-HasBuffer r behind held = (reader_behind r ≡ behind) × (reader_held r ≡ held)
-
 -- the bytes behind and the held bytes did not change
 abbrev pub KeepsBuffer : {R : Type 0} {S : ℕ} → BufReader R S → BufReader R S → Type 0
-KeepsBuffer old new = HasBuffer new (reader_behind old) (reader_held old)
+KeepsBuffer old new = (reader_behind new ≡ reader_behind old) × (reader_held new ≡ reader_held old)
 
 -- `fill_to(n)`
 pub record FillsTo {R : Type 0} {S : ℕ} (inner : Reader R) (n : ℕ) (old : BufReader R S) (reply : Result Bool Error) (new : BufReader R S)

@@ -4,11 +4,12 @@ use Rattle.std.proofs.Common.{append_assoc, append-nil, take-append-drop, ◌≡
 use Rattle.std.proofs.{Common.{false, count_by}, Math.Nat.{mod-add-mod}, lemmas.{List.{take_all}, Bool.Decides.{nat_tests}}}
 use Rattle.no_std_io2_base.specs.declared.error.Error.{Error}
 use Rattle.no_std_io2_base.specs.Calls.{WriteCall, Wrote, WroteAll, Made, ByCalls, ReadCall, Gave, GaveExactly, GaveAll, Filled, Consumed}
-use Rattle.no_std_io2_base.specs.Write.{CallAdds, RestAdds, WriteLaw, FlushLaw, taken, write_mishap}
-use Rattle.no_std_io2_base.specs.inner.Write.{Writes, none, took, again, stuck, fault, AllCalls, zero_write, told_over, SpendsMishaps}
+use Rattle.no_std_io2_base.specs.Write.{CallAdds, RestAdds, WriteLaw, FlushLaw, accepted_of, write_mishap}
+use Rattle.no_std_io2_base.specs.inner.Write.{Writes, no_write, write_took, write_again, write_stuck, write_fault, AllCalls, zero_write}
+use Rattle.no_std_io2_base.specs.inner.Write.{told_over, SpendsMishaps}
 use Rattle.no_std_io2_base.specs.inner.Read.{Gathers, no_read, and_gave, and_again, bytes_given, gave_whole, FillCalls, GathersUntil}
 use Rattle.no_std_io2_base.specs.{Moves.{WriterState, IsFront, Moves, call_mishap}, inner.Read.{ExactCalls, ToEndCalls}}
-use Rattle.no_std_io2_base.specs.{inner.Pieces.{PartCalls, no_part, and_part, and_waited, PieceCalls}, inner.Lines.{AnswersLine}}
+use Rattle.no_std_io2_base.specs.{inner.Pieces.{PartCalls, no_part, and_part, part_interrupted, PieceCalls}, inner.Lines.{AnswersLine}}
 use Rattle.no_std_io2_base.specs.{declared.error.ErrorKind.{ErrorKind}, inner.Kinds.{is_interruption}}
 use Rattle.no_std_io2_base.proofs.{CallsLemmas.{made_split}, MovesLemmas.{Moves-refl, after_ok}}
 
@@ -33,20 +34,20 @@ module _ {W : Type 0} {may : W → WriteCall → W → Type 0} {Adds : W → Lis
     -- the writes of a loop: what is gone from x was added, after an error too
     pub writes_add : {text : List ℕ} {C : List WriteCall} {x left : List ℕ} {reply : Result (Unit {0}) Error}
         → Writes text C x reply left → (a b : W) → Made may a C b → RestAdds Adds a x reply b left
-    writes_add none a b made = ([], refl, refl, subst (Adds a []) (sym made) (joins.none a))
-    writes_add (took {x = x} {n = n} some more w) a b made =
+    writes_add no_write a b made = ([], refl, refl, subst (Adds a []) (sym made) (joins.none a))
+    writes_add (write_took {x = x} {n = n} some more w) a b made =
         let rest = writes_add w made.0 b made.2 in (
           take n x ++ rest.0,
           sym (take-append-drop n x) ∙ ap (λ l. take n x ++ l) rest.1 ∙ sym (append_assoc (take n x) rest.0 _),
           rest.2,
           joins.more a made.0 b (take n x) rest.0 (each a made.0 (Wrote x (Ok n)) made.1) rest.3,
         )
-    writes_add (again {x = x} {e = e} some interrupted w) a b made =
+    writes_add (write_again {x = x} {e = e} some interrupted w) a b made =
         let rest = writes_add w made.0 b made.2 in
         (rest.0, rest.1, rest.2, joins.more a made.0 b [] rest.0 (each a made.0 (Wrote x (Err e)) made.1) rest.3)
-    writes_add (stuck {x = x} some says) a b made =
+    writes_add (write_stuck {x = x} some says) a b made =
         ([], refl, tt, subst (Adds a []) (sym made.2) (each a made.0 (Wrote x (Ok 0)) made.1))
-    writes_add (fault {x = x} {e = e} some is) a b made =
+    writes_add (write_fault {x = x} {e = e} some is) a b made =
         ([], refl, tt, subst (Adds a []) (sym made.2) (each a made.0 (Wrote x (Err e)) made.1))
 
     -- the calls of a `write_all`: all of x was added after `Ok`, and some front of x after an error
@@ -136,7 +137,7 @@ module _ {R : Type 0} {may : R → ReadCall → R → Type 0} {Adds : R → List
   parts_add (and_part C x lent before some lacks) a b made =
       subst (λ l. Adds a (x ++ l) b) (take_all (length lent) lent (le_refl _))
       (then_took C lent (length lent) a b (λ mid m. parts_add before a mid m) (le_refl _) made)
-  parts_add (and_waited C x e before waited) a b made =
+  parts_add (part_interrupted C x e before waited) a b made =
       subst (λ l. Adds a l b) (append-nil x)
       (and_last C (Filled (Err e)) a b (λ mid m. parts_add before a mid m) (λ c d call. each.lent c d (Err e) call) made)
 
@@ -195,7 +196,7 @@ module _ {W : Type 0} {Adds : W → List ℕ → W → Type 0} where
   module _ {told : W → WriterState} {a b : W} where
     -- `write(x)` of a wrapper that never tells that it takes all
     pub write_law_by : {x : List ℕ} {reply : Result ℕ Error} → IfOk reply (λ n. n ≤ length x)
-        → Moves (told a) (taken reply x) (write_mishap reply x) (told b) → Adds a (taken reply x) b
+        → Moves (told a) (accepted_of reply x) (write_mishap reply x) (told b) → Adds a (accepted_of reply x) b
         → WriteLaw told (λ _. ⊥) (CallAdds Adds) a x reply b
     write_law_by bound moves adds = record { bound = bound; moves = moves; all = λ both. absurd both.0; call = adds }
 
@@ -208,8 +209,8 @@ module _ {W : Type 0} {Adds : W → List ℕ → W → Type 0} where
   -- A wrapper that counts every accepted byte as out, also one that waits in its state, over a writer that tells `below`.
   module _ (accepted : W → List ℕ) (below : W → WriterState) {a b : W} where
     -- its `write(x)`
-    pub write_law : {x : List ℕ} {reply : Result ℕ Error} → IfOk reply (λ n. n ≤ length x) → accepted b ≡ accepted a ++ taken reply x
-        → SpendsMishaps (below a) (write_mishap reply x) (below b) → Adds a (taken reply x) b
+    pub write_law : {x : List ℕ} {reply : Result ℕ Error} → IfOk reply (λ n. n ≤ length x) → accepted b ≡ accepted a ++ accepted_of reply x
+        → SpendsMishaps (below a) (write_mishap reply x) (below b) → Adds a (accepted_of reply x) b
         → WriteLaw (λ w. told_over (accepted w) [] (below w)) (λ _. ⊥) (CallAdds Adds) a x reply b
     write_law bound more spent adds = write_law_by bound (moves_out (accepted a) (accepted b) (below a) (below b) more spent) adds
 

@@ -4,7 +4,8 @@ use Rattle.std.proofs.Common.{append_assoc, inl, ◌+◌, ◌%◌, length, sym, 
 use Rattle.std.proofs.Math.Nat.{mod-add-mod}
 use Rattle.no_std_io2_base.specs.declared.error.Error.{Error}
 use Rattle.no_std_io2_base.specs.Calls.{WriteCall, Made, ByCalls, WroteAll, ReadCall, Gave, GaveExactly, GaveAll}
-use Rattle.no_std_io2_base.specs.{inner.Write.{Writes, none, took, again, stuck, fault}, Moves.{WriterState}, Write.{CallLaw, WriteAllLaw}}
+use Rattle.no_std_io2_base.specs.{inner.Write.{Writes, no_write, write_took, write_again, write_stuck, write_fault}, Moves.{WriterState}}
+use Rattle.no_std_io2_base.specs.Write.{CallLaw, WriteAllLaw}
 use Rattle.no_std_io2_base.specs.inner.Read.{gave_whole, Gathers, no_read, and_gave, and_again, GathersUntil, IsRoom, ToEndCalls}
 use Rattle.no_std_io2_base.specs.{Writers.{Writer}, inner.Writers.{CallOf}, inner.Read.{ExactCalls}}
 
@@ -79,11 +80,11 @@ made_counts may count m each (call ∷ C) a b made =
 -- after an `Ok` nothing is left
 pub writes_whole : {text : List ℕ} {C : List WriteCall} {x left : List ℕ} {reply : Result (Unit {0}) Error}
     → Writes text C x reply left → OnOk reply (left ≡ [])
-writes_whole none = refl
-writes_whole (took some more w) = writes_whole w
-writes_whole (again some interrupted w) = writes_whole w
-writes_whole (stuck some says) = tt
-writes_whole (fault some is) = tt
+writes_whole no_write = refl
+writes_whole (write_took some more w) = writes_whole w
+writes_whole (write_again some interrupted w) = writes_whole w
+writes_whole (write_stuck some says) = tt
+writes_whole (write_fault some is) = tt
 
 -- a call as its law says is one that the writer may make
 pub law_may : {W : Type 0} (I : Writer W) (old new : W) (call : WriteCall) → CallOf I old call new → I.may old call new

@@ -7,13 +7,14 @@ use Rattle.std.proofs.Math.Seq.{take-append-add, drop-append_seam}
 use Rattle.std.specs.{Result.{OnOk, OnErr, IfErr}, declared.dyn_box.DynBox.{DynBox}}
 use Rattle.no_std_io2_base.specs.{declared.error.{Error.{Error}, ErrorKind.{ErrorKind, TheVariants.{WriteZero}}}, Errors.{error_kind}}
 use Rattle.no_std_io2_base.specs.{inner.Kinds.{is_interruption}, Errors.{IsFault, IsNoInterruption, IsOutOfMemory}}
-use Rattle.no_std_io2_base.specs.{Moves.{WriterState, Moves, MovesFront, told_out}, Write.{taken, write_mishap}, inner.Write.{zero_write}}
+use Rattle.no_std_io2_base.specs.{Moves.{WriterState, Moves, MovesFront, told_out}, Write.{accepted_of, write_mishap}}
+use Rattle.no_std_io2_base.specs.inner.Write.{zero_write}
 use Rattle.no_std_io2_base.specs.{Calls.{ByCalls, SeekCall, Sought, Measured}, inner.Calls.{BoxMay}}
 use Rattle.no_std_io2_base.specs.inner.Cursor.{bytes_before, put_at, fitting, IsRefusal, PutsWhole, PutsAll, PutsFitting, PutsAllFitting}
 use Rattle.no_std_io2_base.specs.{inner.InMemory.{AppendsWhole}, Events.{events_of}}
 use Rattle.no_std_io2_base.specs.{Takes.{ReaderState, Takes, KeepsContent, to_come, store_at}, inner.Takes.{fits_u64}}
 use Rattle.no_std_io2_base.specs.{declared.traits.seek.SeekFrom.{SeekFrom}, declared.traits.seek.SeekFrom.TheVariants.{End}}
-use Rattle.no_std_io2_base.specs.{inner.Seek.{LenCalls, measured, at_end, here}, Seek.{Seeker, SeekLaw, StreamPositionLaw, RewindLaw}}
+use Rattle.no_std_io2_base.specs.{inner.Seek.{LenCalls, measured, was_at_end, here}, Seek.{Seeker, SeekLaw, StreamPositionLaw, RewindLaw}}
 use Rattle.no_std_io2_base.specs.Seek.{StreamLenLaw, SeekRelativeLaw}
 use Rattle.no_std_io2_base.proofs.{TakesLemmas.{events_of-append, length-events_of, bytes-events_of}, CallsLemmas.{by_call, by_two}}
 use Rattle.no_std_io2_base.proofs.Forwards.{holding, in_box}
@@ -83,7 +84,7 @@ quiet_count n x = grind (arith, nat_tests)
 -- `write` to a vector keeps the law of writers
 pub puts_moves : (bs : List ℕ) (place : ℕ) (x : List ℕ) (reply : Result ℕ Error) (bs' : List ℕ) (place' : ℕ)
     → PutsWhole bs place x reply bs' place'
-    → Moves (told_out (bytes_before place bs)) (taken reply x) (write_mishap reply x) (told_out (bytes_before place' bs'))
+    → Moves (told_out (bytes_before place bs)) (accepted_of reply x) (write_mishap reply x) (told_out (bytes_before place' bs'))
 puts_moves bs place x (Ok n) bs' place' h = grind (arith, common_steps)
 puts_moves bs place x (Err e) bs' place' h = grind (arith, common_steps)
 
@@ -216,7 +217,7 @@ module _ {X : Type 0} (may : X → SeekCall → X → Type 0) {old new : X} wher
   pub len_at_end : {mid : X} {n len : ℕ} → may old (Sought here (Ok n)) mid → may mid (Sought (End (pos 0)) (Ok len)) new → n ≡ len
       → ByCalls may old (λ C. LenCalls C (Ok len)) new
   len_at_end {n = n} first call there = by_two _ _ _ first call
-      (subst (λ m. LenCalls (Sought here (Ok n) ∷ Sought (End (pos 0)) (Ok m) ∷ []) (Ok m)) there at_end)
+      (subst (λ m. LenCalls (Sought here (Ok n) ∷ Sought (End (pos 0)) (Ok m) ∷ []) (Ok m)) there was_at_end)
 
 -- S' tells the store of S, whose values are put into its own, and may make its calls
 pub record SeeksThrough {X Y : Type 0} (S : Seeker X) (S' : Seeker Y) (put : X → Y) : Type 0 where

@@ -6,12 +6,13 @@ use Rattle.std.proofs.Common.{length, filter, refl, sym, ap, ap₂, ◌∙◌, s
 use Rattle.std.proofs.Common.{⊎_elim, length-append, IfSome, OnSome, IfErr, Vec, String, vec_len, vec_capacity, IsSomeAnd, true}
 use Rattle.std.proofs.lemmas.{Grind.{common_steps}, List.{append_cancel_left, nil_from_length, Folds.{concat-append}}}
 use Rattle.no_std_io2_base.specs.{declared.error.Error.{Error}, Errors.{IsFault, IsOutOfMemory}, Events.{Event, byte, fails, events_of}}
-use Rattle.no_std_io2_base.specs.{Events.{bytes, HasNoFault}, inner.Events.{EndsInFault, bytes_to_fault, first_fault}}
+use Rattle.no_std_io2_base.specs.{Events.{event_bytes, HasNoFault}, inner.Events.{EndsInFault, bytes_to_fault, first_fault}}
 use Rattle.no_std_io2_base.specs.{Takes.{ReaderState, Takes, to_come, Reader, tells}, inner.Iterators.{NextPieceLaw, ends_at, items_left}}
 use Rattle.no_std_io2_base.specs.{BufRead.{ReadUntilLaw, ReadLineLaw}, inner.Lines.{line_room}}
-use Rattle.no_std_io2_base.specs.inner.Pieces.{Lacks, EndsAt, ends_in, pieces, pieces_before, pieces_given, GivesFirst, ComeFirst}
-use Rattle.no_std_io2_base.specs.{Pieces.{PieceEnds, newline, GivesPieces, AreAllPieces}, Moves.{IsFront}, Reads.{StopsAfter}}
+use Rattle.no_std_io2_base.specs.inner.Pieces.{Lacks, EndsAt, ends_in, pieces_of, pieces_before, pieces_given, GivesFirst, ComeFirst}
+use Rattle.no_std_io2_base.specs.{Pieces.{newline, GivesPieces, AreAllPieces}, Moves.{IsFront}, Reads.{StopsAfter}}
 use Rattle.std.specs.List.{concat}
+use Rattle.no_std_io2_base.specs.inner.Pieces.{PieceEnds}
 
 -- What a call that takes one piece says of all pieces that are to come, if the reader tells its events; and what its error is.
 
@@ -22,7 +23,7 @@ first_fault-append (byte b ∷ P) Q h = first_fault-append P Q h
 first_fault-append (fails e ∷ P) Q h = ap (λ t. if t then first_fault (P ++ Q) else Some e) h.0 ∙ first_fault-append P Q h.1
 
 -- the bytes to the first fault are those of a front that has none, and then those to the fault in the rest
-pub bytes_to_fault-append : (P Q : List Event) → HasNoFault P → bytes_to_fault (P ++ Q) ≡ bytes P ++ bytes_to_fault Q
+pub bytes_to_fault-append : (P Q : List Event) → HasNoFault P → bytes_to_fault (P ++ Q) ≡ event_bytes P ++ bytes_to_fault Q
 bytes_to_fault-append [] Q h = refl
 bytes_to_fault-append (byte b ∷ P) Q h = ap (λ l. b ∷ l) (bytes_to_fault-append P Q h)
 bytes_to_fault-append (fails e ∷ P) Q h = ap (λ t. if t then bytes_to_fault (P ++ Q) else []) h.0 ∙ bytes_to_fault-append P Q h.1
@@ -34,13 +35,13 @@ before-first d x2 bs cs h = grind (arith, common_steps, pieces-first, filter, co
 
 -- what a front without faults is in what is given
 given-front : (d : ℕ) (P Q : List Event) → HasNoFault P
-    → pieces_given d (P ++ Q) ≡ pieces_before d (first_fault Q) (bytes P ++ bytes_to_fault Q)
+    → pieces_given d (P ++ Q) ≡ pieces_before d (first_fault Q) (event_bytes P ++ bytes_to_fault Q)
 given-front d P Q h = ap₂ (pieces_before d) (first_fault-append P Q h) (bytes_to_fault-append P Q h)
 
 -- some bytes without a d, followed by nothing
-given-last : (d : ℕ) (bs : List ℕ) → Lacks d bs → 0 < length bs → pieces d (bs ++ []) ≡ bs ∷ []
+given-last : (d : ℕ) (bs : List ℕ) → Lacks d bs → 0 < length bs → pieces_of d (bs ++ []) ≡ bs ∷ []
 given-last d [] none some = absurd (omega (arith, some))
-given-last d (b ∷ bs) none some = ap (pieces d) (append-nil (b ∷ bs)) ∙ pieces-last d b bs none
+given-last d (b ∷ bs) none some = ap (pieces_of d) (append-nil (b ∷ bs)) ∙ pieces-last d b bs none
 
 -- the events E give this piece next, and then what those after it give
 pub record GivesNext (d : ℕ) (E : List Event) (piece : List ℕ) (after : List Event) : Type 0 where
@@ -60,8 +61,8 @@ GivenRead d E piece (Err e) after = ((pieces_given d E ≡ []) × (first_fault E
     ⊎ (IsOutOfMemory e × (0 < length (bytes_to_fault E)))
 
 -- events that end in d, or all, are the next piece
-given_next : (d : ℕ) (E P after : List Event) → E ≡ P ++ after → HasNoFault P → EndsAt d P ⊎ (Lacks d (bytes P) × (after ≡ []))
-    → 0 < length (bytes P) → GivesNext d E (bytes P) after
+given_next : (d : ℕ) (E P after : List Event) → E ≡ P ++ after → HasNoFault P → EndsAt d P ⊎ (Lacks d (event_bytes P) × (after ≡ []))
+    → 0 < length (event_bytes P) → GivesNext d E (event_bytes P) after
 given_next d E P after split free ends some =
     grind (
       arith,
@@ -76,26 +77,26 @@ given_next d E P after split free ends some =
     )
 
 -- if they have no byte, they are all
-given_none : (d : ℕ) (E P after : List Event) → E ≡ P ++ after → HasNoFault P → EndsAt d P ⊎ (Lacks d (bytes P) × (after ≡ []))
-    → length (bytes P) ≡ 0 → GivesNone d E
+given_none : (d : ℕ) (E P after : List Event) → E ≡ P ++ after → HasNoFault P → EndsAt d P ⊎ (Lacks d (event_bytes P) × (after ≡ []))
+    → length (event_bytes P) ≡ 0 → GivesNone d E
 given_none d x2 x3 after split free x7 x8 =
     grind (arith, common_steps, bytes-append, length-append, given-front, nil_from_length, first_fault-append)
 
 -- bytes without a d give no piece that a d ended
-none_ended : (d : ℕ) (bs : List ℕ) → Lacks d bs → filter (ends_in d) (pieces d bs) ≡ []
+none_ended : (d : ℕ) (bs : List ℕ) → Lacks d bs → filter (ends_in d) (pieces_of d bs) ≡ []
 none_ended d [] h = refl
 none_ended d (b ∷ bs) h = ap (filter (ends_in d)) (pieces-last d b bs h) ∙ ap (λ t. cond t ((b ∷ bs) ∷ []) []) (ends_in-lacks d (b ∷ bs) h)
 
 -- the first fault ends what is given
 given_fault : (d : ℕ) (E : List Event) (e : Error) (taken after : List Event) → E ≡ taken ++ after
-    → Lacks d (bytes taken) → EndsInFault taken e
+    → Lacks d (event_bytes taken) → EndsInFault taken e
     → (pieces_given d E ≡ []) × (first_fault E ≡ Some e)
 given_fault d E e taken after split none f =
     grind (arith, common_steps, append_assoc, bytes-append, append-nil, given-front, ap₂, filter, none_ended, first_fault-append)
 
 -- a part of a piece comes before the first fault
 part_comes : (P rest : List Event) (part : List ℕ) → HasNoFault P
-    → bytes_to_fault (P ++ (events_of part ++ rest)) ≡ bytes P ++ (part ++ bytes_to_fault rest)
+    → bytes_to_fault (P ++ (events_of part ++ rest)) ≡ event_bytes P ++ (part ++ bytes_to_fault rest)
 part_comes P rest part free = grind (arith, common_steps, bytes_to_fault-append, HasNoFault-events_of, bytes-events_of)
 
 -- what holds if events are told holds of them
@@ -109,7 +110,7 @@ none_left E P after split all = append_cancel_left P after [] (sym split ∙ all
 -- what a piece says of all
 given_read : (lacks : ℕ → Type 0) (d : ℕ) (t : ReaderState) (E P after : List Event) (read : Result ℕ Error) → to_come t ≡ Some E
     → E ≡ P ++ after
-    → PieceEnds lacks d t P read → GivenRead d E (bytes P) read after
+    → PieceEnds lacks d t P read → GivenRead d E (event_bytes P) read after
 given_read lacks d t E P after (Ok n) told split (free, count, ends) =
     search (arith, rules, ⊎_elim, none_left, of_told, GivesNone, given_none, given_next)
 given_read lacks d t E P after (Err e) told split (none, inl fault) = inl (given_fault d E e P after split none fault)
@@ -119,14 +120,14 @@ given_read lacks d t E P after (Err e) told split (none, inr (free, refused, (pa
 -- A call that takes one piece from a reader that tells the events E: those after it are told, and the piece says this of all pieces of E.
 pub piece_given : (lacks : ℕ → Type 0) (d : ℕ) (t t' : ReaderState) (E P : List Event) (read : Result ℕ Error) → Takes t P t'
     → PieceEnds lacks d t P read → to_come t ≡ Some E
-    → (after : List Event) × (to_come t' ≡ Some after) × (E ≡ P ++ after) × GivenRead d E (bytes P) read after
+    → (after : List Event) × (to_come t' ≡ Some after) × (E ≡ P ++ after) × GivenRead d E (event_bytes P) read after
 piece_given lacks d t t' E P read takes ends told = grind (arith, common_steps, left_of, given_read)
 
 -- A `read_until` from a reader that tells the events E: those after the piece are told, and the piece says this of all pieces of E.
 pub until_given : {X A : Type 0} {R : Reader X} {old new : X} {d : ℕ} {buf buf' : Vec ℕ A} {reply : Result ℕ Error} {E : List Event}
     → (law : ReadUntilLaw R old d buf reply buf' new) → to_come (tells R old) ≡ Some E
     → (after : List Event) × (to_come (tells R new) ≡ Some after) × (E ≡ law.taken ++ after)
-    × GivenRead d E (bytes law.taken) reply after
+    × GivenRead d E (event_bytes law.taken) reply after
 until_given {buf = buf} {reply = reply} {E} law told =
     piece_given (λ n. vec_capacity buf < vec_len buf + n) _ _ _ E law.taken reply law.takes law.ends told
 
@@ -134,18 +135,18 @@ until_given {buf = buf} {reply = reply} {E} law told =
 pub line_given : {X A : Type 0} {R : Reader X} {old new : X} {buf buf' : String A} {reply : Result ℕ Error} {E : List Event}
     → (law : ReadLineLaw R old buf reply buf' new) → to_come (tells R old) ≡ Some E
     → (after : List Event) × (to_come (tells R new) ≡ Some after) × (E ≡ law.taken ++ after)
-    × GivenRead newline E (bytes law.taken) law.read after
+    × GivenRead newline E (event_bytes law.taken) law.read after
 line_given {buf = buf} {E = E} law told =
     piece_given (λ n. line_room buf < n) _ _ _ E law.taken law.read law.takes law.ends told
 
 -- there are no more bytes than events
-pub few_bytes : (P : List Event) → length (bytes P) ≤ length P
+pub few_bytes : (P : List Event) → length (event_bytes P) ≤ length P
 few_bytes [] = omega arith
 few_bytes (byte b ∷ P) = omega (arith, few_bytes P)
 few_bytes (fails e ∷ P) = omega (arith, few_bytes P)
 
 -- some bytes spend a turn
-pub piece_spends : {t t' : ReaderState} {P : List Event} → Takes t P t' → 0 < length (bytes P) → t'.turns < t.turns
+pub piece_spends : {t t' : ReaderState} {P : List Event} → Takes t P t' → 0 < length (event_bytes P) → t'.turns < t.turns
 piece_spends {P = P} takes some = spends takes (omega (arith, some, few_bytes P))
 
 module _ {X T : Type 0} {R : Reader X} {old new : X} {view : T → List ℕ} {trim : List ℕ → List ℕ} where
@@ -192,7 +193,7 @@ pub pieces_none : (d : ℕ) (t : ReaderState) → GivesPieces d t [] t
 pieces_none d t = grind (arith, common_steps)
 
 -- if no byte was taken, what comes stays the same
-same_pieces : (d : ℕ) (E P after : List Event) → E ≡ P ++ after → HasNoFault P → bytes P ≡ [] → GivesFirst d E [] after
+same_pieces : (d : ℕ) (E P after : List Event) → E ≡ P ++ after → HasNoFault P → event_bytes P ≡ [] → GivesFirst d E [] after
 same_pieces d E P after split free empty = grind (arith, common_steps, bytes_to_fault-append, first_fault-append)
 
 -- what a `read_until` says of all pieces: it took the next one, or there was none
@@ -202,11 +203,11 @@ Says d E x (Err e) after = ((pieces_given d E ≡ []) × (first_fault E ≡ Some
 
 until_says : {X A : Type 0} {R : Reader X} {d : ℕ} {reply : Result ℕ Error} {old new : X} {buf buf' : Vec ℕ A}
     (law : ReadUntilLaw R old d buf reply buf' new)
-    → IfSome (to_come (tells R old)) (λ E. IsSomeAnd (to_come (tells R new)) (Says d E (bytes law.taken) reply))
+    → IfSome (to_come (tells R old)) (λ E. IsSomeAnd (to_come (tells R new)) (Says d E (event_bytes law.taken) reply))
 until_says {R = R} {d} {reply} {old} {new} law = by (to_come (tells R old)) refl
   where
     by : (t : Option (List Event)) → to_come (tells R old) ≡ t
-        → IfSome t (λ E. IsSomeAnd (to_come (tells R new)) (Says d E (bytes law.taken) reply))
+        → IfSome t (λ E. IsSomeAnd (to_come (tells R new)) (Says d E (event_bytes law.taken) reply))
     by None is = tt
     by (Some E) is = let given = until_given law is in grind (arith, common_steps, nil_from_length, same_pieces, given)
 
@@ -225,7 +226,7 @@ module _ {X A : Type 0} {R : Reader X} {d : ℕ} {a : ReaderState} {ps : List (L
   module _ (gives : GivesPieces d a ps (tells R mid)) where
     -- a `read_until` gave one piece more
     pub pieces_more : {n : ℕ} (law : ReadUntilLaw R mid d buf (Ok n) buf' new) → (n ≡ 0 → ⊥)
-        → GivesPieces d a (ps ++ bytes law.taken ∷ []) (tells R new)
+        → GivesPieces d a (ps ++ event_bytes law.taken ∷ []) (tells R new)
     pieces_more law some = grind (arith, common_steps, until_says law, concat-append, append_assoc, append-nil)
 
     -- a `read_until` gave no byte: these were all pieces, and no fault comes
@@ -235,16 +236,16 @@ module _ {X A : Type 0} {R : Reader X} {d : ℕ} {a : ReaderState} {ps : List (L
 
     -- a `read_until` failed: these were all pieces before this fault, or an allocation failed
     pub pieces_fault : {e : Error} → ReadUntilLaw R mid d buf (Err e) buf' new → AreAllPieces d a ps (Some e) ⊎ IsOutOfMemory e
-    pieces_fault law = faulted d _ _ _ ps (bytes law.taken) _ gives.told (until_says law)
+    pieces_fault law = faulted d _ _ _ ps (event_bytes law.taken) _ gives.told (until_says law)
 
     -- a part of the piece comes first, behind the pieces so far
     pub pieces_part : {n : ℕ} (law : ReadUntilLaw R mid d buf (Ok n) buf' new) (part line : List ℕ) → IsFront part line
-        → line ≡ bytes law.taken → ComeFirst a (concat ps ++ part)
+        → line ≡ event_bytes law.taken → ComeFirst a (concat ps ++ part)
     pieces_part {n} law part line (rest, is) same =
         by (to_come a) (to_come (tells R mid)) (to_come (tells R new)) gives.told (until_says law)
       where
         by : (t m u : Option (List Event)) → IfSome t (λ E. IsSomeAnd m (GivesFirst d E ps))
-            → IfSome m (λ E. IsSomeAnd u (Says d E (bytes law.taken) (Ok n)))
+            → IfSome m (λ E. IsSomeAnd u (Says d E (event_bytes law.taken) (Ok n)))
             → IfSome t (λ E. IsFront (concat ps ++ part) (bytes_to_fault E))
         by None m u first next = tt
         by (Some E) (Some F) (Some after) first next =
@@ -252,7 +253,8 @@ module _ {X A : Type 0} {R : Reader X} {d : ℕ} {a : ReaderState} {ps : List (L
         by (Some E) m u first next = grind (arith, common_steps)
 
     -- a `read_until` failed: behind the pieces so far these bytes were taken
-    pub stops_reading : {e : Error} (law : ReadUntilLaw R mid d buf (Err e) buf' new) → StopsAfter d e a ps (bytes law.taken) (tells R new)
+    pub stops_reading : {e : Error} (law : ReadUntilLaw R mid d buf (Err e) buf' new)
+        → StopsAfter d e a ps (event_bytes law.taken) (tells R new)
     stops_reading {e} law = elim law.ends.1 [
       | inl fault ↦ record {
         mid = tells R mid;
@@ -272,7 +274,7 @@ module _ {X A : Type 0} {R : Reader X} {d : ℕ} {a : ReaderState} {ps : List (L
 
     -- an allocation failed for what is made of a piece
     pub stops_copying : {n : ℕ} {e : Error} (law : ReadUntilLaw R mid d buf (Ok n) buf' new) → IsOutOfMemory e
-        → StopsAfter d e a ps (bytes law.taken) (tells R new)
+        → StopsAfter d e a ps (event_bytes law.taken) (tells R new)
     stops_copying law refused = record {
       mid = tells R mid;
       gives = gives;
@@ -283,5 +285,5 @@ module _ {X A : Type 0} {R : Reader X} {d : ℕ} {a : ReaderState} {ps : List (L
 
 -- an empty vector has the piece that a `read_until` took
 pub piece_alone : {X A : Type 0} {R : Reader X} {d : ℕ} {mid new : X} {buf buf' : Vec ℕ A} {reply : Result ℕ Error}
-    (law : ReadUntilLaw R mid d buf reply buf' new) {line : List ℕ} → buf.items ≡ [] → line ≡ buf'.items → line ≡ bytes law.taken
-piece_alone law empty same = same ∙ law.appends ∙ ap (λ l. l ++ bytes law.taken) empty
+    (law : ReadUntilLaw R mid d buf reply buf' new) {line : List ℕ} → buf.items ≡ [] → line ≡ buf'.items → line ≡ event_bytes law.taken
+piece_alone law empty same = same ∙ law.appends ∙ ap (λ l. l ++ event_bytes law.taken) empty

@@ -2,16 +2,18 @@
 use Rattle.std.proofs.Common.{◌≡◌, ℕ, zero, suc, ◌+◌, min, List, Result, Ok, Err, Some, IsOkAnd, length, refl, sym, ap, subst, ◌∙◌, arith}
 use Rattle.std.proofs.Common.{length-append, ◌<◌, ◌≤◌, [], ◌++◌, take, drop, le_refl, None, IfOk, IfErr, IfSome, Vec, vec_len, vec_capacity}
 use Rattle.std.proofs.{Common.{take-append-drop, length-take}, lemmas.Grind.{common_steps}}
-use Rattle.no_std_io2_base.specs.{declared.error.Error.{Error}, Events.{events_of, bytes}}
+use Rattle.no_std_io2_base.specs.{declared.error.Error.{Error}, Events.{events_of, event_bytes}}
 use Rattle.no_std_io2_base.specs.Takes.{to_come, ReaderState, Takes, IsAtEnd, store_at, Reader, tells, bytes_left}
-use Rattle.no_std_io2_base.specs.{inner.Takes.{AreTaken, told_bytes}, inner.Read.{GaveLaw, ended, least_room}}
+use Rattle.no_std_io2_base.specs.{inner.Takes.{AreTaken, told_bytes}, inner.Read.{GaveLaw, without_number, least_room}}
 use Rattle.no_std_io2_base.specs.Calls.{ReadCall, Gave, GaveExactly, GaveAll}
-use Rattle.no_std_io2_base.specs.{Read.{ReadLaw, ReadExactLaw, ReadToEndLaw, DrainsOrStops, FillsOrEnds}, inner.Charges.{FillsFor}}
+use Rattle.no_std_io2_base.specs.{Read.{ReadLaw, ReadExactLaw, ReadToEndLaw}, inner.Charges.{FillsFor}}
 use Rattle.no_std_io2_base.specs.{Meter.{FillsRoom, IsReadMeter}, Errors.{IsUnexpectedEnd, IsOutOfMemory}, inner.InMemory.{GivesLeft}}
 use Rattle.no_std_io2_base.specs.{declared.cursor.Cursor.{Cursor}, inner.Cursor.{cursor_left}}
 use Rattle.no_std_io2_base.proofs.TakesLemmas.{bytes-events_of, length-events_of, events_of-append, HasNoFault-events_of, gives_whole}
 use Rattle.no_std_io2_base.proofs.{TakesLemmas.{drains_ended}, CursorLemmas.{told_at}, CallsLemmas.{exact_own, to_end_own}}
 use Rattle.std.specs.Borrow.{Bor}
+use Rattle.no_std_io2_base.specs.inner.Read.{FillsOrEnds}
+use Rattle.no_std_io2_base.specs.inner.Read.{DrainsOrStops}
 
 -- Reads of a reader that fills its room, and how it is shown to fill it.
 
@@ -133,9 +135,10 @@ module _ {X : Type 0} {R : Reader X} {left : X → List ℕ} {old new : X} {part
   pub memory_drained : {A : Type 0} {buf buf' : Vec ℕ A} (reply : Result ℕ Error) → buf'.items ≡ buf.items ++ part
       → IfOk reply (λ n. (n ≡ length part) × (left new ≡ []))
       → IfErr reply (λ e. IsOutOfMemory e × (vec_capacity buf < vec_len buf' + least_room)) → vec_capacity buf ≤ vec_capacity buf'
-      → R.may old (GaveAll part (ended reply)) new → ReadToEndLaw R old buf reply buf' new
+      → R.may old (GaveAll part (without_number reply)) new → ReadToEndLaw R old buf reply buf' new
   memory_drained {buf = buf} {buf'} reply grown done failed capacity call =
-      let stops : DrainsOrStops (vec_capacity buf < vec_len buf + (length (bytes (events_of part)) + least_room)) (events_of part) reply
+      let stops : DrainsOrStops (vec_capacity buf < vec_len buf + (length (event_bytes (events_of part)) + least_room)) (events_of part)
+      reply
       (tells R new) = grind (arith, common_steps, ends, bytes-events_of, HasNoFault-events_of, length-append) in
       record {
         taken = events_of part;

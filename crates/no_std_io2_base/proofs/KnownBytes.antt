@@ -3,32 +3,34 @@ use Rattle.std.proofs.Common.{arith, ◌≡◌, ℕ, List, ◌++◌, Option, Non
 use Rattle.std.proofs.Common.{take-append-drop, length-take-le, ◌+◌, ◌-◌, ◌<◌, ◌∷◌, [], Vec, IfOk, IfErr, length, Result, Ok, Err, IsOk}
 use Rattle.std.proofs.Common.{inl, inr, sym, subst, append-nil, length-append, length-take, refl, rules, length-drop, OnOk}
 use Rattle.std.proofs.{lemmas.{Grind.{common_steps}, List.{append_cancel_left}}, Math.Seq.{take-append_seam}}
-use Rattle.no_std_io2_base.specs.{Events.{Event, bytes, events_of, fails, HasNoFault, Store}, inner.Events.{cut, EndsInFault}}
+use Rattle.no_std_io2_base.specs.{Events.{Event, event_bytes, events_of, fails, HasNoFault, Store}, inner.Events.{cut, EndsInFault}}
 use Rattle.no_std_io2_base.specs.Takes.{ReaderState, Takes, to_come, TakesBytes, KeepsContent, LosesFirst, Reader, tells}
-use Rattle.no_std_io2_base.specs.{inner.Takes.{AreTaken}, declared.error.Error.{Error}, Read.{ReadExactLaw, FillsOrEnds}}
+use Rattle.no_std_io2_base.specs.{inner.Takes.{AreTaken}, declared.error.Error.{Error}, Read.{ReadExactLaw}}
 use Rattle.no_std_io2_base.specs.{inner.Read.{AllOrNone, gave_whole}, Seek.{Seeks, IsTarget}, inner.Reads.{ReadsAt, HasBytesAt}}
 use Rattle.no_std_io2_base.specs.{Read.{ReadFullLaw, ReadToEndLaw}, Errors.{IsOutOfMemory}, declared.traits.seek.SeekFrom.{SeekFrom}}
 use Rattle.no_std_io2_base.proofs.TakesLemmas.{bytes-append, events_of-append, bytes-events_of, bytes-behind, cut-bytes, cut-append}
 use Rattle.no_std_io2_base.proofs.TakesLemmas.{HasNoFault-front, HasNoFault-behind, HasNoFault-events_of, bytes-cut, all_taken, left_of}
 use Rattle.no_std_io2_base.proofs.{TakesLemmas.{front_taken, TakesBytes-then}, LimitLemmas.{cut-within}}
+use Rattle.no_std_io2_base.specs.inner.Read.{FillsOrEnds}
 
 -- Which bytes are gone from those to come, after one call and after two.
 
 -- the bytes of the events that were taken are gone from the front
-pub takes_loses : {a b : ReaderState} {P : List Event} (x : List ℕ) → Takes a P b → bytes P ≡ x → LosesFirst a x b
+pub takes_loses : {a b : ReaderState} {P : List Event} (x : List ℕ) → Takes a P b → event_bytes P ≡ x → LosesFirst a x b
 takes_loses {a} {b} {P} x takes are = by (to_come a) (to_come b) takes.events
   where
-    by : (E E' : Option (List Event)) → AreTaken E P E' → IfSome E (λ F. IsSomeAnd E' (λ F'. bytes F ≡ x ++ bytes F'))
+    by : (E E' : Option (List Event)) → AreTaken E P E' → IfSome E (λ F. IsSomeAnd E' (λ F'. event_bytes F ≡ x ++ event_bytes F'))
     by None E' taken = tt
     by (Some E) None taken = absurd taken
-    by (Some E) (Some E') taken = rw taken (bytes-append P E' ∙ ap (λ l. l ++ bytes E') are)
+    by (Some E) (Some E') taken = rw taken (bytes-append P E' ∙ ap (λ l. l ++ event_bytes E') are)
 
 -- one after the other
 pub loses_then : (a b c : ReaderState) (x y : List ℕ) → LosesFirst a x b → LosesFirst b y c → LosesFirst a (x ++ y) c
 loses_then a b c x y first next = by (to_come a) (to_come b) (to_come c) first next
   where
-    by : (E F G : Option (List Event)) → IfSome E (λ l. IsSomeAnd F (λ m. bytes l ≡ x ++ bytes m))
-        → IfSome F (λ l. IsSomeAnd G (λ m. bytes l ≡ y ++ bytes m)) → IfSome E (λ l. IsSomeAnd G (λ m. bytes l ≡ (x ++ y) ++ bytes m))
+    by : (E F G : Option (List Event)) → IfSome E (λ l. IsSomeAnd F (λ m. event_bytes l ≡ x ++ event_bytes m))
+        → IfSome F (λ l. IsSomeAnd G (λ m. event_bytes l ≡ y ++ event_bytes m))
+        → IfSome E (λ l. IsSomeAnd G (λ m. event_bytes l ≡ (x ++ y) ++ event_bytes m))
     by None F G first next = tt
     by (Some E) None G first next = absurd first
     by (Some E) (Some F) None first next = absurd next
@@ -41,25 +43,25 @@ cut_behind : (x : List ℕ) (rest : List Event) → cut (length x) (events_of x 
 cut_behind x rest = grind (arith, common_steps, cut-bytes, append-nil)
 
 -- there are at least as many bytes as those of x
-long_events : (x : List ℕ) (rest : List Event) → length (bytes (events_of x ++ rest)) ≡ length x + length (bytes rest)
-long_events x rest = ap length (bytes-behind x rest) ∙ length-append x (bytes rest)
+long_events : (x : List ℕ) (rest : List Event) → length (event_bytes (events_of x ++ rest)) ≡ length x + length (event_bytes rest)
+long_events x rest = ap length (bytes-behind x rest) ∙ length-append x (event_bytes rest)
 
 module _ {a b : ReaderState} (x : List ℕ) (rest : List Event) (told : to_come a ≡ Some (events_of x ++ rest)) where
   -- If as many bytes were taken, and nothing behind the last of them, these are x, and the rest is to come.
-  pub whole_back : (P : List Event) → Takes a P b → cut (length x) P ≡ P → length (bytes P) ≡ length x
-      → (bytes P ≡ x) × (to_come b ≡ Some rest)
+  pub whole_back : (P : List Event) → Takes a P b → cut (length x) P ≡ P → length (event_bytes P) ≡ length x
+      → (event_bytes P ≡ x) × (to_come b ≡ Some rest)
   whole_back P takes within many =
       let (after, still, split) = left_of takes told in
       let same : events_of x ≡ P =
       sym (cut_behind x rest) ∙ ap (cut (length x)) split ∙ cut-within P after (length x) 0 within (omega arith) ∙ append-nil P in
       let left : rest ≡ after = append_cancel_left P rest after (ap (λ l. l ++ rest) (sym same) ∙ split) in
-      (ap bytes (sym same) ∙ bytes-events_of x, still ∙ ap Some (sym left))
+      (ap event_bytes (sym same) ∙ bytes-events_of x, still ∙ ap Some (sym left))
 
   -- no fault comes before the last of them
-  pub no_fault_before : (P : List Event) {e : Error} → Takes a P b → EndsInFault P e → length (bytes P) < length x → ⊥
+  pub no_fault_before : (P : List Event) {e : Error} → Takes a P b → EndsInFault P e → length (event_bytes P) < length x → ⊥
   no_fault_before P {e} takes (Q, is, free, fault) few =
       let (after, still, split) = left_of takes told in
-      let more = length x - length (bytes P) in
+      let more = length x - length (event_bytes P) in
       let same : events_of x ≡ P ++ cut more after =
       sym (cut_behind x rest) ∙ ap (cut (length x)) split ∙ cut-append P after (length x) more (omega arith) (omega arith) in
       let none : HasNoFault P = HasNoFault-front P (cut more after) (subst HasNoFault same (HasNoFault-events_of x)) in
@@ -67,7 +69,7 @@ module _ {a b : ReaderState} (x : List ℕ) (rest : List Event) (told : to_come 
       let no : ⊥ = cc (last.0, fault) in no
 
   -- fewer bytes are not all, and more than none are left
-  not_too_few : (P : List Event) → Takes a P b → length (bytes P) < length x → IfSome (to_come b) (AllOrNone P (length x)) → ⊥
+  not_too_few : (P : List Event) → Takes a P b → length (event_bytes P) < length x → IfSome (to_come b) (AllOrNone P (length x)) → ⊥
   not_too_few P takes few left = grind (arith, common_steps, left_of, long_events, append-nil)
 
   ends_known : (P : List Event) (buf' : List ℕ) (reply : Result (Unit {0}) Error) → length x ≡ length buf' → Takes a P b
@@ -85,8 +87,8 @@ pub exact_known : {X : Type 0} {R : Reader X} {old new : X} {buf buf' : List ℕ
 exact_known x rest law long told = ends_known x rest told law.taken _ _ long law.takes law.ends
 
 -- no more bytes are before a cut than it allows
-bytes_within : (n : ℕ) (P : List Event) → cut n P ≡ P → length (bytes P) ≤ n
-bytes_within n P within = omega (arith, ap (λ l. length (bytes l)) within, ap length (bytes-cut n P), length-take n (bytes P))
+bytes_within : (n : ℕ) (P : List Event) → cut n P ≡ P → length (event_bytes P) ≤ n
+bytes_within n P within = omega (arith, ap (λ l. length (event_bytes l)) within, ap length (bytes-cut n P), length-take n (event_bytes P))
 
 -- A `read_full` into room for as many bytes gives x, and the rest is to come.
 pub full_known : {X : Type 0} {R : Reader X} {old new : X} {buf buf' : List ℕ} {filled filled' : ℕ} (reply : Result (Unit {0}) Error)
@@ -94,8 +96,8 @@ pub full_known : {X : Type 0} {R : Reader X} {old new : X} {buf buf' : List ℕ}
     → to_come (tells R old) ≡ Some (events_of x ++ rest)
     → IsOk reply × (filled' ≡ filled + length x) × (take filled' buf' ≡ take filled buf ++ x) × (to_come (tells R new) ≡ Some rest)
 full_known {R = R} {old} {new} {buf} {filled = filled} (Ok u) x rest law long told =
-    let few : length (bytes law.taken) ≤ length x = omega (arith, long, bytes_within (length buf - filled) law.taken law.ends.1) in
-    let many : length (bytes law.taken) ≡ length x =
+    let few : length (event_bytes law.taken) ≤ length x = omega (arith, long, bytes_within (length buf - filled) law.taken law.ends.1) in
+    let many : length (event_bytes law.taken) ≡ length x =
     grind (arith, common_steps, few, all_taken, not_too_few x rest told law.taken law.takes) in
     let (same, behind) =
     whole_back x rest told law.taken law.takes (subst (λ n. cut n law.taken ≡ law.taken) (sym long) law.ends.1) many in
@@ -136,8 +138,8 @@ pub to_end_known : {X A : Type 0} {R : Reader X} {old new : X} {buf buf' : Vec �
 to_end_known {buf = buf} (Ok n) x law told =
     let (after, still, split) = left_of law.takes told in
     let none : after ≡ [] = subst (λ o. IfSome o (λ l. l ≡ [])) still law.ends.1 in
-    let all : bytes law.taken ≡ x =
-    ap bytes (sym (append-nil law.taken) ∙ ap (λ l. law.taken ++ l) (sym none) ∙ sym split) ∙ bytes-events_of x in (
+    let all : event_bytes law.taken ≡ x =
+    ap event_bytes (sym (append-nil law.taken) ∙ ap (λ l. law.taken ++ l) (sym none) ∙ sym split) ∙ bytes-events_of x in (
       (law.appends.1 ∙ ap length all, law.appends.0 ∙ ap (λ l. buf.items ++ l) all, still ∙ ap Some none),
       tt,
     )
@@ -159,7 +161,7 @@ IsTarget-unique = grind (arith, common_steps)
 -- from an old store to a new one with the same content these events were taken, which are its next bytes
 pub record StoreTaken (s : Store) (P : List Event) (t : Store) : Type 0 where
   pub content : t.content ≡ s.content
-  pub position : t.position ≡ s.position + length (bytes P)
+  pub position : t.position ≡ s.position + length (event_bytes P)
   pub split : events_of (drop s.position s.content) ≡ P ++ events_of (drop t.position t.content)
 
 -- what is taken of a told store
@@ -172,12 +174,13 @@ store_tells a = grind (arith, common_steps)
 
 -- the bytes that were taken are those at the target of the seek
 reads_there : {at : SeekFrom} {n : ℕ} {P : List Event} {buf : List ℕ} (s m t : Store) → m.content ≡ s.content
-    → Seeks (length s.content) s.position at (Ok n) m.position → StoreTaken m P t → bytes P ≡ buf → ReadsAt s at buf t.position
+    → Seeks (length s.content) s.position at (Ok n) m.position → StoreTaken m P t → event_bytes P ≡ buf → ReadsAt s at buf t.position
 reads_there {at} {n} {P} {buf} s m t kept sought took given =
     let rest = drop t.position t.content in
     let front = drop m.position m.content in
     let split : front ≡ buf ++ rest =
-    sym (bytes-events_of front) ∙ ap bytes took.split ∙ bytes-append P (events_of rest) ∙ ap (λ l. l ++ bytes (events_of rest)) given
+    sym (bytes-events_of front) ∙ ap event_bytes took.split ∙ bytes-append P (events_of rest)
+    ∙ ap (λ l. l ++ event_bytes (events_of rest)) given
     ∙ ap (λ l. buf ++ l) (bytes-events_of rest) in
     let there : front ≡ drop n s.content = grind (arith, common_steps) in
     record {

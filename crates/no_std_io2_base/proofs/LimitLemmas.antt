@@ -3,13 +3,15 @@ use Rattle.std.proofs.{lemmas.Grind.{common_steps}, Common.{◌≡◌, ℕ, zero
 use Rattle.std.proofs.Common.{IsOkAnd, IfSome, length, take, drop, refl, sym, ap, subst, ◌∙◌, arith, Option, None, Some, inl, inr}
 use Rattle.std.proofs.Common.{length-append, length-take, length-take-le, length-drop, Err, OnOk, ◌⊎◌, Vec, String, string_bytes, ◌^◌}
 use Rattle.std.proofs.lemmas.{Bool.{cases_lt}, List.{drop-take, append_cancel_right}}
-use Rattle.no_std_io2_base.specs.{declared.{error.Error.{Error}, traits.take.Take.{Take}}, Events.{Event, byte, fails, events_of, bytes}}
+use Rattle.no_std_io2_base.specs.declared.{error.Error.{Error}, traits.take.Take.{Take}}
+use Rattle.no_std_io2_base.specs.Events.{Event, byte, fails, events_of, event_bytes}
 use Rattle.no_std_io2_base.specs.inner.Events.{cut, BeginsWith}
-use Rattle.no_std_io2_base.specs.{Takes.{Takes, ReaderState, to_come, Reader, tells, gave, answered, bytes_left}, inner.Takes.{AreTaken}}
+use Rattle.no_std_io2_base.specs.Takes.{Takes, ReaderState, to_come, Reader, tells, gave_front, answered, bytes_left}
+use Rattle.no_std_io2_base.specs.inner.Takes.{AreTaken}
 use Rattle.no_std_io2_base.specs.Calls.{ReadCall, Gave, Filled, Consumed, Sought}
 use Rattle.no_std_io2_base.specs.Read.{ReadCallLaw, ReadLaw, ConsumeLaw, ReadExactLaw, ToEndLaw}
 use Rattle.no_std_io2_base.specs.inner.Take.{limit_held, limit_inner, limit_left, limit_set, limit_events, cut_to_come, lent_within}
-use Rattle.no_std_io2_base.specs.{inner.Read.{GaveLaw, bytes_given, fault_of, ended}, Meter.{FillsRoom}}
+use Rattle.no_std_io2_base.specs.{inner.Read.{GaveLaw, bytes_given, fault_of, without_number}, Meter.{FillsRoom}}
 use Rattle.no_std_io2_base.specs.inner.Take.{LimitTakes, LimitAsks, LimitMay, limit_position, LimitGoes, LimitMaySeek, arrived}
 use Rattle.no_std_io2_base.specs.{BufRead.{ReadUntilLaw, ReadLineLaw}, Seek.{Seeker}, inner.Seek.{here}}
 use Rattle.no_std_io2_base.proofs.TakesLemmas.{bytes-append, bytes-events_of, takes_then, cut-none, cut-fitting, cut-error, read_law}
@@ -29,7 +31,7 @@ limit_reader inner = record {
 }
 
 -- events within a limit are the first of those that are cut there
-pub cut-within : (P R : List Event) (k k' : ℕ) → cut k P ≡ P → k' + length (bytes P) ≡ k → cut k (P ++ R) ≡ P ++ cut k' R
+pub cut-within : (P R : List Event) (k k' : ℕ) → cut k P ≡ P → k' + length (event_bytes P) ≡ k → cut k (P ++ R) ≡ P ++ cut k' R
 cut-within [] R k k' within falls = let same : k ≡ k' = omega (arith, falls) in ap (λ n. cut n R) same
 cut-within (byte b ∷ P) R zero k' within falls = absurd (omega (arith, falls))
 cut-within (byte b ∷ P) R (suc k) k' within falls =
@@ -38,7 +40,7 @@ cut-within (fails e ∷ P) R zero k' within falls = absurd (let no : ⊥ = cc in
 cut-within (fails e ∷ P) R (suc k) k' within falls =
     let rest : cut (suc k) P ≡ P = cc in ap (λ l. fails e ∷ l) (cut-within P R (suc k) k' rest falls)
 
-cut_taken : (E E' : Option (List Event)) (P : List Event) (k k' : ℕ) → AreTaken E P E' → cut k P ≡ P → k' + length (bytes P) ≡ k
+cut_taken : (E E' : Option (List Event)) (P : List Event) (k k' : ℕ) → AreTaken E P E' → cut k P ≡ P → k' + length (event_bytes P) ≡ k
     → AreTaken (cut_to_come k E) P (cut_to_come k' E')
 cut_taken x1 x2 x3 k k' taken within falls = grind (arith, common_steps, cut-within)
 
@@ -55,14 +57,14 @@ answered_within : (k : ℕ) (answer : Result (List ℕ) Error) → 0 < k → len
     → cut k (answered answer) ≡ answered answer
 answered_within k x2 some fits = grind (arith, common_steps, cut-fitting, cut-error)
 
-pub bytes-answered : (answer : Result (List ℕ) Error) → bytes (answered answer) ≡ bytes_given answer
+pub bytes-answered : (answer : Result (List ℕ) Error) → event_bytes (answered answer) ≡ bytes_given answer
 bytes-answered x1 = grind (arith, common_steps, bytes-events_of)
 
 -- the error that was lent is that which came from the inner reader
 fault_within : (k : ℕ) (lent : Result (List ℕ) Error) → fault_of (lent_within k lent) ≡ fault_of lent
 fault_within k x2 = grind (arith, common_steps)
 
-pub fault-bytes : (answer : Result (List ℕ) Error) → bytes (fault_of answer) ≡ []
+pub fault-bytes : (answer : Result (List ℕ) Error) → event_bytes (fault_of answer) ≡ []
 fault-bytes x1 = grind (arith, common_steps)
 
 fault-within : (k : ℕ) (answer : Result (List ℕ) Error) → 0 < k → cut k (fault_of answer) ≡ fault_of answer
@@ -77,7 +79,7 @@ cut-events_of (suc k) (b ∷ bs) = ap (λ l. byte b ∷ l) (cut-events_of k bs)
 -- as many bytes as fit in the room up to the limit are as many of those up to the limit as fit in the room
 gave_most : (room limit left some : ℕ) (answer : Result (List ℕ) Error) → some ≡ min limit left
     → IsOkAnd answer (λ x. length x ≡ min (min room limit) left) → IsOkAnd answer (λ x. length x ≡ min room some)
-gave_most room limit left some x5 is gave = grind (arith, common_steps)
+gave_most room limit left some x5 is gave_front = grind (arith, common_steps)
 
 module _ {T : Type 0} {inner : Reader T} where
   -- what the inner reader took, the `Take` took
@@ -96,7 +98,7 @@ module _ {T : Type 0} {inner : Reader T} where
   -- a call took what its inner call took
   asked : {old new : Take T} {call : ReadCall} {n : ℕ} (P : List Event) → LimitAsks inner old call n new → (limit_left old ≡ 0 → P ≡ [])
       → (0 < limit_left old → Takes (tells inner (limit_inner old)) P (tells inner (limit_inner new)) × (cut (limit_left old) P ≡ P)
-      × (length (bytes P) ≡ n)) → LimitTakes inner old P new
+      × (length (event_bytes P) ≡ n)) → LimitTakes inner old P new
   asked {old} {new} P asks none took = grind (arith, common_steps)
 
   pub gave_took : {old new : Take T} (room : ℕ) (answer : Result (List ℕ) Error) → LimitMay inner old (Gave room answer) new
@@ -108,7 +110,7 @@ module _ {T : Type 0} {inner : Reader T} where
   filled_took {old} {new} answer (lent, at_limit, above, asks) = grind (arith, common_steps, asked, fault_within, fault-within, fault-bytes)
 
   pub consumed_took : {old new : Take T} {n : ℕ} → LimitMay inner old (Consumed n) new
-      → (P : List Event) × (length (bytes P) ≡ n) × LimitTakes inner old P new
+      → (P : List Event) × (length (event_bytes P) ≡ n) × LimitTakes inner old P new
   consumed_took {old} {new} {n} asks = grind (arith, common_steps, cases_lt, bytes-events_of, cut-fitting, limit_none)
 
   -- at limit 0 a `read` gives nothing
@@ -125,7 +127,7 @@ module _ {T : Type 0} {inner : Reader T} where
   -- so it is, if the inner reader read into a part of the buffer
   pub reads_inner : {old new : Take T} {before into part : List ℕ} (whole : List ℕ) (reply : Result ℕ Error) → 0 < limit_left old
       → ReadLaw inner (limit_inner old) into reply part (limit_inner new) → length part ≡ min (length whole) (limit_left old)
-      → gave reply whole ≡ gave reply part → limit_left new + length (bytes_given (gave reply part)) ≡ limit_left old
+      → gave_front reply whole ≡ gave_front reply part → limit_left new + length (bytes_given (gave_front reply part)) ≡ limit_left old
       → limit_set new ≡ limit_set old → ReadLaw (limit_reader inner) old before reply whole new
   reads_inner {old} {new} {into = into} {part} whole reply some read room same falls stays =
       grind (arith, common_steps, read_by, gave_inner, read_law)
@@ -231,7 +233,7 @@ take_most most k x is = grind (arith, common_steps)
 -- Each call of a `Take` takes as many bytes of its inner reader as it gives.
 pub limit_each : {T : Type 0} {inner : Reader T}
     → EachAdds (ReadCallLaw (limit_reader inner))
-    (λ old x new. (P : List Event) × (length (bytes P) ≡ length x) × LimitTakes inner old P new)
+    (λ old x new. (P : List Event) × (length (event_bytes P) ≡ length x) × LimitTakes inner old P new)
 limit_each = record {
   joins = record {
     none = λ t. ([], refl, limit_none t);
@@ -243,8 +245,8 @@ limit_each = record {
         next.1,
         length-append x y,
         ap length (bytes-append first.0 next.0),
-        length-append (bytes first.0)
-            (bytes next.0),
+        length-append (event_bytes first.0)
+            (event_bytes next.0),
       ),
       limit_then first.2 next.2,
     );
@@ -267,28 +269,28 @@ limit_fell {inner = inner} {old = old} {now} reads =
     let took = gathers_add (limit_each {inner = inner}) reads.made.are old now reads.made.made in omega (arith, took.1, took.2.limit)
 
 -- what the cut events lost, the inner events lost; or these are not told
-lost : (E E' : Option (List Event)) (k k' : ℕ) (P Q : List Event) → AreTaken (cut_to_come k E) P (cut_to_come k' E') → AreTaken E Q E'
-    → cut k Q ≡ Q → k' + length (bytes Q) ≡ k → (Q ≡ P) ⊎ (E ≡ None)
-lost None E' k k' P Q above below within falls = inr refl
-lost (Some E) None k k' P Q above below within falls = absurd below
-lost (Some E) (Some E') k k' P Q above below within falls = inl (append_cancel_right Q P (cut k' E')
+lost_below : (E E' : Option (List Event)) (k k' : ℕ) (P Q : List Event) → AreTaken (cut_to_come k E) P (cut_to_come k' E') → AreTaken E Q E'
+    → cut k Q ≡ Q → k' + length (event_bytes Q) ≡ k → (Q ≡ P) ⊎ (E ≡ None)
+lost_below None E' k k' P Q above below within falls = inr refl
+lost_below (Some E) None k k' P Q above below within falls = absurd below
+lost_below (Some E) (Some E') k k' P Q above below within falls = inl (append_cancel_right Q P (cut k' E')
     (sym (ap (cut k) below ∙ cut-within Q E' k k' within falls) ∙ above))
 
 -- if no events are told, any with as many bytes were taken
-untold : {a b : ReaderState} {Q : List Event} (P : List Event) → to_come a ≡ None → length (bytes P) ≡ length (bytes Q)
+untold : {a b : ReaderState} {Q : List Event} (P : List Event) → to_come a ≡ None → length (event_bytes P) ≡ length (event_bytes Q)
     → min 1 (length P) ≤ min 1 (length Q) → Takes a Q b → Takes a P b
 untold {a} {b} P none same fewer takes = grind (arith, common_steps)
 
 -- so what the `Take` took, its inner reader took
 limit_taken : {T : Type 0} {inner : Reader T} {old new : Take T} (P Q : List Event)
     → Takes (tells (limit_reader inner) old) P (tells (limit_reader inner) new) → LimitTakes inner old Q new
-    → length (bytes Q) ≡ length (bytes P) → (R : List Event) × (bytes R ≡ bytes P) × LimitTakes inner old R new
-limit_taken {inner = inner} {old} {new} P Q above below same = elim (lost (to_come (tells inner (limit_inner old)))
+    → length (event_bytes Q) ≡ length (event_bytes P) → (R : List Event) × (event_bytes R ≡ event_bytes P) × LimitTakes inner old R new
+limit_taken {inner = inner} {old} {new} P Q above below same = elim (lost_below (to_come (tells inner (limit_inner old)))
     (to_come (tells inner (limit_inner new))) (limit_left old)
     (limit_left new) P Q above.events below.takes.events below.within below.limit) [
-      | inl is ↦ (Q, ap bytes is, below)
+      | inl is ↦ (Q, ap event_bytes is, below)
       | inr none ↦
-          let x = bytes P in
+          let x = event_bytes P in
           let long = ap length (bytes-events_of x) in (
             events_of x,
             bytes-events_of x,
@@ -306,7 +308,7 @@ limit_taken {inner = inner} {old} {new} P Q above below same = elim (lost (to_co
 -- what each loop took
 pub limit_exact : {T : Type 0} {inner : Reader T} {old new : Take T} {buf buf' : List ℕ} (reply : Result (Unit {0}) Error)
     → ReadExactLaw (limit_reader inner) old buf reply buf' new
-    → (P : List Event) × OnOk reply (bytes P ≡ buf') × LimitTakes inner old P new
+    → (P : List Event) × OnOk reply (event_bytes P ≡ buf') × LimitTakes inner old P new
 limit_exact {old = old} {new} (Ok u) law =
     let calls = exact_adds limit_each _ (Ok u) old new law.calls in
     let given = law.ends.0.given in
@@ -316,15 +318,15 @@ limit_exact {old = old} {new} (Err e) law = let calls = exact_adds limit_each _ 
 
 pub limit_to_end : {T A : Type 0} {lacks : ℕ → Type 0} {inner : Reader T} {old new : Take T} {buf buf' : Vec ℕ A} {reply : Result ℕ Error}
     → ToEndLaw lacks (limit_reader inner) old buf reply buf' new
-    → (P : List Event) × (buf'.items ≡ buf.items ++ bytes P) × LimitTakes inner old P new
+    → (P : List Event) × (buf'.items ≡ buf.items ++ event_bytes P) × LimitTakes inner old P new
 limit_to_end {old = old} {new} {buf} {buf'} {reply} law =
-    let calls = to_end_adds limit_each (ended reply) old new law.calls in
+    let calls = to_end_adds limit_each (without_number reply) old new law.calls in
     let took = limit_taken law.taken calls.0 law.takes calls.2 calls.1 in
     (took.0, law.appends.0 ∙ ap (λ l. buf.items ++ l) (sym took.1), took.2)
 
 pub limit_until : {T A : Type 0} (inner : Reader T) {old new : Take T} {d : ℕ} {buf buf' : Vec ℕ A} {reply : Result ℕ Error}
     → ReadUntilLaw (limit_reader inner) old d buf reply buf' new
-    → (P : List Event) × (buf'.items ≡ buf.items ++ bytes P) × LimitTakes inner old P new
+    → (P : List Event) × (buf'.items ≡ buf.items ++ event_bytes P) × LimitTakes inner old P new
 limit_until inner {old} {new} {buf = buf} {reply = reply} law =
     let calls = piece_adds limit_each _ _ reply old new law.calls in
     let took = limit_taken law.taken calls.0 law.takes calls.2 calls.1 in
@@ -332,11 +334,11 @@ limit_until inner {old} {new} {buf = buf} {reply = reply} law =
 
 pub limit_line : {T A : Type 0} (inner : Reader T) {old new : Take T} {buf buf' : String A} {reply : Result ℕ Error}
     → ReadLineLaw (limit_reader inner) old buf reply buf' new
-    → (P : List Event) × OnOk reply (string_bytes buf' ≡ string_bytes buf ++ bytes P) × LimitTakes inner old P new
+    → (P : List Event) × OnOk reply (string_bytes buf' ≡ string_bytes buf ++ event_bytes P) × LimitTakes inner old P new
 limit_line inner {old} {new} {buf} {buf'} {reply} law =
     let calls = piece_adds limit_each _ _ law.read old new law.calls in
     let took = limit_taken law.taken calls.0 law.takes calls.2 calls.1 in
-    let appended = line_appended _ _ (bytes law.taken) _ _ reply law.read law.answers in
+    let appended = line_appended _ _ (event_bytes law.taken) _ _ reply law.read law.answers in
     (took.0, subst (λ l. OnOk reply (string_bytes buf' ≡ string_bytes buf ++ l)) (sym took.1) appended, took.2)
 
 -- How a `Take` goes to a position, step by step.

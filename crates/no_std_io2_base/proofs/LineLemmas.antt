@@ -6,11 +6,11 @@ use Rattle.std.proofs.{Common.{vec_len, le_refl, length-take-le, length-append, 
 use Rattle.std.proofs.lemmas.List.Elements.{recursion_from_All, All-from_recursion, Contains-append_left, Contains-append_right}
 use Rattle.std.proofs.{lemmas.Str.{IsUtf8-nil, IsUtf8-string_bytes}, Math.Seq.{take-append_seam, drop-append_seam}}
 use Rattle.no_std_io2_base.specs.inner.Lines.{AnswersLine, IsInvalidText, Follows, lines_of, unfinished_line, lines_len, IsLineState}
-use Rattle.no_std_io2_base.specs.{inner.Pieces.{Lacks, ends_in, pieces, ArePieces, FindsPiece}, Pieces.{newline}}
+use Rattle.no_std_io2_base.specs.{inner.Pieces.{Lacks, ends_in, pieces_of, ArePieces, FindsPiece}, Pieces.{newline}}
 use Rattle.no_std_io2_base.specs.{inner.Lines.{line_room, text_room}, declared.error.Error.{Error}}
 use Rattle.no_std_io2_base.specs.{declared.error.ErrorKind.TheVariants.{OutOfMemory}, Errors.{error_kind, IsFault}}
 use Rattle.no_std_io2_base.specs.{BufRead.{ReadUntilLaw, ReadLineLaw}, declared.error.ErrorKind.{ErrorKind}}
-use Rattle.no_std_io2_base.specs.{Events.{bytes, events_of, fails}, Takes.{Reader, tells}, Read.{ConsumeLaw}, inner.Read.{FilledLaw}}
+use Rattle.no_std_io2_base.specs.{Events.{event_bytes, events_of, fails}, Takes.{Reader, tells}, Read.{ConsumeLaw}, inner.Read.{FilledLaw}}
 use Rattle.no_std_io2_base.proofs.{PieceLemmas.{pieces_are, ends_in-lacks}, TakesLemmas.{bytes-events_of}, PieceLoops.{PieceTaken}}
 use Rattle.no_std_io2_base.proofs.PieceLoops.{part_none, piece_whole, piece_faulted, piece_since}
 use Rattle.std.specs.{Result.{result_and}, String.{string_vec}}
@@ -23,11 +23,11 @@ JoinsLine b bs =
     ((b ≡ newline ⊎ 0 < lines_len bs) × (lines_of (b ∷ bs) ≡ b ∷ lines_of bs) × (unfinished_line (b ∷ bs) ≡ unfinished_line bs))
     ⊎ (b ≢ newline × (lines_of bs ≡ []) × (lines_of (b ∷ bs) ≡ []) × (unfinished_line (b ∷ bs) ≡ b ∷ unfinished_line bs))
 
-joins : (b : ℕ) (bs : List ℕ) → JoinsLine b bs
+joins_line : (b : ℕ) (bs : List ℕ) → JoinsLine b bs
 unfolding lines_of unfinished_line
-joins b bs = by_byte (b == newline) refl
+joins_line b bs = by_byte (b == newline) refl
   where
-    by_end : (ps : List (List ℕ)) → b ≢ newline → pieces newline bs ≡ ps → ArePieces newline bs ps → JoinsLine b bs
+    by_end : (ps : List (List ℕ)) → b ≢ newline → pieces_of newline bs ≡ ps → ArePieces newline bs ps → JoinsLine b bs
     by_end ([] ∷ ps) other is h = absurd (omega (arith, h.none_empty.0))
     by_end ((c ∷ p) ∷ q ∷ ps) other is h = grind (arith, common_steps)
     by_end ps other is h = grind (arith, common_steps)
@@ -35,39 +35,39 @@ joins b bs = by_byte (b == newline) refl
     by_byte : (t : Bool) → (b == newline) ≡ t → JoinsLine b bs
     by_byte true e = grind (arith, common_steps)
     by_byte false e =
-        by_end (pieces newline bs) (λ is. true≢false (sym (eq-eqb b newline is) ∙ e)) refl (pieces_are newline bs)
+        by_end (pieces_of newline bs) (λ is. true≢false (sym (eq-eqb b newline is) ∙ e)) refl (pieces_are newline bs)
 
 -- the lines and what follows them are all bytes
 pub lines_split : (xs : List ℕ) → lines_of xs ++ unfinished_line xs ≡ xs
 unfolding lines_of unfinished_line
 lines_split [] = refl
-lines_split (b ∷ bs) = grind (arith, common_steps, joins b bs, lines_split bs)
+lines_split (b ∷ bs) = grind (arith, common_steps, joins_line b bs, lines_split bs)
 
 -- what follows the lines has no newline
 pub unfinished_lacks : (xs : List ℕ) → Lacks newline (unfinished_line xs)
 unfolding unfinished_line
 unfinished_lacks [] = tt
-unfinished_lacks (b ∷ bs) = grind (arith, common_steps, joins b bs, unfinished_lacks bs)
+unfinished_lacks (b ∷ bs) = grind (arith, common_steps, joins_line b bs, unfinished_lacks bs)
 
 -- the lines end in a newline
 pub lines_end : (xs : List ℕ) → 0 < lines_len xs → ends_in newline (lines_of xs) ≡ true
 unfolding lines_of
 lines_end [] some = absurd (omega (arith, some))
-lines_end (b ∷ bs) some = grind (arith, common_steps, joins b bs, lines_end bs)
+lines_end (b ∷ bs) some = grind (arith, common_steps, joins_line b bs, lines_end bs)
 
 -- if there is no newline, there are no lines
 pub lines_none : (xs : List ℕ) → Lacks newline xs → lines_of xs ≡ []
 unfolding lines_of
 lines_none [] h = refl
-lines_none (b ∷ bs) h = grind (arith, common_steps, joins b bs, lines_none bs)
+lines_none (b ∷ bs) h = grind (arith, common_steps, joins_line b bs, lines_none bs)
 
 pub unfinished_all : (xs : List ℕ) → Lacks newline xs → unfinished_line xs ≡ xs
 unfinished_all xs h = sym (ap (λ l. l ++ unfinished_line xs) (lines_none xs h)) ∙ lines_split xs
 
 -- the last newline ends the lines
 pub lines_are : (front back : List ℕ) → Lacks newline back → lines_of (front ++ newline ∷ back) ≡ front ++ newline ∷ []
-lines_are [] back h = grind (arith, common_steps, joins newline back, lines_none back)
-lines_are (b ∷ front) back h = grind (arith, common_steps, joins b (front ++ newline ∷ back), lines_are front back h)
+lines_are [] back h = grind (arith, common_steps, joins_line newline back, lines_none back)
+lines_are (b ∷ front) back h = grind (arith, common_steps, joins_line b (front ++ newline ∷ back), lines_are front back h)
 
 -- bytes without d have no d
 pub lacks_contains : (d : ℕ) (xs : List ℕ) → Lacks d xs → Contains xs d → ⊥
@@ -154,12 +154,12 @@ pub text_answers : {A : Type 0} (buf taken : String A) (none all : Vec ℕ A) (l
     → vec_capacity none ≤ vec_capacity all → all.items ≡ line
     → AnswersLine all.items read (string_len taken) (text_room taken all) reply (string_bytes taken) new
     → AnswersLine line read (string_len buf) (string_capacity buf) reply (string_bytes buf) new
-text_answers buf taken none all line new read reply bytes len room grown is answers = grind (arith, common_steps)
+text_answers buf taken none all line new read reply event_bytes len room grown is answers = grind (arith, common_steps)
 
 -- memory was refused to the read
-pub kept : (line : List ℕ) (read reply : Result ℕ Error) (len capacity : ℕ) {old new : List ℕ}
+pub line_kept : (line : List ℕ) (read reply : Result ℕ Error) (len capacity : ℕ) {old new : List ℕ}
     → IsErrAnd read (λ e. error_kind e ≡ OutOfMemory) → reply ≡ read → new ≡ old → AnswersLine line read len capacity reply old new
-kept line x2 reply len capacity memory is same = grind (arith, common_steps)
+line_kept line x2 reply len capacity memory is same = grind (arith, common_steps)
 
 -- the line is UTF-8
 pub became : (line : List ℕ) (read : Result ℕ Error) (len capacity : ℕ) (old : List ℕ) {new : List ℕ} → IsUtf8 line → new ≡ old ++ line
@@ -167,10 +167,10 @@ pub became : (line : List ℕ) (read : Result ℕ Error) (len capacity : ℕ) (o
 became line x2 len capacity old text is other = grind (arith, common_steps)
 
 -- it is not
-pub refused : (line : List ℕ) (read : Result ℕ Error) (e : Error) (len capacity : ℕ) {old new : List ℕ}
+pub line_refused : (line : List ℕ) (read : Result ℕ Error) (e : Error) (len capacity : ℕ) {old new : List ℕ}
     → (IsUtf8 line → ⊥) → IsInvalidText e → IfErr read (λ f. error_kind f ≡ OutOfMemory → ⊥) → new ≡ old
     → AnswersLine line read len capacity (result_and read (Err e)) old new
-refused line x2 e len capacity bad invalid other same = grind (arith, common_steps)
+line_refused line x2 e len capacity bad invalid other same = grind (arith, common_steps)
 
 -- A line that goes to a string: into its memory, behind its bytes, or straight from what a reader lends.
 
@@ -184,18 +184,19 @@ module _ {X A : Type 0} {R : Reader X} {old new : X} (text : String A) (line : V
   -- the bytes of the text come first,
   front : take (string_len text) line.items ≡ string_bytes text
   front = ap (λ n. take n line.items) text.bytes.ok.0 ∙ ap (λ l. take (length (string_bytes text)) l) until.appends
-      ∙ take-append_seam (string_bytes text) (bytes until.taken)
+      ∙ take-append_seam (string_bytes text) (event_bytes until.taken)
 
   pub memory_grows : string_len text ≤ vec_len line
-  memory_grows = omega (arith, text.bytes.ok.0, line.ok.0, ap length until.appends, length-append (string_bytes text) (bytes until.taken))
+  memory_grows =
+      omega (arith, text.bytes.ok.0, line.ok.0, ap length until.appends, length-append (string_bytes text) (event_bytes until.taken))
 
   pub memory_text : IsUtf8 (take (string_len text) line.items)
   memory_text = subst IsUtf8 (sym front) (IsUtf8-string_bytes text)
 
   -- and then the line
-  back : drop (string_len text) line.items ≡ bytes until.taken
+  back : drop (string_len text) line.items ≡ event_bytes until.taken
   back = ap (λ n. drop n line.items) text.bytes.ok.0 ∙ ap (λ l. drop (length (string_bytes text)) l) until.appends
-      ∙ drop-append_seam (string_bytes text) (bytes until.taken)
+      ∙ drop-append_seam (string_bytes text) (event_bytes until.taken)
 
   pub line_law : {reply : Result ℕ Error} {text' : String A}
       → ((len capacity : ℕ) → AnswersLine (drop (string_len text) line.items) read len capacity reply
@@ -223,7 +224,7 @@ pub line_at_once : {X A : Type 0} {R : Reader X} {old now new : X} {lent : List 
 line_at_once {R = R} {old} {lent = lent} {n} {buf = buf} {buf'} filled found whole dropped follows grown =
     let line = take n lent in
     let same = sym (bytes-events_of line) in
-    let long : n ≡ length (bytes (events_of line)) = sym (length-take-le n lent found.within) ∙ ap length same in
+    let long : n ≡ length (event_bytes (events_of line)) = sym (length-take-le n lent found.within) ∙ ap length same in
     let piece : PieceTaken R (λ n. line_room buf < n) (Unit {0}) newline old (events_of line) (Ok n) _ =
     piece_whole (part_none R newline old) filled found dropped whole long in
     record {
@@ -260,4 +261,4 @@ line_faulted {R = R} {old} {e = e} {buf} filled fault =
 -- a text refuses only a line that has some bytes
 pub line_some : {A : Type 0} (buf : String A) (line : List ℕ)
     → (string_capacity buf < string_len buf + length line) ⊎ (IsUtf8 line → ⊥) → 0 < length line
-line_some buf x2 refused = grind (arith, common_steps)
+line_some buf x2 line_refused = grind (arith, common_steps)

@@ -6,7 +6,8 @@ use Rattle.std.proofs.lemmas.{List.{Sums.{sum_by-append, sum_by-cons}, take_more
 use Rattle.std.proofs.lemmas.List.{append_cancel_left, Folds.{concat-append}}
 use Rattle.no_std_io2_base.specs.{declared.error.ErrorKind.{ErrorKind}, declared.error.Error.{Error}}
 use Rattle.no_std_io2_base.specs.{Moves.{WriterState, IsFront, Moves, MovesFront, Sends, call_mishap}, inner.Moves.{HasSpent}}
-use Rattle.no_std_io2_base.specs.inner.Write.{MovesEach, zero_write, Writes, none, took, again, stuck, fault, AllCalls}
+use Rattle.no_std_io2_base.specs.inner.Write.{MovesEach, zero_write, Writes, no_write, write_took, write_again, write_stuck, write_fault}
+use Rattle.no_std_io2_base.specs.inner.Write.{AllCalls}
 use Rattle.no_std_io2_base.specs.{inner.Charges.{calls_for, charges}, Calls.{WriteCall, Made, ByCalls, WroteAll}}
 use Rattle.no_std_io2_base.specs.{inner.Kinds.{is_interruption}, Errors.{IsNoInterruption}, Writers.{Writer, TakesAll, WriteRestOf}}
 use Rattle.no_std_io2_base.specs.{inner.Writers.{CallOf}, Meter.{IsMeter}}
@@ -203,20 +204,20 @@ no_error is = absurd (let no : ⊥ = cc in no)
 -- the result is no interruption
 pub writes_fault : {text : List ℕ} {C : List WriteCall} {x left : List ℕ} {reply : Result (Unit {0}) Error}
     → Writes text C x reply left → IsNoInterruption reply
-writes_fault none = tt
-writes_fault (took some more w) = writes_fault w
-writes_fault (again some interrupted w) = writes_fault w
-writes_fault (stuck some says) = ap is_interruption says.0
-writes_fault (fault some is) = is
+writes_fault no_write = tt
+writes_fault (write_took some more w) = writes_fault w
+writes_fault (write_again some interrupted w) = writes_fault w
+writes_fault (write_stuck some says) = ap is_interruption says.0
+writes_fault (write_fault some is) = is
 
 -- after an error some is left
 pub writes_left : {text : List ℕ} {C : List WriteCall} {x left : List ℕ} {reply : Result (Unit {0}) Error}
     → Writes text C x reply left → OnErr reply (0 < length left)
-writes_left none = tt
-writes_left (took some more w) = writes_left w
-writes_left (again some interrupted w) = writes_left w
-writes_left (stuck some says) = some
-writes_left (fault some is) = some
+writes_left no_write = tt
+writes_left (write_took some more w) = writes_left w
+writes_left (write_again some interrupted w) = writes_left w
+writes_left (write_stuck some says) = some
+writes_left (write_fault some is) = some
 
 -- for no bytes there is no call
 pub writes_idle : {text : List ℕ} {C : List WriteCall} {x left : List ℕ} {reply : Result (Unit {0}) Error}
@@ -228,27 +229,27 @@ module _ {X : Type 0} (I : Writer X) where
   pub writes_sends : {text : List ℕ} {C : List WriteCall} {x left : List ℕ} {reply : Result (Unit {0}) Error}
       → Writes text C x reply left → (a b : X) → Made (CallOf I) a C b
       → Sends (I.told a) x reply (I.told b) left
-  writes_sends none a b made = grind (arith, common_steps)
-  writes_sends (took {x = x} {left = left} {n = n} some more w) a b made =
+  writes_sends no_write a b made = grind (arith, common_steps)
+  writes_sends (write_took {x = x} {left = left} {n = n} some more w) a b made =
       let rest = writes_sends w made.0 b made.2 in
       record {
         sent = take n x ++ rest.sent;
         split = sym (take-append-drop n x) ∙ ap (λ l. take n x ++ l) rest.split ∙ sym (append_assoc (take n x) rest.sent left);
         moves = Moves-then made.1.moves rest.moves;
       }
-  writes_sends (again some interrupted w) a b made =
+  writes_sends (write_again some interrupted w) a b made =
       let rest = writes_sends w made.0 b made.2 in
       record { sent = rest.sent; split = rest.split; moves = Moves-then made.1.moves rest.moves }
-  writes_sends (stuck {x = x} {e = e} some says) a b made = grind (arith, common_steps)
-  writes_sends (fault {e = e} some is) a b made = grind (arith, common_steps)
+  writes_sends (write_stuck {x = x} {e = e} some says) a b made = grind (arith, common_steps)
+  writes_sends (write_fault {e = e} some is) a b made = grind (arith, common_steps)
 
   -- a writer that takes all does so in one call, which is counted
   pub writes_all : {text : List ℕ} {C : List WriteCall} {x left : List ℕ} {reply : Result (Unit {0}) Error}
       → Writes text C x reply left → (a b : X) → Made (CallOf I) a C b → TakesAll I a
       → TakesAll I b × IsOk reply × (length C ≡ calls_for x)
-  writes_all none a b made takes =
+  writes_all no_write a b made takes =
       (subst (TakesAll I) (sym made) takes, refl, refl)
-  writes_all (took {x = x} {n = n} some more w) a b made takes =
+  writes_all (write_took {x = x} {n = n} some more w) a b made takes =
       let took = made.1.all takes in
       let rest = writes_all w made.0 b made.2 took.0 in
       let empty : length (drop n x) ≡ 0 = omega (arith, took_whole took.1, length-drop n x) in (
@@ -256,9 +257,9 @@ module _ {X : Type 0} (I : Writer X) where
         rest.1,
         omega (arith, rest.2, no_call (drop n x) empty, one_write x some),
       )
-  writes_all (again some interrupted w) a b made takes = no_error (made.1.all takes).1
-  writes_all (stuck {x = x} some says) a b made takes = absurd (omega (arith, some, took_whole (made.1.all takes).1))
-  writes_all (fault some is) a b made takes = no_error (made.1.all takes).1
+  writes_all (write_again some interrupted w) a b made takes = no_error (made.1.all takes).1
+  writes_all (write_stuck {x = x} some says) a b made takes = absurd (omega (arith, some, took_whole (made.1.all takes).1))
+  writes_all (write_fault some is) a b made takes = no_error (made.1.all takes).1
 
   -- the law of `write_rest` follows from its writes
   pub writes_law : {x left : List ℕ} {reply : Result (Unit {0}) Error} {a b : X}
@@ -310,11 +311,11 @@ meter_made I cost meter (call ∷ C) a b made =
 -- each write of a loop counts as one
 writes_charge : {text : List ℕ} {C : List WriteCall} {x left : List ℕ} {reply : Result (Unit {0}) Error}
     → Writes text C x reply left → charges C ≡ length C
-writes_charge none = omega arith
-writes_charge (took some more w) = omega (arith, writes_charge w)
-writes_charge (again some interrupted w) = omega (arith, writes_charge w)
-writes_charge (stuck some says) = omega arith
-writes_charge (fault some is) = omega arith
+writes_charge no_write = omega arith
+writes_charge (write_took some more w) = omega (arith, writes_charge w)
+writes_charge (write_again some interrupted w) = omega (arith, writes_charge w)
+writes_charge (write_stuck some says) = omega arith
+writes_charge (write_fault some is) = omega arith
 
 module _ {W : Type 0} (I : Writer W) where
   -- over a writer that takes all, a loop of writes counts as one, or none for no bytes

@@ -5,33 +5,35 @@ use Rattle.std.proofs.Common.{cond, ◌⊎◌, inl, inr, ◌+◌, ◌<◌, ◌�
 use Rattle.std.proofs.Common.{take-suc, slice_index, drop_of_length-le, take_all, le_refl, length-take, take-append-drop, rules, Result, Ok}
 use Rattle.std.proofs.{Common.{Err, Vec, vec_len, vec_capacity, subst, ⊎_elim, suc, ◌-◌}, lemmas.List.Sums.{sum_by-append, sum_by-cons}}
 use Rattle.std.proofs.lemmas.List.Elements.{recursion_from_All}
-use Rattle.no_std_io2_base.specs.inner.Pieces.{Lacks, ends_in, in_front, pieces, ArePieces, EndsPiece, EndsAt, but_last, FindsPiece}
-use Rattle.no_std_io2_base.specs.inner.Pieces.{IsPiecePart, ComesBehind, PartCalls, no_part, and_part, and_waited, PieceCalls, without}
-use Rattle.no_std_io2_base.specs.{inner.Pieces.{IsAll}, Pieces.{PieceEnds}, Events.{Event, byte, bytes, fails, events_of, HasNoFault}}
+use Rattle.no_std_io2_base.specs.inner.Pieces.{Lacks, ends_in, in_front, pieces_of, ArePieces, EndsPiece, EndsAt, but_last, FindsPiece}
+use Rattle.no_std_io2_base.specs.inner.Pieces.{IsPiecePart, ComesBehind, PartCalls, no_part, and_part, part_interrupted, PieceCalls}
+use Rattle.no_std_io2_base.specs.inner.Pieces.{without}
+use Rattle.no_std_io2_base.specs.{inner.Pieces.{IsAll}, Events.{Event, byte, event_bytes, fails, events_of, HasNoFault}}
 use Rattle.no_std_io2_base.specs.{inner.Events.{BeginsWith}, Takes.{ReaderState, Takes, to_come, Reader}, inner.Takes.{AreTaken}}
 use Rattle.no_std_io2_base.specs.{declared.error.Error.{Error}, Errors.{IsInterruption}, Calls.{ReadCall, Filled, Consumed}}
 use Rattle.no_std_io2_base.specs.{inner.Read.{FilledLaw}, BufRead.{ReadUntilLaw}}
 use Rattle.no_std_io2_base.proofs.TakesLemmas.{bytes-append, bytes-events_of, events_of-append, HasNoFault-append, takes_then, IsAll-behind}
 use Rattle.no_std_io2_base.proofs.TakesLemmas.{EndsInFault-behind}
 use Rattle.std.specs.List.{AllWithin}
+use Rattle.no_std_io2_base.specs.inner.Pieces.{PieceEnds}
 
 -- The laws that determine the pieces of some bytes.
 
 -- the pieces if the first byte is d, and if it is not
-pieces-at : (d b : ℕ) (bs : List ℕ) → b ≡ d → pieces d (b ∷ bs) ≡ (b ∷ []) ∷ pieces d bs
-pieces-at d b bs is = ap (λ t. if t then (b ∷ []) ∷ pieces d bs else in_front b (pieces d bs)) (eq-eqb b d is)
+pieces-at : (d b : ℕ) (bs : List ℕ) → b ≡ d → pieces_of d (b ∷ bs) ≡ (b ∷ []) ∷ pieces_of d bs
+pieces-at d b bs is = ap (λ t. if t then (b ∷ []) ∷ pieces_of d bs else in_front b (pieces_of d bs)) (eq-eqb b d is)
 
 -- a first byte that is not d joins the first piece of the rest, or is a piece by itself if there is no rest
-pieces-other : (d b : ℕ) (bs : List ℕ) → b ≢ d → pieces d (b ∷ bs) ≡ in_front b (pieces d bs)
-pieces-other d b bs differ = ap (λ t. if t then (b ∷ []) ∷ pieces d bs else in_front b (pieces d bs)) (ne_eqb b d differ)
+pieces-other : (d b : ℕ) (bs : List ℕ) → b ≢ d → pieces_of d (b ∷ bs) ≡ in_front b (pieces_of d bs)
+pieces-other d b bs differ = ap (λ t. if t then (b ∷ []) ∷ pieces_of d bs else in_front b (pieces_of d bs)) (ne_eqb b d differ)
 
 -- of one byte more, by whether that is d
-more_are : (d b : ℕ) (bs : List ℕ) (t : Bool) → (b == d) ≡ t → ArePieces d bs (pieces d bs) → ArePieces d (b ∷ bs) (pieces d (b ∷ bs))
+more_are : (d b : ℕ) (bs : List ℕ) (t : Bool) → (b == d) ≡ t → ArePieces d bs (pieces_of d bs) → ArePieces d (b ∷ bs) (pieces_of d (b ∷ bs))
 more_are d b bs true e h = grind (arith, common_steps)
 more_are d b bs false e h = grind (arith, common_steps)
 
--- what `pieces` gives keeps all the laws of the pieces
-pub pieces_are : (d : ℕ) (bs : List ℕ) → ArePieces d bs (pieces d bs)
+-- what `pieces_of` gives keeps all the laws of the pieces
+pub pieces_are : (d : ℕ) (bs : List ℕ) → ArePieces d bs (pieces_of d bs)
 pieces_are d [] = record { joined = refl; none_empty = tt; ended = tt; nowhere_else = tt }
 pieces_are d (b ∷ bs) = more_are d b bs (b == d) refl (pieces_are d bs)
 
@@ -50,8 +52,8 @@ rest_are : (d b c e : ℕ) (bs p : List ℕ) (ps : List (List ℕ)) → ArePiece
 rest_are d b c e bs p [] h = grind (arith, common_steps)
 rest_are d b c e bs p (q ∷ ps) h = grind (arith, common_steps)
 
--- a list that keeps these laws is what `pieces` gives
-pub pieces_only : (d : ℕ) (bs : List ℕ) (ps : List (List ℕ)) → ArePieces d bs ps → ps ≡ pieces d bs
+-- a list that keeps these laws is what `pieces_of` gives
+pub pieces_only : (d : ℕ) (bs : List ℕ) (ps : List (List ℕ)) → ArePieces d bs ps → ps ≡ pieces_of d bs
 pieces_only d [] ps h = none_only d ps h
 pieces_only d (b ∷ bs) [] h = absurd (suc-ne-zero _ (sym (ap length h.joined)))
 pieces_only d (b ∷ bs) ([] ∷ ps) h = absurd (omega (arith, h.none_empty.0))
@@ -62,12 +64,12 @@ pieces_only d (b ∷ bs) ((c ∷ e ∷ p) ∷ ps) h =
     grind (arith, common_steps, pieces_only d bs ((e ∷ p) ∷ ps), rest_are, pieces-other, joined_rest)
 
 -- the first piece ends at the first d
-pub pieces-first : (d : ℕ) (bs cs : List ℕ) → Lacks d bs → pieces d (bs ++ d ∷ cs) ≡ (bs ++ d ∷ []) ∷ pieces d cs
+pub pieces-first : (d : ℕ) (bs cs : List ℕ) → Lacks d bs → pieces_of d (bs ++ d ∷ cs) ≡ (bs ++ d ∷ []) ∷ pieces_of d cs
 pieces-first d [] cs h = pieces-at d d cs refl
 pieces-first d (b ∷ bs) cs h = pieces-other d b (bs ++ d ∷ cs) h.0 ∙ ap (in_front b) (pieces-first d bs cs h.1)
 
 -- without a d there is one piece
-pub pieces-last : (d b : ℕ) (bs : List ℕ) → Lacks d (b ∷ bs) → pieces d (b ∷ bs) ≡ (b ∷ bs) ∷ []
+pub pieces-last : (d b : ℕ) (bs : List ℕ) → Lacks d (b ∷ bs) → pieces_of d (b ∷ bs) ≡ (b ∷ bs) ∷ []
 pieces-last d b [] h = pieces-other d b [] h.0
 pieces-last d b (c ∷ bs) h = pieces-other d b (c ∷ bs) h.0 ∙ ap (in_front b) (pieces-last d c bs h.1)
 
@@ -94,26 +96,27 @@ pub count-piece : (d : ℕ) (bs : List ℕ) → EndsPiece d bs → count_by (λ 
 count-piece d bs ends = grind (arith, common_steps, sum_by-append, sum_by-cons, count-lacks, eq-eqb)
 
 -- the bytes of a piece end in d, the only d in them
-pub piece_bytes : {d : ℕ} {P : List Event} → EndsAt d P → EndsPiece d (bytes P)
-piece_bytes {d} {P} (front, is, none) = (bytes front, ap bytes is ∙ bytes-append front (byte d ∷ []), none)
+pub piece_bytes : {d : ℕ} {P : List Event} → EndsAt d P → EndsPiece d (event_bytes P)
+piece_bytes {d} {P} (front, is, none) = (event_bytes front, ap event_bytes is ∙ bytes-append front (byte d ∷ []), none)
 
 -- What one piece is, by its last byte: it ends in d, or it is the last one.
-pub piece_ended : (d : ℕ) (old : ReaderState) (P : List Event) → EndsAt d P ⊎ (Lacks d (bytes P) × IsAll old P)
-    → (ends_in d (bytes P) ≡ true → EndsPiece d (bytes P)) × (ends_in d (bytes P) ≡ false → Lacks d (bytes P) × IsAll old P)
+pub piece_ended : (d : ℕ) (old : ReaderState) (P : List Event) → EndsAt d P ⊎ (Lacks d (event_bytes P) × IsAll old P)
+    → (ends_in d (event_bytes P) ≡ true → EndsPiece d (event_bytes P))
+    × (ends_in d (event_bytes P) ≡ false → Lacks d (event_bytes P) × IsAll old P)
 piece_ended d old P (inl at) =
     let ends = piece_bytes at in
     (λ _. ends, λ not. absurd (true≢false (sym (ap (ends_in d) ends.1 ∙ ends_in-end d ends.0) ∙ not)))
-piece_ended d old P (inr last) = (λ ended. absurd (true≢false (sym ended ∙ ends_in-lacks d (bytes P) last.0)), λ _. last)
+piece_ended d old P (inr last) = (λ ended. absurd (true≢false (sym ended ∙ ends_in-lacks d (event_bytes P) last.0)), λ _. last)
 
 -- Bytes that belong to one piece.
 
 -- some bytes more
-pub bytes-more : (P : List Event) (x : List ℕ) → bytes (P ++ events_of x) ≡ bytes P ++ x
-bytes-more P x = bytes-append P (events_of x) ∙ ap (λ l. bytes P ++ l) (bytes-events_of x)
+pub bytes-more : (P : List Event) (x : List ℕ) → event_bytes (P ++ events_of x) ≡ event_bytes P ++ x
+bytes-more P x = bytes-append P (events_of x) ∙ ap (λ l. event_bytes P ++ l) (bytes-events_of x)
 
 -- an error brings no bytes
-pub bytes-fails : (P : List Event) (e : Error) → bytes (P ++ fails e ∷ []) ≡ bytes P
-bytes-fails P e = bytes-append P (fails e ∷ []) ∙ append-nil (bytes P)
+pub bytes-fails : (P : List Event) (e : Error) → event_bytes (P ++ fails e ∷ []) ≡ event_bytes P
+bytes-fails P e = bytes-append P (fails e ∷ []) ∙ append-nil (event_bytes P)
 
 -- if two lists of bytes have no d, both joined have none
 pub Lacks-append : (d : ℕ) (bs cs : List ℕ) → Lacks d bs → Lacks d cs → Lacks d (bs ++ cs)
@@ -187,7 +190,7 @@ parts_first (and_part C x lent parts _ _) a D =
     let calls = Filled (Ok lent) ∷ Consumed (length lent) ∷ [] in
     let first = parts_first parts (Ok lent) (Consumed (length lent) ∷ Filled a ∷ D) in
     (first.0, first.1, append_assoc C calls (Filled a ∷ D) ∙ first.2)
-parts_first (and_waited C x e parts _) a D =
+parts_first (part_interrupted C x e parts _) a D =
     let first = parts_first parts (Err e) (Filled a ∷ D) in
     (first.0, first.1, append_assoc C (Filled (Err e) ∷ []) (Filled a ∷ D) ∙ first.2)
 
@@ -203,10 +206,10 @@ piece_first may_refuse d x (Err e) (D, parts, inr (may, memory, lent, some, call
 -- if an interrupted one comes before them, it is one of them
 parts_waited : {d : ℕ} {e : Error} {C : List ReadCall} {x : List ℕ} → IsInterruption e → PartCalls d C x
     → PartCalls d (Filled (Err e) ∷ C) x
-parts_waited {e = e} again no_part = and_waited [] [] e no_part again
+parts_waited {e = e} again no_part = part_interrupted [] [] e no_part again
 parts_waited {e = e} again (and_part C x lent parts some lacks) =
     and_part (Filled (Err e) ∷ C) x lent (parts_waited again parts) some lacks
-parts_waited {e = e} again (and_waited C x f parts other) = and_waited (Filled (Err e) ∷ C) x f (parts_waited again parts) other
+parts_waited {e = e} again (part_interrupted C x f parts other) = part_interrupted (Filled (Err e) ∷ C) x f (parts_waited again parts) other
 
 piece_waited : (may_refuse : Type 0) (d : ℕ) (e : Error) (C : List ReadCall) (x : List ℕ) (reply : Result ℕ Error) → IsInterruption e
     → PieceCalls may_refuse d C x reply → PieceCalls may_refuse d (Filled (Err e) ∷ C) x reply
@@ -223,7 +226,7 @@ behind_both {a} {b} P Q x takes comes = grind (arith, common_steps)
 
 -- the ends of a piece, if events without bytes and without a fault were taken before
 piece_ends_behind : (lacks : ℕ → Type 0) {a b : ReaderState} (d : ℕ) (P Q : List Event) (read : Result ℕ Error) → Takes a P b → HasNoFault P
-    → bytes P ≡ [] → PieceEnds lacks d b Q read → PieceEnds lacks d a (P ++ Q) read
+    → event_bytes P ≡ [] → PieceEnds lacks d b Q read → PieceEnds lacks d a (P ++ Q) read
 piece_ends_behind lacks d P Q (Ok n) takes free none ends = (
   HasNoFault-append P Q free ends.0,
   ends.1 ∙ ap length (same Q),
@@ -236,8 +239,8 @@ piece_ends_behind lacks d P Q (Ok n) takes free none ends = (
       (λ all. inr (subst (Lacks d) (same Q) all.0, IsAll-behind P Q takes all.1)) ends.2,
 )
   where
-    same : (R : List Event) → bytes R ≡ bytes (P ++ R)
-    same R = sym (bytes-append P R ∙ ap (λ l. l ++ bytes R) none)
+    same : (R : List Event) → event_bytes R ≡ event_bytes (P ++ R)
+    same R = sym (bytes-append P R ∙ ap (λ l. l ++ event_bytes R) none)
 piece_ends_behind lacks d P Q (Err e) takes free none ends =
     grind (arith, common_steps, bytes-append, ⊎_elim, EndsInFault-behind, HasNoFault-append, behind_both)
 
@@ -261,7 +264,7 @@ module _ {X A : Type 0} {R : Reader X} {d : ℕ} {old now new : X} {buf buf' : V
       calls = record {
         calls = Filled (Err e) ∷ until.calls.calls;
         made = (now, filled, until.calls.made);
-        are = piece_waited (Unit {0}) d e until.calls.calls (bytes until.taken) reply again until.calls.are;
+        are = piece_waited (Unit {0}) d e until.calls.calls (event_bytes until.taken) reply again until.calls.are;
       };
     }
 

@@ -4,16 +4,17 @@ use Rattle.std.proofs.Common.{Result, Ok, Err, Vec, vec_len, vec_capacity, lengt
 use Rattle.std.proofs.Common.{append-nil, le_refl, le_trans, inl, inr, length-append, length-take-le, take_all, ◌^◌, min}
 use Rattle.std.specs.Borrow.{Bor}
 use Rattle.no_std_io2_base.specs.{declared.error.Error.{Error}, Errors.{IsInterruption, IsFault, IsOutOfMemory, IsUnexpectedEnd}}
-use Rattle.no_std_io2_base.specs.inner.Pieces.{IsAll, Lacks, EndsPiece, EndsAt, FindsPiece, PartCalls, no_part, and_part, and_waited}
-use Rattle.no_std_io2_base.specs.{Events.{Event, fails, events_of, bytes, HasNoFault}, Takes.{ReaderState, Takes, Reader, tells}}
+use Rattle.no_std_io2_base.specs.inner.Pieces.{IsAll, Lacks, EndsPiece, EndsAt, FindsPiece, PartCalls, no_part, and_part, part_interrupted}
+use Rattle.no_std_io2_base.specs.{Events.{Event, fails, events_of, event_bytes, HasNoFault}, Takes.{ReaderState, Takes, Reader, tells}}
 use Rattle.no_std_io2_base.specs.{inner.Pieces.{PieceCalls}, Calls.{Filled, Consumed, ByCalls}, Read.{ConsumeLaw, ReadCallLaw}}
 use Rattle.no_std_io2_base.specs.inner.Read.{FilledLaw, lent_bytes, at_most_max}
-use Rattle.no_std_io2_base.specs.{BufRead.{FillBufLaw, AfterLoan, ReadUntilLaw, SkipUntilLaw}, Pieces.{PieceEnds}}
-use Rattle.no_std_io2_base.specs.{inner.Reads.{PortionCalls, no_portion, and_portion, and_waited as portion_waited}, Reads.{Skipped}}
+use Rattle.no_std_io2_base.specs.{BufRead.{FillBufLaw, AfterLoan, ReadUntilLaw, SkipUntilLaw}}
+use Rattle.no_std_io2_base.specs.{inner.Reads.{PortionCalls, no_portion, and_portion, portion_interrupted}, Reads.{Skipped}}
 use Rattle.no_std_io2_base.proofs.{CallsLemmas.{by_more, by_then}, TakesLemmas.{events_of-append, HasNoFault-append, HasNoFault-events_of}}
 use Rattle.no_std_io2_base.proofs.TakesLemmas.{length-events_of, takes_none, takes_then, takes_still, takes_turns, takes_to_end, spends}
 use Rattle.no_std_io2_base.proofs.{TakesLemmas.{stays_at_end}, PieceLemmas.{bytes-more, bytes-fails, Lacks-append, found_part}}
 use Rattle.no_std_io2_base.proofs.PieceLemmas.{comes_behind}
+use Rattle.no_std_io2_base.specs.inner.Pieces.{PieceEnds}
 
 -- A loop that takes one piece, by what its calls do, for any reader that lends.
 
@@ -57,15 +58,15 @@ piece_since d old x3 x4 since ends = grind (arith, common_steps)
 pub record PartTaken {X : Type 0} (R : Reader X) (d : ℕ) (old : X) (P : List Event) (now : X) : Type 0 where
   pub takes : Takes (tells R old) P (tells R now)
   pub no_fault : HasNoFault P
-  pub lacks : Lacks d (bytes P)
-  pub calls : ByCalls (ReadCallLaw R) old (λ C. PartCalls d C (bytes P)) now
+  pub lacks : Lacks d (event_bytes P)
+  pub calls : ByCalls (ReadCallLaw R) old (λ C. PartCalls d C (event_bytes P)) now
 
 -- It took P, and ended with this result.
 pub record PieceTaken {X : Type 0} (R : Reader X) (lacks : ℕ → Type 0) (may_refuse : Type 0) (d : ℕ) (old : X) (P : List Event)
     (read : Result ℕ Error) (new : X) : Type 0 where
   pub takes : Takes (tells R old) P (tells R new)
   pub ends : PieceEnds lacks d (tells R old) P read
-  pub calls : ByCalls (ReadCallLaw R) old (λ C. PieceCalls may_refuse d C (bytes P) read) new
+  pub calls : ByCalls (ReadCallLaw R) old (λ C. PieceCalls may_refuse d C (event_bytes P) read) new
 
 -- at the start nothing is taken
 pub part_none : {X : Type 0} (R : Reader X) (d : ℕ) (old : X) → PartTaken R d old [] old
@@ -87,7 +88,7 @@ module _ {X : Type 0} {R : Reader X} {d : ℕ} {old now after : X} {P : List Eve
           no_fault = HasNoFault-append P (fails e ∷ []) before.no_fault (again, tt);
           lacks = subst (Lacks d) same before.lacks;
           calls = by_more before.calls (Filled (Err e)) filled
-              (λ C parts. subst (PartCalls d (C ++ Filled (Err e) ∷ [])) same (and_waited C (bytes P) e parts again));
+              (λ C parts. subst (PartCalls d (C ++ Filled (Err e) ∷ [])) same (part_interrupted C (event_bytes P) e parts again));
         }
 
     -- a fault ends it
@@ -104,7 +105,7 @@ module _ {X : Type 0} {R : Reader X} {d : ℕ} {old now after : X} {P : List Eve
   module _ {lent : List ℕ} {n : ℕ} {is_whole : Bool} (filled : FilledLaw R now (Ok lent) after) (found : FindsPiece d lent n is_whole) where
     -- so does a failed allocation
     pub piece_refused : {lacks : ℕ → Type 0} {e : Error} → IsOutOfMemory e → 0 < length (take n lent)
-        → lacks (length (bytes P) + length (take n lent)) → PieceTaken R lacks (Unit {0}) d old P (Err e) after
+        → lacks (length (event_bytes P) + length (take n lent)) → PieceTaken R lacks (Unit {0}) d old P (Err e) after
     piece_refused refused some short =
         let part = found_part d lent n is_whole found some in
         let comes = comes_behind P lent n before.takes filled.front in
@@ -132,16 +133,16 @@ module _ {X : Type 0} {R : Reader X} {d : ℕ} {old now after : X} {P : List Eve
           record {
             takes = takes;
             no_fault = no_fault;
-            lacks = subst (Lacks d) more (Lacks-append d (bytes P) (take n lent) before.lacks lacks);
+            lacks = subst (Lacks d) more (Lacks-append d (event_bytes P) (take n lent) before.lacks lacks);
             calls = by_then before.calls (lent_calls filled found.within dropped) (λ C D parts is. rw is
-                (subst (λ k. PartCalls d (C ++ Filled (Ok lent) ∷ Consumed k ∷ []) (bytes (P ++ events_of (take n lent)))) (sym all)
-                (subst (PartCalls d (C ++ Filled (Ok lent) ∷ Consumed (length lent) ∷ [])) (ap (λ l. bytes P ++ l) (sym whole) ∙ more)
-                (and_part C (bytes P) lent parts (omega (arith, some, all)) (subst (Lacks d) whole lacks)))));
+                (subst (λ k. PartCalls d (C ++ Filled (Ok lent) ∷ Consumed k ∷ []) (event_bytes (P ++ events_of (take n lent)))) (sym all)
+                (subst (PartCalls d (C ++ Filled (Ok lent) ∷ Consumed (length lent) ∷ [])) (ap (λ l. event_bytes P ++ l) (sym whole) ∙ more)
+                (and_part C (event_bytes P) lent parts (omega (arith, some, all)) (subst (Lacks d) whole lacks)))));
           }
 
       -- the bytes with the d end the piece; or there are none, at the end
       ended : EndsPiece d (take n lent) ⊎ (lent ≡ []) → EndsAt d (P ++ events_of (take n lent))
-          ⊎ (Lacks d (bytes (P ++ events_of (take n lent))) × IsAll (tells R old) (P ++ events_of (take n lent)))
+          ⊎ (Lacks d (event_bytes (P ++ events_of (take n lent))) × IsAll (tells R old) (P ++ events_of (take n lent)))
       ended (inl end) = inl (
         P ++ events_of end.0,
         grind (arith, common_steps, events_of-append, append_assoc),
@@ -150,17 +151,17 @@ module _ {X : Type 0} {R : Reader X} {d : ℕ} {old now after : X} {P : List Eve
       ended (inr none) =
           let same : P ≡ P ++ events_of (take n lent) = grind (arith, common_steps) in
           let all = takes_to_end P before.takes (stays_at_end filled.takes (filled.end (ap Ok none))) in
-          inr (subst (λ l. Lacks d (bytes l)) same before.lacks, subst (IsAll (tells R old)) same all)
+          inr (subst (λ l. Lacks d (event_bytes l)) same before.lacks, subst (IsAll (tells R old)) same all)
 
       -- then the loop ends
       pub piece_whole : {lacks : ℕ → Type 0} {may_refuse : Type 0} {count : ℕ} → is_whole ≡ true
-          → count ≡ length (bytes (P ++ events_of (take n lent)))
+          → count ≡ length (event_bytes (P ++ events_of (take n lent)))
           → PieceTaken R lacks may_refuse d old (P ++ events_of (take n lent)) (Ok count) new
       piece_whole whole counts = record {
         takes = takes;
         ends = (no_fault, counts, ended (found.whole whole));
         calls = by_then before.calls (lent_calls filled found.within dropped) (λ C D parts is.
-            (C, bytes P, lent, n, parts, subst (FindsPiece d lent n) whole found, bytes-more P (take n lent), ap (λ l. C ++ l) is));
+            (C, event_bytes P, lent, n, parts, subst (FindsPiece d lent n) whole found, bytes-more P (take n lent), ap (λ l. C ++ l) is));
       }
 
 -- What a loop took so far was appended.
@@ -168,21 +169,21 @@ pub record UntilSoFar {X A : Type 0} (R : Reader X) (d : ℕ) (old : X) (buf buf
   pub taken : List Event
   pub part : PartTaken R d old taken now
   pub capacity : vec_capacity buf ≤ vec_capacity buf'
-  pub gave : buf'.items ≡ buf.items ++ bytes taken
+  pub gave : buf'.items ≡ buf.items ++ event_bytes taken
 
 -- at the start nothing was
 pub until_none : {X A : Type 0} {R : Reader X} {d : ℕ} {old : X} {buf : Vec ℕ A} → UntilSoFar R d old buf buf old
 until_none {R = R} {d} {old} = record { taken = []; part = part_none R d old; capacity = le_refl _; gave = sym (append-nil _) }
 
 -- some bytes more were appended
-gave_more : (buf : List ℕ) {xs ys : List ℕ} (P : List Event) (x : List ℕ) → xs ≡ buf ++ bytes P → ys ≡ xs ++ x
-    → ys ≡ buf ++ bytes (P ++ events_of x)
+gave_more : (buf : List ℕ) {xs ys : List ℕ} (P : List Event) (x : List ℕ) → xs ≡ buf ++ event_bytes P → ys ≡ xs ++ x
+    → ys ≡ buf ++ event_bytes (P ++ events_of x)
 gave_more buf P x gave more = grind (arith, common_steps, append_assoc, bytes-more)
 
 -- a piece that was taken and appended
 until_law : {X A : Type 0} {R : Reader X} {d : ℕ} {old new : X} {buf buf' : Vec ℕ A} {P : List Event} {reply : Result ℕ Error}
     → PieceTaken R (λ n. vec_capacity buf < vec_len buf + n) (Unit {0}) d old P reply new → vec_capacity buf ≤ vec_capacity buf'
-    → buf'.items ≡ buf.items ++ bytes P → ReadUntilLaw R old d buf reply buf' new
+    → buf'.items ≡ buf.items ++ event_bytes P → ReadUntilLaw R old d buf reply buf' new
 until_law {P = P} piece grown gave =
     record { taken = P; takes = piece.takes; appends = gave; ends = piece.ends; capacity = grown; calls = piece.calls }
 
@@ -208,8 +209,8 @@ module _ {X A : Type 0} {R : Reader X} {d : ℕ} {old now after : X} {buf xs : V
     pub until_refused : {v : Vec ℕ A} {e : Error} → vec_capacity xs ≤ vec_capacity v → IsOutOfMemory e → v.items ≡ xs.items
         → vec_capacity xs < vec_len xs + length (take n lent) → ReadUntilLaw R old d buf (Err e) v after
     until_refused grown refused same full =
-        let long : vec_len xs ≡ vec_len buf + length (bytes before.taken) =
-        omega (arith, xs.ok.0, buf.ok.0, ap length before.gave, length-append buf.items (bytes before.taken)) in
+        let long : vec_len xs ≡ vec_len buf + length (event_bytes before.taken) =
+        omega (arith, xs.ok.0, buf.ok.0, ap length before.gave, length-append buf.items (event_bytes before.taken)) in
         until_law (piece_refused before.part filled found refused (omega (arith, full, xs.ok.1))
         (omega (arith, full, long, before.capacity)))
         (le_trans before.capacity grown) (same ∙ before.gave)
@@ -228,7 +229,7 @@ module _ {X A : Type 0} {R : Reader X} {d : ℕ} {old now after : X} {buf xs : V
       pub until_whole : {start end : ℕ} → v.items ≡ xs.items ++ take n lent → is_whole ≡ true → start ≡ vec_len buf → end ≡ vec_len v
           → ReadUntilLaw R old d buf (Ok (end - start)) v new
       until_whole {start} {end} appended whole from to =
-          let all = bytes (before.taken ++ events_of (take n lent)) in
+          let all = event_bytes (before.taken ++ events_of (take n lent)) in
           let gave : v.items ≡ buf.items ++ all = gave_more buf.items before.taken (take n lent) before.gave appended in
           let counts : end - start ≡ length all =
           omega (arith, from, to, v.ok.0, buf.ok.0, ap length gave, length-append buf.items all) in
@@ -240,7 +241,7 @@ module _ {X A : Type 0} {R : Reader X} {d : ℕ} {old now after : X} {buf xs : V
 pub record SkipSoFar {X : Type 0} (R : Reader X) (d : ℕ) (old : X) (skipped : ℕ) (now : X) : Type 0 where
   pub taken : List Event
   pub part : PartTaken R d old taken now
-  pub count : skipped ≡ min (length (bytes taken)) (2 ^ 64 - 1)
+  pub count : skipped ≡ min (length (event_bytes taken)) (2 ^ 64 - 1)
 
 -- at the start nothing was skipped
 pub skip_none : {X : Type 0} {R : Reader X} {d : ℕ} {old : X} → SkipSoFar R d old 0 old
@@ -269,7 +270,7 @@ module _ {X : Type 0} {R : Reader X} {d : ℕ} {old now after : X} {skipped : �
   module _ {lent : List ℕ} {n : ℕ} {is_whole : Bool} (filled : FilledLaw R now (Ok lent) after) (found : FindsPiece d lent n is_whole) where
     module _ {total : ℕ} {new : X} (dropped : ConsumeLaw R after n new) (total_is : total ≡ min (skipped + n) (2 ^ 64 - 1)) where
       -- the count
-      counted : total ≡ min (length (bytes (before.taken ++ events_of (take n lent)))) (2 ^ 64 - 1)
+      counted : total ≡ min (length (event_bytes (before.taken ++ events_of (take n lent)))) (2 ^ 64 - 1)
       counted = grind (arith, common_steps, bytes-more, length-append, length-take-le)
 
       -- after a part of the piece the loop continues
@@ -287,8 +288,8 @@ pub record PortionsTaken {X : Type 0} (R : Reader X) (old : X) (n left : ℕ) (n
   pub taken : List Event
   pub takes : Takes (tells R old) taken (tells R now)
   pub no_fault : HasNoFault taken
-  pub count : length (bytes taken) + left ≡ n
-  pub calls : ByCalls (ReadCallLaw R) old (λ C. PortionCalls n C (bytes taken)) now
+  pub count : length (event_bytes taken) + left ≡ n
+  pub calls : ByCalls (ReadCallLaw R) old (λ C. PortionCalls n C (event_bytes taken)) now
 
 -- at the start all are wanted
 pub portions_none : {X : Type 0} {R : Reader X} {old : X} {n : ℕ} → PortionsTaken R old n n old
@@ -302,11 +303,11 @@ portions_none {R = R} {old} = record {
 
 module _ {X : Type 0} {R : Reader X} {old now : X} {n left : ℕ} (before : PortionsTaken R old n left now) (more : 0 < left) where
   -- some bytes are still wanted
-  wanted : length (bytes before.taken) < n
+  wanted : length (event_bytes before.taken) < n
   wanted = omega (arith, before.count, more)
 
   module _ {after : X} {e : Error} (filled : FilledLaw R now (Err e) after) where
-    same : bytes before.taken ≡ bytes (before.taken ++ fails e ∷ [])
+    same : event_bytes before.taken ≡ event_bytes (before.taken ++ fails e ∷ [])
     same = sym (bytes-fails before.taken e)
 
     -- an interruption is ignored
@@ -317,7 +318,7 @@ module _ {X : Type 0} {R : Reader X} {old now : X} {n left : ℕ} (before : Port
       no_fault = HasNoFault-append before.taken (fails e ∷ []) before.no_fault (again, tt);
       count = ap (λ l. length l + left) (sym same) ∙ before.count;
       calls = by_more before.calls (Filled (Err e)) filled
-          (λ C so_far. subst (PortionCalls n (C ++ Filled (Err e) ∷ [])) same (portion_waited C _ e so_far wanted again));
+          (λ C so_far. subst (PortionCalls n (C ++ Filled (Err e) ∷ [])) same (portion_interrupted C _ e so_far wanted again));
     }
 
     -- a fault ends a `skip`
@@ -351,7 +352,7 @@ module _ {X : Type 0} {R : Reader X} {old now : X} {n left : ℕ} (before : Port
       pub portions_took : PortionsTaken R old n (left - k) new
       portions_took =
           let grown = bytes-more before.taken (take k lent) in
-          let long = ap length grown ∙ length-append (bytes before.taken) (take k lent) in
+          let long = ap length grown ∙ length-append (event_bytes before.taken) (take k lent) in
           record {
             taken = before.taken ++ events_of (take k lent);
             takes = takes_then (takes_still before.takes filled.takes) (lent_taken filled fits dropped);

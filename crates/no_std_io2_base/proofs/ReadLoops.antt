@@ -8,7 +8,7 @@ use Rattle.no_std_io2_base.specs.{declared.error.Error.{Error}, Errors.{IsInterr
 use Rattle.no_std_io2_base.specs.inner.Read.{GaveLaw, Gathers, no_read, and_gave, and_again, GathersUntil, FullCalls, IsRest, Gives}
 use Rattle.no_std_io2_base.specs.{Takes.{Reader, tells}, Read.{ReadLaw, ReadCallLaw, ReadFullLaw, ReadExactLaw}, inner.Read.{ExactCalls}}
 use Rattle.no_std_io2_base.specs.{Calls.{Gave, ReadCall, ByCalls}, inner.Iterators.{NextLaw}, Moves.{IsFront}}
-use Rattle.no_std_io2_base.specs.Events.{fails, bytes, events_of}
+use Rattle.no_std_io2_base.specs.Events.{fails, event_bytes, events_of}
 use Rattle.no_std_io2_base.proofs.{CallsLemmas.{by_more, by_are}, TakesLemmas.{takes_none, bytes_more, bytes_still, read_law, bytes-append}}
 use Rattle.no_std_io2_base.proofs.TakesLemmas.{takes_then, takes_still, nothing_read, gives_none, gives_bytes, gives_still, all_taken}
 
@@ -123,8 +123,8 @@ full_none {buf = buf} {start} = record {
 module _ {X : Type 0} {R : Reader X} {old now : X} {buf xs : List ℕ} {start at : ℕ} (before : FullSoFar R old buf start at xs now) where
   module _ (below : at < length xs) (ys : List ℕ) (room : length ys ≡ length (take (length xs - at) (drop at xs))) where
     -- the length of the buffer stays, and a read into all that is left of it is the next one
-    pub stays : length (put_mid at (length xs - at) xs ys) ≡ length buf
-    stays = length_stays at xs ys room ∙ before.long
+    pub length_is_kept : length (put_mid at (length xs - at) xs ys) ≡ length buf
+    length_is_kept = length_stays at xs ys room ∙ before.long
 
     size : length ys ≡ length xs - at
     size = omega (arith, length-take (length xs - at) (drop at xs), length-drop at xs, room)
@@ -137,7 +137,7 @@ module _ {X : Type 0} {R : Reader X} {old now : X} {buf xs : List ℕ} {start at
     not_full full = absurd (omega (arith, full, before.long, before.counts, below))
 
     -- what stood there stands
-    kept : take at (put_mid at (length xs - at) xs ys) ≡ take start buf ++ bytes before.taken
+    kept : take at (put_mid at (length xs - at) xs ys) ≡ take start buf ++ event_bytes before.taken
     kept = grind (arith, common_steps)
 
     -- a read gave some bytes more
@@ -147,7 +147,7 @@ module _ {X : Type 0} {R : Reader X} {old now : X} {buf xs : List ℕ} {start at
     full_read {n = n} read some =
         let given = length-take-le n ys read.bound in
         record {
-          long = stays;
+          long = length_is_kept;
           untouched = not_full;
           given = before.given ++ take n ys;
           filled = take-put_mid at (length xs - at) n xs ys (omega (arith, below)) read.bound ∙ ap (λ l. l ++ take n ys) before.filled
@@ -163,7 +163,7 @@ module _ {X : Type 0} {R : Reader X} {old now : X} {buf xs : List ℕ} {start at
         → FullSoFar R old buf start at (put_mid at (length xs - at) xs ys) new
     unfolding reads_again bytes_still
     full_interruption {e = e} read interrupted = record {
-      long = stays;
+      long = length_is_kept;
       untouched = not_full;
       given = before.given;
       filled = take-put_mid_below _ _ _ _ _ (le_refl _) (omega (arith, below)) ∙ before.filled;
@@ -193,8 +193,8 @@ module _ {X : Type 0} {R : Reader X} {old now : X} {buf xs : List ℕ} {start at
     pub full_fault : {new : X} {part : List ℕ} {e : Error} → ReadLaw R now part (Err e) ys new → IsFault e
         → ReadFullLaw R old buf start (Err e) (put_mid at (length xs - at) xs ys) at new
     full_fault {new} {e = e} read fault =
-        let same : bytes (before.taken ++ fails e ∷ []) ≡ bytes before.taken =
-        bytes-append before.taken (fails e ∷ []) ∙ append-nil (bytes before.taken) in
+        let same : event_bytes (before.taken ++ fails e ∷ []) ≡ event_bytes before.taken =
+        bytes-append before.taken (fails e ∷ []) ∙ append-nil (event_bytes before.taken) in
         record {
           taken = before.taken ++ fails e ∷ [];
           takes = takes_then before.takes read.takes;
@@ -247,12 +247,12 @@ module _ {X : Type 0} {R : Reader X} {old new : X} {buf buf' : List ℕ} {at : �
     calls = by_are full.calls by;
   }
     where
-      by : (C : List ReadCall) → FullCalls C (length buf - 0) (bytes full.taken) (Ok u) → ExactCalls C (Err e) buf'
+      by : (C : List ReadCall) → FullCalls C (length buf - 0) (event_bytes full.taken) (Ok u) → ExactCalls C (Err e) buf'
       by C (inl (reads, all)) = absurd (omega (arith, all, full.counts, short, long))
       by C (inr until) =
           let room : length buf - 0 ≡ length buf' = omega (arith, long) in
-          let reads = subst (λ k. GathersUntil (IsRest k) C (bytes full.taken) (Ok [])) room until in
-          inr (bytes full.taken, begins at buf' full.fills, inl (kind, reads))
+          let reads = subst (λ k. GathersUntil (IsRest k) C (event_bytes full.taken) (Ok [])) room until in
+          inr (event_bytes full.taken, begins at buf' full.fills, inl (kind, reads))
 
   -- a fault came first
   pub exact_fault : {e : Error} → ReadFullLaw R old buf 0 (Err e) buf' at new → ReadExactLaw R old buf (Err e) buf' new
@@ -264,9 +264,9 @@ module _ {X : Type 0} {R : Reader X} {old new : X} {buf buf' : List ℕ} {at : �
         ends = (omega (arith, full.ends.1, room), inl full.ends.0);
         empty = λ none. absurd (let no = (full.full (omega (arith, none))).0 in let bad : ⊥ = cc in bad);
         calls = by_are full.calls (λ C reads. inr (
-          bytes full.taken,
+          event_bytes full.taken,
           begins at buf' full.fills,
-          inr (reads.0, subst (λ k. GathersUntil (IsRest k) C (bytes full.taken) (Err e)) room reads.1),
+          inr (reads.0, subst (λ k. GathersUntil (IsRest k) C (event_bytes full.taken) (Err e)) room reads.1),
         ));
       }
 

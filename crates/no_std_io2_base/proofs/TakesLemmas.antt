@@ -1,16 +1,18 @@
 -- What calls take of the events and the bytes that a reader tells, and whose fault an error is.
 use Rattle.no_std_io2_base.specs.declared.traits.{read.Read.{Ghosts as Reads}, stored.Stored.{Ghosts as Stores}}
 use Rattle.no_std_io2_base.specs.declared.traits.seek.Seek.{Ghosts as Seeks}
-use Rattle.no_std_io2_base.specs.{Takes.{Reader, tells, gave, ReaderState, Takes, TakesBytes, to_come, IsAtEnd}, Calls.{ReadCall, Made}}
-use Rattle.no_std_io2_base.specs.inner.Read.{ended, bytes_given, GaveLaw, Gives, AllOrNone}
-use Rattle.no_std_io2_base.specs.{Read.{ReadCallLaw, ReadLaw, ReadExactLaw, DrainsOrStops}, Seek.{Seeker}}
-use Rattle.no_std_io2_base.specs.{Events.{Event, byte, fails, events_of, bytes, HasNoFault}, inner.Events.{cut, EndsInFault}}
+use Rattle.no_std_io2_base.specs.Takes.{Reader, tells, gave_front, ReaderState, Takes, TakesBytes, to_come, IsAtEnd}
+use Rattle.no_std_io2_base.specs.Calls.{ReadCall, Made}
+use Rattle.no_std_io2_base.specs.inner.Read.{without_number, bytes_given, GaveLaw, Gives, AllOrNone}
+use Rattle.no_std_io2_base.specs.{Read.{ReadCallLaw, ReadLaw, ReadExactLaw}, Seek.{Seeker}}
+use Rattle.no_std_io2_base.specs.{Events.{Event, byte, fails, events_of, event_bytes, HasNoFault}, inner.Events.{cut, EndsInFault}}
 use Rattle.no_std_io2_base.specs.{declared.error.Error.{Error}, Errors.{IsInterruption, error_kind}, inner.Pieces.{IsAll}}
 use Rattle.no_std_io2_base.specs.{Moves.{WriterState, Moves}, inner.Faults.{HasFirstFault, TellsMishap, MayFail}}
 use Rattle.std.proofs.Common.{◌≡◌, ℕ, zero, suc, ◌+◌, ◌-◌, ◌<◌, ◌≤◌, List, [], ◌∷◌, ◌++◌, length, take, refl, sym, ap, ◌∙◌, arith, Result}
 use Rattle.std.proofs.Common.{Ok, Err, Option, Some, subst, append_assoc, append-nil, length-append, drop, length-take-le, IfOk, IfSome}
 use Rattle.std.proofs.{Common.{OnOk, inl, inr, ◌⊎◌}, lemmas.Grind.{common_steps}}
 use Rattle.no_std_io2_base.proofs.CallsLemmas.{made_map}
+use Rattle.no_std_io2_base.specs.inner.Read.{DrainsOrStops}
 
 -- Readers and seekers, as the laws of their calls take them.
 
@@ -25,19 +27,19 @@ seeker stored seek = record { store = stored.store; may = seek.may; sound = seek
 -- How bytes, cuts and faults of events go with `++`.
 
 -- the bytes of P and then Q are the bytes of P, and then those of Q
-pub bytes-append : (P Q : List Event) → bytes (P ++ Q) ≡ bytes P ++ bytes Q
+pub bytes-append : (P Q : List Event) → event_bytes (P ++ Q) ≡ event_bytes P ++ event_bytes Q
 bytes-append [] Q = refl
 bytes-append (byte b ∷ P) Q = ap (λ l. b ∷ l) (bytes-append P Q)
 bytes-append (fails e ∷ P) Q = bytes-append P Q
 
 -- the bytes of the events of some bytes are these
-pub bytes-events_of : (bs : List ℕ) → bytes (events_of bs) ≡ bs
+pub bytes-events_of : (bs : List ℕ) → event_bytes (events_of bs) ≡ bs
 bytes-events_of [] = refl
 bytes-events_of (b ∷ bs) = ap (λ l. b ∷ l) (bytes-events_of bs)
 
 -- the bytes of some bytes and then of E
-pub bytes-behind : (bs : List ℕ) (E : List Event) → bytes (events_of bs ++ E) ≡ bs ++ bytes E
-bytes-behind bs E = bytes-append (events_of bs) E ∙ ap (λ l. l ++ bytes E) (bytes-events_of bs)
+pub bytes-behind : (bs : List ℕ) (E : List Event) → event_bytes (events_of bs ++ E) ≡ bs ++ event_bytes E
+bytes-behind bs E = bytes-append (events_of bs) E ∙ ap (λ l. l ++ event_bytes E) (bytes-events_of bs)
 
 -- bytes turned into events are as many as before
 pub length-events_of : (bs : List ℕ) → length (events_of bs) ≡ length bs
@@ -73,7 +75,7 @@ HasNoFault-events_of [] = tt
 HasNoFault-events_of (b ∷ bs) = HasNoFault-events_of bs
 
 -- a cut past the bytes of P keeps all of P
-pub cut-append : (P R : List Event) (j k : ℕ) → 0 < k → j ≡ length (bytes P) + k → cut j (P ++ R) ≡ P ++ cut k R
+pub cut-append : (P R : List Event) (j k : ℕ) → 0 < k → j ≡ length (event_bytes P) + k → cut j (P ++ R) ≡ P ++ cut k R
 cut-append [] R j k some is = let same : j ≡ k = omega arith in ap (λ n. cut n R) same
 cut-append (byte b ∷ P) R zero k some is = absurd (omega arith)
 cut-append (byte b ∷ P) R (suc j) k some is = ap (λ l. byte b ∷ l) (cut-append P R j k some (omega arith))
@@ -89,7 +91,7 @@ cut-bytes (b ∷ bs) R (suc k) fits =
     ap (λ l. byte b ∷ l) (cut-bytes bs R k (omega arith)) ∙ ap (λ n. byte b ∷ (events_of bs ++ cut n R)) (sym same)
 
 -- of the bytes of E, a cut at k keeps the first k
-pub bytes-cut : (k : ℕ) (E : List Event) → bytes (cut k E) ≡ take k (bytes E)
+pub bytes-cut : (k : ℕ) (E : List Event) → event_bytes (cut k E) ≡ take k (event_bytes E)
 bytes-cut zero E = refl
 bytes-cut (suc k) [] = refl
 bytes-cut (suc k) (byte b ∷ E) = ap (λ l. b ∷ l) (bytes-cut k E)
@@ -132,7 +134,8 @@ bytes_more {x = x} y so_far takes = record {
   taken = so_far.taken ++ events_of y;
   takes = takes_then so_far.takes takes;
   no_fault = HasNoFault-append so_far.taken (events_of y) so_far.no_fault (HasNoFault-events_of y);
-  are = bytes-append so_far.taken (events_of y) ∙ ap (λ l. l ++ bytes (events_of y)) so_far.are ∙ ap (λ l. x ++ l) (bytes-events_of y);
+  are =
+      bytes-append so_far.taken (events_of y) ∙ ap (λ l. l ++ event_bytes (events_of y)) so_far.are ∙ ap (λ l. x ++ l) (bytes-events_of y);
 }
 
 -- or an interruption
@@ -142,7 +145,7 @@ bytes_still {e = e} so_far takes again = record {
   taken = so_far.taken ++ fails e ∷ [];
   takes = takes_then so_far.takes takes;
   no_fault = HasNoFault-append so_far.taken (fails e ∷ []) so_far.no_fault (again, tt);
-  are = bytes-append so_far.taken (fails e ∷ []) ∙ append-nil (bytes so_far.taken) ∙ so_far.are;
+  are = bytes-append so_far.taken (fails e ∷ []) ∙ append-nil (event_bytes so_far.taken) ∙ so_far.are;
 }
 
 -- what is left of told events
@@ -155,8 +158,8 @@ pub at_end_after : {a b : ReaderState} {P E : List Event} → Takes a P b → to
 at_end_after {a} {b} {P} {E} takes told all = grind (arith, common_steps)
 
 -- the events behind events that are only bytes are only bytes
-bytes_after : (bs : List ℕ) (P Q : List Event) → events_of bs ≡ P ++ Q → Q ≡ events_of (bytes Q)
-bytes_after bs [] Q is = sym is ∙ ap events_of (sym (bytes-events_of bs) ∙ ap bytes is)
+bytes_after : (bs : List ℕ) (P Q : List Event) → events_of bs ≡ P ++ Q → Q ≡ events_of (event_bytes Q)
+bytes_after bs [] Q is = sym is ∙ ap events_of (sym (bytes-events_of bs) ∙ ap event_bytes is)
 bytes_after [] (p ∷ P) Q is = cc
 bytes_after (b ∷ bs) (p ∷ P) Q is = bytes_after bs P Q (ap (drop 1) is)
 
@@ -165,8 +168,9 @@ pub known_after : {a b : ReaderState} (bs x : List ℕ) → TakesBytes a x b →
     → (rest : List ℕ) × (bs ≡ x ++ rest) × (to_come b ≡ Some (events_of rest))
 known_after bs x took told =
     let (after, still, split) = left_of took.takes told in
-    let whole = sym (bytes-events_of bs) ∙ ap bytes split ∙ bytes-append took.taken after ∙ ap (λ l. l ++ bytes after) took.are in
-    (bytes after, whole, still ∙ ap Some (bytes_after bs took.taken after split))
+    let whole =
+    sym (bytes-events_of bs) ∙ ap event_bytes split ∙ bytes-append took.taken after ∙ ap (λ l. l ++ event_bytes after) took.are in
+    (event_bytes after, whole, still ∙ ap Some (bytes_after bs took.taken after split))
 
 -- what was taken is a front of the bytes that were to come
 pub front_taken : {a b : ReaderState} (bs x : List ℕ) → TakesBytes a x b → to_come a ≡ Some (events_of bs)
@@ -180,7 +184,7 @@ pub front_gone : {a b : ReaderState} (bs x cs : List ℕ) → TakesBytes a x b �
 front_gone bs x cs took told left =
     let (rest, whole, still) = known_after bs x took told in
     let same : events_of rest ≡ events_of cs = let both = sym still ∙ left in cc in
-    whole ∙ ap (λ l. x ++ l) (sym (bytes-events_of rest) ∙ ap bytes same ∙ bytes-events_of cs)
+    whole ∙ ap (λ l. x ++ l) (sym (bytes-events_of rest) ∙ ap event_bytes same ∙ bytes-events_of cs)
 
 -- bytes, and then bytes
 pub TakesBytes-then : {a b c : ReaderState} {x y : List ℕ} → TakesBytes a x b → TakesBytes b y c → TakesBytes a (x ++ y) c
@@ -188,7 +192,7 @@ TakesBytes-then {x = x} first next = record {
   taken = first.taken ++ next.taken;
   takes = takes_then first.takes next.takes;
   no_fault = HasNoFault-append first.taken next.taken first.no_fault next.no_fault;
-  are = bytes-append first.taken next.taken ∙ ap (λ l. l ++ bytes next.taken) first.are ∙ ap (λ l. x ++ l) next.are;
+  are = bytes-append first.taken next.taken ∙ ap (λ l. l ++ event_bytes next.taken) first.are ∙ ap (λ l. x ++ l) next.are;
 }
 
 -- a buffer was filled
@@ -234,7 +238,7 @@ module _ {X : Type 0} (R : Reader X) where
 
 -- a `read` is a call
 pub read_law : {X : Type 0} {R : Reader X} {old new : X} {buf buf' : List ℕ} (reply : Result ℕ Error)
-    → ReadLaw R old buf reply buf' new → GaveLaw R old (length buf') (gave reply buf') new
+    → ReadLaw R old buf reply buf' new → GaveLaw R old (length buf') (gave_front reply buf') new
 read_law {buf' = buf'} (Ok n) read = record {
   bound = omega (arith, read.bound, length-take-le n buf' read.bound);
   takes = read.takes;
@@ -245,7 +249,7 @@ read_law (Err e) read = record { bound = omega arith; takes = read.takes; end = 
 
 -- and a call that fits is a `read`
 pub read_by : {X : Type 0} {R : Reader X} {old new : X} {buf buf' : List ℕ} (reply : Result ℕ Error) → IfOk reply (λ n. n ≤ length buf')
-    → GaveLaw R old (length buf') (gave reply buf') new → ReadLaw R old buf reply buf' new
+    → GaveLaw R old (length buf') (gave_front reply buf') new → ReadLaw R old buf reply buf' new
 read_by x1 bound law = grind (arith, common_steps)
 
 -- a read that gives some bytes spends a turn
@@ -275,7 +279,7 @@ drains_lacks x1 x2 new weaker ends = grind (arith, common_steps)
 
 -- and as one call
 pub drains_ended : (lacks : Type 0) (P : List Event) (reply : Result ℕ Error) (new : ReaderState) → DrainsOrStops lacks P reply new
-    → DrainsOrStops (Unit {0}) P (ended reply) new
+    → DrainsOrStops (Unit {0}) P (without_number reply) new
 drains_ended lacks x2 x3 new ends = grind (arith, common_steps)
 
 pub cut-none : (k : ℕ) → cut k [] ≡ []
@@ -297,7 +301,7 @@ gives_none room = record { no_fault = tt; given = refl; within = cut-none room }
 
 -- before the room is full, more events give more bytes
 gives_more : {room : ℕ} {P : List Event} {x : List ℕ} (k : ℕ) (Q : List Event) → Gives room P x → room ≡ length x + k → 0 < k
-    → HasNoFault Q → cut k Q ≡ Q → Gives room (P ++ Q) (x ++ bytes Q)
+    → HasNoFault Q → cut k Q ≡ Q → Gives room (P ++ Q) (x ++ event_bytes Q)
 gives_more {P = P} k Q so_far long some no_fault within = grind (arith, common_steps, HasNoFault-append, bytes-append, cut-append)
 
 -- some bytes

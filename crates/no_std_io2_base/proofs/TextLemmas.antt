@@ -7,11 +7,12 @@ use Rattle.std.proofs.{Math.{Seq.{drop-append_seam}, Logic.{∥∥₁_elim, ∥�
 use Rattle.std.proofs.lemmas.Fn.{chained_keeps}
 use Rattle.no_std_io2_base.specs.{declared.error.{Error.{Error}, ErrorKind.TheVariants.{WriteZero}}, Errors.{IsInterruption, IsFault}}
 use Rattle.no_std_io2_base.specs.{Errors.{SaysError, IsNoInterruption, IsTextError}, Calls.{Wrote}}
-use Rattle.no_std_io2_base.specs.inner.Write.{Writes, none as no_write, took, again as goes_again, stuck, fault as fails}
+use Rattle.no_std_io2_base.specs.inner.Write.{Writes, no_write, write_took, write_again, write_stuck, write_fault}
 use Rattle.no_std_io2_base.specs.{Moves.{WriterState, Sends, Moves, MovesFront, call_mishap}, inner.Moves.{HasSpent, HasSpentTries}}
 use Rattle.no_std_io2_base.specs.{Writers.{Writer, WriteOf, WriteRestOf, WriteAllOf}, inner.Writers.{CallOf, PrintsOf, WriteFmtOf}}
-use Rattle.no_std_io2_base.specs.{declared.error.ErrorKind.{ErrorKind}, Retries.{HasAtMost, Tries, again}}
-use Rattle.no_std_io2_base.specs.{inner.Text.{nothing, piece, silent, FailsText, HasText, PrintsShort, PrintsOrRefuses}, Text.{MovesText}}
+use Rattle.no_std_io2_base.specs.{declared.error.ErrorKind.{ErrorKind}, Retries.{HasAtMost, Tries, next_try}}
+use Rattle.no_std_io2_base.specs.inner.Text.{none_printed, printed_piece, silent, FailsText, HasText, PrintsShort, PrintsOrRefuses}
+use Rattle.no_std_io2_base.specs.Text.{MovesText}
 use Rattle.no_std_io2_base.proofs.{CallsLemmas.{CallsSoFar, calls_more, calls_end}, MovesLemmas.{writes_law, Moves-refl, after_ok}}
 use Rattle.no_std_io2_base.proofs.MovesLemmas.{IsFront-refl, MovesFront-join, MovesFront-first, MovesFront-flush}
 use Rattle.std.specs.{Coded.{le_prop, Π_prop, Unit-prop}, List.{concat}, Fmt.{WritesInCalls, WritesText, DisplaysOnOk, IsPlainFormatter}}
@@ -52,20 +53,20 @@ module _ {X : Type 0} {I : Writer X} {old now : X} {start left : List ℕ} where
           → CallsSoFar (CallOf I) (codes "failed to write whole buffer") old start
           (take (length left - n) (drop n left)) new
       writes_more {n} wrote some more = calls_more before wrote
-          (λ D r e w. took some more (subst (λ l. Writes (codes "failed to write whole buffer") D l r e) (rest_is n left) w))
+          (λ D r e w. write_took some more (subst (λ l. Writes (codes "failed to write whole buffer") D l r e) (rest_is n left) w))
 
       -- an interruption is ignored
       pub writes_interruption : {e : Error} → WriteOf I now left (Err e) new
           → 0 < length left → IsInterruption e
           → CallsSoFar (CallOf I) (codes "failed to write whole buffer") old start left new
-      writes_interruption wrote some interrupted = calls_more before wrote (λ D r e w. goes_again some interrupted w)
+      writes_interruption wrote some interrupted = calls_more before wrote (λ D r e w. write_again some interrupted w)
 
       -- a fault stopped it
       pub writes_stopped : {e : Error} → WriteOf I now left (Err e) new → IsFault e → 0 < length left
           → WriteRestOf I old start (Err e) new left
       writes_stopped {e} wrote is_fault some =
           writes_law I
-          (calls_end before (Err e) left (Wrote left (Err e) ∷ []) (new, wrote, refl) (fails some is_fault))
+          (calls_end before (Err e) left (Wrote left (Err e) ∷ []) (new, wrote, refl) (write_fault some is_fault))
 
       -- no byte was taken of some
       pub writes_zero : {reply : Result ℕ Error} {n : ℕ} {e : Error} → WriteOf I now left reply new
@@ -74,7 +75,7 @@ module _ {X : Type 0} {I : Writer X} {old now : X} {start left : List ℕ} where
       writes_zero {e = e} wrote is none some says =
           let took = subst (λ r. WriteOf I now left r new) (is ∙ ap Ok none) wrote in
           writes_law I
-          (calls_end before (Err e) left (Wrote left (Ok 0) ∷ []) (new, took, refl) (stuck some says))
+          (calls_end before (Err e) left (Wrote left (Ok 0) ∷ []) (new, took, refl) (write_stuck some says))
 
 -- How tries follow one another.
 
@@ -110,7 +111,7 @@ pub tries_again : {W : Type 0} (law : W → List ℕ → Result (Unit {0}) Error
     {old mid new : W} {x rest left : List ℕ} {e : Error}
     {reply : Result (Unit {0}) Error} → retries ≡ less + 1 → law old x (Err e) mid rest → Tries law less mid rest reply new left
     → Tries law retries old x reply new left
-tries_again law retries less is failed tries = grind (arith, common_steps, again)
+tries_again law retries less is failed tries = grind (arith, common_steps, next_try)
 
 -- How the calls that print a text follow one another, and what is known after any formatter.
 
@@ -121,7 +122,7 @@ module _ {X : Type 0} {I : Writer X} {old : X} where
       → WriteAllOf I mid bytes reply new → bytes ≡ x
       → PrintsOf I old text met mid → PrintsOf I old (text ++ x) reply new
   prints_next b {met = Ok u} is had {text = text} {bytes = bytes} {reply = reply} {new = new} wrote same so_far =
-      subst (λ l. PrintsOf I old (text ++ l) reply new) same (piece bytes so_far wrote)
+      subst (λ l. PrintsOf I old (text ++ l) reply new) same (printed_piece bytes so_far wrote)
   prints_next b {met = Err e} is had wrote same so_far = absurd (true≢false (sym had ∙ is))
 
   -- no call, if it says that one was
@@ -132,15 +133,15 @@ module _ {X : Type 0} {I : Writer X} {old : X} where
   -- some front was accepted
   prints_moves : {text : List ℕ} {reply : Result (Unit {0}) Error} {new : X}
       → PrintsOf I old text reply new → MovesFront (I.told old) text reply (I.told new)
-  prints_moves nothing = record { accepted = []; front = IsFront-refl []; whole = refl; moves = Moves-refl (I.told old) }
-  prints_moves (piece {text = text} x {reply = reply} so_far wrote) = MovesFront-join text x reply (prints_moves so_far) wrote.moves
+  prints_moves none_printed = record { accepted = []; front = IsFront-refl []; whole = refl; moves = Moves-refl (I.told old) }
+  prints_moves (printed_piece {text = text} x {reply = reply} so_far wrote) = MovesFront-join text x reply (prints_moves so_far) wrote.moves
   prints_moves (silent {text = text} x {e = e} so_far) = MovesFront-first text x e (prints_moves so_far)
 
   -- and no interruption is returned
   prints_fault : {text : List ℕ} {reply : Result (Unit {0}) Error} {new : X}
       → PrintsOf I old text reply new → IsNoInterruption reply
-  prints_fault nothing = tt
-  prints_fault (piece x so_far wrote) = wrote.never_interrupted
+  prints_fault none_printed = tt
+  prints_fault (printed_piece x so_far wrote) = wrote.never_interrupted
   prints_fault (silent x so_far) = prints_fault so_far
 
 -- a formatter's calls, one after another, print what they print together
@@ -171,8 +172,8 @@ module _ {W X : Type 0} (prints : X → List ℕ → W → Type 0) where
 -- ---- what is known behind any formatter
 
 -- what stands after a front
-behind : (xs ys zs : List ℕ) → ys ≡ xs ++ zs → ys ≡ xs ++ drop (length xs) ys
-behind xs ys zs e = e ∙ ap (λ l. xs ++ l) (sym (ap (drop (length xs)) e ∙ drop-append_seam xs zs))
+rest_behind : (xs ys zs : List ℕ) → ys ≡ xs ++ zs → ys ≡ xs ++ drop (length xs) ys
+rest_behind xs ys zs e = e ∙ ap (λ l. xs ++ l) (sym (ap (drop (length xs)) e ∙ drop-append_seam xs zs))
 
 HasSpent-prop : (a : Option (List ErrorKind)) (k : List ErrorKind) (c : Option (List ErrorKind)) → IsProp (HasSpent a k c)
 HasSpent-prop None k c = Unit-prop
@@ -189,8 +190,8 @@ since-is {a} {b} {x} m = sym (ap (drop (length (a.out ++ a.held))) m.bytes ∙ d
 
 Moves-had : {a b : WriterState} {k : List ErrorKind} → ∥ ((x : List ℕ) × Moves a x k b) ∥₁ → Moves a (since a b) k b
 Moves-had {a} {b} {k} had = record {
-  front = (drop (length a.out) b.out, ∥∥₁_elim had (Prim.hlevel props) (λ m. behind a.out b.out m.1.front.0 m.1.front.1));
-  bytes = ∥∥₁_elim had (Prim.hlevel props) (λ m. behind (a.out ++ a.held) (b.out ++ b.held) m.0 m.1.bytes);
+  front = (drop (length a.out) b.out, ∥∥₁_elim had (Prim.hlevel props) (λ m. rest_behind a.out b.out m.1.front.0 m.1.front.1));
+  bytes = ∥∥₁_elim had (Prim.hlevel props) (λ m. rest_behind (a.out ++ a.held) (b.out ++ b.held) m.0 m.1.bytes);
   mishaps = ∥∥₁_elim had (HasSpent-prop a.mishaps k b.mishaps) (λ m. m.1.mishaps);
   turns = ∥∥₁_elim had le_prop (λ m. m.1.turns);
 }
@@ -206,7 +207,7 @@ MovesFront-had {a} {b} {text} {r} had = record {
   front = (
     drop (length (since a b)) text,
     ∥∥₁_elim had (Prim.hlevel props)
-        (λ m. behind (since a b) text m.front.0 (m.front.1 ∙ ap (λ l. l ++ m.front.0) (since-is m.moves))),
+        (λ m. rest_behind (since a b) text m.front.0 (m.front.1 ∙ ap (λ l. l ++ m.front.0) (since-is m.moves))),
   );
   whole = ∥∥₁_elim had (OnOk-prop r _ _) (λ m. is_whole r text (since-is m.moves) m.whole);
   moves = Moves-had (∥∥₁_map had (λ m. (m.accepted, m.moves)));

@@ -4,9 +4,9 @@ use Rattle.std.proofs.Common.{drop, refl, sym, ap, subst, ◌∙◌, arith, le_r
 use Rattle.std.proofs.Common.{vec_capacity, inl, inr, append_assoc, append-nil, take_all, OnOk, IfOk, length-append, true, false}
 use Rattle.std.proofs.Common.{true≢false, None}
 use Rattle.no_std_io2_base.specs.{declared.error.Error.{Error}, Errors.{IsInterruption, IsFault, IsOutOfMemory}, Events.{Event, fails}}
-use Rattle.no_std_io2_base.specs.{Events.{bytes, HasNoFault}, Takes.{Reader, tells, ReaderState, Takes, IsAtEnd}}
-use Rattle.no_std_io2_base.specs.Read.{ReadLaw, ToEndLaw, ReadToEndLaw, DrainsOrStops}
-use Rattle.no_std_io2_base.specs.{inner.Read.{IsRoom, no_read, GathersUntil, least_room, ended, FilledLaw}, Calls.{GaveAll}}
+use Rattle.no_std_io2_base.specs.{Events.{event_bytes, HasNoFault}, Takes.{Reader, tells, ReaderState, Takes, IsAtEnd}}
+use Rattle.no_std_io2_base.specs.Read.{ReadLaw, ToEndLaw, ReadToEndLaw}
+use Rattle.no_std_io2_base.specs.{inner.Read.{IsRoom, no_read, GathersUntil, least_room, without_number, FilledLaw}, Calls.{GaveAll}}
 use Rattle.no_std_io2_base.specs.inner.Chain.{chain_first, chain_second, chain_is_done, chain_events, chain_held, by_first, by_both}
 use Rattle.no_std_io2_base.specs.{declared.traits.chain.Chain.{Chain}, inner.Chain.{by_second, ChainMay}, BufRead.{FillBufLaw, AfterLoan}}
 use Rattle.no_std_io2_base.proofs.{CallsLemmas.{by_are, by_then, to_end_then, to_end_own}, TakesLemmas.{bytes-append, HasNoFault-append}}
@@ -14,6 +14,7 @@ use Rattle.no_std_io2_base.proofs.TakesLemmas.{takes_none, takes_then, takes_sti
 use Rattle.no_std_io2_base.proofs.{TakesLemmas.{drains_ended, stays_at_end}, ReadLoops.{ReadsSoFar, reads_none, reads_more, reads_again}}
 use Rattle.no_std_io2_base.proofs.{ReadLoops.{reads_until, written, take-written, take-written_below}, PieceLoops.{filled_law}}
 use Rattle.std.specs.Borrow.{Bor}
+use Rattle.no_std_io2_base.specs.inner.Read.{DrainsOrStops}
 
 -- What a loop that reads to the end into a vector has done so far, and what it has done at each of its ends.
 
@@ -35,10 +36,10 @@ pub record PartWritten (filled len : ℕ) (was now part : List ℕ) : Type 0 whe
   pub shown : (n : ℕ) → n ≤ length part → take (filled + n) now ≡ take filled was ++ take n part
 
 -- as the vector and its slice say it
-pub wrote : {filled len : ℕ} {slice items part was : List ℕ} → len ≡ length items → slice ≡ items
+pub part_was_written : {filled len : ℕ} {slice items part was : List ℕ} → len ≡ length items → slice ≡ items
     → length part ≡ length (take (length slice - filled) (drop filled slice)) → take filled items ≡ take filled was
     → filled < len → PartWritten filled len was (written len filled slice items part) part
-wrote {filled} {len} {slice} {items} {part} long is room front opened =
+part_was_written {filled} {len} {slice} {items} {part} long is room front opened =
     grind (arith, common_steps, length-take, length-drop, take-written_below, le_refl, take-written)
 
 -- before the first read nothing is taken
@@ -70,36 +71,36 @@ abbrev pub recount : Result ℕ Error → ℕ → Result ℕ Error
 recount (Ok n) k = Ok k
 recount (Err e) k = Err e
 
-pub ended_recount : (reply : Result ℕ Error) (k : ℕ) → ended (recount reply k) ≡ ended reply
+pub ended_recount : (reply : Result ℕ Error) (k : ℕ) → without_number (recount reply k) ≡ without_number reply
 ended_recount x1 k = grind (arith, common_steps)
 
 -- The bytes of P were appended, and then those of Q.
-module _ {A : Type 0} (buf mid : Vec ℕ A) (P Q : List Event) (first : mid.items ≡ buf.items ++ bytes P) where
-  module _ (last : Vec ℕ A) (next : last.items ≡ mid.items ++ bytes Q) where
-    pub both_appended : last.items ≡ buf.items ++ bytes (P ++ Q)
+module _ {A : Type 0} (buf mid : Vec ℕ A) (P Q : List Event) (first : mid.items ≡ buf.items ++ event_bytes P) where
+  module _ (last : Vec ℕ A) (next : last.items ≡ mid.items ++ event_bytes Q) where
+    pub both_appended : last.items ≡ buf.items ++ event_bytes (P ++ Q)
     both_appended = grind (arith, common_steps, append_assoc, bytes-append)
 
     -- the result is their number
     pub both_counted : (reply : Result ℕ Error) (k : ℕ) → OnOk reply (k ≡ vec_len last - vec_len buf)
-        → IfOk (recount reply k) (λ n. n ≡ length (bytes (P ++ Q)))
+        → IfOk (recount reply k) (λ n. n ≡ length (event_bytes (P ++ Q)))
     both_counted (Ok n) k is =
-        omega (arith, is, ap length both_appended, length-append buf.items (bytes (P ++ Q)), last.ok.0, buf.ok.0)
+        omega (arith, is, ap length both_appended, length-append buf.items (event_bytes (P ++ Q)), last.ok.0, buf.ok.0)
     both_counted (Err e) k is = tt
 
   -- and they end as Q does
   pub both_ended : (reply : Result ℕ Error) (k : ℕ) (t : ReaderState) → HasNoFault P → vec_capacity buf ≤ vec_capacity mid
-      → DrainsOrStops (vec_capacity mid < vec_len mid + (length (bytes Q) + least_room)) Q reply t
-      → DrainsOrStops (vec_capacity buf < vec_len buf + (length (bytes (P ++ Q)) + least_room)) (P ++ Q) (recount reply k) t
+      → DrainsOrStops (vec_capacity mid < vec_len mid + (length (event_bytes Q) + least_room)) Q reply t
+      → DrainsOrStops (vec_capacity buf < vec_len buf + (length (event_bytes (P ++ Q)) + least_room)) (P ++ Q) (recount reply k) t
   both_ended (Ok n) k t free grown (none, end) = (HasNoFault-append P Q free none, end)
   both_ended (Err e) k t free grown (inl fault) = inl (EndsInFault-behind P Q free fault)
   both_ended (Err e) k t free grown (inr (none, refused, why)) =
-      let long = ap length (bytes-append P Q) ∙ length-append (bytes P) (bytes Q) in
-      let more = ap length first ∙ length-append buf.items (bytes P) in
+      let long = ap length (bytes-append P Q) ∙ length-append (event_bytes P) (event_bytes Q) in
+      let more = ap length first ∙ length-append buf.items (event_bytes P) in
       inr (HasNoFault-append P Q free none, refused, omega (arith, why, grown, more, long, buf.ok.0, mid.ok.0))
 
 module _ {X A : Type 0} {R : Reader X} {old now : X} {buf xs : Vec ℕ A} {filled : ℕ} (before : ToEndSoFar R old buf filled xs now) where
   -- what was taken was appended
-  given_bytes : {v : List ℕ} → v ≡ take filled xs.items → v ≡ buf.items ++ bytes before.taken
+  given_bytes : {v : List ℕ} → v ≡ take filled xs.items → v ≡ buf.items ++ event_bytes before.taken
   given_bytes same = same ∙ before.shown ∙ ap (λ l. buf.items ++ l) (sym before.are)
 
   -- the room was full, and an allocation failed
@@ -115,7 +116,7 @@ module _ {X A : Type 0} {R : Reader X} {old now : X} {buf xs : Vec ℕ A} {fille
       let P = before.taken in
       let Q = last.taken in
       let first = given_bytes (sym (take_all filled xs.items (omega (arith, past, xs.ok.0)))) in
-      let joined : bytes (P ++ Q) ≡ before.given ++ bytes Q = bytes-append P Q ∙ ap (λ l. l ++ bytes Q) before.are in
+      let joined : event_bytes (P ++ Q) ≡ before.given ++ event_bytes Q = bytes-append P Q ∙ ap (λ l. l ++ event_bytes Q) before.are in
       record {
         taken = P ++ Q;
         takes = takes_then before.takes last.takes;
@@ -123,7 +124,7 @@ module _ {X A : Type 0} {R : Reader X} {old now : X} {buf xs : Vec ℕ A} {fille
         ends = both_ended buf xs P Q first reply k _ before.no_fault before.capacity last.ends;
         capacity = le_trans before.capacity last.capacity;
         calls = by_then before.reads.made last.calls
-            (λ C D first all. rw (joined, ended_recount reply k) (to_end_then (ended reply) first all));
+            (λ C D first all. rw (joined, ended_recount reply k) (to_end_then (without_number reply) first all));
       }
 
   module _ {new : X} {room part : List ℕ} where
@@ -161,8 +162,8 @@ module _ {X A : Type 0} {R : Reader X} {old now : X} {buf xs : Vec ℕ A} {fille
     pub to_end_fault : {lacks : ℕ → Type 0} {v : Vec ℕ A} {e : Error} → ReadLaw R now room (Err e) part new → IsFault e → 0 < length part
         → v.items ≡ take filled xs.items → vec_capacity xs ≤ vec_capacity v → ToEndLaw lacks R old buf (Err e) v new
     to_end_fault {e = e} read fault some same grown =
-        let bare : bytes (before.taken ++ fails e ∷ []) ≡ bytes before.taken =
-        bytes-append before.taken (fails e ∷ []) ∙ append-nil (bytes before.taken) in
+        let bare : event_bytes (before.taken ++ fails e ∷ []) ≡ event_bytes before.taken =
+        bytes-append before.taken (fails e ∷ []) ∙ append-nil (event_bytes before.taken) in
         record {
           taken = before.taken ++ fails e ∷ [];
           takes = takes_then before.takes read.takes;
@@ -217,9 +218,10 @@ end_of_both l x2 t t' x5 end stops = grind (arith, common_steps)
 
 module _ {T U A : Type 0} (R : Reader T) (S : Reader U) {old new : Chain T U} {buf buf' : Vec ℕ A} where
   -- a `read_to_end` is one call
-  to_end_call : {lacks : ℕ → Type 0} (reply : Result ℕ Error) (P : List Event) → ChainMay R S old (GaveAll (bytes P) (ended reply)) new
-      → Takes (tells (chain_reader R S) old) P (tells (chain_reader R S) new) → buf'.items ≡ buf.items ++ bytes P
-      → IfOk reply (λ n. n ≡ length (bytes P)) → DrainsOrStops (lacks (length (bytes P))) P reply (tells (chain_reader R S) new)
+  to_end_call : {lacks : ℕ → Type 0} (reply : Result ℕ Error) (P : List Event)
+      → ChainMay R S old (GaveAll (event_bytes P) (without_number reply)) new
+      → Takes (tells (chain_reader R S) old) P (tells (chain_reader R S) new) → buf'.items ≡ buf.items ++ event_bytes P
+      → IfOk reply (λ n. n ≡ length (event_bytes P)) → DrainsOrStops (lacks (length (event_bytes P))) P reply (tells (chain_reader R S) new)
       → vec_capacity buf ≤ vec_capacity buf' → ToEndLaw lacks (chain_reader R S) old buf reply buf' new
   to_end_call {lacks} reply P call takes appended count ends grown = record {
     taken = P;
@@ -233,7 +235,7 @@ module _ {T U A : Type 0} (R : Reader T) (S : Reader U) {old new : Chain T U} {b
   -- of the second alone
   pub end_second : (reply : Result ℕ Error) → chain_is_done old ≡ true → new ≡ record old { second = chain_second new }
       → ReadToEndLaw S (chain_second old) buf reply buf' (chain_second new) → ReadToEndLaw (chain_reader R S) old buf reply buf' new
-  end_second reply done same law = to_end_call reply law.taken ([], bytes law.taken, refl, λ _. refl, by_second done same law.calls)
+  end_second reply done same law = to_end_call reply law.taken ([], event_bytes law.taken, refl, λ _. refl, by_second done same law.calls)
       (by_second_takes R S done same law.takes) law.appends.0 law.appends.1
       (end_of_both _ law.taken _ _ reply (done_ends R S new (ap chain_is_done same ∙ done)) law.ends) law.capacity
 
@@ -241,7 +243,7 @@ module _ {T U A : Type 0} (R : Reader T) (S : Reader U) {old new : Chain T U} {b
   pub end_first : {e : Error} → chain_is_done old ≡ false → new ≡ record old { first = chain_first new }
       → ReadToEndLaw R (chain_first old) buf (Err e) buf' (chain_first new) → ReadToEndLaw (chain_reader R S) old buf (Err e) buf' new
   end_first {e} going same law = to_end_call (Err e) law.taken
-      ([], bytes law.taken, refl, λ _. refl, by_first going same (refl, law.calls))
+      ([], event_bytes law.taken, refl, λ _. refl, by_first going same (refl, law.calls))
       (by_first_takes R S going same law.takes) law.appends.0 tt law.ends law.capacity
 
   -- of both: the first ended, and then the second went on
@@ -254,8 +256,8 @@ module _ {T U A : Type 0} (R : Reader T) (S : Reader U) {old new : Chain T U} {b
       let Q = second.taken in
       let gave = first.appends.0 in
       to_end_call (recount reply k) (P ++ Q) (
-        bytes P,
-        bytes Q,
+        event_bytes P,
+        event_bytes Q,
         bytes-append P Q,
         λ was. absurd (true≢false (sym was ∙ going)),
         by_both going done first.calls (rw (ended_recount reply k) second.calls),

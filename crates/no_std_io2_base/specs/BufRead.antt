@@ -1,10 +1,11 @@
 -- The state after a `fill_buf`, and the law of each call of `BufRead`.
 use Rattle.std.specs.Prelude.{◌≡◌, ℕ, ◌<◌, List, [], ◌++◌, length, Ok, Result, ◌+◌, ◌≤◌, Vec, String, vec_len, vec_capacity, string_bytes}
 use Rattle.std.specs.{Prelude.{string_len, string_capacity, IfOk, IfSome, IsOkAnd}, Borrow.{Bor}}
-use Rattle.no_std_io2_base.specs.{declared.error.Error.{Error}, Events.{Event, bytes}, inner.Events.{BeginsWith}}
+use Rattle.no_std_io2_base.specs.{declared.error.Error.{Error}, Events.{Event, event_bytes}, inner.Events.{BeginsWith}}
 use Rattle.no_std_io2_base.specs.{Takes.{Takes, to_come, IsAtEnd, Reader, tells}, Calls.{Filled, ByCalls}, Read.{ReadCallLaw}}
-use Rattle.no_std_io2_base.specs.{inner.Read.{bytes_given, fault_of, lent_bytes, at_most_max}, Pieces.{newline, PieceEnds}}
+use Rattle.no_std_io2_base.specs.{inner.Read.{bytes_given, fault_of, lent_bytes, at_most_max}, Pieces.{newline}}
 use Rattle.no_std_io2_base.specs.{inner.Lines.{AnswersLine, line_room}, inner.Pieces.{PieceCalls}}
+use Rattle.no_std_io2_base.specs.inner.Pieces.{PieceEnds}
 
 -- `fill_buf()`: its result
 pub record FillBufLaw {X : Type 0} (R : Reader X) (old : X) (reply : Result (Bor (List ℕ)) Error) : Type 0 where
@@ -37,13 +38,13 @@ pub record ReadUntilLaw {X A : Type 0} (R : Reader X) (old : X) (delim : ℕ) (b
   pub taken : List Event
   pub takes : Takes (tells R old) taken (tells R new)
   -- its bytes are appended
-  pub appends : buf'.items ≡ buf.items ++ bytes taken
+  pub appends : buf'.items ≡ buf.items ++ event_bytes taken
   -- they are one piece; or a fault came first, or bytes for which the vector had no room, and it could not grow
   pub ends : PieceEnds (λ n. vec_capacity buf < vec_len buf + n) delim (tells R old) taken reply
   -- the capacity never shrinks
   pub capacity : vec_capacity buf ≤ vec_capacity buf'
   -- which calls it made
-  pub calls : ByCalls (ReadCallLaw R) old (λ C. PieceCalls (Unit {0}) delim C (bytes taken) reply) new
+  pub calls : ByCalls (ReadCallLaw R) old (λ C. PieceCalls (Unit {0}) delim C (event_bytes taken) reply) new
 
 -- `skip_until(delim)`
 pub record SkipUntilLaw {X : Type 0} (R : Reader X) (old : X) (delim : ℕ) (reply : Result ℕ Error) (new : X) : Type 0 where
@@ -55,7 +56,7 @@ pub record SkipUntilLaw {X : Type 0} (R : Reader X) (old : X) (delim : ℕ) (rep
   pub is : reply ≡ at_most_max read
   pub ends : PieceEnds (λ _. ⊥) delim (tells R old) taken read
   -- which calls it made
-  pub calls : ByCalls (ReadCallLaw R) old (λ C. PieceCalls ⊥ delim C (bytes taken) read) new
+  pub calls : ByCalls (ReadCallLaw R) old (λ C. PieceCalls ⊥ delim C (event_bytes taken) read) new
 
 -- `read_line(alloc, buf)`
 pub record ReadLineLaw {X A : Type 0} (R : Reader X) (old : X) (buf : String A) (reply : Result ℕ Error) (buf' : String A) (new : X)
@@ -67,8 +68,8 @@ pub record ReadLineLaw {X A : Type 0} (R : Reader X) (old : X) (buf : String A) 
   pub read : Result ℕ Error
   pub ends : PieceEnds (λ n. line_room buf < n) newline (tells R old) taken read
   -- it is appended if it is UTF-8 and there is room for it
-  pub answers : AnswersLine (bytes taken) read (string_len buf) (string_capacity buf) reply (string_bytes buf) (string_bytes buf')
+  pub answers : AnswersLine (event_bytes taken) read (string_len buf) (string_capacity buf) reply (string_bytes buf) (string_bytes buf')
   -- the capacity never shrinks
   pub capacity : string_capacity buf ≤ string_capacity buf'
   -- which calls it made
-  pub calls : ByCalls (ReadCallLaw R) old (λ C. PieceCalls (Unit {0}) newline C (bytes taken) read) new
+  pub calls : ByCalls (ReadCallLaw R) old (λ C. PieceCalls (Unit {0}) newline C (event_bytes taken) read) new

@@ -13,10 +13,10 @@ events_of [] = []
 events_of (b ∷ bs) = byte b ∷ events_of bs
 
 -- the bytes of E, in order
-abbrev pub bytes : List Event → List ℕ
-bytes [] = []
-bytes (byte b ∷ E) = b ∷ bytes E
-bytes (fails e ∷ E) = bytes E
+abbrev pub event_bytes : List Event → List ℕ
+event_bytes [] = []
+event_bytes (byte b ∷ E) = b ∷ event_bytes E
+event_bytes (fails e ∷ E) = event_bytes E
 
 -- E has no fault
 abbrev pub HasNoFault : List Event → Type 0

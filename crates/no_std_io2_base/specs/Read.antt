@@ -1,28 +1,19 @@
 -- The law of each call of `Read`.
-use Rattle.std.specs.Prelude.{◌≡◌, ℕ, ◌<◌, List, ◌++◌, length, take, Ok, Err, Result, ◌⊎◌, ◌+◌, ◌-◌, ◌≤◌, Vec, vec_len, vec_capacity, IfOk}
-use Rattle.std.specs.Prelude.{IsOk, IfSome, drop, String, string_len, string_capacity, string_bytes}
-use Rattle.no_std_io2_base.specs.{declared.error.Error.{Error}, Errors.{IsUnexpectedEnd, IsOutOfMemory}}
-use Rattle.no_std_io2_base.specs.{Events.{Event, events_of, bytes, HasNoFault}, inner.Events.{cut, EndsInFault}}
-use Rattle.no_std_io2_base.specs.Takes.{ReaderState, Takes, to_come, IsAtEnd, gave, Reader, tells, answered}
-use Rattle.no_std_io2_base.specs.inner.Read.{gave_whole, ended, ExactCalls, FullCalls, ToEndCalls, Gives, AllOrNone, GaveLaw, FilledLaw}
+use Rattle.std.specs.Prelude.{◌≡◌, ℕ, ◌<◌, List, ◌++◌, length, take, Ok, Err, Result, ◌+◌, ◌-◌, ◌≤◌, Vec, vec_len, vec_capacity, IfOk}
+use Rattle.std.specs.Prelude.{IsOk, drop, String, string_len, string_capacity, string_bytes}
+use Rattle.no_std_io2_base.specs.{declared.error.Error.{Error}}
+use Rattle.no_std_io2_base.specs.{Events.{Event, events_of, event_bytes, HasNoFault}, inner.Events.{cut, EndsInFault}}
+use Rattle.no_std_io2_base.specs.Takes.{ReaderState, Takes, IsAtEnd, gave_front, Reader, tells, answered}
+use Rattle.no_std_io2_base.specs.inner.Read.{gave_whole, without_number, ExactCalls, FullCalls, ToEndCalls, GaveLaw, FilledLaw}
 use Rattle.no_std_io2_base.specs.{Calls.{ByCalls, ReadCall, Gave, GaveExactly, GaveAll, Filled, Consumed}, inner.Read.{least_room}}
 use Rattle.no_std_io2_base.specs.inner.Lines.{AnswersLine, line_room}
-
--- how a `read_exact` of `room` bytes that took P ended: it gave them; or a fault came before the last of them, or the end
-abbrev pub FillsOrEnds : ℕ → List Event → Result (List ℕ) Error → ReaderState → Type 0
-FillsOrEnds room P (Ok x) new = Gives room P x × (length x ≡ room)
-FillsOrEnds room P (Err e) new = (length (bytes P) < room)
-    × (EndsInFault P e ⊎ (IsUnexpectedEnd e × HasNoFault P × IfSome (to_come new) (AllOrNone P room)))
+use Rattle.no_std_io2_base.specs.inner.Read.{FillsOrEnds}
+use Rattle.no_std_io2_base.specs.inner.Read.{DrainsOrStops}
 
 -- how a `read_full` into this much room that took P ended: it gave so many bytes, or met the end; or a fault came first
 abbrev FillsOrMeetsEnd : ℕ → List Event → Result (Unit {0}) Error → ReaderState → Type 0
-FillsOrMeetsEnd room P (Ok u) new = HasNoFault P × (cut room P ≡ P) × (length (bytes P) < room → IsAtEnd new)
-FillsOrMeetsEnd room P (Err e) new = EndsInFault P e × (length (bytes P) < room)
-
--- how a `read_to_end` that took P ended: at the end; or after a fault; or since an allocation failed, for which `lacks` is a reason
-abbrev pub DrainsOrStops : {A : Type 0} → Type 0 → List Event → Result A Error → ReaderState → Type 0
-DrainsOrStops lacks P (Ok _) new = HasNoFault P × IsAtEnd new
-DrainsOrStops lacks P (Err e) new = EndsInFault P e ⊎ (HasNoFault P × IsOutOfMemory e × lacks)
+FillsOrMeetsEnd room P (Ok u) new = HasNoFault P × (cut room P ≡ P) × (length (event_bytes P) < room → IsAtEnd new)
+FillsOrMeetsEnd room P (Err e) new = EndsInFault P e × (length (event_bytes P) < room)
 
 -- `consume(amount)`
 pub record ConsumeLaw {X : Type 0} (R : Reader X) (old : X) (amount : ℕ) (new : X) : Type 0 where
@@ -38,7 +29,7 @@ ReadCallLaw R old (Gave room answer) new = GaveLaw R old room answer new
 ReadCallLaw R old (GaveExactly room answer) new = R.may old (GaveExactly room answer) new
     × ((P : List Event) × Takes (tells R old) P (tells R new) × FillsOrEnds room P answer (tells R new))
 ReadCallLaw R old (GaveAll x answer) new = R.may old (GaveAll x answer) new
-    × ((P : List Event) × Takes (tells R old) P (tells R new) × (bytes P ≡ x) × DrainsOrStops (Unit {0}) P answer (tells R new))
+    × ((P : List Event) × Takes (tells R old) P (tells R new) × (event_bytes P ≡ x) × DrainsOrStops (Unit {0}) P answer (tells R new))
 ReadCallLaw R old (Filled answer) new = FilledLaw R old answer new
 ReadCallLaw R old (Consumed n) new = (n ≤ length (R.held old)) × ConsumeLaw R old n new
 
@@ -47,11 +38,11 @@ pub record ReadLaw {X : Type 0} (R : Reader X) (old : X) (buf : List ℕ) (reply
   -- it gives at most as many bytes as fit
   pub bound : IfOk reply (λ n. n ≤ length buf')
   -- it takes the bytes or the error that it gives
-  pub takes : Takes (tells R old) (answered (gave reply buf')) (tells R new)
+  pub takes : Takes (tells R old) (answered (gave_front reply buf')) (tells R new)
   -- it gives 0 bytes only at the end, or if buf is empty
   pub end : IfOk reply (λ n. n ≡ 0 → 0 < length buf' → IsAtEnd (tells R new))
   -- it is one call
-  pub call : R.may old (Gave (length buf') (gave reply buf')) new
+  pub call : R.may old (Gave (length buf') (gave_front reply buf')) new
 
 -- `read_exact(buf)`
 pub record ReadExactLaw {X : Type 0} (R : Reader X) (old : X) (buf : List ℕ) (reply : Result (Unit {0}) Error) (buf' : List ℕ)
@@ -73,14 +64,14 @@ pub record ReadFullLaw {X : Type 0} (R : Reader X) (old : X) (buf : List ℕ) (f
   pub taken : List Event
   pub takes : Takes (tells R old) taken (tells R new)
   -- its bytes come after those that were there, and are counted
-  pub fills : take filled' buf' ≡ take filled buf ++ bytes taken
-  pub counts : filled' ≡ filled + length (bytes taken)
+  pub fills : take filled' buf' ≡ take filled buf ++ event_bytes taken
+  pub counts : filled' ≡ filled + length (event_bytes taken)
   -- that fills the rest of the buffer, or is all, or ends in a fault
   pub ends : FillsOrMeetsEnd (length buf - filled) taken reply (tells R new)
   -- a full buffer makes no call
   pub full : length buf ≤ filled → IsOk reply × (new ≡ old)
   -- which calls it made
-  pub calls : ByCalls (ReadCallLaw R) old (λ C. FullCalls C (length buf - filled) (bytes taken) reply) new
+  pub calls : ByCalls (ReadCallLaw R) old (λ C. FullCalls C (length buf - filled) (event_bytes taken) reply) new
 
 -- `read_to_end(&mut buf)` of a reader that gives up only if `lacks` holds for the number of bytes that it took
 pub record ToEndLaw {X A : Type 0} (lacks : ℕ → Type 0) (R : Reader X) (old : X) (buf : Vec ℕ A) (reply : Result ℕ Error) (buf' : Vec ℕ A)
@@ -89,13 +80,13 @@ pub record ToEndLaw {X A : Type 0} (lacks : ℕ → Type 0) (R : Reader X) (old 
   pub taken : List Event
   pub takes : Takes (tells R old) taken (tells R new)
   -- its bytes are appended, and the result is their number
-  pub appends : (buf'.items ≡ buf.items ++ bytes taken) × IfOk reply (λ n. n ≡ length (bytes taken))
+  pub appends : (buf'.items ≡ buf.items ++ event_bytes taken) × IfOk reply (λ n. n ≡ length (event_bytes taken))
   -- that is all, or it ends in a fault, or an allocation failed
-  pub ends : DrainsOrStops (lacks (length (bytes taken))) taken reply (tells R new)
+  pub ends : DrainsOrStops (lacks (length (event_bytes taken))) taken reply (tells R new)
   -- the capacity never shrinks
   pub capacity : vec_capacity buf ≤ vec_capacity buf'
   -- which calls it made
-  pub calls : ByCalls (ReadCallLaw R) old (λ C. ToEndCalls C (bytes taken) (ended reply)) new
+  pub calls : ByCalls (ReadCallLaw R) old (λ C. ToEndCalls C (event_bytes taken) (without_number reply)) new
 
 -- `read_to_end(&mut buf)`: an allocation can fail only if buf had no room for the bytes that were taken and 32 more
 abbrev pub ReadToEndLaw : {X A : Type 0} → Reader X → X → Vec ℕ A → Result ℕ Error → Vec ℕ A → X → Type 0
@@ -109,11 +100,11 @@ pub record ReadToStringLaw {X A : Type 0} (R : Reader X) (old : X) (buf : String
   pub takes : Takes (tells R old) taken (tells R new)
   -- that is all, as `read_to_end` takes it, with this result
   pub read : Result ℕ Error
-  pub count : IfOk read (λ n. n ≡ length (bytes taken))
-  pub ends : DrainsOrStops (line_room buf < length (bytes taken) + least_room) taken read (tells R new)
+  pub count : IfOk read (λ n. n ≡ length (event_bytes taken))
+  pub ends : DrainsOrStops (line_room buf < length (event_bytes taken) + least_room) taken read (tells R new)
   -- it is appended if it is UTF-8 and there is room for it
-  pub answers : AnswersLine (bytes taken) read (string_len buf) (string_capacity buf) reply (string_bytes buf) (string_bytes buf')
+  pub answers : AnswersLine (event_bytes taken) read (string_len buf) (string_capacity buf) reply (string_bytes buf) (string_bytes buf')
   -- the capacity never shrinks
   pub capacity : string_capacity buf ≤ string_capacity buf'
   -- which calls it made
-  pub calls : ByCalls (ReadCallLaw R) old (λ C. ToEndCalls C (bytes taken) (ended read)) new
+  pub calls : ByCalls (ReadCallLaw R) old (λ C. ToEndCalls C (event_bytes taken) (without_number read)) new

@@ -1,7 +1,7 @@
 -- What calls of a reader gave, one after another: those of a loop, of a `skip`, and of a seek and a read.
 use Rattle.std.specs.Prelude.{◌≡◌, ◌⊎◌, ℕ, ◌+◌, ◌<◌, List, [], length, Result, Ok, Err, Bool, true, IsOk, OnOk, IfSome, IsSomeAnd}
 use Rattle.no_std_io2_base.specs.{declared.error.Error.{Error}, Errors.{IsFault, IsUnexpectedEnd, IsOutOfMemory}}
-use Rattle.no_std_io2_base.specs.{Events.{Event, bytes, HasNoFault}, inner.Events.{EndsInFault}}
+use Rattle.no_std_io2_base.specs.{Events.{Event, event_bytes, HasNoFault}, inner.Events.{EndsInFault}}
 use Rattle.no_std_io2_base.specs.{Takes.{ReaderState, Takes, IsAtEnd, Reader, tells}, Calls.{ReadCall, ByCalls}}
 use Rattle.no_std_io2_base.specs.Read.{ReadCallLaw, ReadExactLaw}
 use Rattle.no_std_io2_base.specs.{inner.Reads.{PortionCalls, PortionsUntil, HasBytesAt, ReadsAt, GathersTo, Asked}, Pieces.{GivesPieces}}
@@ -11,7 +11,7 @@ use Rattle.no_std_io2_base.specs.{Seek.{Seeker, SeekLaw}, declared.traits.seek.S
 pub record Took (old : ReaderState) (x : List ℕ) (how : Result Bool Error) (new : ReaderState) : Type 0 where
   pub taken : List Event
   pub takes : Takes old taken new
-  pub are : bytes taken ≡ x
+  pub are : event_bytes taken ≡ x
   pub ends : GathersTo taken how new
 
 -- From old to new a reader that lends got calls of `read` and `fill_buf`. It gave x, and may go on; or it met the end or
@@ -51,11 +51,11 @@ pub record Skipped {X : Type 0} (R : Reader X) (old : X) (n : ℕ) (reply : Resu
   pub taken : List Event
   pub takes : Takes (tells R old) taken (tells R new)
   -- its bytes are the skipped ones
-  pub count : length (bytes taken) + left ≡ n
+  pub count : length (event_bytes taken) + left ≡ n
   -- how it ended
   pub ends : SkipEnds taken reply left (tells R new)
   -- which calls it made
-  pub calls : ByCalls (ReadCallLaw R) old (λ C. SkipCalls n C (bytes taken) reply) new
+  pub calls : ByCalls (ReadCallLaw R) old (λ C. SkipCalls n C (event_bytes taken) reply) new
 
 -- a seek failed, and its error is the result; or the seek succeeded, and a `read_exact` after it had this result
 abbrev SeeksThenReads : {X : Type 0} → Seeker X → Reader X → X → SeekFrom → List ℕ → Result (Unit {0}) Error → List ℕ → X → Type 0

@@ -22,9 +22,9 @@ RestFlushLaw {W} I old x reply new left =
 -- Calls by this law were made again and again, with so many retries: each except the last failed, and the result is that of the last. If
 -- the last one failed, no retry was left.
 pub data Tries {W : Type 0} (law : Law W) : ℕ → W → List ℕ → Result (Unit {0}) Error → W → List ℕ → Type 0 where
-  last : {retries : ℕ} {old new : W} {x left : List ℕ} {reply : Result (Unit {0}) Error} → law old x reply new left
+  last_try : {retries : ℕ} {old new : W} {x left : List ℕ} {reply : Result (Unit {0}) Error} → law old x reply new left
       → OnErr reply (retries ≡ 0) → Tries law retries old x reply new left
-  again : {retries : ℕ} {old mid new : W} {x rest left : List ℕ} {e : Error} {reply : Result (Unit {0}) Error}
+  next_try : {retries : ℕ} {old mid new : W} {x rest left : List ℕ} {e : Error} {reply : Result (Unit {0}) Error}
       → law old x (Err e) mid rest → Tries law retries mid rest reply new left → Tries law (suc retries) old x reply new left
 
 -- `flush_with_retries` of a writer I

@@ -1,7 +1,7 @@
 -- What a reader tells, and what its calls take of that.
 use Rattle.std.specs.Prelude.{◌≡◌, ℕ, List, ◌++◌, IfSome, IsSomeAnd, [], ◌∷◌, take, Ok, Err, Result, Option, ◌≤◌, ◌+◌, min, length, ⊤, None}
 use Rattle.std.specs.Prelude.{Some}
-use Rattle.no_std_io2_base.specs.{Events.{bytes, Event, fails, events_of, Store, HasNoFault}, declared.error.Error.{Error}}
+use Rattle.no_std_io2_base.specs.{Events.{event_bytes, Event, fails, events_of, Store, HasNoFault}, declared.error.Error.{Error}}
 use Rattle.no_std_io2_base.specs.{Calls.{ReadCall}, inner.Takes.{told_bytes, fits_u64, fits_by, store_by, events_by, AreTaken}}
 
 -- What a reader tells.
@@ -50,7 +50,7 @@ pub record Takes (old : ReaderState) (P : List Event) (new : ReaderState) : Type
   -- they are gone from the front of the events to come, and no others are
   pub events : AreTaken (to_come old) P (to_come new)
   -- a store keeps its content, and its position moves by the bytes of P
-  pub store : KeepsContent old.store (λ len was now. now ≡ was + length (bytes P)) new.store
+  pub store : KeepsContent old.store (λ len was now. now ≡ was + length (event_bytes P)) new.store
   -- turns never rise, and whatever is taken spends one
   pub turns : new.turns + min 1 (length P) ≤ old.turns
 
@@ -59,7 +59,7 @@ pub record TakesBytes (old : ReaderState) (x : List ℕ) (new : ReaderState) : T
   pub taken : List Event
   pub takes : Takes old taken new
   pub no_fault : HasNoFault taken
-  pub are : bytes taken ≡ x
+  pub are : event_bytes taken ≡ x
 
 -- no event is to come, if events are told
 abbrev pub IsAtEnd : ReaderState → Type 0
@@ -67,12 +67,12 @@ IsAtEnd t = IfSome (to_come t) (λ E. E ≡ [])
 
 -- of the bytes to come, if they are told, these are gone from the front, and no others
 abbrev pub LosesFirst : ReaderState → List ℕ → ReaderState → Type 0
-LosesFirst old x new = IfSome (to_come old) (λ E. IsSomeAnd (to_come new) (λ E'. bytes E ≡ x ++ bytes E'))
+LosesFirst old x new = IfSome (to_come old) (λ E. IsSomeAnd (to_come new) (λ E'. event_bytes E ≡ x ++ event_bytes E'))
 
 -- the bytes that `read` gave at the front of buf, or its error
-abbrev pub gave : Result ℕ Error → List ℕ → Result (List ℕ) Error
-gave (Ok n) buf = Ok (take n buf)
-gave (Err e) buf = Err e
+abbrev pub gave_front : Result ℕ Error → List ℕ → Result (List ℕ) Error
+gave_front (Ok n) buf = Ok (take n buf)
+gave_front (Err e) buf = Err e
 
 -- the events that a `read` took, by its answer: the given bytes, or the error
 abbrev pub answered : Result (List ℕ) Error → List Event

@@ -6,9 +6,9 @@ use Rattle.no_std_io2_base.specs.inner.Write.{zero_write, Writes, AllCalls, Acce
 use Rattle.no_std_io2_base.specs.Calls.{WriteCall, Wrote, WroteAll, Flushed, ByCalls}
 
 -- the bytes of x that were accepted, by the result of `write(x)`
-abbrev pub taken : Result ℕ Error → List ℕ → List ℕ
-taken (Ok n) x = take n x
-taken (Err e) x = []
+abbrev pub accepted_of : Result ℕ Error → List ℕ → List ℕ
+accepted_of (Ok n) x = take n x
+accepted_of (Err e) x = []
 
 -- the mishap that a result of `write(x)` counts as, if it is one
 abbrev pub write_mishap : Result ℕ Error → List ℕ → List ErrorKind
@@ -21,7 +21,7 @@ pub record WriteLaw {W : Type 0} (told : W → WriterState) (takes_all : W → T
   -- at most the length of x is reported as accepted
   pub bound : IfOk reply (λ n. n ≤ length x)
   -- the bytes that the result reports were accepted, and an error or a zero is a mishap
-  pub moves : Moves (told old) (taken reply x) (write_mishap reply x) (told new)
+  pub moves : Moves (told old) (accepted_of reply x) (write_mishap reply x) (told new)
   -- if the writer takes all, it accepted all of x, and it still takes all
   pub all : AcceptsAll told takes_all old → AcceptsAll told takes_all new × (reply ≡ Ok (length x))
   -- it is one call
@@ -75,7 +75,7 @@ pub record WriteRestLaw {W : Type 0} (told : W → WriterState) (takes_all : W �
 
 -- `Adds old bytes new` says what a writer does if it accepts these bytes. A call did this with the bytes that it accepted.
 abbrev pub CallAdds : {W : Type 0} → (W → List ℕ → W → Type 0) → W → WriteCall → W → Type 0
-CallAdds Adds old (Wrote x reply) new = Adds old (taken reply x) new
+CallAdds Adds old (Wrote x reply) new = Adds old (accepted_of reply x) new
 CallAdds Adds old (WroteAll x reply) new =
     (accepted : List ℕ) × IsFront accepted x × OnOk reply (accepted ≡ x) × Adds old accepted new
 CallAdds Adds old (Flushed reply) new = Adds old [] new

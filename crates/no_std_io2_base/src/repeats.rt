@@ -4,7 +4,7 @@ ghost use Rattle.no_std_io2_base.specs.Events.{events_of};
 ghost use Rattle.no_std_io2_base.specs.inner.InMemory.{GivesLeft, repeat_left};
 ghost use Rattle.no_std_io2_base.specs.Calls.{Gave};
 ghost use Rattle.no_std_io2_base.specs.Read.{ReadLaw};
-ghost use Rattle.no_std_io2_base.specs.Takes.{gave};
+ghost use Rattle.no_std_io2_base.specs.Takes.{gave_front};
 
 use crate::error::Result;
 use crate::traits::{Read, Stored};
@@ -39,7 +39,7 @@ impl Read for Repeat {
         ensures law { ReadLaw ⟦<Self as Read>⟧ self.old buf.old result buf.new self.new }
 
         // It gives as many of the bytes that are left as fit.
-        ensures gives { GivesLeft repeat_left self.old (Gave (length buf.new) (gave result buf.new)) self.new }
+        ensures gives { GivesLeft repeat_left self.old (Gave (length buf.new) (gave_front result buf.new)) self.new }
     {
         let n = (buf.len() as u64).min(self.left) as usize;
         buf[..n].fill(self.byte);

@@ -1,7 +1,7 @@
 // Rows of a table by the crate `csv`.
 ghost use Rattle.std.specs.Prelude.{◌≡◌, ◌++◌, IfOk, map};
 ghost use Rattle.csv.specs.Writing.{default_writer, row_text};
-ghost use Rattle.system_streams.specs.ToStd.{accepted};
+ghost use Rattle.system_streams.specs.ToStd.{accepted_so_far};
 
 use csv::{Error, Writer};
 use no_std_io2::io::Write;
@@ -12,8 +12,8 @@ use system_streams::ToStd;
 /// # Errors
 /// Returns an error of the writer, which is then dropped; no clause says what it accepted.
 pub fn write_row<W: Write + Drop>(out: W, fields: &[&[u8]]) -> Result<W, Error>
-    ensures { IfOk result (λ w. accepted (W.told w)
-        ≡ accepted (W.told out) ++ row_text default_writer (map (λ f. f.now) fields.now)) }
+    ensures { IfOk result (λ w. accepted_so_far (W.told w)
+        ≡ accepted_so_far (W.told out) ++ row_text default_writer (map (λ f. f.now) fields.now)) }
 {
     let mut rows = Writer::from_writer(ToStd::new(out));
     rows.write_fields(fields)?;

@@ -2,7 +2,7 @@
 ghost use Rattle.std.specs.Prelude.{◌≡◌, ◌≤◌, ◌++◌, drop, length, IfOk, IfSome, Some};
 ghost use Rattle.byteorder.specs.Endian.{big_bytes, big_number};
 ghost use Rattle.no_std_io2.specs.Takes.{tells};
-ghost use Rattle.system_streams.specs.ToStd.{accepted, bytes_to_come};
+ghost use Rattle.system_streams.specs.ToStd.{accepted_so_far, bytes_to_come};
 
 use byteorder::{BigEndian, ReadBytesExt, WriteBytesExt};
 use no_std_io2::io::{Read, Write};
@@ -14,8 +14,8 @@ use system_streams::ToStd;
 /// # Errors
 /// Returns an error of the writer, which is then dropped; no clause says what it accepted.
 pub fn write_sample<W: Write + Drop>(out: W, sensor: u16, time: u64) -> io::Result<W>
-    ensures { IfOk result (λ w. accepted (W.told w)
-        ≡ accepted (W.told out) ++ big_bytes 2 sensor ++ big_bytes 8 time) }
+    ensures { IfOk result (λ w. accepted_so_far (W.told w)
+        ≡ accepted_so_far (W.told out) ++ big_bytes 2 sensor ++ big_bytes 8 time) }
 {
     let mut numbers = ToStd::new(out);
     numbers.write_u16::<BigEndian>(sensor)?;

@@ -3,7 +3,7 @@ ghost use Rattle.std.specs.Prelude.{◌≡◌, ℕ, List, ◌++◌, IfOk, IfSome
 ghost use Rattle.base64.specs.Engines.{standard};
 ghost use Rattle.base64.specs.GeneralPurpose.{decode_of, encode_of};
 ghost use Rattle.no_std_io2.specs.Takes.{tells};
-ghost use Rattle.system_streams.specs.ToStd.{accepted, bytes_to_come};
+ghost use Rattle.system_streams.specs.ToStd.{accepted_so_far, bytes_to_come};
 
 use base64::engine::general_purpose::STANDARD;
 use base64::read::DecoderReader;
@@ -19,7 +19,7 @@ use system_streams::ToStd;
 /// # Errors
 /// Returns an error of the writer, which is then dropped; no clause says what it accepted.
 pub fn write_encoded<W: Write + Drop>(out: W, bytes: &[u8]) -> io::Result<W>
-    ensures { IfOk result (λ w. accepted (W.told w) ≡ accepted (W.told out) ++ encode_of standard bytes.now) }
+    ensures { IfOk result (λ w. accepted_so_far (W.told w) ≡ accepted_so_far (W.told out) ++ encode_of standard bytes.now) }
 {
     let mut text = EncoderWriter::new(ToStd::new(out), &STANDARD);
     text.write_all(bytes)?;

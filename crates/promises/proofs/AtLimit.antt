@@ -1,13 +1,14 @@
 -- For `adaptors`: a `Take` at its limit, and the calls of a `Chain`.
 use Rattle.std.proofs.{lemmas.{Grind.{common_steps}, Str.{IsUtf8-nil}}, Common.{IsUtf8, String, string_bytes, string_len, string_capacity}}
 use Rattle.no_std_io2.proofs.Words.{◌≡◌, ℕ, ◌<◌, ◌⊎◌, List, [], ◌∷◌, ◌++◌, Result, Ok, Err, OnOk, IfOk, IfErr, length, refl, sym, ap, subst}
-use Rattle.no_std_io2.proofs.Words.{◌∙◌, arith, inl, inr, append-nil, Vec, Event, bytes, Reader, ReadCall, Filled, ReadCallLaw, tells}
+use Rattle.no_std_io2.proofs.Words.{◌∙◌, arith, inl, inr, append-nil, Vec, Event, event_bytes, Reader, ReadCall, Filled, ReadCallLaw, tells}
 use Rattle.no_std_io2.proofs.{Words.{newline, Made}, CallsLemmas.{made_split}, CallsAdd.{piece_adds, EachAdds}, LimitLemmas.{limit_reader}}
 use Rattle.no_std_io2.proofs.{LimitLemmas.{limit_each, limit_exact}, ToEndLemmas.{chain_reader}}
 use Rattle.no_std_io2.specs.{declared.io.Error.{Error}, declared.io.Take.{Take}, Errors.{IsUnexpectedEnd}, inner.Events.{cut}}
 use Rattle.no_std_io2.specs.{Calls.{GaveExactly, ByCalls}, Read.{ReadExactLaw}, inner.Read.{FillCalls, gave_whole}}
 use Rattle.no_std_io2.specs.{BufRead.{ReadUntilLaw, ReadLineLaw}, inner.Lines.{line_room, AnswersLine}, inner.Pieces.{PieceCalls}}
-use Rattle.no_std_io2.specs.{Pieces.{PieceEnds}, inner.Take.{limit_left, LimitTakes}, inner.Chain.{InTurn}}
+use Rattle.no_std_io2.specs.{inner.Take.{limit_left, LimitTakes}, inner.Chain.{InTurn}}
+use Rattle.no_std_io2.specs.inner.Pieces.{PieceEnds}
 
 -- For `adaptors`: at limit 0 a `Take` gives nothing, over every reader.
 
@@ -41,7 +42,7 @@ module _ {T : Type 0} (inner : Reader T) where
   pub exact_at_limit : {old new : Take T} {buf buf' : List ℕ} (reply : Result (Unit {0}) Error)
       → ReadExactLaw (limit_reader inner) old buf reply buf' new → limit_left old ≡ 0 → OnOk reply (buf' ≡ []) × IfErr reply IsUnexpectedEnd
   exact_at_limit (Ok u) law low =
-      let took = limit_exact (Ok u) law in (sym took.1 ∙ ap bytes (took_nothing took.2 low), tt)
+      let took = limit_exact (Ok u) law in (sym took.1 ∙ ap event_bytes (took_nothing took.2 low), tt)
   exact_at_limit {old} {new} {buf' = buf'} (Err e) law low = (tt, by law.calls.calls law.calls.made law.calls.are)
     where
       by : (C : List ReadCall) → Made (ReadCallLaw (limit_reader inner)) old C new
@@ -65,7 +66,7 @@ module _ {T : Type 0} (inner : Reader T) where
   piece_at_limit {old} {new} d {x} (Ok n) m low =
       let took = piece_adds (limit_each {inner = inner}) (Unit {0}) d
       (Ok n) old new m in
-      (tt, nothing x (sym took.1 ∙ ap (λ P. length (bytes P)) (took_nothing took.2 low)))
+      (tt, nothing x (sym took.1 ∙ ap (λ P. length (event_bytes P)) (took_nothing took.2 low)))
     where
       nothing : (x : List ℕ) → length x ≡ 0 → x ≡ []
       nothing [] none = refl
@@ -94,10 +95,10 @@ module _ {T : Type 0} (inner : Reader T) where
       × (string_bytes buf' ≡ string_bytes buf)
   line_at_limit {old = old} {buf = buf} {buf'} reply law low =
       let (ok, none) = piece_at_limit _ law.read law.calls low in
-      by reply law.read (bytes law.taken) none ok (counts law.read law.ends) law.answers
+      by reply law.read (event_bytes law.taken) none ok (counts law.read law.ends) law.answers
     where
       counts : (read : Result ℕ Error) → PieceEnds (λ n. line_room buf < n) newline (tells (limit_reader inner) old) law.taken read
-          → IfOk read (λ n. n ≡ length (bytes law.taken))
+          → IfOk read (λ n. n ≡ length (event_bytes law.taken))
       counts (Ok n) ends = ends.1
       counts (Err e) ends = tt
 

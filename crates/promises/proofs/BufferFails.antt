@@ -1,7 +1,9 @@
 -- For `towers`: which errors a writer returns, and what streams in front of others are.
 use Rattle.no_std_io2.proofs.Words.{Ok, Err, Wrote, common_steps, ℕ, List, Result, IfErr, arith, IsOutOfMemory, WriteCall, Flushed, Made}
-use Rattle.no_std_io2.proofs.Words.{AllCalls, Writes, none, took, again, stuck, fault, Writer, CallOf, ◌≡◌, ◌<◌, ◌∷◌, [], IfOk, length}
-use Rattle.no_std_io2.proofs.Words.{subst, sym, inl, inr, WroteAll, Step, TakesStep, Then, stops, goes_on, SendCalls, RoomCalls, Buffered}
+use Rattle.no_std_io2.proofs.Words.{AllCalls, Writes, no_write, write_took, write_again, write_stuck, write_fault, Writer, CallOf, ◌≡◌, ◌<◌}
+use Rattle.no_std_io2.proofs.Words.{◌∷◌, [], IfOk, length}
+use Rattle.no_std_io2.proofs.Words.{subst, sym, inl, inr, WroteAll, Step, TakesStep, Then, first_stops, first_goes_on, SendCalls, RoomCalls}
+use Rattle.no_std_io2.proofs.Words.{Buffered}
 use Rattle.no_std_io2.proofs.Words.{WriteCalls, SingleCall, WriteAllCalls, FlushCalls, InnerCalls, BufferMay, lines_of, unfinished_line}
 use Rattle.no_std_io2.proofs.Words.{SendLinesCalls, LineWriteCalls, LineWriteAllCalls, Vec, told_out, writer_inner, writer_buffer}
 use Rattle.no_std_io2.proofs.{Words.{writer_told, with_buffer, line_inner, line_buffer}, CallsLemmas.{law_may, made_split}}
@@ -32,12 +34,12 @@ module _ {W : Type 0} (I : Writer W) (Q : Error → Type 0) (fails : FailsOnly Q
   -- a loop of writes
   pub writes_fail : {text : List ℕ} {C : List WriteCall} {x left : List ℕ} {reply : Result (Unit {0}) Error} → Writes text C x reply left
       → (a b : W) → Made (CallOf I) a C b → IfErr reply Q
-  writes_fail none a b made = tt
-  writes_fail (took some more w) a b made = writes_fail w made.0 b made.2
-  writes_fail (again some interrupted w) a b made = writes_fail w made.0 b made.2
-  writes_fail (stuck {x = x} some says) a b made =
+  writes_fail no_write a b made = tt
+  writes_fail (write_took some more w) a b made = writes_fail w made.0 b made.2
+  writes_fail (write_again some interrupted w) a b made = writes_fail w made.0 b made.2
+  writes_fail (write_stuck {x = x} some says) a b made =
       absurd (omega (arith, (call_fails a made.0 (Wrote x (Ok 0)) made.1).1 some))
-  writes_fail (fault {x = x} {e = e} some is) a b made = (call_fails a made.0 (Wrote x (Err e)) made.1).0
+  writes_fail (write_fault {x = x} {e = e} some is) a b made = (call_fails a made.0 (Wrote x (Err e)) made.1).0
 
   -- and a `write_all`
   pub all_fails : {C : List WriteCall} {x : List ℕ} (reply : Result (Unit {0}) Error) → AllCalls C x reply → (a b : W)
@@ -69,8 +71,8 @@ module _ {W : Type 0} (I : Writer W) (Q : Error → Type 0) (fails : FailsOnly Q
     where
       split : {held left : List ℕ} {C : List WriteCall} {reply : Result _ Error} → Then first next held C reply left
           → (a b : W) → Made (CallOf I) a C b → P reply
-      split (stops {e = e} p) a b made = of_error e (of_first _ _ _ _ p a b made)
-      split (goes_on {C = C} {D = D} p q) a b made =
+      split (first_stops {e = e} p) a b made = of_error e (of_first _ _ _ _ p a b made)
+      split (first_goes_on {C = C} {D = D} p q) a b made =
           let parts = made_split (CallOf I) C a D b made in of_next _ _ _ _ q parts.0 b parts.2
 
   send_fails : Fails SendCalls

@@ -1,7 +1,8 @@
 -- For `delivery`, `calls` and `bounds`: which call is the last, what calls cost, and what is nothing.
 use Rattle.std.proofs.{Common.{arith}, lemmas.Grind.{common_steps}}
 use Rattle.no_std_io2.proofs.Words.{◌≡◌, ℕ, List, [], ◌∷◌, ◌++◌, refl, Result, OnOk, Ok, Err, IfOk, IfErr, length, WriteCall, Wrote}
-use Rattle.no_std_io2.proofs.Words.{WroteAll, Flushed, AllCalls, Writes, none, took, again, stuck, fault, stops, goes_on, RoomCalls}
+use Rattle.no_std_io2.proofs.Words.{WroteAll, Flushed, AllCalls, Writes, no_write, write_took, write_again, write_stuck, write_fault}
+use Rattle.no_std_io2.proofs.Words.{first_stops, first_goes_on, RoomCalls}
 use Rattle.no_std_io2.proofs.Words.{FlushCalls, WriteCalls, SingleCall, ◌+◌, ◌≤◌, Writer, calls_for, charges, IsMeter, Step, TakesStep}
 use Rattle.no_std_io2.proofs.{BufWriterLemmas.{effect_of}, BufWriterCalls.{send_does}, MovesLemmas.{meter_made}}
 use Rattle.no_std_io2.specs.{declared.io.Error.{Error}, inner.BufWriter.{PutCalls, UnwrapCalls}, inner.Meter.{Costs}}
@@ -49,13 +50,13 @@ flushed_last (first ∷ next ∷ C) = flushed_last (next ∷ C)
 -- a loop of writes ends in its fault
 pub writes_end : {text : List ℕ} {C : List WriteCall} {x left : List ℕ} {reply : Result (Unit {0}) Error} → Writes text C x reply left
     → IfErr reply (EndsIn C)
-writes_end none = tt
-writes_end {reply = Ok u} (took some more w) = tt
-writes_end {reply = Err e} (took {C = C} {x = x} {n = n} some more w) = ends_before (Wrote x (Ok n)) C e (writes_end w)
-writes_end {reply = Ok u} (again some interrupted w) = tt
-writes_end {reply = Err e} (again {C = C} {x = x} {e = f} some interrupted w) = ends_before (Wrote x (Err f)) C e (writes_end w)
-writes_end (stuck some says) = (refl, says.0)
-writes_end (fault some is) = refl
+writes_end no_write = tt
+writes_end {reply = Ok u} (write_took some more w) = tt
+writes_end {reply = Err e} (write_took {C = C} {x = x} {n = n} some more w) = ends_before (Wrote x (Ok n)) C e (writes_end w)
+writes_end {reply = Ok u} (write_again some interrupted w) = tt
+writes_end {reply = Err e} (write_again {C = C} {x = x} {e = f} some interrupted w) = ends_before (Wrote x (Err f)) C e (writes_end w)
+writes_end (write_stuck some says) = (refl, says.0)
+writes_end (write_fault some is) = refl
 
 -- and so does a `write_all`
 pub all_end : {C : List WriteCall} {x : List ℕ} {reply : Result (Unit {0}) Error} → AllCalls C x reply → IfErr reply (EndsIn C)
@@ -64,11 +65,11 @@ all_end calls = grind (arith, common_steps, writes_end)
 -- a loop has no flush
 writes_only : {text : List ℕ} {C : List WriteCall} {x left : List ℕ} {reply : Result (Unit {0}) Error} → Writes text C x reply left
     → HasNoFlush C
-writes_only none = tt
-writes_only (took some more w) = writes_only w
-writes_only (again some interrupted w) = writes_only w
-writes_only (stuck some says) = tt
-writes_only (fault some is) = tt
+writes_only no_write = tt
+writes_only (write_took some more w) = writes_only w
+writes_only (write_again some interrupted w) = writes_only w
+writes_only (write_stuck some says) = tt
+writes_only (write_fault some is) = tt
 
 both_only : (C D : List WriteCall) → HasNoFlush C → HasNoFlush D → HasNoFlush (C ++ D)
 both_only [] D c d = d
@@ -79,12 +80,12 @@ both_only (Flushed reply ∷ C) D c d = absurd c
 -- a `flush`
 pub flush_ends : {held left : List ℕ} {C : List WriteCall} {reply : Result (Unit {0}) Error} → FlushCalls held C reply left
     → IfErr reply (EndsIn C)
-flush_ends calls = grind (arith, common_steps, ends_last, goes_on, stops, writes_end)
+flush_ends calls = grind (arith, common_steps, ends_last, first_goes_on, first_stops, writes_end)
 
 -- one that succeeded ends in a flush
 pub flush_flushed : {held left : List ℕ} {C : List WriteCall} {reply : Result (Unit {0}) Error} → FlushCalls held C reply left
     → OnOk reply (EndsInFlush C)
-flush_flushed calls = grind (arith, common_steps, flushed_last, goes_on, stops)
+flush_flushed calls = grind (arith, common_steps, flushed_last, first_goes_on, first_stops)
 
 -- the way for a write
 room_ends : (n : ℕ) {S : ℕ} {held left : List ℕ} {C : List WriteCall} {e : Error} → RoomCalls S n held C (Err e) left → EndsIn C e
@@ -106,14 +107,14 @@ put_ends C put = grind (arith, common_steps, ends_last)
 -- a `write`
 pub write_only : {S : ℕ} {x held left : List ℕ} {C : List WriteCall} {reply : Result ℕ Error} → WriteCalls S x held C reply left
     → HasNoFlush C
-write_only {x = x} (stops way) = room_only (length x) way
-write_only {x = x} (goes_on {C} {D} way put) = both_only C D (room_only (length x) way) (put_only put)
+write_only {x = x} (first_stops way) = room_only (length x) way
+write_only {x = x} (first_goes_on {C} {D} way put) = both_only C D (room_only (length x) way) (put_only put)
 
 pub write_ends : {S : ℕ} {x held left : List ℕ} {C : List WriteCall} {reply : Result ℕ Error} → WriteCalls S x held C reply left
     → IfErr reply (EndsIn C)
-write_ends {x = x} (stops way) = room_ends (length x) way
-write_ends {reply = Ok n} (goes_on way put) = tt
-write_ends {reply = Err e} (goes_on {C} way put) = put_ends C put
+write_ends {x = x} (first_stops way) = room_ends (length x) way
+write_ends {reply = Ok n} (first_goes_on way put) = tt
+write_ends {reply = Err e} (first_goes_on {C} way put) = put_ends C put
 
 -- what holds for each value holds for that of the result
 pub if_ok : {A E : Type 0} (reply : Result A E) {P Q : A → Type 0} → ((a : A) → P a → Q a) → IfOk reply P → IfOk reply Q

@@ -5,9 +5,10 @@ use Rattle.no_std_io2.proofs.Words.{ap, subst, ◌∙◌, PassesOn, arith, lengt
 use Rattle.no_std_io2.proofs.Words.{FillsRoom, bytes_left, reader_held, reader_inner, ReadsBelow, of_held, went_past, was_filled}
 use Rattle.no_std_io2.proofs.Words.{FillsBelow, lent_held, lent_read, cases_lt, ◌⊎◌, ◌∷◌, ◌++◌, true, false, refl, inl, inr, ⊎_elim}
 use Rattle.no_std_io2.proofs.Words.{length-append, length-drop, Made, ReadCall, ReadCallLaw, GaveLaw, Gave, Gathers, no_read, and_gave}
-use Rattle.no_std_io2.proofs.{Words.{and_again, AsksExact}, BufferedReads.{some_room}, InMemoryReads.{drawn}, CallsLemmas.{made_split}}
+use Rattle.no_std_io2.proofs.{Words.{and_again, AsksExact}, BufferedReads.{reader_has_room}, InMemoryReads.{drawn}}
+use Rattle.no_std_io2.proofs.CallsLemmas.{made_split}
 use Rattle.std.specs.Prelude.{nat_lt}
-use Rattle.no_std_io2.specs.{declared.io.Error.{Error}, declared.buffered.buf_reader.BufReader.{BufReader}, Takes.{gave}}
+use Rattle.no_std_io2.specs.{declared.io.Error.{Error}, declared.buffered.buf_reader.BufReader.{BufReader}, Takes.{gave_front}}
 use Rattle.no_std_io2.specs.inner.BufReader.{ReadsThrough, LeavesExact, only_held, read_whole, read_to_end, read_to_fault}
 use Rattle.promises.specs.Counts.{exact_reads, exact_left}
 
@@ -38,12 +39,14 @@ module _ {R : Type 0} {S : ℕ} {K : Reader R} (old new : BufReader R S) where
   -- a read makes one inner read if nothing is held, and else none
   pub read_cost : (cost : R → ℕ) → IsReadMeter K.may cost → (room : ℕ) (answer : Result (List ℕ) Error) → ReadsBelow K old room answer new
       → cost (reader_inner new) ≡ cost (reader_inner old) + if_none (length (reader_held old))
-  read_cost cost meter room answer read = grind (arith, common_steps, if_none-is, of_held, reader_held, some_room, was_filled, went_past)
+  read_cost cost meter room answer read =
+      grind (arith, common_steps, if_none-is, of_held, reader_held, reader_has_room, was_filled, went_past)
 
   -- and so does a `fill_buf`
   pub fill_cost : (cost : R → ℕ) → IsReadMeter K.may cost → (answer : Result (List ℕ) Error) → FillsBelow K old answer new
       → cost (reader_inner new) ≡ cost (reader_inner old) + if_none (length (reader_held old))
-  fill_cost cost meter answer fill = grind (arith, common_steps, if_none-is, lent_held, lent_read, reader_held, reader_inner, some_room)
+  fill_cost cost meter answer fill =
+      grind (arith, common_steps, if_none-is, lent_held, lent_read, reader_held, reader_inner, reader_has_room)
 
   -- a read leaves the inner reader filling,
   pub read_fills : (room : ℕ) (answer : Result (List ℕ) Error) → FillsRoom K (reader_inner old) → ReadsBelow K old room answer new
@@ -97,7 +100,7 @@ module _ {R : Type 0} {S : ℕ} {K : Reader R} (old new : BufReader R S) where
 
 -- the number that a read returns is that of the bytes that it gave
 pub gave_count : {n m : ℕ} (reply : Result ℕ Error) (buf : List ℕ) → IfOk reply (λ k. k ≤ length buf) → n ≡ m
-    → IsOkAnd (gave reply buf) (λ x. length x ≡ n) → IsOkAnd reply (λ k. k ≡ m)
+    → IsOkAnd (gave_front reply buf) (λ x. length x ≡ n) → IsOkAnd reply (λ k. k ≡ m)
 gave_count (Ok k) buf bound same is = omega (arith, is, same, length-take-le k buf bound)
 gave_count (Err e) buf bound same is = absurd is
 

@@ -3,15 +3,18 @@ use Rattle.std.proofs.{lemmas.Grind.{common_steps}, Common.{IfSome, drop-drop, t
 use Rattle.no_std_io2.proofs.Words.{◌≡◌, ◌+◌, ◌-◌, ◌<◌, ◌++◌, ℕ, List, [], Option, None, Some, Result, Ok, IfOk, length, refl, subst, sym}
 use Rattle.no_std_io2.proofs.Words.{ap, ap₂, ◌∙◌, drop, arith, drop-append_seam, step_back, store_before, store_if, Event, answered}
 use Rattle.no_std_io2.proofs.Words.{KeepsContent, Store, Bool, true, ◌∷◌, take, Err, ⊎_elim, inl, inr, append_assoc, append-nil}
-use Rattle.no_std_io2.proofs.Words.{length-append, length-take-le, take-append-drop, Vec, IsOutOfMemory, Made, bytes, Reader, ReadCall}
+use Rattle.no_std_io2.proofs.Words.{length-append, length-take-le, take-append-drop, Vec, IsOutOfMemory, Made, event_bytes, Reader}
+use Rattle.no_std_io2.proofs.Words.{ReadCall}
 use Rattle.no_std_io2.proofs.Words.{Filled, Consumed, ReadCallLaw, tells, newline, IsSuffix, reader_held, reader_behind, reader_inner}
 use Rattle.no_std_io2.proofs.{Words.{FillsBelow, lent_held, lent_read}, BufferedReads.{before_decides, buf_reader}}
 use Rattle.no_std_io2.proofs.CallsLemmas.{made_split}
-use Rattle.no_std_io2.specs.{declared.io.Error.{Error}, Takes.{gave}, BufRead.{ReadUntilLaw, ReadLineLaw}}
+use Rattle.no_std_io2.specs.{declared.io.Error.{Error}, Takes.{gave_front}, BufRead.{ReadUntilLaw, ReadLineLaw}}
 use Rattle.no_std_io2.specs.inner.Lines.{line_room, AnswersLine}
-use Rattle.no_std_io2.specs.inner.Pieces.{Lacks, EndsPiece, FindsPiece, PartCalls, no_part, and_part, and_waited, PieceCalls}
-use Rattle.no_std_io2.specs.{Pieces.{PieceEnds}, Calls.{ByCalls}, declared.buffered.buf_reader.BufReader.{BufReader}, BufReader.{HasBuffer}}
+use Rattle.no_std_io2.specs.inner.Pieces.{Lacks, EndsPiece, FindsPiece, PartCalls, no_part, and_part, part_interrupted, PieceCalls}
+use Rattle.no_std_io2.specs.{Calls.{ByCalls}, declared.buffered.buf_reader.BufReader.{BufReader}}
 use Rattle.no_std_io2.specs.inner.BufReader.{TakesHeld, TakesHeldLine}
+use Rattle.no_std_io2.specs.inner.BufReader.{HasBuffer}
+use Rattle.no_std_io2.specs.inner.Pieces.{PieceEnds}
 
 -- For `reads`: the store after a call, if it was told before; and the events.
 
@@ -27,7 +30,7 @@ store_after Goes {was} old new keeps told = by new (subst (λ o. KeepsContent o 
 -- a `read` that gave no byte into some room met the end
 pub none_left : (buf : List ℕ) (reply : Result ℕ Error) {told : Option (List Event)} {E after : List Event}
     → IfOk reply (λ n. n ≡ 0 → 0 < length buf → IfSome told (λ F. F ≡ [])) → told ≡ Some after
-    → E ≡ answered (gave reply buf) ++ after → reply ≡ Ok 0 → 0 < length buf → E ≡ []
+    → E ≡ answered (gave_front reply buf) ++ after → reply ≡ Ok 0 → 0 < length buf → E ≡ []
 none_left buf reply ends told split is_zero some = grind (arith, common_steps, IfSome)
 
 -- The held bytes stand in the content right before the position, with `front` before them: so the store is told, at
@@ -102,7 +105,7 @@ module _ {R : Type 0} {S : ℕ} (K : Reader R) (old : BufReader R S) (d : ℕ) w
         let filled = split.2.1.held (subst (λ r. 0 < length (reader_held r)) (sym first.1) some) in
         let held : lent ≡ piece ++ rest = (let same : lent ≡ reader_held split.0 = cc in same) ∙ ap reader_held first.1 ∙ is in
         absurd (has_end d ends.0 rest (subst (Lacks d) (held ∙ whole d piece rest ends) lacks))
-    no_part_first (and_waited C x e parts again) mid made =
+    no_part_first (part_interrupted C x e parts again) mid made =
         let split = made_split law C old (Filled (Err e) ∷ []) mid made in
         let first = no_part_first parts split.0 split.1 in
         let filled = split.2.1.held (subst (λ r. 0 < length (reader_held r)) (sym first.1) some) in
@@ -152,10 +155,10 @@ module _ {R : Type 0} {S : ℕ} (K : Reader R) (old : BufReader R S) (d : ℕ) w
     pub until_held : {A : Type 0} {buf buf' : Vec ℕ A} {new : BufReader R S} (reply : Result ℕ Error)
         → ReadUntilLaw (buf_reader K) old d buf reply buf' new → TakesHeld piece rest old buf.items reply buf'.items new
     until_held {buf = buf} (Ok n) until =
-        let taken = piece_held (bytes until.taken) (Ok n) until.calls in
+        let taken = piece_held (event_bytes until.taken) (Ok n) until.calls in
         (until.ends.1 ∙ ap length taken.0, until.appends ∙ ap (λ l. buf.items ++ l) taken.0, taken.1, taken.2)
     until_held {buf = buf} (Err e) until =
-        let taken = piece_held (bytes until.taken) (Err e) until.calls in
+        let taken = piece_held (event_bytes until.taken) (Err e) until.calls in
         (taken.0, until.appends ∙ ap (λ l. buf.items ++ l) taken.1 ∙ append-nil buf.items, taken.2)
 
 -- by `read_line`
@@ -179,11 +182,11 @@ module _ {R : Type 0} {S : ℕ} (K : Reader R) (old : BufReader R S) (line rest 
       → ReadLineLaw (buf_reader K) old text reply text' new
       → TakesHeldLine line rest old (string_bytes text) reply (string_bytes text') new
   line_held {text = text} reply law =
-      was_answered (bytes law.taken) _ _ _ _ _ law.read reply (counts law.read law.ends)
-      (piece_held K old newline line rest is ends (bytes law.taken) law.read law.calls) law.answers
+      was_answered (event_bytes law.taken) _ _ _ _ _ law.read reply (counts law.read law.ends)
+      (piece_held K old newline line rest is ends (event_bytes law.taken) law.read law.calls) law.answers
     where
       counts : (read : Result ℕ Error) → PieceEnds (λ n. line_room text < n) newline (tells (buf_reader K) old) law.taken read
-          → IfOk read (λ n. n ≡ length (bytes law.taken))
+          → IfOk read (λ n. n ≡ length (event_bytes law.taken))
       counts (Ok n) ends = ends.1
       counts (Err e) ends = tt
 
@@ -213,7 +216,7 @@ module _ {R : Type 0} {S : ℕ} (K : Reader R) (old : BufReader R S) (d : ℕ) w
       subst (IsSuffix (reader_behind old ++ (x ++ lent))) (ap reader_behind (sym split.2.2.2))
       (subst (λ l. IsSuffix l (reader_behind split.2.2.0))
       (ap (λ l. (reader_behind old ++ x) ++ l) (take_all (length lent) lent (omega arith)) ∙ append_assoc (reader_behind old) x lent) after)
-  parts_behind (and_waited C x e parts again) now made =
+  parts_behind (part_interrupted C x e parts again) now made =
       let split = made_split (ReadCallLaw (buf_reader K)) C old (Filled (Err e) ∷ []) now made in
       let before = parts_behind parts split.0 split.1 in
       subst (IsSuffix (reader_behind old ++ x)) (ap reader_behind (sym split.2.2))

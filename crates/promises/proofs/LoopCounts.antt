@@ -4,8 +4,8 @@ use Rattle.no_std_io2.proofs.Words.{refl, sym, subst, ◌∙◌, inl, inr, Made,
 use Rattle.no_std_io2.proofs.Words.{and_gave, and_again, GathersUntil, ExactCalls, ap, OnOk, GaveLaw, ReadCallLaw, bytes_given, IsReadMeter}
 use Rattle.no_std_io2.proofs.{Words.{FillsRoom, bytes_left, Writer, Copied}, CallsLemmas.{made_split}, TakesLemmas.{length-events_of}}
 use Rattle.no_std_io2.proofs.{CopyLoop.{copied_ok}, InMemoryReads.{drawn}}
-use Rattle.no_std_io2.specs.{declared.io.Error.{Error}, inner.Read.{ended, FillCalls, ToEndCalls}}
-use Rattle.promises.specs.Loops.{stopped, CountsToEnd}
+use Rattle.no_std_io2.specs.{declared.io.Error.{Error}, inner.Read.{without_number, FillCalls, ToEndCalls}}
+use Rattle.promises.specs.Loops.{stopped_by_fault, CountsToEnd}
 use Rattle.io_bench.specs.{declared.tally.Tally.{Tally}, Tally.{tally_inner, tally_reads, tally_writes, ReadCounted, ReadsCounted}}
 use Rattle.std.specs.Int.{div_ceil}
 
@@ -71,7 +71,7 @@ module _ {T : Type 0} (I : Reader T) where
   counted_less c fewer more = grind (arith, common_steps)
 
   fill_counts : (C : List ReadCall) (buf : List ℕ) (reply : Result (Unit {0}) Error) (a b : Tally T) → FillCalls C reply buf
-      → Made (ReadsCounted I) a C b → Counted I (min 1 (length buf)) (stopped reply) a b
+      → Made (ReadsCounted I) a C b → Counted I (min 1 (length buf)) (stopped_by_fault reply) a b
   fill_counts C buf (Ok u) a b reads made = gathers_count (λ at room rest. rest.1) reads a b made
   fill_counts C buf (Err e) a b (x, front, inl end) made =
       counted_less (until_counts (Ok []) (λ at room rest. rest.1) end.1 a b made) (omega arith) (omega arith)
@@ -80,7 +80,7 @@ module _ {T : Type 0} (I : Reader T) where
 
   -- the reads of a `read_exact`
   pub exact_counts : (C : List ReadCall) (buf : List ℕ) (reply : Result (Unit {0}) Error) (a b : Tally T) → ExactCalls C reply buf
-      → Made (ReadsCounted I) a C b → Counted I (min 1 (length buf)) (stopped reply) a b
+      → Made (ReadsCounted I) a C b → Counted I (min 1 (length buf)) (stopped_by_fault reply) a b
   exact_counts C buf reply a b calls made = grind (arith, common_steps, no_other, fill_counts)
 
   -- how often a `read_to_end` reads, and what else the reads do
@@ -90,10 +90,11 @@ module _ {T : Type 0} (I : Reader T) where
       × ((l m : ℕ) × Counted I l m a b)
 
   -- the reads of a `read_to_end`
-  pub drain_counts : (C : List ReadCall) (x : List ℕ) (reply : Result ℕ Error) (a b : Tally T) → ToEndCalls C x (ended reply)
+  pub drain_counts : (C : List ReadCall) (x : List ℕ) (reply : Result ℕ Error) (a b : Tally T) → ToEndCalls C x (without_number reply)
       → Made (ReadsCounted I) a C b → DrainCounts reply a b
   drain_counts C x reply a b (inl own) made =
-      absurd (no_other own.0 (GaveAll own.2 (ended reply)) a b (λ c d no. no) (subst (λ K. Made (ReadsCounted I) a K b) own.5 made))
+      absurd (no_other own.0 (GaveAll own.2 (without_number reply)) a b (λ c d no. no)
+      (subst (λ K. Made (ReadsCounted I) a K b) own.5 made))
   drain_counts C x (Ok n) a b (inr until) made =
       let c = until_counts (Ok []) (λ at room some. some) until a b made in
       (record { least = omega (arith, c.least); asked = tt; most = c.most }, (1, 1, c))

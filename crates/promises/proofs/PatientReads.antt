@@ -2,12 +2,13 @@
 use Rattle.std.proofs.{lemmas.Grind.{common_steps}, KnownBytes.{Consumes-nil, Consumes-trans}}
 use Rattle.no_std_io2.proofs.Words.{◌≡◌, ℕ, zero, suc, ◌+◌, ◌<◌, ◌≤◌, List, [], ◌∷◌, Option, Result, Ok, Err, length, refl, sym, ap, subst}
 use Rattle.no_std_io2.proofs.Words.{◌∙◌, arith, inl, inr, ◌⊎◌, append-nil, length-append, OnOk, IsFault, ReadCall, Gave, bytes_given}
-use Rattle.no_std_io2.proofs.Words.{answered, GaveLaw, ReadCallLaw, GathersUntil, ExactCalls, Made, IsFront, ◌++◌, Vec, Some, Event, bytes}
+use Rattle.no_std_io2.proofs.Words.{answered, GaveLaw, ReadCallLaw, GathersUntil, ExactCalls, Made, IsFront, ◌++◌, Vec, Some, Event}
+use Rattle.no_std_io2.proofs.Words.{event_bytes}
 use Rattle.no_std_io2.proofs.{Words.{to_come, Reader, tells}, CallsLemmas.{made_split}, TakesLemmas.{length-events_of}, CallsAdd.{EachAdds}}
 use Rattle.no_std_io2.proofs.{CallsAdd.{gathers_add}, CopyLoop.{took_told}}
 use Rattle.std.specs.{Prelude.{min}, Result.{IsErrAnd}, Io.KnownBytes.{Consumes, Keeps}}
 use lib.Seq.{take-append_seam}
-use Rattle.no_std_io2.specs.{declared.io.Error.{Error}, inner.Kinds.{is_interruption}, Takes.{gave}, Read.{ToEndLaw}, Calls.{ByCalls}}
+use Rattle.no_std_io2.specs.{declared.io.Error.{Error}, inner.Kinds.{is_interruption}, Takes.{gave_front}, Read.{ToEndLaw}, Calls.{ByCalls}}
 use Rattle.system_streams.specs.{declared.{patient.Patient.{Patient}, system.SystemRead.{Ghosts as Source}}, Patient.{patient_device}}
 use Rattle.system_streams.specs.{Patient.{patient_turns, patient_taken, AsksOnce, AsksDevice}, Turns.{IsOutOfTurns, IsDeviceFault}}
 use Rattle.promises.specs.Patience.{EndsReads, Fills}
@@ -39,7 +40,8 @@ module _ {D : Type 0} (I : Source D) where
   lost_none old new answer none same = grind (arith, common_steps, Consumes-nil)
 
   -- one read of the device
-  asked_loses : (old new : Patient D) {answer : Result (List ℕ) Error} (reply : Result ℕ Error) (buf : List ℕ) → answer ≡ gave reply buf
+  asked_loses : (old new : Patient D) {answer : Result (List ℕ) Error} (reply : Result ℕ Error) (buf : List ℕ)
+      → answer ≡ gave_front reply buf
       → AsksDevice I old reply buf new → Lost old (bytes_given answer) new
   asked_loses old new reply buf is asks = grind (arith, common_steps, bytes_given, keeps_consumes)
 
@@ -105,7 +107,7 @@ module _ {D : Type 0} (I : Source D) where
       → (IsOutOfTurns e × (patient_turns new ≡ 0)) ⊎ IsDeviceFault e
   fault_spends {old} {new} e fault some once = by (patient_turns old) refl
     where
-      device : (reply : Result ℕ Error) (buf : List ℕ) → Err e ≡ gave reply buf → AsksDevice I old reply buf new → IsDeviceFault e
+      device : (reply : Result ℕ Error) (buf : List ℕ) → Err e ≡ gave_front reply buf → AsksDevice I old reply buf new → IsDeviceFault e
       device (Ok n) buf is asks = absurd (cc is)
       device (Err f) buf is asks = elim asks.turns.1 [
         | inl plain ↦ let no = ap is_interruption plain.0 in absurd cc
@@ -163,7 +165,7 @@ module _ {D : Type 0} (I : Source D) where
 
 -- a `read_to_end` appends all bytes that were to come
 pub drained : {X A : Type 0} {lacks : ℕ → Type 0} {R : Reader X} {old new : X} {buf buf' : Vec ℕ A} {E : List Event} {x : List ℕ}
-    (reply : Result ℕ Error) → ToEndLaw lacks R old buf reply buf' new → to_come (tells R old) ≡ Some E → bytes E ≡ x
+    (reply : Result ℕ Error) → ToEndLaw lacks R old buf reply buf' new → to_come (tells R old) ≡ Some E → event_bytes E ≡ x
     → OnOk reply (buf'.items ≡ buf.items ++ x)
 drained reply law told is =
     grind (arith, common_steps, took_told)

@@ -4,7 +4,7 @@ ghost use Rattle.no_std_io2.specs.inner.Chain.{InTurn};
 ghost use Rattle.no_std_io2.specs.inner.Iterators.{NextLaw, bytes_reader};
 ghost use Rattle.no_std_io2.specs.inner.Take.{LimitTakes, limit_left};
 ghost use Rattle.no_std_io2.specs.Errors.{IsFault, IsUnexpectedEnd};
-ghost use Rattle.no_std_io2.specs.Events.{Event, bytes};
+ghost use Rattle.no_std_io2.specs.Events.{Event, event_bytes};
 
 use no_std_io2::io::{BufRead, Bytes, Chain, Read, Result, Take};
 use std::alloc::{Allocator, Global};
@@ -12,7 +12,7 @@ use std::alloc::{Allocator, Global};
 // The limit of a `Take` falls by the bytes that it gives, also before an error, and its reader loses these and no
 // others. At limit 0 it gives nothing, and makes no call.
 fn keeps_to_its_limit<R: Read>(t: &mut Take<R>, buf: &mut [u8]) -> Result<()>
-    ensures takes { (P : List Event) × OnOk result (bytes P ≡ buf.new) × LimitTakes R.Read t.old P t.new }
+    ensures takes { (P : List Event) × OnOk result (event_bytes P ≡ buf.new) × LimitTakes R.Read t.old P t.new }
     ensures at_limit { limit_left t.old ≡ 0 → OnOk result (buf.new ≡ []) × IfErr result IsUnexpectedEnd }
 {
     t.read_exact(buf)
@@ -23,7 +23,7 @@ fn drains_to_its_limit<R: Read, A: Allocator>(
     t: &mut Take<R>,
     buf: &mut Vec<u8, A>,
 ) -> Result<usize>
-    ensures takes { (P : List Event) × (buf.new.items ≡ buf.old.items ++ bytes P) × LimitTakes R.Read t.old P t.new }
+    ensures takes { (P : List Event) × (buf.new.items ≡ buf.old.items ++ event_bytes P) × LimitTakes R.Read t.old P t.new }
     ensures at_limit { limit_left t.old ≡ 0 → result ≡ Ok 0 }
 {
     t.read_to_end(buf)
@@ -35,7 +35,7 @@ fn keeps_to_its_limit_in_a_piece<R: BufRead, A: Allocator>(
     delim: u8,
     buf: &mut Vec<u8, A>,
 ) -> Result<usize>
-    ensures takes { (P : List Event) × (buf.new.items ≡ buf.old.items ++ bytes P) × LimitTakes ⟦<R as Read>⟧ t.old P t.new }
+    ensures takes { (P : List Event) × (buf.new.items ≡ buf.old.items ++ event_bytes P) × LimitTakes ⟦<R as Read>⟧ t.old P t.new }
     ensures at_limit { limit_left t.old ≡ 0 → result ≡ Ok 0 }
 {
     t.read_until(delim, buf)
@@ -47,7 +47,7 @@ fn keeps_to_its_limit_in_a_line<R: BufRead>(
     alloc: Global,
     text: &mut String,
 ) -> Result<usize>
-    ensures takes { (P : List Event) × OnOk result (string_bytes text.new ≡ string_bytes text.old ++ bytes P)
+    ensures takes { (P : List Event) × OnOk result (string_bytes text.new ≡ string_bytes text.old ++ event_bytes P)
         × LimitTakes ⟦<R as Read>⟧ t.old P t.new }
     ensures at_limit { limit_left t.old ≡ 0 → (result ≡ Ok 0) × (string_bytes text.new ≡ string_bytes text.old) }
 {

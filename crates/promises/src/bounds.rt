@@ -4,7 +4,7 @@ ghost use Rattle.no_std_io2.specs.LineWriter.{line_inner};
 ghost use Rattle.no_std_io2.specs.inner.Meter.{CostsAtMost};
 ghost use Rattle.no_std_io2.specs.Meter.{FillsRoom};
 ghost use Rattle.no_std_io2.specs.Moves.{Moves, MovesFront};
-ghost use Rattle.no_std_io2.specs.Write.{taken, write_mishap};
+ghost use Rattle.no_std_io2.specs.Write.{accepted_of, write_mishap};
 ghost use Rattle.no_std_io2.specs.BufReader.{reader_inner};
 ghost use Rattle.no_std_io2.specs.Writers.{TakesAll};
 ghost use Rattle.io_bench.specs.Asks.{AllFit, CameTo, Steps, left_behind};
@@ -43,7 +43,7 @@ pub fn bounds_the_writes_of_a_line_write<W: Write + Drop, const S: usize>(
 ) -> Result<usize>
     ensures bound { CostsAtMost W.Write (line_inner w.old.value) 3 (line_inner w.new.value) }
     ensures all { TakesAll W.Write (line_inner w.old.value) → TakesAll W.Write (line_inner w.new.value) × IsOk result }
-    ensures moves { Moves (in_lines W.told w.old.value) (taken result x.now) (write_mishap result x.now)
+    ensures moves { Moves (in_lines W.told w.old.value) (accepted_of result x.now) (write_mishap result x.now)
         (in_lines W.told w.new.value) }
 {
     w.write(x)

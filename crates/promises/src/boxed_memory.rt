@@ -5,7 +5,7 @@ ghost use Rattle.std.specs.VecDeque.{deque_capacity, deque_len};
 ghost use Rattle.no_std_io2.specs.inner.InMemory.{AppendsWhole};
 ghost use Rattle.no_std_io2.specs.inner.Cursor.{PutsFitting, PutsWhole, cursor_left};
 ghost use Rattle.no_std_io2.specs.Cursor.{cursor_inner, cursor_position};
-ghost use Rattle.no_std_io2.specs.Takes.{gave};
+ghost use Rattle.no_std_io2.specs.Takes.{gave_front};
 
 use no_std_io2::io::{AsSlice, Cursor, Read, Result, Write};
 use std::alloc::Allocator;
@@ -82,13 +82,13 @@ fn gives_the_front_of_a_queue<A: Allocator>(
     q: &mut Box<VecDeque<u8, A>>,
     buf: &mut [u8],
 ) -> Result<usize>
-    ensures { IsOkAnd (gave result buf.new) (λ x. q.old.value.items ≡ x ++ q.new.value.items) }
+    ensures { IsOkAnd (gave_front result buf.new) (λ x. q.old.value.items ≡ x ++ q.new.value.items) }
 {
     q.read(buf)
 }
 
 fn gives_what_fits_of_a_slice<'a>(s: &mut Box<&'a [u8]>, buf: &mut [u8]) -> Result<usize>
-    ensures { (gave result buf.new ≡ Ok (take (length buf.new) s.old.value.now))
+    ensures { (gave_front result buf.new ≡ Ok (take (length buf.new) s.old.value.now))
         × (s.new.value.now ≡ drop (length buf.new) s.old.value.now) }
 {
     s.read(buf)
@@ -98,7 +98,7 @@ fn gives_what_fits_of_a_cursor<T: AsSlice<u8>>(
     c: &mut Box<Cursor<T>>,
     buf: &mut [u8],
 ) -> Result<usize>
-    ensures { (gave result buf.new ≡ Ok (take (length buf.new) (cursor_left T.slice c.old.value)))
+    ensures { (gave_front result buf.new ≡ Ok (take (length buf.new) (cursor_left T.slice c.old.value)))
         × (cursor_left T.slice c.new.value ≡ drop (length buf.new) (cursor_left T.slice c.old.value)) }
 {
     c.read(buf)

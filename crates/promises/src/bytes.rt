@@ -3,7 +3,7 @@ ghost use Rattle.std.specs.Prelude.{◌≡◌, List, [], ℕ, ◌++◌, IfErr, O
 ghost use Rattle.no_std_io2.specs.inner.Write.{AllCalls};
 ghost use Rattle.no_std_io2.specs.Calls.{ByCalls, Flushed, Wrote};
 ghost use Rattle.no_std_io2.specs.Moves.{IsFront, Moves};
-ghost use Rattle.no_std_io2.specs.Write.{taken, write_mishap};
+ghost use Rattle.no_std_io2.specs.Write.{accepted_of, write_mishap};
 ghost use Rattle.no_std_io2.specs.inner.Writers.{CallOf};
 ghost use Rattle.io_bench.specs.Tally.{tally_inner};
 ghost use Rattle.promises.specs.Promises.{EndsIn, bytes_in, in_tower};
@@ -14,7 +14,7 @@ use no_std_io2::io::{BufWriter, LineWriter, Result, Write};
 /// A `write` adds exactly the bytes that its result reports, after all accepted bytes, and an error adds none. This
 /// holds for every writer, so for every tower of buffers over every device. The result is that of one call.
 pub fn keeps_every_byte<W: Write>(w: &mut W, x: &[u8]) -> Result<usize>
-    ensures bytes { bytes_in (W.told w.new) ≡ bytes_in (W.told w.old) ++ taken result x.now }
+    ensures bytes { bytes_in (W.told w.new) ≡ bytes_in (W.told w.old) ++ accepted_of result x.now }
     ensures call { CallOf W.Write w.old (Wrote x.now result) w.new }
 {
     w.write(x)
@@ -55,7 +55,7 @@ pub fn keeps_every_byte_in_a_tower<W: Write + Drop, const S: usize, const T: usi
     w: &mut Box<LineWriter<BufWriter<Tally<W>, S>, T>>,
     x: &[u8],
 ) -> Result<usize>
-    ensures { Moves (in_tower (λ t. W.told (tally_inner t)) w.old.value) (taken result x.now) (write_mishap result x.now)
+    ensures { Moves (in_tower (λ t. W.told (tally_inner t)) w.old.value) (accepted_of result x.now) (write_mishap result x.now)
         (in_tower (λ t. W.told (tally_inner t)) w.new.value) }
 {
     w.write(x)

@@ -4,11 +4,11 @@ ghost use Rattle.no_std_io2.specs.BufWriter.{BufWriterFits, writer_buffer, write
 ghost use Rattle.no_std_io2.specs.Errors.{IsOutOfMemory};
 ghost use Rattle.no_std_io2.specs.Calls.{ByCalls};
 ghost use Rattle.no_std_io2.specs.Moves.{Moves};
-ghost use Rattle.no_std_io2.specs.Write.{taken, write_mishap};
+ghost use Rattle.no_std_io2.specs.Write.{accepted_of, write_mishap};
 ghost use Rattle.no_std_io2.specs.inner.Writers.{CallOf};
 ghost use Rattle.no_std_io2.specs.Writers.{TakesAll};
 ghost use Rattle.no_std_io2.specs.inner.Meter.{CostsAtMost};
-ghost use Rattle.io_bench.specs.Closed.{flushes, given_bytes};
+ghost use Rattle.io_bench.specs.Closed.{flush_count, given_bytes};
 ghost use Rattle.promises.specs.Promises.{EndsInFlush, EndsIn, HasNoFlush};
 
 use io_bench::{Op, Reply, run_writes};
@@ -21,7 +21,7 @@ pub fn stops_at_a_fault_of_a_write<W: Write + Drop, const S: usize>(
     x: &[u8],
 ) -> Result<usize>
     ensures calls { ByCalls (CallOf W.Write) (writer_inner w.old) (λ C. HasNoFlush C × IfErr result (EndsIn C)) (writer_inner w.new) }
-    ensures moves { Moves (writer_told W.told w.old) (taken result x.now) (write_mishap result x.now) (writer_told W.told w.new) }
+    ensures moves { Moves (writer_told W.told w.old) (accepted_of result x.now) (write_mishap result x.now) (writer_told W.told w.new) }
 {
     w.write(x)
 }
@@ -63,7 +63,7 @@ pub fn bounds_the_writes_of_a_run<W: Write + Drop, const S: usize>(
     requires fits { BufWriterFits W.row S }
     ensures bytes { IfOk result (λ t. Moves (W.told device) (given_bytes ops.now) [] (W.told t)) }
     ensures bound { IfOk result (λ t. CostsAtMost W.Write device
-        (2 * (length (given_bytes ops.now) / (S + 1)) + flushes ops.now + 1) t) }
+        (2 * (length (given_bytes ops.now) / (S + 1)) + flush_count ops.now + 1) t) }
     ensures fails { IfErr result (λ e. IsOutOfMemory e × (vec_capacity replies.old < vec_len replies.old + length ops.now)) }
 {
     let mut buffered = BufWriter::<W, S>::new(device);

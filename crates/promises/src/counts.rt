@@ -7,7 +7,7 @@ ghost use Rattle.no_std_io2.specs.BufWriter.{writer_buffer, writer_inner};
 ghost use Rattle.no_std_io2.specs.inner.BufWriter.{writing_calls};
 ghost use Rattle.no_std_io2.specs.inner.Meter.{Costs};
 ghost use Rattle.no_std_io2.specs.Meter.{IsMeter, FillsRoom, IsReadMeter};
-ghost use Rattle.no_std_io2.specs.Takes.{answered, gave, tells, bytes_left};
+ghost use Rattle.no_std_io2.specs.Takes.{answered, gave_front, tells, bytes_left};
 ghost use Rattle.no_std_io2.specs.inner.Take.{limit_inner};
 ghost use Rattle.no_std_io2.specs.inner.Charges.{calls_for};
 ghost use Rattle.no_std_io2.specs.Takes.{Takes};
@@ -68,7 +68,7 @@ fn counts_a_read<R: Read, const S: usize>(
     r: &mut Box<BufReader<Tally<R>, S>>,
     buf: &mut [u8],
 ) -> Result<usize>
-    ensures takes { Takes (in_reader (λ t. tells R.Read (tally_inner t)) r.old.value) (answered (gave result buf.new))
+    ensures takes { Takes (in_reader (λ t. tells R.Read (tally_inner t)) r.old.value) (answered (gave_front result buf.new))
         (in_reader (λ t. tells R.Read (tally_inner t)) r.new.value) }
     ensures reads { tally_reads (reader_inner r.new.value) ≡ tally_reads (reader_inner r.old.value)
         + (if nat_lt 0 (length (reader_held r.old.value)) then 0 else 1) }

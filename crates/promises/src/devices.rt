@@ -2,7 +2,7 @@
 ghost use Rattle.std.specs.Prelude.{ℕ, List, [], ◌∷◌, ◌≡◌, ◌<◌, ◌≤◌, ◌++◌, None, IsErr, Ok, OnOk, Some, drop, length, map};
 ghost use Rattle.io_bench.specs.Appended.{appended};
 ghost use Rattle.no_std_io2.specs.BufWriter.{writer_inner};
-ghost use Rattle.no_std_io2.specs.Takes.{answered, gave, tells};
+ghost use Rattle.no_std_io2.specs.Takes.{answered, gave_front, tells};
 ghost use Rattle.no_std_io2.specs.Meter.{FillsRoom};
 ghost use Rattle.no_std_io2.specs.inner.InMemory.{sink_taken};
 ghost use Rattle.no_std_io2.specs.Takes.{Takes, to_come};
@@ -46,9 +46,9 @@ fn feeds_its_script(f: &mut Box<Feed>, buf: &mut [u8]) -> Result<usize>
       turns = length
           (feed_left f.old.value);
     })
-        (answered (gave result buf.new))
+        (answered (gave_front result buf.new))
         (record { events = Some (all_to_come (feed_left f.new.value)); store = None; turns = length (feed_left f.new.value) }) }
-    ensures answer { gave result buf.new ≡ feed_answer f.old.value (length buf.new) }
+    ensures answer { gave_front result buf.new ≡ feed_answer f.old.value (length buf.new) }
 {
     f.read(buf)
 }

@@ -4,7 +4,7 @@ ghost use Rattle.no_std_io2.specs.inner.Lines.{IsLineState};
 ghost use Rattle.no_std_io2.specs.inner.Pieces.{Lacks};
 ghost use Rattle.no_std_io2.specs.Pieces.{newline};
 ghost use Rattle.no_std_io2.specs.Moves.{Moves, MovesFront};
-ghost use Rattle.no_std_io2.specs.Write.{taken, write_mishap};
+ghost use Rattle.no_std_io2.specs.Write.{accepted_of, write_mishap};
 ghost use Rattle.no_std_io2.specs.LineWriter.{line_buffer};
 ghost use Rattle.promises.specs.Promises.{in_lines, in_tower};
 
@@ -51,7 +51,7 @@ pub fn keeps_a_line_state<W: Write + Drop, const S: usize>(
     x: &[u8],
 ) -> Result<usize>
     ensures line { IsLineState (line_buffer w.new) }
-    ensures moves { Moves (in_lines W.told w.old) (taken result x.now) (write_mishap result x.now) (in_lines W.told w.new) }
+    ensures moves { Moves (in_lines W.told w.old) (accepted_of result x.now) (write_mishap result x.now) (in_lines W.told w.new) }
 {
     let result = w.write(x);
     let _held = w.buffer();

@@ -2,12 +2,12 @@
 ghost use Rattle.std.specs.Prelude.{List, ℕ, ◌≡◌, ◌-◌, ◌++◌, drop, length, min, IsOkAnd, None, OnOk, Some};
 ghost use Rattle.std.specs.Box.{boxed_slice_items};
 ghost use Rattle.no_std_io2.specs.Cursor.{cursor_inner, cursor_out, cursor_position};
-ghost use Rattle.no_std_io2.specs.Events.{Event, bytes, events_of};
+ghost use Rattle.no_std_io2.specs.Events.{Event, event_bytes, events_of};
 ghost use Rattle.no_std_io2.specs.inner.Events.{cut};
-ghost use Rattle.no_std_io2.specs.inner.Pieces.{ArePieces, pieces};
-ghost use Rattle.no_std_io2.specs.Takes.{answered, gave, tells};
+ghost use Rattle.no_std_io2.specs.inner.Pieces.{ArePieces, pieces_of};
+ghost use Rattle.no_std_io2.specs.Takes.{answered, gave_front, tells};
 ghost use Rattle.no_std_io2.specs.Moves.{Moves, told_out};
-ghost use Rattle.no_std_io2.specs.Write.{taken, write_mishap};
+ghost use Rattle.no_std_io2.specs.Write.{accepted_of, write_mishap};
 ghost use Rattle.no_std_io2.specs.Takes.{Takes, to_come};
 ghost use Rattle.promises.specs.Promises.{in_cursor};
 
@@ -26,7 +26,7 @@ fn joins_readers<R: Read + Drop, T: AsSlice<u8> + Drop, A: Allocator>(
     buf: &mut Vec<u8>,
 ) -> Result<usize>
     ensures { (E : List Event) → to_come (tells R.Read r) ≡ Some E → OnOk result (buf.new.items
-        ≡ buf.old.items ++ (bytes (cut limit E) ++ q.items ++ drop (cursor_position c) (T.slice (cursor_inner c)))) }
+        ≡ buf.old.items ++ (event_bytes (cut limit E) ++ q.items ++ drop (cursor_position c) (T.slice (cursor_inner c)))) }
 {
     r.take(limit).chain(q).chain(c).read_to_end(buf)
 }
@@ -34,7 +34,7 @@ fn joins_readers<R: Read + Drop, T: AsSlice<u8> + Drop, A: Allocator>(
 // A read of a slice takes its first bytes.
 fn takes_the_front_of_a_slice<'a>(s: &mut &'a [u8], buf: &mut [u8]) -> Result<usize>
     ensures { Takes (record { events = Some (events_of s.old.now); store = None; turns = length s.old.now })
-        (answered (gave result buf.new))
+        (answered (gave_front result buf.new))
         (record { events = Some (events_of s.new.now); store = None; turns = length s.new.now }) }
 {
     s.read(buf)
@@ -46,21 +46,21 @@ fn takes_the_front_of_a_queue<A: Allocator>(
     buf: &mut [u8],
 ) -> Result<usize>
     ensures { Takes (record { events = Some (events_of q.old.items); store = None; turns = length q.old.items })
-        (answered (gave result buf.new))
+        (answered (gave_front result buf.new))
         (record { events = Some (events_of q.new.items); store = None; turns = length q.new.items }) }
 {
     q.read(buf)
 }
 
 fn takes_the_front_of_a_cursor<T: AsSlice<u8>>(c: &mut Cursor<T>, buf: &mut [u8]) -> Result<usize>
-    ensures { Takes (in_cursor T.slice c.old) (answered (gave result buf.new)) (in_cursor T.slice c.new) }
+    ensures { Takes (in_cursor T.slice c.old) (answered (gave_front result buf.new)) (in_cursor T.slice c.new) }
 {
     c.read(buf)
 }
 
 // What is written to a queue is out.
 fn appends_to_a_queue<A: Allocator>(q: &mut VecDeque<u8, A>, x: &[u8]) -> Result<usize>
-    ensures { Moves (told_out q.old.items) (taken result x.now) (write_mishap result x.now) (told_out q.new.items) }
+    ensures { Moves (told_out q.old.items) (accepted_of result x.now) (write_mishap result x.now) (told_out q.new.items) }
 {
     q.write(x)
 }
@@ -103,6 +103,6 @@ fn writes_over_cursors<'a, A: Allocator, const N: usize>(
 // The pieces of some bytes, joined, are the bytes; none is empty; each except possibly the last ends in the delimiter,
 // which is nowhere else. Exactly one list has these properties.
 fn has_one_list_of_pieces()
-    ensures hold { (d : ℕ) (bs : List ℕ) → ArePieces d bs (pieces d bs) }
-    ensures determine { (d : ℕ) (bs : List ℕ) (ps : List (List ℕ)) → ArePieces d bs ps → ps ≡ pieces d bs }
+    ensures hold { (d : ℕ) (bs : List ℕ) → ArePieces d bs (pieces_of d bs) }
+    ensures determine { (d : ℕ) (bs : List ℕ) (ps : List (List ℕ)) → ArePieces d bs ps → ps ≡ pieces_of d bs }
 {}

@@ -4,15 +4,16 @@ ghost use Rattle.std.specs.Prelude.{string_bytes};
 ghost use Rattle.no_std_io2.specs.BufReader.{reader_inner, reader_behind, reader_held, reader_store, KeepsBuffer};
 ghost use Rattle.no_std_io2.specs.inner.BufReader.{TakesHeld, TakesHeldLine, ReaderIsSound};
 ghost use Rattle.no_std_io2.specs.inner.BufferSeeks.{TakesOver};
-ghost use Rattle.no_std_io2.specs.Takes.{tells, answered, gave, IsAtEnd, KeepsContent, Takes, to_come};
+ghost use Rattle.no_std_io2.specs.Takes.{tells, answered, gave_front, IsAtEnd, KeepsContent, Takes, to_come};
 ghost use Rattle.no_std_io2.specs.inner.Buffer.{IsInBuffer, IsSuffix};
 ghost use Rattle.no_std_io2.specs.inner.Events.{BeginsWith};
-ghost use Rattle.no_std_io2.specs.Events.{Event, bytes, Store};
+ghost use Rattle.no_std_io2.specs.Events.{Event, event_bytes, Store};
 ghost use Rattle.no_std_io2.specs.inner.Pieces.{EndsPiece};
-ghost use Rattle.no_std_io2.specs.Pieces.{PieceEnds, newline};
+ghost use Rattle.no_std_io2.specs.Pieces.{newline};
 ghost use Rattle.no_std_io2.specs.Seek.{Seeks};
 ghost use Rattle.io_bench.specs.Tally.{tally_inner};
 ghost use Rattle.promises.specs.Promises.{in_chain, in_reader, in_take};
+ghost use Rattle.no_std_io2.specs.inner.Pieces.{PieceEnds};
 
 use io_bench::Tally;
 use no_std_io2::io::{BufRead, BufReader, Chain, Read, Result, Seek, SeekFrom, Take};
@@ -22,7 +23,7 @@ use std::alloc::{Allocator, Global};
 /// is gone. It gives no byte only at the end, or into an empty buffer.
 pub fn gives_what_comes_next<R: Read>(r: &mut R, buf: &mut [u8]) -> Result<usize>
     ensures { (E : List Event) → to_come (tells R.Read r.old) ≡ Some E
-        → (after : List Event) × (to_come (tells R.Read r.new) ≡ Some after) × (E ≡ answered (gave result buf.new) ++ after)
+        → (after : List Event) × (to_come (tells R.Read r.new) ≡ Some after) × (E ≡ answered (gave_front result buf.new) ++ after)
         × (result ≡ Ok 0 → 0 < length buf.new → E ≡ []) }
 {
     r.read(buf)
@@ -36,7 +37,7 @@ pub fn gives_what_comes_next_in_a_tower<R: Read, U: Read, const S: usize>(
     buf: &mut [u8],
 ) -> Result<usize>
     ensures next { Takes (in_reader (in_chain (in_take (λ t. tells R.Read (tally_inner t))) (tells U.Read)) tower.old.value)
-        (answered (gave result buf.new))
+        (answered (gave_front result buf.new))
         (in_reader (in_chain (in_take (λ t. tells R.Read (tally_inner t))) (tells U.Read)) tower.new.value) }
     ensures end { result ≡ Ok 0 → 0 < length buf.new
         → IsAtEnd (in_reader (in_chain (in_take (λ t. tells R.Read (tally_inner t))) (tells U.Read)) tower.new.value) }
@@ -48,7 +49,7 @@ pub fn gives_what_comes_next_in_a_tower<R: Read, U: Read, const S: usize>(
 /// error it has appended what it took, and the delimiter is not among these bytes.
 pub fn gives_the_next_piece<R: BufRead>(r: &mut R, delim: u8, buf: &mut Vec<u8>) -> Result<usize>
     ensures { (taken : List Event) × Takes (tells ⟦<R as Read>⟧ r.old) taken (tells ⟦<R as Read>⟧ r.new)
-        × (buf.new.items ≡ buf.old.items ++ bytes taken)
+        × (buf.new.items ≡ buf.old.items ++ event_bytes taken)
         × PieceEnds (λ n. vec_capacity buf.old < vec_len buf.old + n) delim (tells ⟦<R as Read>⟧ r.old) taken result }
 {
     r.read_until(delim, buf)

@@ -1,6 +1,6 @@
 // What a caller of `copy` can prove of a writer with no mishap to come, and of a copy through no buffer.
 ghost use Rattle.std.specs.Prelude.{◌≡◌, ◌<◌, ◌^◌, ◌++◌, [], Some, IsOkAnd, List};
-ghost use Rattle.no_std_io2.specs.Events.{Event, bytes, HasNoFault};
+ghost use Rattle.no_std_io2.specs.Events.{Event, event_bytes, HasNoFault};
 ghost use Rattle.no_std_io2.specs.Takes.{to_come};
 ghost use Rattle.no_std_io2.specs.Takes.{tells};
 ghost use Rattle.no_std_io2.specs.inner.Copy.{counted};
@@ -12,9 +12,9 @@ fn copy_and_flush<R: Read, W: Write, const S: usize>(reader: &mut R, writer: &mu
     requires { S < 2 ^ 63 }
     ensures { 0 < S → (E : List Event) → to_come (tells R.Read reader.old) ≡ Some E → HasNoFault E
         → (W.told writer.old).mishaps ≡ Some []
-        → IsOkAnd result (λ n. n ≡ counted (bytes E)) × (to_come (tells R.Read reader.new) ≡ Some [])
+        → IsOkAnd result (λ n. n ≡ counted (event_bytes E)) × (to_come (tells R.Read reader.new) ≡ Some [])
         × ((W.told writer.new).mishaps ≡ Some []) × ((W.told writer.new).held ≡ [])
-        × ((W.told writer.new).out ≡ (W.told writer.old).out ++ (W.told writer.old).held ++ bytes E) }
+        × ((W.told writer.new).out ≡ (W.told writer.old).out ++ (W.told writer.old).held ++ event_bytes E) }
 {
     let n = copy::<R, W, S>(reader, writer)?;
     writer.flush()?;

@@ -5,10 +5,10 @@ ghost use Rattle.std.specs.Prelude.{Some};
 ghost use Rattle.no_std_io2.specs.Takes.{tells};
 ghost use Rattle.no_std_io2.specs.Calls.{Sought, Wrote};
 ghost use Rattle.no_std_io2.specs.Moves.{Moves};
-ghost use Rattle.no_std_io2.specs.Write.{taken, write_mishap};
+ghost use Rattle.no_std_io2.specs.Write.{accepted_of, write_mishap};
 ghost use Rattle.system_streams.specs.Patient.{PatientMay, PatientSeeks, patient_told};
 ghost use Rattle.promises.specs.Patience.{Fills};
-ghost use Rattle.system_streams.specs.ToStd.{accepted, bytes_to_come, content_of, position_of, std_inner};
+ghost use Rattle.system_streams.specs.ToStd.{accepted_so_far, bytes_to_come, content_of, position_of, std_inner};
 
 use no_std_io2::io::{Read, Result, Seek, SeekFrom, Write};
 use std::io;
@@ -16,7 +16,7 @@ use system_streams::{Patient, SystemRead, SystemSeek, SystemWrite, ToStd};
 
 // A write makes one write of the system's, and the bytes that this reports as taken are out.
 fn writes_to_the_system<D: SystemWrite>(w: &mut Box<Patient<D>>, x: &[u8]) -> Result<usize>
-    ensures moves { Moves (patient_told w.old.value) (taken result x.now) (write_mishap result x.now) (patient_told w.new.value) }
+    ensures moves { Moves (patient_told w.old.value) (accepted_of result x.now) (write_mishap result x.now) (patient_told w.new.value) }
     ensures call { PatientMay ⟦<D as SystemWrite>⟧ w.old.value (Wrote x.now result) w.new.value }
 {
     w.write(x)
@@ -47,7 +47,8 @@ fn gives_bytes_to_the_system<R: Read>(r: &mut ToStd<R>, buf: &mut [u8]) -> io::R
 
 // and puts bytes behind those that the writer has accepted.
 fn takes_bytes_from_the_system<W: Write>(w: &mut ToStd<W>, x: &[u8]) -> io::Result<usize>
-    ensures { WriteAppends (Some (accepted (W.told (std_inner w.old)))) (Some (accepted (W.told (std_inner w.new)))) result x.now }
+    ensures { WriteAppends (Some (accepted_so_far (W.told (std_inner w.old)))) (Some (accepted_so_far (W.told (std_inner w.new)))) result
+        x.now }
 {
     io::Write::write(w, x)
 }

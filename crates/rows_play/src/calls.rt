@@ -1,9 +1,9 @@
 // The call of a row, the calls that several kinds of streams have, and what a device's journal shows
 // after them.
-use super::fault::{Fault, Made};
 use super::journal::Journal;
 use super::line::{Line, cut, unescape};
 use super::script::parse_answers;
+use super::unplayed::{Played, Unplayed};
 use no_std_io2::io::{Seek, SeekFrom, Write};
 use std::alloc::Global;
 use std::cell::RefCell;
@@ -22,7 +22,7 @@ pub struct Call<'a> {
 
 impl<'a> Call<'a> {
     /// Reads a call. It fails if an escape is bad, or if an allocation fails.
-    pub fn parse(alloc: Global, call: &'a str) -> Made<Call<'a>> {
+    pub fn parse(alloc: Global, call: &'a str) -> Played<Call<'a>> {
         let (word, rest) = cut(call, " ");
         Ok(Call {
             word,
@@ -36,7 +36,7 @@ impl<'a> Call<'a> {
         match self.rest.parse::<usize>() {
             Ok(n) => n,
             Err(_) => {
-                line.tell(Fault::NoNumber);
+                line.tell(Unplayed::NoNumber);
                 0
             }
         }
@@ -51,7 +51,7 @@ pub fn make_call<W: Write>(w: &mut W, call: &Call<'_>, line: &mut Line) {
         "flush" => line.done(&w.flush()),
         "write_rest" => call_write_rest(w, &call.bytes, line),
         "print" => call_print(w, &call.bytes, line),
-        _ => line.tell(Fault::NoCall),
+        _ => line.tell(Unplayed::NoCall),
     }
 }
 
@@ -66,7 +66,7 @@ fn call_write_rest<W: Write>(w: &mut W, bytes: &[u8], line: &mut Line) {
 fn call_print<W: Write>(w: &mut W, bytes: &[u8], line: &mut Line) {
     match std::str::from_utf8(bytes) {
         Ok(text) => line.done(&write!(w, "{text}")),
-        Err(_) => line.tell(Fault::NoWord),
+        Err(_) => line.tell(Unplayed::NoWord),
     }
 }
 
@@ -89,14 +89,14 @@ pub fn make_seek<T: Seek>(s: &mut T, call: &Call<'_>, line: &mut Line) -> bool {
     match call.word {
         "seek" => match target(call.rest) {
             Some(pos) => line.position(&s.seek(pos)),
-            None => line.tell(Fault::NoWord),
+            None => line.tell(Unplayed::NoWord),
         },
         "stream_position" => line.position(&s.stream_position()),
         "rewind" => line.done(&s.rewind()),
         "stream_len" => line.position(&s.stream_len()),
         "seek_relative" => match call.rest.parse::<i64>() {
             Ok(offset) => line.done(&s.seek_relative(offset)),
-            Err(_) => line.tell(Fault::NoNumber),
+            Err(_) => line.tell(Unplayed::NoNumber),
         },
         _ => return false,
     }
@@ -105,11 +105,11 @@ pub fn make_seek<T: Seek>(s: &mut T, call: &Call<'_>, line: &mut Line) -> bool {
 
 /// Makes a journal whose device has these results. It fails if a word is no result, or if an
 /// allocation fails.
-pub fn new_journal(alloc: Global, words: &str) -> Made<Rc<RefCell<Journal>>> {
+pub fn new_journal(alloc: Global, words: &str) -> Played<Rc<RefCell<Journal>>> {
     let answers = parse_answers(alloc, words)?;
     match Rc::new(alloc, RefCell::new(Journal::new(alloc, answers))) {
         Ok(journal) => Ok(journal),
-        Err(_) => Err(Fault::Memory),
+        Err(_) => Err(Unplayed::Memory),
     }
 }
 
@@ -118,7 +118,7 @@ pub fn show_out(journal: &RefCell<Journal>, line: &mut Line) {
     line.column();
     match journal.try_borrow() {
         Ok(journal) => journal.show_out(line),
-        Err(_) => line.tell(Fault::NotReady),
+        Err(_) => line.tell(Unplayed::NotReady),
     }
 }
 
@@ -127,15 +127,15 @@ pub fn show_calls(journal: &RefCell<Journal>, line: &mut Line) {
     line.column();
     match journal.try_borrow_mut() {
         Ok(mut journal) => journal.show_calls(line),
-        Err(_) => line.tell(Fault::NotReady),
+        Err(_) => line.tell(Unplayed::NotReady),
     }
 }
 
 /// Sets the results of the device from here on.
-pub fn expect(alloc: Global, journal: &RefCell<Journal>, words: &str) -> Made<()> {
+pub fn expect(alloc: Global, journal: &RefCell<Journal>, words: &str) -> Played<()> {
     let answers = parse_answers(alloc, words)?;
     let Ok(mut journal) = journal.try_borrow_mut() else {
-        return Err(Fault::NotReady);
+        return Err(Unplayed::NotReady);
     };
     journal.expect(answers);
     Ok(())

@@ -1,5 +1,5 @@
 // The counts of the rows that were played.
-use super::fault::Fault;
+use super::unplayed::Unplayed;
 use std::io;
 
 /// The number of rows that were played, how they came out, and the place in the file.
@@ -71,11 +71,11 @@ pub fn lines_of(text: &str) -> u64 {
 /// the run.
 pub fn tell_fault<R: Print>(
     rt: &R,
-    fault: Fault,
+    fault: Unplayed,
     line: &str,
     count: &mut Count<'_>,
 ) -> io::Result<()> {
-    if matches!(fault, Fault::Memory) {
+    if matches!(fault, Unplayed::Memory) {
         return Err(io::Error::from(io::ErrorKind::OutOfMemory));
     }
     count.malformed = count.malformed.wrapping_add(1);

@@ -1,8 +1,8 @@
 // Files of rows, played as a program's arguments name them.
 use super::count::{Count, lines_of, tell_fault};
-use super::fault::Fault;
 use super::line::cut;
 use super::player::{Streams, play_streams};
+use super::unplayed::Unplayed;
 use std::alloc::Global;
 use std::process::ExitCode;
 use std::{env, fs, io};
@@ -22,7 +22,7 @@ fn play_table<S: Streams, R: Print>(
         play_streams::<S, R>(rt, alloc, name, table, count)?;
         count.line = line;
         if count.groups == groups {
-            tell_fault(rt, Fault::NoRow, name, count)?;
+            tell_fault(rt, Unplayed::NoRow, name, count)?;
         }
     }
     Ok(())
@@ -43,7 +43,7 @@ fn play_text<S: Streams, R: Print>(
         count.line = next;
     }
     if count.rows == 0 {
-        return tell_fault(rt, Fault::NoRow, "", count);
+        return tell_fault(rt, Unplayed::NoRow, "", count);
     }
     Ok(())
 }

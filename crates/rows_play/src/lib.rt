@@ -24,7 +24,6 @@
 
 pub mod calls;
 pub mod count;
-pub mod fault;
 pub mod files;
 pub mod journal;
 pub mod kinds;
@@ -35,3 +34,4 @@ pub mod player;
 pub mod reads;
 pub mod recorder;
 pub mod script;
+pub mod unplayed;

@@ -2,8 +2,8 @@
 //
 // A run is a list of bytes of which each follows the one before it: dots, or the letters from `a` to `w`, over and
 // over. A long run is printed as `\*300a`: 300 bytes from `a` on.
-use super::fault::{Fault, Made};
 use super::kinds::name_of_kind;
+use super::unplayed::{Played, Unplayed};
 use no_std_io2::io::{Error, Result};
 use std::alloc::{AllocError, Global};
 
@@ -55,8 +55,8 @@ impl Line {
     }
 
     // Prints why a row cannot be played, in place of a result.
-    pub fn tell(&mut self, fault: Fault) {
-        if matches!(fault, Fault::Memory) {
+    pub fn tell(&mut self, fault: Unplayed) {
+        if matches!(fault, Unplayed::Memory) {
             self.cut();
             return;
         }
@@ -292,12 +292,12 @@ fn push_run(bytes: &mut Vec<u8>, run: Run) -> std::result::Result<(), AllocError
 }
 
 // Returns the bytes that a printed text stands for.
-pub fn unescape(alloc: Global, text: &str) -> Made<Vec<u8>> {
+pub fn unescape(alloc: Global, text: &str) -> Played<Vec<u8>> {
     let mut bytes = Vec::new(alloc);
     let mut escape = Escape::None;
     'bytes: for b in text.as_bytes() {
         let Some((now, run)) = step(escape, *b) else {
-            return Err(Fault::NoEscape);
+            return Err(Unplayed::NoEscape);
         };
         escape = now;
         if let Some(run) = run {
@@ -306,7 +306,7 @@ pub fn unescape(alloc: Global, text: &str) -> Made<Vec<u8>> {
     }
     match escape {
         Escape::None => Ok(bytes),
-        _ => Err(Fault::NoEscape),
+        _ => Err(Unplayed::NoEscape),
     }
 }
 

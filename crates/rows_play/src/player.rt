@@ -2,8 +2,8 @@
 // the player.
 use super::calls::Call;
 use super::count::{Count, lines_of, tell_fault};
-use super::fault::{Fault, Made};
 use super::line::{Line, cut};
+use super::unplayed::{Played, Unplayed};
 use std::alloc::Global;
 use std::io;
 
@@ -17,7 +17,7 @@ pub trait Stream {
 pub trait Streams {
     /// Makes the stream of this name, over a device with the results after `new`, and lends it to the player. It fails
     /// if there is no such stream.
-    fn lend(name: &str, words: &str, player: &mut Player<'_, '_>) -> Made<()>;
+    fn lend(name: &str, words: &str, player: &mut Player<'_, '_>) -> Played<()>;
 }
 
 /// A group of rows that waits for its stream.
@@ -33,7 +33,7 @@ pub struct Player<'r, 'a> {
 impl<'r, 'a> Player<'r, 'a> {
     /// Plays the rows on a stream. It stops at a row that cannot be played. The result is `Ok`, so that a stream's
     /// maker can end with this call.
-    pub fn play<S: Stream>(&mut self, stream: &mut S) -> Made<()> {
+    pub fn play<S: Stream>(&mut self, stream: &mut S) -> Played<()> {
         self.count.groups = self.count.groups.wrapping_add(1);
         'rows: for row in self.rows.lines() {
             self.count.line = self.count.line.wrapping_add(1);
@@ -74,7 +74,7 @@ impl<'r, 'a> Player<'r, 'a> {
 // Makes the call of a row. If there is no such call, the line says why.
 fn play_row<S: Stream>(alloc: Global, stream: &mut S, row: &str, line: &mut Line) {
     let Some((call, _)) = row.split_once(" | ") else {
-        line.tell(Fault::NoRow);
+        line.tell(Unplayed::NoRow);
         return;
     };
     line.word(call);
@@ -122,7 +122,7 @@ fn play_rows<S: Streams, R: Print>(
     *count = player.count;
     match lent {
         Err(fault) => tell_fault(rt, fault, words, count),
-        Ok(()) if player.differing.is_cut() => tell_fault(rt, Fault::Memory, words, count),
+        Ok(()) if player.differing.is_cut() => tell_fault(rt, Unplayed::Memory, words, count),
         Ok(()) => print!(rt; "{}", player.differing.as_str()),
     }
 }

@@ -1,8 +1,8 @@
 // The calls of rows on any reader. The columns of a call are its result and the bytes that it gave, with dots for bytes
 // that were not written.
 use super::calls::{Call, target};
-use super::fault::Fault;
 use super::line::{Line, cut};
+use super::unplayed::Unplayed;
 use no_std_io2::io::{BufRead, Read, Result, Seek, read_exact_at, skip};
 use std::alloc::Global;
 
@@ -132,7 +132,7 @@ pub fn make_read<R: Read>(alloc: Global, r: &mut R, call: &Call<'_>, line: &mut 
             let mut limited = r.by_ref().take(call.number(line) as u64);
             call_read_to_end(&mut limited, Vec::new(alloc), line);
         }
-        _ => line.tell(Fault::NoCall),
+        _ => line.tell(Unplayed::NoCall),
     }
 }
 
@@ -155,7 +155,7 @@ pub fn make_lend<R: BufRead>(alloc: Global, r: &mut R, call: &Call<'_>, line: &m
 pub fn make_read_at<R: Read + Seek>(alloc: Global, r: &mut R, call: &Call<'_>, line: &mut Line) {
     let (count, place) = cut(call.rest, " ");
     let (Ok(count), Some(at)) = (count.parse::<usize>(), target(place)) else {
-        line.tell(Fault::NoWord);
+        line.tell(Unplayed::NoWord);
         return;
     };
     let mut room = dots(alloc, count, line);

@@ -1,7 +1,7 @@
 // The results that a device is to return.
-use super::fault::{Fault, Made};
 use super::kinds::kind_of_name;
 use super::line::{cut, unescape};
+use super::unplayed::{Played, Unplayed};
 use no_std_io2::io::{Error, ErrorKind};
 use std::alloc::Global;
 
@@ -61,7 +61,7 @@ pub fn error_of(kind: ErrorKind, place: Option<usize>) -> Error {
 }
 
 // Returns the results that a line names, the last one first.
-pub fn parse_answers(alloc: Global, words: &str) -> Made<Vec<Answer>> {
+pub fn parse_answers(alloc: Global, words: &str) -> Played<Vec<Answer>> {
     let mut answers = Vec::new(alloc);
     if words.is_empty() {
         return Ok(answers);
@@ -73,7 +73,7 @@ pub fn parse_answers(alloc: Global, words: &str) -> Made<Vec<Answer>> {
     Ok(answers)
 }
 
-fn parse_answer(alloc: Global, words: &str) -> Made<Answer> {
+fn parse_answer(alloc: Global, words: &str) -> Played<Answer> {
     let (word, rest) = cut(words, " ");
     match word {
         "all" | "end" => Ok(Answer::Plain),
@@ -84,24 +84,24 @@ fn parse_answer(alloc: Global, words: &str) -> Made<Answer> {
         "take" | "at" => match rest.parse::<u64>() {
             Ok(n) if word == "at" => Ok(Answer::At(n)),
             Ok(n) => Ok(Answer::Take(n as usize)),
-            Err(_) => Err(Fault::NoNumber),
+            Err(_) => Err(Unplayed::NoNumber),
         },
         "fail" => parse_failure(rest),
-        _ => Err(Fault::NoWord),
+        _ => Err(Unplayed::NoWord),
     }
 }
 
-fn parse_failure(words: &str) -> Made<Answer> {
+fn parse_failure(words: &str) -> Played<Answer> {
     let (name, text) = cut(words, " ");
     let Some(kind) = kind_of_name(name) else {
-        return Err(Fault::NoWord);
+        return Err(Unplayed::NoWord);
     };
     if text.is_empty() {
         return Ok(Answer::Fail(kind, None));
     }
     match place_of(text) {
         Some(place) => Ok(Answer::Fail(kind, Some(place))),
-        None => Err(Fault::NoWord),
+        None => Err(Unplayed::NoWord),
     }
 }
 

@@ -1,11 +1,11 @@
 // The devices of a group, on one journal, and the columns of its rows.
 use crate::levels::Levels;
 use rows_play::calls::show_calls;
-use rows_play::fault::Made;
 use rows_play::journal::Journal;
 use rows_play::line::Line;
 use rows_play::noted::Noted;
 use rows_play::recorder::{ReaderName, Recorder};
+use rows_play::unplayed::Played;
 use std::alloc::Global;
 use std::cell::RefCell;
 use std::rc::Rc;
@@ -31,16 +31,16 @@ pub struct Devices<'j> {
 }
 
 impl<'j> Devices<'j> {
-    pub fn recorder(&self, name: ReaderName) -> Made<Recorder> {
+    pub fn recorder(&self, name: ReaderName) -> Played<Recorder> {
         Ok(Recorder::new(self.alloc, self.journal.clone()?, name))
     }
 
-    pub fn first(&self) -> Made<Recorder> {
+    pub fn first(&self) -> Played<Recorder> {
         self.recorder(ReaderName::Only)
     }
 
     // Makes a device that notes the name of each call.
-    pub fn noted(&self) -> Made<Noted<Recorder>> {
+    pub fn noted(&self) -> Played<Noted<Recorder>> {
         Ok(Noted::new(self.first()?, self.journal.clone()?))
     }
 

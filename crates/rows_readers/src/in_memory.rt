@@ -1,9 +1,9 @@
 // Rows of streams in memory.
 use crate::devices::Devices;
 use no_std_io2::io::Cursor;
-use rows_play::fault::{Fault, Made};
 use rows_play::line::{cut, cut_last, unescape};
 use rows_play::player::Player;
+use rows_play::unplayed::{Played, Unplayed};
 use std::alloc::Global;
 
 mod cursors;
@@ -20,7 +20,7 @@ pub fn has(name: &str) -> bool {
 }
 
 /// Makes a cursor on the text that a row's `new` says.
-pub fn new_text(alloc: Global, words: &str) -> Made<Cursor<Vec<u8>>> {
+pub fn new_text(alloc: Global, words: &str) -> Played<Cursor<Vec<u8>>> {
     Ok(Cursor::new(unescape(alloc, words)?))
 }
 
@@ -31,7 +31,7 @@ pub fn lend(
     words: &str,
     devices: &Devices<'_>,
     player: &mut Player<'_, '_>,
-) -> Made<()> {
+) -> Played<()> {
     match word {
         "cursor" => cursors::lend(name, words, player),
         "moved" => cursors::lend_moved(words, devices, player),
@@ -39,6 +39,6 @@ pub fn lend(
         "grown" => vectors::lend(name, words, player),
         "queue" => vectors::lend_queue(words, player),
         "room" => player.play(&mut room::Room { name }),
-        _ => Err(Fault::NoStream),
+        _ => Err(Unplayed::NoStream),
     }
 }

@@ -7,16 +7,16 @@ use crate::in_memory::new_text;
 use crate::streams::show_byte;
 use no_std_io2::io::{BufRead, Bytes, Lines, Read, Result, Split};
 use rows_play::calls::Call;
-use rows_play::fault::{Fault, Made};
 use rows_play::line::{Line, cut_last, unescape};
 use rows_play::player::{Player, Stream};
 use rows_play::recorder::ReaderName;
+use rows_play::unplayed::{Played, Unplayed};
 use std::alloc::Global;
 
 // Returns whether a row takes an item.
 fn is_next(call: &Call<'_>, line: &mut Line) -> bool {
     if call.word != "next" {
-        line.tell(Fault::NoCall);
+        line.tell(Unplayed::NoCall);
         return false;
     }
     true
@@ -41,7 +41,7 @@ fn play_bytes<T: Read + Drop>(
     tower: T,
     devices: &Devices<'_>,
     player: &mut Player<'_, '_>,
-) -> Made<()> {
+) -> Played<()> {
     player.play(&mut Singles {
         bytes: tower.bytes(),
         devices: *devices,
@@ -82,7 +82,7 @@ fn play_pieces<T: BufRead + Drop>(
     delim: u8,
     devices: &Devices<'_>,
     player: &mut Player<'_, '_>,
-) -> Made<()> {
+) -> Played<()> {
     player.play(&mut Pieces {
         pieces: tower.split(player.alloc, delim),
         devices: *devices,
@@ -112,14 +112,14 @@ fn play_lines<T: BufRead + Drop>(
     tower: T,
     devices: &Devices<'_>,
     player: &mut Player<'_, '_>,
-) -> Made<()> {
+) -> Played<()> {
     player.play(&mut TextLines {
         lines: tower.lines(player.alloc),
         devices: *devices,
     })
 }
 
-pub fn lend_bytes(tower: &str, devices: &Devices<'_>, player: &mut Player<'_, '_>) -> Made<()> {
+pub fn lend_bytes(tower: &str, devices: &Devices<'_>, player: &mut Player<'_, '_>) -> Played<()> {
     match tower {
         "Device" => play_bytes(devices.first()?, devices, player),
         "Chain" => {
@@ -128,7 +128,7 @@ pub fn lend_bytes(tower: &str, devices: &Devices<'_>, player: &mut Player<'_, '_
                 .chain(devices.recorder(ReaderName::Second)?);
             play_bytes(both, devices, player)
         }
-        _ => Err(Fault::NoStream),
+        _ => Err(Unplayed::NoStream),
     }
 }
 
@@ -138,11 +138,11 @@ pub fn lend_pieces(
     words: &str,
     devices: &Devices<'_>,
     player: &mut Player<'_, '_>,
-) -> Made<()> {
+) -> Played<()> {
     match tower {
         "Device" => play_pieces(devices.first()?, b',', devices, player),
         "Cursor" => play_pieces(new_text(player.alloc, words)?, b'3', devices, player),
-        _ => Err(Fault::NoStream),
+        _ => Err(Unplayed::NoStream),
     }
 }
 
@@ -151,17 +151,17 @@ pub fn lend_lines(
     words: &str,
     devices: &Devices<'_>,
     player: &mut Player<'_, '_>,
-) -> Made<()> {
+) -> Played<()> {
     match tower {
         "Device" => play_lines(devices.first()?, devices, player),
         "Cursor" => play_lines(new_text(player.alloc, words)?, devices, player),
         "Chain &[u8] &[u8]" => lend_both(words, devices, player),
-        _ => Err(Fault::NoStream),
+        _ => Err(Unplayed::NoStream),
     }
 }
 
 // Lends the lines of two slices.
-fn lend_both(words: &str, devices: &Devices<'_>, player: &mut Player<'_, '_>) -> Made<()> {
+fn lend_both(words: &str, devices: &Devices<'_>, player: &mut Player<'_, '_>) -> Played<()> {
     let (first, second) = cut_last(words, " + ");
     let first = unescape(player.alloc, first)?;
     let second = unescape(player.alloc, second)?;

@@ -13,17 +13,17 @@ mod streams;
 
 use devices::{Columns, Devices};
 use rows_play::calls::new_journal;
-use rows_play::fault::{Fault, Made};
 use rows_play::files::play_files;
 use rows_play::line::cut;
 use rows_play::player::{Player, Streams};
+use rows_play::unplayed::{Played, Unplayed};
 use std::process::ExitCode;
 
 // The streams of this program.
 struct Readers;
 
 impl Streams for Readers {
-    fn lend(name: &str, words: &str, player: &mut Player<'_, '_>) -> Made<()> {
+    fn lend(name: &str, words: &str, player: &mut Player<'_, '_>) -> Played<()> {
         let (word, tower) = cut(name, " ");
         let columns = match word {
             _ if in_memory::has(name) => Columns::Memory,
@@ -60,13 +60,13 @@ fn lend_recorded(
     tower: &str,
     devices: &Devices<'_>,
     player: &mut Player<'_, '_>,
-) -> Made<()> {
+) -> Played<()> {
     match word {
         "reader" | "answers" => reading::lend(tower, devices, player),
         "noted" => noted::lend(tower, devices, player),
         "seeker" => reading::lend_seeker(tower, devices, player),
         "moved" => moving::lend(devices, player),
-        _ => Err(Fault::NoStream),
+        _ => Err(Unplayed::NoStream),
     }
 }
 

@@ -7,11 +7,11 @@ use crate::devices::Devices;
 use examples::records::{peek_header, read_record};
 use no_std_io2::io::BufReader;
 use rows_play::calls::{Call, make_seek};
-use rows_play::fault::{Fault, Made};
 use rows_play::line::Line;
 use rows_play::player::{Player, Stream};
 use rows_play::reads::make_lend;
 use rows_play::recorder::Recorder;
+use rows_play::unplayed::{Played, Unplayed};
 use std::alloc::Global;
 
 type Reader = BufReader<Recorder, 8>;
@@ -49,7 +49,7 @@ impl<'j> Moving<'j> {
             "peek" => call_peek(&mut self.reader, line),
             "record" => match call.bytes.first() {
                 Some(tag) => call_record(alloc, &mut self.reader, *tag, line),
-                None => line.tell(Fault::NoWord),
+                None => line.tell(Unplayed::NoWord),
             },
             _ => {
                 if !make_seek(&mut self.reader, call, line) {
@@ -71,7 +71,7 @@ impl<'j> Stream for Moving<'j> {
     }
 }
 
-pub fn lend(devices: &Devices<'_>, player: &mut Player<'_, '_>) -> Made<()> {
+pub fn lend(devices: &Devices<'_>, player: &mut Player<'_, '_>) -> Played<()> {
     let reader = Reader::new(devices.first()?);
     player.play(&mut Moving {
         reader,

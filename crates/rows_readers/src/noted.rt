@@ -6,17 +6,17 @@ use examples::Numbered;
 use io_bench::Tally;
 use no_std_io2::io::{BufRead, BufReader, Read};
 use rows_play::calls::Call;
-use rows_play::fault::{Fault, Made};
 use rows_play::line::Line;
 use rows_play::noted::Noted;
 use rows_play::player::{Player, Stream};
 use rows_play::reads::make_read;
 use rows_play::recorder::{ReaderName, Recorder};
+use rows_play::unplayed::{Played, Unplayed};
 use std::alloc::Global;
 
 type Device = Noted<Recorder>;
 
-pub fn lend(name: &str, devices: &Devices<'_>, player: &mut Player<'_, '_>) -> Made<()> {
+pub fn lend(name: &str, devices: &Devices<'_>, player: &mut Player<'_, '_>) -> Played<()> {
     let device = devices.noted()?;
     match name {
         "Device" => play_seeking(device, 0, devices, player),
@@ -52,17 +52,17 @@ fn lend_box(
     device: Device,
     devices: &Devices<'_>,
     player: &mut Player<'_, '_>,
-) -> Made<()> {
+) -> Played<()> {
     let tower = Box::new(player.alloc, device)?;
     match name {
         "Box Device" => play_seeking(tower, 0, devices, player),
         "Box dyn Read" => lend_read(tower, devices, player),
         "Box dyn BufRead" => lend_buf_read(tower, devices, player),
-        _ => Err(Fault::NoStream),
+        _ => Err(Unplayed::NoStream),
     }
 }
 
-fn lend_read(tower: Box<Device>, devices: &Devices<'_>, player: &mut Player<'_, '_>) -> Made<()> {
+fn lend_read(tower: Box<Device>, devices: &Devices<'_>, player: &mut Player<'_, '_>) -> Played<()> {
     let object: Box<dyn Read + Drop> = tower;
     play_reading(object, devices, player)
 }
@@ -71,7 +71,7 @@ fn lend_buf_read(
     tower: Box<Device>,
     devices: &Devices<'_>,
     player: &mut Player<'_, '_>,
-) -> Made<()> {
+) -> Played<()> {
     let object: Box<dyn BufRead + Drop> = tower;
     play_lending(object, devices, player)
 }

@@ -3,11 +3,11 @@ use crate::devices::Devices;
 use crate::in_memory::new_text;
 use crate::streams::{play_buffered, play_chain, play_lending, play_limited, play_seeking};
 use no_std_io2::io::{BufRead, BufReader, Chain, Read};
-use rows_play::fault::{Fault, Made};
 use rows_play::player::Player;
 use rows_play::recorder::{ReaderName, Recorder};
+use rows_play::unplayed::{Played, Unplayed};
 
-pub fn lend(tower: &str, devices: &Devices<'_>, player: &mut Player<'_, '_>) -> Made<()> {
+pub fn lend(tower: &str, devices: &Devices<'_>, player: &mut Player<'_, '_>) -> Played<()> {
     let device = devices.first()?;
     match tower {
         "Device" => play_lending(device, devices, player),
@@ -24,11 +24,11 @@ pub fn lend(tower: &str, devices: &Devices<'_>, player: &mut Player<'_, '_>) -> 
     }
 }
 
-fn lend_box(device: Recorder, devices: &Devices<'_>, player: &mut Player<'_, '_>) -> Made<()> {
+fn lend_box(device: Recorder, devices: &Devices<'_>, player: &mut Player<'_, '_>) -> Played<()> {
     play_lending(Box::new(player.alloc, device)?, devices, player)
 }
 
-fn lend_object(device: Recorder, devices: &Devices<'_>, player: &mut Player<'_, '_>) -> Made<()> {
+fn lend_object(device: Recorder, devices: &Devices<'_>, player: &mut Player<'_, '_>) -> Played<()> {
     let tower: Box<dyn BufRead + Drop> = Box::new(player.alloc, device)?;
     play_lending(tower, devices, player)
 }
@@ -39,7 +39,7 @@ fn lend_chain(
     device: Recorder,
     devices: &Devices<'_>,
     player: &mut Player<'_, '_>,
-) -> Made<()> {
+) -> Played<()> {
     let second = devices.recorder(ReaderName::Second)?;
     match tower {
         "Chain" => play_chain(device, second, devices, player),
@@ -50,7 +50,7 @@ fn lend_chain(
         "Chain Chain" => lend_three(device, second, devices, player),
         // what reaches the text is no device's
         "Chain Text" => lend_text(device, devices, player),
-        _ => Err(Fault::NoStream),
+        _ => Err(Unplayed::NoStream),
     }
 }
 
@@ -60,12 +60,12 @@ fn lend_above<const S: usize>(
     second: Recorder,
     devices: &Devices<'_>,
     player: &mut Player<'_, '_>,
-) -> Made<()> {
+) -> Played<()> {
     if S > 0 && S < 1 << 32 {
         let pair = first.chain(second);
         return play_buffered::<Chain<Recorder, Recorder>, S>(pair, devices, player);
     }
-    Err(Fault::NoStream)
+    Err(Unplayed::NoStream)
 }
 
 fn lend_both(
@@ -73,7 +73,7 @@ fn lend_both(
     second: Recorder,
     devices: &Devices<'_>,
     player: &mut Player<'_, '_>,
-) -> Made<()> {
+) -> Played<()> {
     let both = Box::new(player.alloc, first)?.chain(second);
     play_lending(Box::new(player.alloc, both)?, devices, player)
 }
@@ -83,17 +83,17 @@ fn lend_three(
     second: Recorder,
     devices: &Devices<'_>,
     player: &mut Player<'_, '_>,
-) -> Made<()> {
+) -> Played<()> {
     let third = devices.recorder(ReaderName::Second)?;
     play_chain(first, second.chain(third), devices, player)
 }
 
-fn lend_text(first: Recorder, devices: &Devices<'_>, player: &mut Player<'_, '_>) -> Made<()> {
+fn lend_text(first: Recorder, devices: &Devices<'_>, player: &mut Player<'_, '_>) -> Played<()> {
     play_chain(first, new_text(player.alloc, "456789")?, devices, player)
 }
 
 /// Lends a buffer of 4 bytes, a limit, or a limit over such a buffer, that also seeks.
-pub fn lend_seeker(tower: &str, devices: &Devices<'_>, player: &mut Player<'_, '_>) -> Made<()> {
+pub fn lend_seeker(tower: &str, devices: &Devices<'_>, player: &mut Player<'_, '_>) -> Played<()> {
     let device = devices.first()?;
     match tower {
         "BufReader 4" => play_seeking(BufReader::<Recorder, 4>::new(device), 0, devices, player),
@@ -102,6 +102,6 @@ pub fn lend_seeker(tower: &str, devices: &Devices<'_>, player: &mut Player<'_, '
             let below = BufReader::<Recorder, 4>::new(device);
             play_seeking(below.take(2), 0, devices, player)
         }
-        _ => Err(Fault::NoStream),
+        _ => Err(Unplayed::NoStream),
     }
 }

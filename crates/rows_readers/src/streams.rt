@@ -7,10 +7,10 @@ use crate::devices::Devices;
 use crate::levels::Levels;
 use no_std_io2::io::{BufRead, BufReader, Read, Result, Seek};
 use rows_play::calls::{Call, make_seek};
-use rows_play::fault::{Fault, Made};
 use rows_play::line::Line;
 use rows_play::player::{Player, Stream};
 use rows_play::reads::{make_lend, make_read, make_read_at};
+use rows_play::unplayed::{Played, Unplayed};
 use std::alloc::Global;
 
 // Prints a single byte, or a dash at the end.
@@ -41,7 +41,7 @@ fn set_limit<T: Levels>(tower: &mut T, call: &Call<'_>, line: &mut Line) {
     if tower.limit(call.number(line)) {
         line.word("-");
     } else {
-        line.tell(Fault::NoCall);
+        line.tell(Unplayed::NoCall);
     }
 }
 
@@ -112,7 +112,7 @@ pub fn play_reading<T: Read + Levels + Drop>(
     tower: T,
     devices: &Devices<'_>,
     player: &mut Player<'_, '_>,
-) -> Made<()> {
+) -> Played<()> {
     player.play(&mut Reading {
         tower,
         devices: *devices,
@@ -124,7 +124,7 @@ pub fn play_lending<T: BufRead + Levels + Drop>(
     tower: T,
     devices: &Devices<'_>,
     player: &mut Player<'_, '_>,
-) -> Made<()> {
+) -> Played<()> {
     player.play(&mut Lending {
         tower,
         devices: *devices,
@@ -137,7 +137,7 @@ pub fn play_limited<T: BufRead + Levels + Drop>(
     limit: u64,
     devices: &Devices<'_>,
     player: &mut Player<'_, '_>,
-) -> Made<()> {
+) -> Played<()> {
     play_lending(inner.take(limit), devices, player)
 }
 
@@ -147,7 +147,7 @@ pub fn play_chain<A: BufRead + Levels + Drop, B: BufRead + Levels + Drop>(
     second: B,
     devices: &Devices<'_>,
     player: &mut Player<'_, '_>,
-) -> Made<()> {
+) -> Played<()> {
     play_lending(first.chain(second), devices, player)
 }
 
@@ -156,7 +156,7 @@ pub fn play_buffered<R: Read + Levels + Drop, const S: usize>(
     inner: R,
     devices: &Devices<'_>,
     player: &mut Player<'_, '_>,
-) -> Made<()>
+) -> Played<()>
     requires some_room { 0 < S }
     requires in_memory { S < 2 ^ 63 }
     requires fits { BufReaderFits R.row S }
@@ -170,7 +170,7 @@ pub fn play_seeking<T: BufRead + Seek + Levels + Drop>(
     lent: usize,
     devices: &Devices<'_>,
     player: &mut Player<'_, '_>,
-) -> Made<()> {
+) -> Played<()> {
     player.play(&mut Seeking {
         tower,
         lent,

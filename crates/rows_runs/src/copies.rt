@@ -8,12 +8,12 @@ ghost use Rattle.no_std_io2.specs.BufReader.{BufReaderFits};
 use io_bench::{Event, Feed};
 use no_std_io2::io::{Read, copy as copy_in_chunks};
 use rows_play::calls::{Call, new_journal, show_calls};
-use rows_play::fault::{Fault, Made};
 use rows_play::journal::Journal;
 use rows_play::line::Line;
 use rows_play::noted::Noted;
 use rows_play::player::{Player, Stream};
 use rows_play::recorder::{ReaderName, Recorder};
+use rows_play::unplayed::{Played, Unplayed};
 use std::alloc::Global;
 use std::cell::RefCell;
 use std::rc::Rc;
@@ -49,7 +49,7 @@ struct Ends {
 
 impl Ends {
     // Makes two devices that have these results, in the order of their calls.
-    fn new(alloc: Global, words: &str) -> Made<Ends> {
+    fn new(alloc: Global, words: &str) -> Played<Ends> {
         let journal = new_journal(alloc, words)?;
         let input = journal.clone()?;
         let output = journal.clone()?;
@@ -70,13 +70,13 @@ impl Stream for Ends {
             }
             "from" => copy(&mut self.input, &mut self.output, call.rest, line),
             "buf" | "line" => copy(call.bytes.as_slice(), &mut self.output, call.word, line),
-            _ => line.tell(Fault::NoCall),
+            _ => line.tell(Unplayed::NoCall),
         }
         show_calls(&self.journal, line);
     }
 }
 
-pub fn lend(words: &str, player: &mut Player<'_, '_>) -> Made<()> {
+pub fn lend(words: &str, player: &mut Player<'_, '_>) -> Played<()> {
     player.play(&mut Ends::new(player.alloc, words)?)
 }
 
@@ -94,14 +94,14 @@ impl Stream for Noting {
                 let mut input = call.bytes.as_slice();
                 line.position(&copy_in_chunks::<_, _, 4>(&mut input, &mut self.output));
             }
-            _ => line.tell(Fault::NoCall),
+            _ => line.tell(Unplayed::NoCall),
         }
         show_calls(&self.journal, line);
     }
 }
 
 /// Lends copies by chunks of 4 bytes.
-pub fn lend_plain(words: &str, player: &mut Player<'_, '_>) -> Made<()> {
+pub fn lend_plain(words: &str, player: &mut Player<'_, '_>) -> Played<()> {
     let journal = new_journal(player.alloc, words)?;
     let recorder = Recorder::new(player.alloc, journal.clone()?, ReaderName::Only);
     let output = Noted::new(recorder, journal.clone()?);

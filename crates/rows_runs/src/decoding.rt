@@ -4,12 +4,12 @@
 use base64::engine::general_purpose::STANDARD;
 use base64_stream::DecoderReader;
 use rows_play::calls::{Call, new_journal, show_calls};
-use rows_play::fault::Made;
 use rows_play::journal::Journal;
 use rows_play::line::Line;
 use rows_play::player::{Player, Stream};
 use rows_play::reads::make_read;
 use rows_play::recorder::{ReaderName, Recorder};
+use rows_play::unplayed::Played;
 use std::alloc::Global;
 use std::cell::RefCell;
 use std::rc::Rc;
@@ -28,7 +28,7 @@ impl Stream for Decoding {
     }
 }
 
-pub fn lend(words: &str, player: &mut Player<'_, '_>) -> Made<()> {
+pub fn lend(words: &str, player: &mut Player<'_, '_>) -> Played<()> {
     let journal = new_journal(player.alloc, words)?;
     let device = Recorder::new(player.alloc, journal.clone()?, ReaderName::Only);
     let reader = DecoderReader::new(device, STANDARD);

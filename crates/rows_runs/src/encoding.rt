@@ -8,11 +8,11 @@ use base64_stream::{EncoderWriter, decoded, encoded};
 use no_std_io2::io::Result as IoResult;
 use numbers::{BigEndian, LittleEndian, ReadBytesExt, WriteBytesExt};
 use rows_play::calls::{Call, make_call, new_journal, show_calls, show_out};
-use rows_play::fault::{Fault, Made};
 use rows_play::journal::Journal;
 use rows_play::line::Line;
 use rows_play::player::{Player, Stream};
 use rows_play::recorder::{ReaderName, Recorder};
+use rows_play::unplayed::{Played, Unplayed};
 use std::alloc::Global;
 use std::cell::RefCell;
 use std::rc::Rc;
@@ -39,7 +39,7 @@ impl Stream for Encoding {
                 make_call(&mut w, call, line);
                 self.writer = Some(w);
             }
-            (_, None) => line.tell(Fault::NotReady),
+            (_, None) => line.tell(Unplayed::NotReady),
         }
         show_out(&self.journal, line);
         show_calls(&self.journal, line);
@@ -104,7 +104,7 @@ impl Stream for Writing {
         };
         match written {
             Some(result) => line.done(&result),
-            None => line.tell(Fault::NoNumber),
+            None => line.tell(Unplayed::NoNumber),
         }
         show_out(&self.journal, line);
         show_calls(&self.journal, line);
@@ -150,7 +150,7 @@ impl Reading {
             "u16le" => show_unsigned(self.device.read_u16::<LittleEndian>().map(u64::from), line),
             "u32be" => show_unsigned(self.device.read_u32::<BigEndian>().map(u64::from), line),
             "u64be" => show_unsigned(self.device.read_u64::<BigEndian>(), line),
-            _ => line.tell(Fault::NoCall),
+            _ => line.tell(Unplayed::NoCall),
         }
     }
 
@@ -160,7 +160,7 @@ impl Reading {
             "i16be" => show_signed(self.device.read_i16::<BigEndian>().map(i64::from), line),
             "i32be" => show_signed(self.device.read_i32::<BigEndian>().map(i64::from), line),
             "i64be" => show_signed(self.device.read_i64::<BigEndian>(), line),
-            _ => line.tell(Fault::NoCall),
+            _ => line.tell(Unplayed::NoCall),
         }
     }
 }
@@ -178,7 +178,7 @@ impl Stream for Reading {
     }
 }
 
-pub fn lend(name: &str, words: &str, player: &mut Player<'_, '_>) -> Made<()> {
+pub fn lend(name: &str, words: &str, player: &mut Player<'_, '_>) -> Played<()> {
     let journal = new_journal(player.alloc, words)?;
     let device = Recorder::new(player.alloc, journal.clone()?, ReaderName::Only);
     match name {
@@ -189,6 +189,6 @@ pub fn lend(name: &str, words: &str, player: &mut Player<'_, '_>) -> Made<()> {
         "base64" => player.play(&mut Texts),
         "WriteBytesExt" => player.play(&mut Writing { device, journal }),
         "ReadBytesExt" => player.play(&mut Reading { device, journal }),
-        _ => Err(Fault::NoStream),
+        _ => Err(Unplayed::NoStream),
     }
 }

@@ -9,11 +9,11 @@ use line_log::LineLog;
 use log_sink::log_each;
 use no_std_io2::io::Result as IoResult;
 use rows_play::calls::{Call, new_journal, show_calls, show_out};
-use rows_play::fault::{Fault, Made};
 use rows_play::journal::Journal;
 use rows_play::line::Line;
 use rows_play::player::{Player, Stream};
 use rows_play::recorder::{ReaderName, Recorder};
+use rows_play::unplayed::{Played, Unplayed};
 use std::alloc::Global;
 use std::cell::RefCell;
 use std::fmt;
@@ -36,7 +36,7 @@ fn send_by(to: &mut FrameWriter<Recorder, 12>, call: &Call<'_>, line: &mut Line)
     match call.word {
         "send" => line.done(&to.send(&call.bytes)),
         "flush" => line.done(&to.flush()),
-        _ => line.tell(Fault::NoCall),
+        _ => line.tell(Unplayed::NoCall),
     }
 }
 
@@ -68,7 +68,7 @@ impl Stream for Sending {
                 show_sent(&self.journal, line);
                 self.writer = Some(w);
             }
-            (_, None) => line.tell(Fault::NotReady),
+            (_, None) => line.tell(Unplayed::NotReady),
         }
     }
 }
@@ -104,7 +104,7 @@ impl Stream for Receiving {
                 let len = call.number(line);
                 self.next(len, line);
             }
-            _ => line.tell(Fault::NoCall),
+            _ => line.tell(Unplayed::NoCall),
         }
         show_calls(&self.journal, line);
     }
@@ -137,7 +137,7 @@ fn log(to: &mut LineLog<Recorder, 12>, call: &Call<'_>, line: &mut Line) {
         }
         Ok(_) if call.word == "log_broken" => line.done(&to.log_text(Broken)),
         Ok(text) => line.done(&to.log(text)),
-        Err(_) => line.tell(Fault::NoWord),
+        Err(_) => line.tell(Unplayed::NoWord),
     }
 }
 
@@ -150,7 +150,7 @@ fn log_by(alloc: Global, to: &mut LineLog<Recorder, 12>, call: &Call<'_>, line: 
             line.number(log_each(to, "", &values) as u64);
         }
         "flush" => line.done(&to.flush()),
-        _ => line.tell(Fault::NoCall),
+        _ => line.tell(Unplayed::NoCall),
     }
     line.column();
     line.word(if to.is_behind() { "behind" } else { "-" });
@@ -184,12 +184,12 @@ impl Stream for Logging {
                 show_sent(&self.journal, line);
                 self.log = Some(log);
             }
-            (_, None) => line.tell(Fault::NotReady),
+            (_, None) => line.tell(Unplayed::NotReady),
         }
     }
 }
 
-pub fn lend(name: &str, words: &str, player: &mut Player<'_, '_>) -> Made<()> {
+pub fn lend(name: &str, words: &str, player: &mut Player<'_, '_>) -> Played<()> {
     let journal = new_journal(player.alloc, words)?;
     let device = Recorder::new(player.alloc, journal.clone()?, ReaderName::Only);
     match name {
@@ -206,6 +206,6 @@ pub fn lend(name: &str, words: &str, player: &mut Player<'_, '_>) -> Made<()> {
             let log = Some(LineLog::new(device));
             player.play(&mut Logging { log, journal })
         }
-        _ => Err(Fault::NoStream),
+        _ => Err(Unplayed::NoStream),
     }
 }

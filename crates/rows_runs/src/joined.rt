@@ -5,10 +5,10 @@
 use io_bench::{Op, Reply, joined};
 use no_std_io2::io::Error;
 use rows_play::calls::Call;
-use rows_play::fault::{Fault, Made};
 use rows_play::kinds::kind_of_name;
 use rows_play::line::Line;
 use rows_play::player::{Player, Stream};
+use rows_play::unplayed::{Played, Unplayed};
 use std::alloc::Global;
 
 // Appends an item.
@@ -41,7 +41,7 @@ fn ops_of<'a>(alloc: Global, calls: &'a [Call<'_>], line: &mut Line) -> Vec<Op<'
             "write" => push(&mut ops, Op::Write(&call.bytes), line),
             "write_all" => push(&mut ops, Op::WriteAll(&call.bytes), line),
             "flush" => push(&mut ops, Op::Flush, line),
-            _ => line.tell(Fault::NoCall),
+            _ => line.tell(Unplayed::NoCall),
         }
     }
     ops
@@ -66,7 +66,7 @@ fn parse_replies(alloc: Global, words: &str, line: &mut Line) -> Vec<Reply> {
     'replies: for word in words.split(", ") {
         match parse_reply(word) {
             Some(reply) => push(&mut replies, reply, line),
-            None => line.tell(Fault::NoWord),
+            None => line.tell(Unplayed::NoWord),
         }
     }
     replies
@@ -79,7 +79,7 @@ struct Joining;
 impl Stream for Joining {
     fn play(&mut self, alloc: Global, call: &Call<'_>, line: &mut Line) {
         let Some((words, told)) = call.rest.split_once("->") else {
-            line.tell(Fault::NoWord);
+            line.tell(Unplayed::NoWord);
             return;
         };
         let calls = parse_calls(alloc, words.trim(), line);
@@ -93,6 +93,6 @@ impl Stream for Joining {
     }
 }
 
-pub fn lend(player: &mut Player<'_, '_>) -> Made<()> {
+pub fn lend(player: &mut Player<'_, '_>) -> Played<()> {
     player.play(&mut Joining)
 }

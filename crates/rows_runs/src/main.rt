@@ -13,16 +13,16 @@ mod readings;
 mod records;
 mod sums;
 
-use rows_play::fault::Made;
 use rows_play::files::play_files;
 use rows_play::player::{Player, Streams};
+use rows_play::unplayed::Played;
 use std::process::ExitCode;
 
 // The streams of this program.
 struct RunTables;
 
 impl Streams for RunTables {
-    fn lend(name: &str, words: &str, player: &mut Player<'_, '_>) -> Made<()> {
+    fn lend(name: &str, words: &str, player: &mut Player<'_, '_>) -> Played<()> {
         match name {
             "Patient" => patience::lend(words, player),
             "copy_through" => copies::lend(words, player),

@@ -3,13 +3,13 @@
 // A line `new` says the turns, and after a colon the device's results. A row is a call; then its result, for a read the
 // bytes that it gave, and the calls that reached the device.
 use rows_play::calls::{Call, make_call, make_seek, new_journal, show_calls};
-use rows_play::fault::{Fault, Made};
 use rows_play::journal::Journal;
 use rows_play::line::{Line, cut};
 use rows_play::noted::Noted;
 use rows_play::player::{Player, Stream};
 use rows_play::reads::make_read;
 use rows_play::recorder::{ReaderName, Recorder};
+use rows_play::unplayed::{Played, Unplayed};
 use std::alloc::Global;
 use std::cell::RefCell;
 use std::rc::Rc;
@@ -33,10 +33,10 @@ impl Stream for Patience {
     }
 }
 
-pub fn lend(words: &str, player: &mut Player<'_, '_>) -> Made<()> {
+pub fn lend(words: &str, player: &mut Player<'_, '_>) -> Played<()> {
     let (turns, answers) = cut(words, ": ");
     let Ok(turns) = turns.parse::<u64>() else {
-        return Err(Fault::NoNumber);
+        return Err(Unplayed::NoNumber);
     };
     let journal = new_journal(player.alloc, answers)?;
     let recorder = Recorder::new(player.alloc, journal.clone()?, ReaderName::Only);

@@ -5,11 +5,11 @@
 use examples::{send_reading, write_readings};
 use no_std_io2::io::{BufWriter, Write};
 use rows_play::calls::{Call, new_journal, show_calls, show_out};
-use rows_play::fault::{Fault, Made};
 use rows_play::journal::Journal;
 use rows_play::line::Line;
 use rows_play::player::{Player, Stream};
 use rows_play::recorder::{ReaderName, Recorder};
+use rows_play::unplayed::{Played, Unplayed};
 use std::alloc::Global;
 use std::cell::RefCell;
 use std::rc::Rc;
@@ -31,7 +31,7 @@ pub fn values_of(alloc: Global, words: &str, line: &mut Line) -> Vec<u32> {
                     line.cut();
                 }
             }
-            Err(_) => line.tell(Fault::NoNumber),
+            Err(_) => line.tell(Unplayed::NoNumber),
         }
     }
     values
@@ -46,17 +46,17 @@ impl Stream for Readings {
             }
             "send_reading" => match call.rest.parse::<u32>() {
                 Ok(value) => line.done(&send_reading(&mut self.writer, "t", value)),
-                Err(_) => line.tell(Fault::NoNumber),
+                Err(_) => line.tell(Unplayed::NoNumber),
             },
             "flush" => line.done(&self.writer.flush()),
-            _ => line.tell(Fault::NoCall),
+            _ => line.tell(Unplayed::NoCall),
         }
         show_out(&self.journal, line);
         show_calls(&self.journal, line);
     }
 }
 
-pub fn lend(words: &str, player: &mut Player<'_, '_>) -> Made<()> {
+pub fn lend(words: &str, player: &mut Player<'_, '_>) -> Played<()> {
     let journal = new_journal(player.alloc, words)?;
     let device = Recorder::new(player.alloc, journal.clone()?, ReaderName::Only);
     player.play(&mut Readings {

@@ -9,11 +9,11 @@ use line_log::LineLog;
 use log::{Level, Log, info};
 use log_sink::{LineSink, log_readings};
 use rows_play::calls::{Call, new_journal, show_calls, show_out};
-use rows_play::fault::{Fault, Made};
 use rows_play::journal::Journal;
 use rows_play::line::Line;
 use rows_play::player::{Player, Stream};
 use rows_play::recorder::{ReaderName, Recorder};
+use rows_play::unplayed::{Played, Unplayed};
 use std::alloc::Global;
 use std::cell::RefCell;
 use std::fmt;
@@ -57,7 +57,7 @@ fn log_record(sink: &Sink, call: &Call<'_>, text: &str, line: &mut Line) {
         "nested" => log_nested(sink, sink),
         word => match word.parse::<Level>() {
             Ok(level) => log::log!(sink; target: "io", level, "{text}"),
-            Err(_) => line.tell(Fault::NoCall),
+            Err(_) => line.tell(Unplayed::NoCall),
         },
     }
 }
@@ -75,7 +75,7 @@ fn make_call(sink: &Sink, call: &Call<'_>, line: &mut Line) {
     match std::str::from_utf8(&call.bytes) {
         Ok(_) if call.word == "flush" => sink.flush(),
         Ok(text) => log_record(sink, call, text, line),
-        Err(_) => line.tell(Fault::NoWord),
+        Err(_) => line.tell(Unplayed::NoWord),
     }
     line.word("-");
 }
@@ -112,7 +112,7 @@ impl Recording {
 impl Stream for Recording {
     fn play(&mut self, alloc: Global, call: &Call<'_>, line: &mut Line) {
         let Some(sink) = self.sink.take() else {
-            line.tell(Fault::NotReady);
+            line.tell(Unplayed::NotReady);
             return;
         };
         match call.word {
@@ -137,7 +137,7 @@ impl Stream for Recording {
     }
 }
 
-pub fn lend(words: &str, player: &mut Player<'_, '_>) -> Made<()> {
+pub fn lend(words: &str, player: &mut Player<'_, '_>) -> Played<()> {
     let journal = new_journal(player.alloc, words)?;
     let device = Recorder::new(player.alloc, journal.clone()?, ReaderName::Only);
     let sink = Some(LineSink::new(LineLog::new(device)));

@@ -4,11 +4,11 @@
 use examples::checksum_of;
 use no_std_io2::io::Read;
 use rows_play::calls::{Call, new_journal, show_calls};
-use rows_play::fault::Made;
 use rows_play::journal::Journal;
 use rows_play::line::Line;
 use rows_play::player::{Player, Stream};
 use rows_play::recorder::{ReaderName, Recorder};
+use rows_play::unplayed::Played;
 use std::alloc::Global;
 use std::cell::RefCell;
 use std::rc::Rc;
@@ -32,7 +32,7 @@ impl Stream for Summing {
     }
 }
 
-pub fn lend(words: &str, player: &mut Player<'_, '_>) -> Made<()> {
+pub fn lend(words: &str, player: &mut Player<'_, '_>) -> Played<()> {
     let journal = new_journal(player.alloc, words)?;
     let device = Recorder::new(player.alloc, journal.clone()?, ReaderName::Only);
     player.play(&mut Summing { device, journal })

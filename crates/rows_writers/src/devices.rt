@@ -6,28 +6,28 @@ use examples::Numbered;
 use io_bench::Tally;
 use no_std_io2::io::{BufWriter, Seek, Write};
 use rows_play::calls::{Call, make_call, make_seek, new_journal, show_calls};
-use rows_play::fault::{Fault, Made};
 use rows_play::journal::Journal;
 use rows_play::line::Line;
 use rows_play::noted::Noted;
 use rows_play::player::{Player, Stream};
 use rows_play::recorder::{ReaderName, Recorder};
+use rows_play::unplayed::{Played, Unplayed};
 use std::alloc::Global;
 use std::cell::RefCell;
 use std::rc::Rc;
 
 /// Makes a recorder with this journal.
-pub fn new_recorder(alloc: Global, journal: &Rc<RefCell<Journal>>) -> Made<Recorder> {
+pub fn new_recorder(alloc: Global, journal: &Rc<RefCell<Journal>>) -> Played<Recorder> {
     Ok(Recorder::new(alloc, journal.clone()?, ReaderName::Only))
 }
 
 /// Makes a device that also notes the name of each call.
-pub fn new_device(alloc: Global, journal: &Rc<RefCell<Journal>>) -> Made<Device> {
+pub fn new_device(alloc: Global, journal: &Rc<RefCell<Journal>>) -> Played<Device> {
     Ok(Noted::new(new_recorder(alloc, journal)?, journal.clone()?))
 }
 
 /// Lends a recorder below levels.
-pub fn lend_recorder(name: &str, words: &str, player: &mut Player<'_, '_>) -> Made<()> {
+pub fn lend_recorder(name: &str, words: &str, player: &mut Player<'_, '_>) -> Played<()> {
     let journal = new_journal(player.alloc, words)?;
     let recorder = new_recorder(player.alloc, &journal)?;
     let columns = Columns::All(journal, 2);
@@ -53,7 +53,7 @@ fn lend_tower(
     columns: Columns,
     words: &str,
     player: &mut Player<'_, '_>,
-) -> Made<()> {
+) -> Played<()> {
     let below = BufWriter::<Recorder, 8>::new(recorder);
     match name {
         "BufWriter 4 BufWriter 8" => play_level::<_, 4>("BufWriter", below, columns, player),
@@ -72,7 +72,7 @@ pub fn lend_object(
     object: Object,
     columns: Columns,
     player: &mut Player<'_, '_>,
-) -> Made<()> {
+) -> Played<()> {
     match levels {
         "" => play(object, columns, player),
         "BufWriter 4" => play_level::<_, 4>("BufWriter", object, columns, player),
@@ -85,12 +85,12 @@ pub fn lend_object(
             let below = BufWriter::<Object, 8>::new(object);
             play_level::<_, 8>("LineWriter", below, columns, player)
         }
-        _ => Err(Fault::NoStream),
+        _ => Err(Unplayed::NoStream),
     }
 }
 
 /// Lends a device that also notes the name of each call.
-pub fn lend_device(name: &str, words: &str, player: &mut Player<'_, '_>) -> Made<()> {
+pub fn lend_device(name: &str, words: &str, player: &mut Player<'_, '_>) -> Played<()> {
     let journal = new_journal(player.alloc, words)?;
     let device = new_device(player.alloc, &journal)?;
     match name {
@@ -134,7 +134,7 @@ struct Boxed {
 impl Stream for Boxed {
     fn play(&mut self, _alloc: Global, call: &Call<'_>, line: &mut Line) {
         if !make_seek(&mut self.seeker, call, line) {
-            line.tell(Fault::NoCall);
+            line.tell(Unplayed::NoCall);
         }
         show_calls(&self.journal, line);
     }
@@ -148,7 +148,7 @@ fn make_lent_write(object: &mut dyn Write, call: &Call<'_>, line: &mut Line) {
 fn make_lent_seek(object: &mut dyn Seek, call: &Call<'_>, line: &mut Line) {
     let mut lent = object;
     if !make_seek(&mut lent, call, line) {
-        line.tell(Fault::NoCall);
+        line.tell(Unplayed::NoCall);
     }
 }
 

@@ -7,9 +7,9 @@ use crate::tower::Tower;
 use crate::writing::{Columns, play, play_seeking};
 use no_std_io2::io::{BufWriter, LineWriter, Seek};
 use rows_play::calls::new_journal;
-use rows_play::fault::{Fault, Made};
 use rows_play::line::cut;
 use rows_play::player::Player;
+use rows_play::unplayed::{Played, Unplayed};
 
 /// A recorder.
 pub const RECORDER: usize = 0;
@@ -18,7 +18,11 @@ pub const RECORDER: usize = 0;
 pub const NOTED: usize = 1;
 
 /// Lends a level over one of these devices.
-pub fn lend<const BASE: usize>(level: &str, words: &str, player: &mut Player<'_, '_>) -> Made<()> {
+pub fn lend<const BASE: usize>(
+    level: &str,
+    words: &str,
+    player: &mut Player<'_, '_>,
+) -> Played<()> {
     let (kind, size) = cut(level, " ");
     match size {
         "0" => lend_size::<BASE, 0>(kind, words, player),
@@ -28,7 +32,7 @@ pub fn lend<const BASE: usize>(level: &str, words: &str, player: &mut Player<'_,
         "8" => lend_size::<BASE, 8>(kind, words, player),
         "64" => lend_size::<BASE, 64>(kind, words, player),
         "300" => lend_size::<BASE, 300>(kind, words, player),
-        _ => Err(Fault::NoStream),
+        _ => Err(Unplayed::NoStream),
     }
 }
 
@@ -36,7 +40,7 @@ fn lend_size<const BASE: usize, const S: usize>(
     kind: &str,
     words: &str,
     player: &mut Player<'_, '_>,
-) -> Made<()> {
+) -> Played<()> {
     match BASE {
         RECORDER => lend_recorder::<S>(kind, words, player),
         _ => lend_device::<S>(kind, words, player),
@@ -49,14 +53,14 @@ pub fn play_level<W: Tower, const S: usize>(
     base: W,
     columns: Columns,
     player: &mut Player<'_, '_>,
-) -> Made<()>
+) -> Played<()>
     requires buffer { BufWriterFits W.row S }
     requires lines { LineWriterFits W.row S }
 {
     match kind {
         "BufWriter" => play(BufWriter::<W, S>::new(base), columns, player),
         "LineWriter" => play(LineWriter::<W, S>::new(base), columns, player),
-        _ => Err(Fault::NoStream),
+        _ => Err(Unplayed::NoStream),
     }
 }
 
@@ -66,31 +70,35 @@ fn play_seeking_level<W: Tower + Seek, const S: usize>(
     base: W,
     columns: Columns,
     player: &mut Player<'_, '_>,
-) -> Made<()>
+) -> Played<()>
     requires buffer { BufWriterFits W.row S }
     requires lines { LineWriterFits W.row S }
 {
     match kind {
         "BufWriter" => play_seeking(BufWriter::<W, S>::new(base), columns, player),
         "LineWriter" => play(LineWriter::<W, S>::new(base), columns, player),
-        _ => Err(Fault::NoStream),
+        _ => Err(Unplayed::NoStream),
     }
 }
 
-fn lend_recorder<const S: usize>(kind: &str, words: &str, player: &mut Player<'_, '_>) -> Made<()> {
+fn lend_recorder<const S: usize>(
+    kind: &str,
+    words: &str,
+    player: &mut Player<'_, '_>,
+) -> Played<()> {
     let journal = new_journal(player.alloc, words)?;
     let recorder = new_recorder(player.alloc, &journal)?;
     if S < 1 << 32 {
         return play_seeking_level::<_, S>(kind, recorder, Columns::All(journal, 1), player);
     }
-    Err(Fault::NoStream)
+    Err(Unplayed::NoStream)
 }
 
-fn lend_device<const S: usize>(kind: &str, words: &str, player: &mut Player<'_, '_>) -> Made<()> {
+fn lend_device<const S: usize>(kind: &str, words: &str, player: &mut Player<'_, '_>) -> Played<()> {
     let journal = new_journal(player.alloc, words)?;
     let device = new_device(player.alloc, &journal)?;
     if S < 1 << 32 {
         return play_seeking_level::<_, S>(kind, device, Columns::Calls(journal), player);
     }
-    Err(Fault::NoStream)
+    Err(Unplayed::NoStream)
 }

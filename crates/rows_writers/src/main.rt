@@ -9,24 +9,24 @@ mod refused;
 mod tower;
 mod writing;
 
-use rows_play::fault::{Fault, Made};
 use rows_play::files::play_files;
 use rows_play::line::cut;
 use rows_play::player::{Player, Streams};
+use rows_play::unplayed::{Played, Unplayed};
 use std::process::ExitCode;
 
 // The streams of this program. The first word says which columns a row has.
 struct Writers;
 
 impl Streams for Writers {
-    fn lend(name: &str, words: &str, player: &mut Player<'_, '_>) -> Made<()> {
+    fn lend(name: &str, words: &str, player: &mut Player<'_, '_>) -> Played<()> {
         let (word, rest) = cut(name, " ");
         match word {
             "writer" | "seeker" => devices::lend_recorder(rest, words, player),
             "noted" => devices::lend_device(rest, words, player),
             "bench" => benches::lend(rest, words, player),
             "heap" => refused::lend(rest, words, player),
-            _ => Err(Fault::NoStream),
+            _ => Err(Unplayed::NoStream),
         }
     }
 }

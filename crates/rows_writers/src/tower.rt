@@ -3,10 +3,10 @@ use examples::Numbered;
 use io_bench::Tally;
 use no_std_io2::io::{BufWriter, Error, IntoInnerError, LineWriter, Write};
 use rows_play::calls::Call;
-use rows_play::fault::Fault;
 use rows_play::line::Line;
 use rows_play::noted::Noted;
 use rows_play::recorder::Recorder;
+use rows_play::unplayed::Unplayed;
 use std::alloc::Global;
 
 /// A device that notes the name of each call.
@@ -36,7 +36,7 @@ pub trait Tower: Write + Drop {
     where
         Self: Sized,
     {
-        line.tell(Fault::NoStream);
+        line.tell(Unplayed::NoStream);
     }
 }
 

@@ -5,10 +5,10 @@
 use crate::tower::{Column, Tower};
 use no_std_io2::io::{Seek, Write};
 use rows_play::calls::{Call, expect, make_call, make_seek, show_calls, show_out};
-use rows_play::fault::{Fault, Made};
 use rows_play::journal::Journal;
 use rows_play::line::Line;
 use rows_play::player::{Player, Stream};
+use rows_play::unplayed::{Played, Unplayed};
 use std::alloc::Global;
 use std::cell::RefCell;
 use std::rc::Rc;
@@ -41,7 +41,7 @@ pub fn make_any_call<T: Write + Seek>(stream: &mut T, call: &Call<'_>, line: &mu
 }
 
 /// Plays the rows on a tower.
-pub fn play<T: Tower>(tower: T, columns: Columns, player: &mut Player<'_, '_>) -> Made<()> {
+pub fn play<T: Tower>(tower: T, columns: Columns, player: &mut Player<'_, '_>) -> Played<()> {
     player.play(&mut Writing {
         tower: Some(tower),
         columns,
@@ -51,7 +51,7 @@ pub fn play<T: Tower>(tower: T, columns: Columns, player: &mut Player<'_, '_>) -
 impl<T: Tower> Writing<T> {
     fn expect(&self, alloc: Global, words: &str, line: &mut Line) {
         let Columns::All(journal, _) = &self.columns else {
-            line.tell(Fault::NoCall);
+            line.tell(Unplayed::NoCall);
             return;
         };
         match expect(alloc, journal, words) {
@@ -63,7 +63,7 @@ impl<T: Tower> Writing<T> {
     // Makes a call, and prints its result.
     fn call(&mut self, alloc: Global, call: &Call<'_>, line: &mut Line) {
         let Some(tower) = &mut self.tower else {
-            line.tell(Fault::NotReady);
+            line.tell(Unplayed::NotReady);
             return;
         };
         match call.word {
@@ -120,7 +120,7 @@ pub fn play_seeking<T: Tower + Seek>(
     tower: T,
     columns: Columns,
     player: &mut Player<'_, '_>,
-) -> Made<()> {
+) -> Played<()> {
     let tower = Some(tower);
     player.play(&mut Seeking {
         writing: Writing { tower, columns },

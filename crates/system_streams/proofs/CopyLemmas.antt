@@ -1,9 +1,9 @@
 -- A copy, piece by piece.
 use Rattle.no_std_io2.proofs.Words.{◌≡◌, ℕ, List, [], ◌∷◌, ◌++◌, ap, ◌∙◌, subst, arith, Ok, Err, Result, Some, None, Option, append-nil}
-use Rattle.no_std_io2.proofs.Words.{inr, ◌⊎◌, Bool, length, length-append, nil_from_length, error_kind, Event, bytes, HasNoFault}
+use Rattle.no_std_io2.proofs.Words.{inr, ◌⊎◌, Bool, length, length-append, nil_from_length, error_kind, Event, event_bytes, HasNoFault}
 use Rattle.no_std_io2.proofs.Words.{ReaderState}
 use Rattle.no_std_io2.proofs.Words.{to_come, Reader, tells, ReadCall, WriterState, Moves, WriteCall, Flushed, Made, ByCalls, Writer, CallOf}
-use Rattle.no_std_io2.proofs.{BufWriterLemmas.{Moves-bare, through}, CallsLemmas.{made_more}, CopyLoop.{copied_ok, copied_err}}
+use Rattle.no_std_io2.proofs.{BufWriterLemmas.{Moves-bare, level_by_level}, CallsLemmas.{made_more}, CopyLoop.{copied_ok, copied_err}}
 use Rattle.no_std_io2.proofs.{TakesLemmas.{first_fault_taken, may_fail, no_failure, takes_to_end}, Words.{with_buffer, Copied, LevelCalls}}
 use Rattle.no_std_io2.proofs.MovesLemmas.{Moves-then, Moves-ends}
 use Rattle.std.proofs.Common.{IfSome}
@@ -64,7 +64,7 @@ passes_off {a} {b} {told = told} {end = end} buffer same same' empty copied left
   taken = copied.taken;
   all = all_through a b copied.taken same copied.all;
   no_fault = copied.no_fault;
-  moves = subst (λ t. Moves t (bytes copied.taken) [] end) same' (Moves-bare buffer empty (Moves-ends copied.moves left));
+  moves = subst (λ t. Moves t (event_bytes copied.taken) [] end) same' (Moves-bare buffer empty (Moves-ends copied.moves left));
   count = copied.count;
 }
 
@@ -97,7 +97,7 @@ pub handed_through : {W B E : Type 0} (I : Writer W) {K : Writer B} (line : Bool
     → HandsAndFlushes K old new → HandsThrough I line output w
 handed_through I {K} line inner buffer each {output = output} {w = w} {old = old} {new} held at empty none back hands =
     let calls = hands.calls ++ Flushed (Ok tt) ∷ [] in
-    let below = through I K inner buffer (BufferCalls line) each calls old new hands.made in
+    let below = level_by_level I K inner buffer (BufferCalls line) each calls old new hands.made in
     let gone : buffer new ≡ [] = nil_from_length (buffer new) (omega (arith, ap length none, length-append held (buffer new))) in
     let same : inner new ≡ w = (let is = back gone in cc) in
     record {

@@ -33,5 +33,5 @@ module _ {X N E : Type 0} {Try : X → N → Result (Unit {0}) (FileFault E) →
     whole = _;
     mid = _;
     tried = so_far;
-    fails = fails;
+    output_fails = fails;
   }

@@ -1,6 +1,7 @@
 -- What one read takes of the events, as a reader of the system's says it.
 use Rattle.std.proofs.{Common.{arith}, lemmas.Grind.{common_steps}}
-use Rattle.no_std_io2.proofs.Words.{◌≡◌, ℕ, List, [], ◌∷◌, Option, Result, Event, fails, events_of, bytes, AreTaken, Reader, tells, ReadLaw}
+use Rattle.no_std_io2.proofs.Words.{◌≡◌, ℕ, List, [], ◌∷◌, Option, Result, Event, fails, events_of, event_bytes, AreTaken, Reader, tells}
+use Rattle.no_std_io2.proofs.Words.{ReadLaw}
 use Rattle.no_std_io2.proofs.TakesLemmas.{bytes-append, bytes-events_of}
 use Rattle.std.specs.{Prelude.{option_map}, Option.{IfSome}, Io.KnownBytes.{Consumes, Keeps, ReadConsumes, IsAtEnd as IsKnownEnd}}
 use Rattle.no_std_io2.specs.declared.io.Error.{Error}
@@ -8,15 +9,16 @@ use Rattle.system_streams.specs.ToStd.{SameAnswer, bytes_to_come}
 use Rattle.std.specs.declared.io.Error as Std
 
 -- the bytes of events that are gone are gone from the bytes
-gone : (E F : Option (List Event)) (P : List Event) → AreTaken E P F → Consumes (option_map bytes E) (option_map bytes F) (bytes P)
+gone : (E F : Option (List Event)) (P : List Event) → AreTaken E P F
+    → Consumes (option_map event_bytes E) (option_map event_bytes F) (event_bytes P)
 gone E F P taken = grind (arith, common_steps, bytes-append)
 
 -- an error that is gone leaves the bytes
-kept : (E F : Option (List Event)) (e : Error) → AreTaken E (fails e ∷ []) F → Keeps (option_map bytes E) (option_map bytes F)
+kept : (E F : Option (List Event)) (e : Error) → AreTaken E (fails e ∷ []) F → Keeps (option_map event_bytes E) (option_map event_bytes F)
 kept E F e taken = grind (arith, common_steps)
 
 -- at the end no bytes are left
-at_end : (F : Option (List Event)) → IfSome F (λ E. E ≡ []) → IsKnownEnd (option_map bytes F)
+at_end : (F : Option (List Event)) → IfSome F (λ E. E ≡ []) → IsKnownEnd (option_map event_bytes F)
 at_end F end = grind (arith, common_steps)
 
 -- a read consumes the bytes that it gives, and keeps all at an error

@@ -3,7 +3,7 @@ use Rattle.std.proofs.lemmas.Grind.{common_steps}
 use Rattle.no_std_io2.proofs.Words.{◌≡◌, ℕ, zero, suc, ◌+◌, ◌<◌, ◌≤◌, List, None, Result, Ok, Err, length, refl, arith, IfOk, ⊤, Reader}
 use Rattle.no_std_io2.proofs.Words.{ReadLaw, answered, []}
 use Rattle.std.specs.{Prelude.{min}, Io.KnownBytes.{ReadConsumes}}
-use Rattle.no_std_io2.specs.{declared.io.Error.{Error}, Takes.{gave}}
+use Rattle.no_std_io2.specs.{declared.io.Error.{Error}, Takes.{gave_front}}
 use Rattle.system_streams.specs.{declared.{patient.Patient.{Patient}, system.SystemRead.{Ghosts as Source}}, Patient.{patient_device}}
 use Rattle.system_streams.specs.{Patient.{patient_turns, patient_taken, patient_error, PatientReads, Remembers}, Turns.{AnswersRead}}
 use Rattle.system_streams.specs.Turns.{GivesOn}
@@ -16,7 +16,7 @@ patient_reader device =
 
 -- a result that came from the device spent a turn, unless it gave nothing
 spent : {old : ℕ} (new : ℕ) (reply : Result ℕ Error) (buf : List ℕ) → AnswersRead reply old new
-    → new + min 1 (length (answered (gave reply buf))) ≤ old
+    → new + min 1 (length (answered (gave_front reply buf))) ≤ old
 spent new (Ok zero) buf answers = omega (arith, answers.0 refl)
 spent new (Ok (suc n)) buf answers = omega (arith, answers.1 (omega arith))
 spent new (Err e) buf answers = omega (arith, answers.0)

@@ -1,6 +1,6 @@
 -- What a copy through buffers takes, and what it does to the writer.
 use Rattle.std.specs.Prelude.{◌≡◌, ℕ, Bool, true, false, List, [], ◌∷◌, ◌++◌, Ok}
-use Rattle.no_std_io2.specs.{Events.{Event, bytes, HasNoFault}, Takes.{ReaderState}, inner.Pieces.{IsAll}, Writers.{Writer}}
+use Rattle.no_std_io2.specs.{Events.{Event, event_bytes, HasNoFault}, Takes.{ReaderState}, inner.Pieces.{IsAll}, Writers.{Writer}}
 use Rattle.no_std_io2.specs.{inner.Writers.{CallOf}, Moves.{WriterState, Moves}, Calls.{WriteCall, Flushed, Made}}
 use Rattle.no_std_io2.specs.{inner.BufWriter.{InnerCalls, LevelCalls}, inner.LineWriter.{LineCalls}, inner.Copy.{counted, Handed}}
 
@@ -9,8 +9,8 @@ pub record CopiesAll (from : ReaderState) (old : WriterState) (n : ℕ) (new : W
   pub taken : List Event
   pub all : IsAll from taken
   pub no_fault : HasNoFault taken
-  pub moves : Moves old (bytes taken) [] new
-  pub count : n ≡ counted (bytes taken)
+  pub moves : Moves old (event_bytes taken) [] new
+  pub count : n ≡ counted (event_bytes taken)
 
 -- Pieces of at most 64 bytes were passed on to a writer, by one `write_all` each, and then the writer was flushed once.
 pub record HandsAndFlushes {W : Type 0} (I : Writer W) (old new : W) : Type 0 where

@@ -23,7 +23,7 @@ pub record StopsAt {X N E : Type 0} (Try : X → N → Result (Unit {0}) (FileFa
   pub whole : Bool
   pub mid : X
   pub tried : TriesEach Try Tell old before whole mid
-  pub fails : Try mid at (Err (Output why)) new
+  pub output_fails : Try mid at (Err (Output why)) new
 
 -- All names were tried, or the output failed before.
 abbrev pub TriesFiles : {X N E : Type 0} → (X → N → Result (Unit {0}) (FileFault E) → X → Type 0) → (X → N → E → X → Type 0) → List N → X

@@ -3,9 +3,10 @@ use Rattle.std.specs.Prelude.{◌≡◌, ℕ, ◌<◌, ◌-◌, ◌^◌, List, [
 use Rattle.std.specs.Io.KnownBytes.{ReadConsumes}
 use Rattle.no_std_io2.specs.{declared.io.Error.{Error}, declared.io.SeekFrom.{SeekFrom}}
 use Rattle.no_std_io2.specs.declared.io.SeekFrom.TheVariants.{Start, End, Current}
-use Rattle.no_std_io2.specs.{Calls.{ReadCall, Gave, SeekCall, Sought, Measured, Moved, WriteCall, Wrote, WroteAll, Flushed}, Takes.{gave}}
+use Rattle.no_std_io2.specs.Calls.{ReadCall, Gave, SeekCall, Sought, Measured, Moved, WriteCall, Wrote, WroteAll, Flushed}
+use Rattle.no_std_io2.specs.Takes.{gave_front}
 use Rattle.no_std_io2.specs.Moves.{WriterState}
-use Rattle.no_std_io2.specs.Write.{taken}
+use Rattle.no_std_io2.specs.Write.{accepted_of}
 use Rattle.system_streams.specs.declared.{patient.Patient.{Patient}, system.{SystemWrite.{Ghosts as Device}, SystemRead.{Ghosts as Source}}}
 use Rattle.system_streams.specs.{declared.system.SystemSeek.{Ghosts as Place}, Turns.{AnswersFor, AnswersRead, GivesOn, IsOutOfTurns}}
 use Rattle.std.specs.declared.io.Error as Std
@@ -47,7 +48,7 @@ patient_told p = record { out = patient_taken p; held = []; mishaps = None; turn
 abbrev pub PatientMay : {D : Type 0} → Device D → Patient D → WriteCall → Patient D → Type 0
 PatientMay I old (Wrote x reply) new =
     (answer : Result ℕ Std.Error) × I.may_write (patient_device old) x answer (patient_device new)
-    × AnswersFor answer reply (patient_turns old) (patient_turns new) × (patient_taken new ≡ patient_taken old ++ taken reply x)
+    × AnswersFor answer reply (patient_turns old) (patient_turns new) × (patient_taken new ≡ patient_taken old ++ accepted_of reply x)
     × Remembers answer (patient_error old) (patient_error new)
 PatientMay I old (Flushed reply) new =
     (answer : Result (Unit {0}) Std.Error) × I.may_flush (patient_device old) answer (patient_device new)
@@ -77,7 +78,7 @@ pub record AsksOnce {D : Type 0} (I : Source D) (old : Patient D) (room : ℕ) (
         × (patient_device new ≡ patient_device old) × (patient_error new ≡ patient_error old)
     -- with more turns it calls the device once
     pub asked : 0 < room → 1 < patient_turns old → (reply : Result ℕ Error) × (buf : List ℕ) × (length buf ≡ room)
-        × (answer ≡ gave reply buf) × AsksDevice I old reply buf new
+        × (answer ≡ gave_front reply buf) × AsksDevice I old reply buf new
     pub taken : patient_taken new ≡ patient_taken old
 
 -- what one call of a reader does; only its reads call the device

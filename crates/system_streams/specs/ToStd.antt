@@ -5,7 +5,7 @@ use Rattle.no_std_io2.specs.declared.io.ErrorKind.TheVariants.{ConnectionReset, 
 use Rattle.no_std_io2.specs.declared.io.ErrorKind.TheVariants.{AddrNotAvailable, BrokenPipe, AlreadyExists, WouldBlock, InvalidInput}
 use Rattle.no_std_io2.specs.declared.io.ErrorKind.TheVariants.{InvalidData, TimedOut, WriteZero, Interrupted, Other, UnexpectedEof}
 use Rattle.no_std_io2.specs.{declared.io.ErrorKind.TheVariants.{Unsupported, OutOfMemory, Uncategorized}, Errors.{error_kind}}
-use Rattle.no_std_io2.specs.{Events.{bytes, Store}, Takes.{ReaderState, to_come}, Moves.{WriterState}}
+use Rattle.no_std_io2.specs.{Events.{event_bytes, Store}, Takes.{ReaderState, to_come}, Moves.{WriterState}}
 use Rattle.system_streams.specs.declared.to_std.ToStd.{ToStd}
 use Rattle.std.specs.IoError as Io
 use Rattle.std.specs.declared.io.Error as Std
@@ -18,7 +18,7 @@ std_inner s = s.inner
 
 -- the bytes to come, if events are told
 abbrev pub bytes_to_come : ReaderState → Option (List ℕ)
-bytes_to_come t = option_map bytes (to_come t)
+bytes_to_come t = option_map event_bytes (to_come t)
 
 -- the content of a told store
 abbrev pub content_of : Option Store → Option (List ℕ)
@@ -60,5 +60,5 @@ SameAnswer (Ok x) (Err f) = ⊥
 SameAnswer (Err e) (Ok y) = ⊥
 
 -- all bytes that a writer has accepted: they are out or held
-abbrev pub accepted : WriterState → List ℕ
-accepted told = told.out ++ told.held
+abbrev pub accepted_so_far : WriterState → List ℕ
+accepted_so_far told = told.out ++ told.held

@@ -12,7 +12,7 @@ ghost use Rattle.no_std_io2.specs.Read.{ReadLaw};
 ghost use Rattle.no_std_io2.specs.Seek.{SeekLaw};
 ghost use Rattle.no_std_io2.specs.Writers.{FlushOf, WriteOf};
 ghost use Rattle.system_streams.specs.Patient.{std_place};
-ghost use Rattle.system_streams.specs.ToStd.{std_inner, std_kind, bytes_to_come, content_of, position_of, SameAnswer, accepted};
+ghost use Rattle.system_streams.specs.ToStd.{std_inner, std_kind, bytes_to_come, content_of, position_of, SameAnswer, accepted_so_far};
 
 use no_std_io2::io::{Error, ErrorKind, Read, Seek, SeekFrom, Write};
 use std::io;
@@ -121,7 +121,7 @@ impl<R: Read> io::Read for ToStd<R> {
 }
 
 impl<W: Write> io::Write for ToStd<W> {
-    ghost contents = { λ s. Some (accepted (W.told (std_inner s))) };
+    ghost contents = { λ s. Some (accepted_so_far (W.told (std_inner s))) };
 
     fn write(&mut self, buf: &[u8]) -> io::Result<usize>
         // It makes one call of the writer, and returns its result.

@@ -2,7 +2,7 @@
 use Rattle.no_std_io2.proofs.Words.{◌≡◌, ℕ, ◌+◌, ◌≤◌, ◌<◌, List, [], ◌∷◌, ◌++◌, length, take, drop, get_or, arith, append-nil, take_more}
 use Rattle.no_std_io2.proofs.Words.{common_steps, ◌≢◌, Bool, true, false, Option, Some, None, sym}
 use Rattle.std.proofs.lemmas.Grind.{flat_map-append}
-use Rattle.tower_play.specs.Script.{escaped, escaped_byte, before, unescaped, IsAppended}
+use Rattle.tower_play.specs.Script.{escaped, escaped_byte, joined_if, unescaped, IsAppended}
 
 -- For `push_escaped`: a text that is shown run by run.
 
@@ -37,14 +37,14 @@ waiting false rest = rest
 pub record Halfway (old new text left : List ℕ) : Type 0 where
   pub so_far : List ℕ
   pub appends : new ≡ old ++ so_far
-  pub meant : unescaped text ≡ before so_far (unescaped left)
+  pub meant : unescaped text ≡ joined_if so_far (unescaped left)
 
 -- bytes before bytes
-before-before : (x y : List ℕ) (o : Option (List ℕ)) → before x (before y o) ≡ before (x ++ y) o
+before-before : (x y : List ℕ) (o : Option (List ℕ)) → joined_if x (joined_if y o) ≡ joined_if (x ++ y) o
 before-before x y o = grind (arith, common_steps)
 
 -- nothing before bytes changes nothing
-before-nothing : (o : Option (List ℕ)) → before [] o ≡ o
+before-nothing : (o : Option (List ℕ)) → joined_if [] o ≡ o
 before-nothing o = grind (arith, common_steps)
 
 -- nothing is appended at first
@@ -52,7 +52,7 @@ pub none_yet : (old text : List ℕ) → Halfway old old text text
 none_yet old text = record { so_far = []; appends = sym (append-nil old); meant = sym (before-nothing (unescaped text)) }
 
 -- the bytes at the front of the rest are appended
-goes_on : {old new new2 text left left2 : List ℕ} (x : List ℕ) → unescaped left ≡ before x (unescaped left2)
+goes_on : {old new new2 text left left2 : List ℕ} (x : List ℕ) → unescaped left ≡ joined_if x (unescaped left2)
     → new2 ≡ new ++ x → Halfway old new text left → Halfway old new2 text left2
 goes_on x is more so = record {
   so_far = so.so_far ++ x;
@@ -61,7 +61,7 @@ goes_on x is more so = record {
 }
 
 -- a byte that is no backslash stands for itself
-by_itself : (b : ℕ) (rest : List ℕ) → b ≢ 92 → unescaped (b ∷ rest) ≡ before (b ∷ []) (unescaped rest)
+by_itself : (b : ℕ) (rest : List ℕ) → b ≢ 92 → unescaped (b ∷ rest) ≡ joined_if (b ∷ []) (unescaped rest)
 by_itself b rest plain = grind (arith, common_steps)
 
 -- a byte of the text, and what follows it
@@ -71,7 +71,7 @@ at_front text i in' = grind (arith, common_steps)
 module _ {old new new2 text : List ℕ} (i : ℕ) {was is : Bool} (in' : i < length text) where
   -- a byte after a backslash ends an escape
   pub ends_escape : (b : ℕ) (x : List ℕ) → get_or text i 0 ≡ b → was ≡ true → is ≡ false
-      → unescaped (92 ∷ b ∷ drop (i + 1) text) ≡ before x (unescaped (drop (i + 1) text))
+      → unescaped (92 ∷ b ∷ drop (i + 1) text) ≡ joined_if x (unescaped (drop (i + 1) text))
       → new2 ≡ new ++ x → Halfway old new text (waiting was (drop i text)) → Halfway old new2 text (waiting is (drop (i + 1) text))
   ends_escape b x at was is meant more so = rw is (goes_on x meant more (rw (was, at_front text i in', at) at so))
 

@@ -12,9 +12,9 @@ abbrev pub escaped : List ℕ → List ℕ
 escaped bytes = flat_map escaped_byte bytes
 
 -- these bytes followed by those, if there are those
-abbrev pub before : List ℕ → Option (List ℕ) → Option (List ℕ)
-before bytes None = None
-before bytes (Some rest) = Some (bytes ++ rest)
+abbrev pub joined_if : List ℕ → Option (List ℕ) → Option (List ℕ)
+joined_if bytes None = None
+joined_if bytes (Some rest) = Some (bytes ++ rest)
 
 -- the bytes that an escaped text stands for, or none if it has a bad escape
 abbrev pub unescaped : List ℕ → Option (List ℕ)
@@ -22,8 +22,8 @@ unescaped [] = Some []
 unescaped (b ∷ []) = if b == 92 then None else Some (b ∷ [])
 unescaped (b ∷ c ∷ text) =
     if b == 92
-    then (if c == 110 then before (10 ∷ []) (unescaped text) else (if c == 92 then before (92 ∷ []) (unescaped text) else None))
-    else before (b ∷ []) (unescaped (c ∷ text))
+    then (if c == 110 then joined_if (10 ∷ []) (unescaped text) else (if c == 92 then joined_if (92 ∷ []) (unescaped text) else None))
+    else joined_if (b ∷ []) (unescaped (c ∷ text))
 
 -- a text that stands for bytes is good, and these are appended
 abbrev pub IsAppended : Option (List ℕ) → Bool → List ℕ → List ℕ → Type 0

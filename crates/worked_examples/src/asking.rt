@@ -7,9 +7,9 @@ use crate::shown::Shown;
 use io_bench::{Ask, Tally, run_reads};
 use no_std_io2::io::BufReader;
 use rows_play::calls::Call;
-use rows_play::fault::{Fault, Made};
 use rows_play::line::{Line, cut, unescape};
 use rows_play::player::{Player, Stream};
+use rows_play::unplayed::{Played, Unplayed};
 use std::alloc::Global;
 
 // The most bytes of an ask.
@@ -27,7 +27,7 @@ fn ask_of(words: &str, line: &mut Line) -> Ask
         ("exact", Ok(count)) => Ask::Exact(count.min(ROOM)),
         ("fill", Ok(count)) => Ask::Fill(count),
         _ => {
-            line.tell(Fault::NoCall);
+            line.tell(Unplayed::NoCall);
             Ask::Fill(0)
         }
     }
@@ -85,7 +85,7 @@ impl<'a> Stream for Asking<'a> {
 }
 
 /// Lends a buffered reader over the bytes of a line.
-pub fn lend(words: &str, player: &mut Player<'_, '_>) -> Made<()> {
+pub fn lend(words: &str, player: &mut Player<'_, '_>) -> Played<()> {
     let bytes = unescape(player.alloc, words)?;
     let reader = BufReader::new(Tally::new(bytes.as_slice()));
     player.play(&mut Asking { reader })

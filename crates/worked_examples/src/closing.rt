@@ -7,9 +7,9 @@ use crate::writing::{ops_of, parse_calls, show_replies};
 use io_bench::{Op, Reply, Tally, run_closed};
 use no_std_io2::io::{Result, Sink, Write};
 use rows_play::calls::Call;
-use rows_play::fault::{Fault, Made};
 use rows_play::line::Line;
 use rows_play::player::{Player, Stream};
+use rows_play::unplayed::{Played, Unplayed};
 use std::alloc::Global;
 
 // A sink that notes the lengths of its writes, and all its calls.
@@ -118,10 +118,10 @@ impl<const S: usize> Stream for Closing<S> {
 }
 
 /// Lends runs through a buffer of this size.
-pub fn lend(name: &str, player: &mut Player<'_, '_>) -> Made<()> {
+pub fn lend(name: &str, player: &mut Player<'_, '_>) -> Played<()> {
     match name {
         "8" => player.play(&mut Closing::<8>),
         "1" => player.play(&mut Closing::<1>),
-        _ => Err(Fault::NoStream),
+        _ => Err(Unplayed::NoStream),
     }
 }

@@ -7,9 +7,9 @@ use crate::shown::{Shown, show_bytes};
 use io_bench::Feed;
 use no_std_io2::io::{BufReader, Cursor, Read, Write, copy};
 use rows_play::calls::Call;
-use rows_play::fault::{Fault, Made};
 use rows_play::line::{Line, cut, unescape};
 use rows_play::player::{Player, Stream};
+use rows_play::unplayed::{Played, Unplayed};
 use std::alloc::Global;
 use system_streams::{Patient, copy_through};
 
@@ -36,7 +36,7 @@ impl<R: Read + Shown + Drop, const S: usize> Stream for Copying<R, S> {
             "copy" if S < 1 << 63 => {
                 line.position(&copy::<R, Device, S>(&mut self.from, &mut self.to));
             }
-            _ => line.tell(Fault::NoCall),
+            _ => line.tell(Unplayed::NoCall),
         }
         self.to.show(line);
         self.from.show(line);
@@ -44,7 +44,7 @@ impl<R: Read + Shown + Drop, const S: usize> Stream for Copying<R, S> {
 }
 
 /// Lends a copy, of `FROM to ACTS`.
-pub fn lend(name: &str, words: &str, player: &mut Player<'_, '_>) -> Made<()> {
+pub fn lend(name: &str, words: &str, player: &mut Player<'_, '_>) -> Played<()> {
     match name {
         "through" => return player.play(&mut Through),
         "halves" => return player.play(&mut Halves),
@@ -68,7 +68,7 @@ pub fn lend(name: &str, words: &str, player: &mut Player<'_, '_>) -> Made<()> {
             let from = BufReader::<Feed, 1>::new(new_feed(player.alloc, from)?);
             player.play(&mut Copying::<_, 0> { from, to })
         }
-        _ => Err(Fault::NoStream),
+        _ => Err(Unplayed::NoStream),
     }
 }
 
@@ -108,10 +108,10 @@ impl Stream for Through {
                 let (turns, bytes) = cut(call.rest, " of ");
                 match turns.parse::<u64>() {
                     Ok(turns) => copy_patiently(alloc, turns, bytes.as_bytes(), line),
-                    Err(_) => line.tell(Fault::NoNumber),
+                    Err(_) => line.tell(Unplayed::NoNumber),
                 }
             }
-            _ => line.tell(Fault::NoCall),
+            _ => line.tell(Unplayed::NoCall),
         }
     }
 }

@@ -3,10 +3,10 @@ use crate::readers::new_text;
 use crate::shown::{Shown, show_bytes, show_number};
 use no_std_io2::io::{BufReader, BufWriter, Cursor, Seek};
 use rows_play::calls::{Call, make_call, make_seek};
-use rows_play::fault::{Fault, Made};
 use rows_play::line::{Line, unescape};
 use rows_play::player::{Player, Stream};
 use rows_play::reads::make_lend;
+use rows_play::unplayed::{Played, Unplayed};
 use std::alloc::Global;
 
 type Text = Cursor<Vec<u8>>;
@@ -109,7 +109,7 @@ struct Boxed {
 impl Stream for Boxed {
     fn play(&mut self, _alloc: Global, call: &Call<'_>, line: &mut Line) {
         if !make_seek(&mut self.seeker, call, line) {
-            line.tell(Fault::NoCall);
+            line.tell(Unplayed::NoCall);
         }
     }
 }
@@ -150,7 +150,7 @@ impl Stream for Writing {
 }
 
 /// Lends the cursor of this name on the bytes of a line.
-pub fn lend(name: &str, words: &str, player: &mut Player<'_, '_>) -> Made<()> {
+pub fn lend(name: &str, words: &str, player: &mut Player<'_, '_>) -> Played<()> {
     let alloc = player.alloc;
     match name {
         "Vec" | "place Vec" => player.play(&mut OnVector {
@@ -177,8 +177,8 @@ pub fn lend(name: &str, words: &str, player: &mut Player<'_, '_>) -> Made<()> {
             [first, second] => player.play(&mut OnSlice {
                 bytes: [*first, *second],
             }),
-            _ => Err(Fault::NoWord),
+            _ => Err(Unplayed::NoWord),
         },
-        _ => Err(Fault::NoStream),
+        _ => Err(Unplayed::NoStream),
     }
 }

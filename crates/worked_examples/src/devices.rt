@@ -1,9 +1,9 @@
 // The devices of the examples: a vector that fails as its acts say, `take 2, zero, fail BrokenPipe`, and a feed of
 // events, `4: x, Interrupted, y`, in pieces of at most 4 bytes.
 use io_bench::{Act, Event, Faulty, Feed};
-use rows_play::fault::{Fault, Made};
 use rows_play::kinds::{kind_of_name, name_of_kind};
 use rows_play::line::{Line, cut};
+use rows_play::unplayed::{Played, Unplayed};
 use std::alloc::Global;
 
 /// A vector that fails as its acts say.
@@ -20,7 +20,7 @@ fn parse_act(words: &str) -> Option<Act> {
 }
 
 /// Returns the acts that a line names, in order.
-pub fn parse_acts(alloc: Global, words: &str) -> Made<Vec<Act>> {
+pub fn parse_acts(alloc: Global, words: &str) -> Played<Vec<Act>> {
     let mut acts = Vec::new(alloc);
     if words.is_empty() {
         return Ok(acts);
@@ -28,14 +28,14 @@ pub fn parse_acts(alloc: Global, words: &str) -> Made<Vec<Act>> {
     'acts: for word in words.split(", ") {
         match parse_act(word) {
             Some(act) => acts.push(act)?,
-            None => return Err(Fault::NoWord),
+            None => return Err(Unplayed::NoWord),
         }
     }
     Ok(acts)
 }
 
 /// Makes an empty vector that fails as a line says.
-pub fn new_device(alloc: Global, words: &str) -> Made<Device> {
+pub fn new_device(alloc: Global, words: &str) -> Played<Device> {
     Ok(Faulty::new(Vec::new(alloc), parse_acts(alloc, words)?))
 }
 
@@ -47,7 +47,7 @@ fn parse_event(word: &str) -> Option<Event> {
     }
 }
 
-fn parse_events(alloc: Global, words: &str) -> Made<Vec<Event>> {
+fn parse_events(alloc: Global, words: &str) -> Played<Vec<Event>> {
     let mut events = Vec::new(alloc);
     if words.is_empty() {
         return Ok(events);
@@ -55,19 +55,19 @@ fn parse_events(alloc: Global, words: &str) -> Made<Vec<Event>> {
     'events: for word in words.split(", ") {
         match parse_event(word) {
             Some(event) => events.push(event)?,
-            None => return Err(Fault::NoWord),
+            None => return Err(Unplayed::NoWord),
         }
     }
     Ok(events)
 }
 
 /// Makes the feed of a line that says its piece and its events.
-pub fn new_feed(alloc: Global, words: &str) -> Made<Feed> {
+pub fn new_feed(alloc: Global, words: &str) -> Played<Feed> {
     let (piece, events) = cut(words, ": ");
     let events = parse_events(alloc, events)?;
     match piece.parse::<usize>() {
         Ok(n) if n > 0 => Ok(Feed::new(events, n)),
-        _ => Err(Fault::NoNumber),
+        _ => Err(Unplayed::NoNumber),
     }
 }
 

@@ -1,10 +1,10 @@
 // Errors: their kinds, and what they print.
 use no_std_io2::io::{Error, ErrorKind};
 use rows_play::calls::Call;
-use rows_play::fault::{Fault, Made};
 use rows_play::kinds::{kind_of_name, name_of_kind};
 use rows_play::line::Line;
 use rows_play::player::{Player, Stream};
+use rows_play::unplayed::{Played, Unplayed};
 use std::alloc::Global;
 
 // A stream without a state: its rows say everything.
@@ -29,11 +29,11 @@ impl Stream for Errors {
             ("other", _) => show(alloc, Error::other("error!"), line),
             ("new", _) => show(alloc, Error::new(ErrorKind::Other, "error!"), line),
             ("from", Some(kind)) => show(alloc, Error::from(kind), line),
-            _ => line.tell(Fault::NoCall),
+            _ => line.tell(Unplayed::NoCall),
         }
     }
 }
 
-pub fn lend(player: &mut Player<'_, '_>) -> Made<()> {
+pub fn lend(player: &mut Player<'_, '_>) -> Played<()> {
     player.play(&mut Errors)
 }

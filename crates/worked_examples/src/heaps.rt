@@ -4,9 +4,9 @@ use crate::shown::{Shown, show_bytes, show_number};
 use linked_list_allocator::LocalHeap;
 use no_std_io2::io::{BufWriter, Cursor, Read, Write};
 use rows_play::calls::{Call, make_call};
-use rows_play::fault::{Fault, Made};
 use rows_play::line::{Line, cut, unescape};
 use rows_play::player::{Player, Stream};
+use rows_play::unplayed::{Played, Unplayed};
 use std::alloc::Global;
 
 type HeapVec<'h> = Vec<u8, &'h LocalHeap>;
@@ -54,7 +54,7 @@ impl<'h, R: Read + Shown + Drop> Filled for Reading<'h, R> {
     fn call(&mut self, call: &Call<'_>, line: &mut Line) {
         match call.word {
             "read_to_end" => line.length(&self.from.read_to_end(&mut self.to)),
-            _ => line.tell(Fault::NoCall),
+            _ => line.tell(Unplayed::NoCall),
         }
         show_bytes("vector ", &self.to, line);
         self.from.show(line);
@@ -75,7 +75,7 @@ impl<'h, T: Filled + Drop> Stream for InHeap<'h, T> {
             "fill" => {
                 line.word("-");
                 if self.filler.reserve(self.heap.free()).is_err() {
-                    line.tell(Fault::NotReady);
+                    line.tell(Unplayed::NotReady);
                 }
             }
             "free" => {
@@ -91,7 +91,7 @@ fn play<'h, T: Filled + Drop>(
     stream: T,
     heap: &'h LocalHeap,
     player: &mut Player<'_, '_>,
-) -> Made<()> {
+) -> Played<()> {
     let filler = Vec::new(heap);
     player.play(&mut InHeap {
         stream,
@@ -106,7 +106,7 @@ fn lend_stream<'h>(
     heap: &'h LocalHeap,
     bytes: &[u8],
     player: &mut Player<'_, '_>,
-) -> Made<()> {
+) -> Played<()> {
     let mut to = Vec::new(heap);
     match name {
         "&[u8]" => play(Reading { from: bytes, to }, heap, player),
@@ -120,15 +120,15 @@ fn lend_stream<'h>(
             to.extend_from_slice(bytes)?;
             play(Cursor::new(to), heap, player)
         }
-        _ => Err(Fault::NoStream),
+        _ => Err(Unplayed::NoStream),
     }
 }
 
 /// Lends the stream of this name in a heap, `SIZE: BYTES`.
-pub fn lend(name: &str, words: &str, player: &mut Player<'_, '_>) -> Made<()> {
+pub fn lend(name: &str, words: &str, player: &mut Player<'_, '_>) -> Played<()> {
     let (size, bytes) = cut(words, ":");
     let Ok(size) = size.parse::<usize>() else {
-        return Err(Fault::NoNumber);
+        return Err(Unplayed::NoNumber);
     };
     let heap = LocalHeap::new(player.alloc, size)?;
     let bytes = unescape(player.alloc, bytes.trim())?;

@@ -3,9 +3,9 @@ use crate::devices::new_feed;
 use crate::readers::new_text;
 use no_std_io2::io::{BufRead, BufReader, Bytes, Lines, Read, Result, Split};
 use rows_play::calls::Call;
-use rows_play::fault::{Fault, Made};
 use rows_play::line::{Line, cut, unescape};
 use rows_play::player::{Player, Stream};
+use rows_play::unplayed::{Played, Unplayed};
 use std::alloc::Global;
 
 // Prints an item, or a dash if there is none.
@@ -62,13 +62,13 @@ impl<R: BufRead + Drop> Stream for TextLines<R> {
     }
 }
 
-fn play_lines<R: BufRead + Drop>(reader: R, player: &mut Player<'_, '_>) -> Made<()> {
+fn play_lines<R: BufRead + Drop>(reader: R, player: &mut Player<'_, '_>) -> Played<()> {
     let lines = reader.lines(player.alloc);
     player.play(&mut TextLines { lines })
 }
 
 /// Lends the items of a reader: `bytes`, `split` at each `3`, or `lines`.
-pub fn lend(word: &str, name: &str, words: &str, player: &mut Player<'_, '_>) -> Made<()> {
+pub fn lend(word: &str, name: &str, words: &str, player: &mut Player<'_, '_>) -> Played<()> {
     match (word, name) {
         ("bytes", "Feed") => {
             let bytes = new_feed(player.alloc, words)?.bytes();
@@ -84,12 +84,12 @@ pub fn lend(word: &str, name: &str, words: &str, player: &mut Player<'_, '_>) ->
             play_lines(BufReader::<_, 2>::new(feed), player)
         }
         ("lines", "Chain &[u8] &[u8]") => lend_both(words, player),
-        _ => Err(Fault::NoStream),
+        _ => Err(Unplayed::NoStream),
     }
 }
 
 // Lends the lines of two slices, one behind the other.
-fn lend_both(words: &str, player: &mut Player<'_, '_>) -> Made<()> {
+fn lend_both(words: &str, player: &mut Player<'_, '_>) -> Played<()> {
     let (first, second) = cut(words, " + ");
     let first = unescape(player.alloc, first)?;
     let second = unescape(player.alloc, second)?;

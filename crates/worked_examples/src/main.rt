@@ -19,17 +19,17 @@ mod wrapped;
 mod writers;
 mod writing;
 
-use rows_play::fault::{Fault, Made};
 use rows_play::files::play_files;
 use rows_play::line::cut;
 use rows_play::player::{Player, Streams};
+use rows_play::unplayed::{Played, Unplayed};
 use std::process::ExitCode;
 
 // The streams of the examples. The first word says which calls a row makes.
 struct Examples;
 
 impl Streams for Examples {
-    fn lend(name: &str, words: &str, player: &mut Player<'_, '_>) -> Made<()> {
+    fn lend(name: &str, words: &str, player: &mut Player<'_, '_>) -> Played<()> {
         let (word, rest) = cut(name, " ");
         match word {
             "writer" => writers::lend(rest, words, player),
@@ -45,7 +45,7 @@ impl Streams for Examples {
 }
 
 // Lends what is no stream of its own: runs, copies, plays and errors.
-fn lend_run(word: &str, rest: &str, words: &str, player: &mut Player<'_, '_>) -> Made<()> {
+fn lend_run(word: &str, rest: &str, words: &str, player: &mut Player<'_, '_>) -> Played<()> {
     match word {
         "closed" => closing::lend(rest, player),
         "asks" => asking::lend(words, player),
@@ -53,7 +53,7 @@ fn lend_run(word: &str, rest: &str, words: &str, player: &mut Player<'_, '_>) ->
         "play" => playing::lend(player),
         "sweep" => sweeping::lend(rest, player),
         "error" => errors::lend(player),
-        _ => Err(Fault::NoStream),
+        _ => Err(Unplayed::NoStream),
     }
 }
 

@@ -5,10 +5,10 @@ ghost use Rattle.no_std_io2.specs.BufReader.{BufReaderFits};
 use io_bench::{Event, Feed};
 use no_std_io2::io::Read;
 use rows_play::calls::Call;
-use rows_play::fault::{Fault, Made};
 use rows_play::kinds::kind_of_name;
 use rows_play::line::Line;
 use rows_play::player::{Player, Stream};
+use rows_play::unplayed::{Played, Unplayed};
 use std::alloc::Global;
 use tower_play::{Shape, play};
 
@@ -36,7 +36,7 @@ fn show_play<R: Read + Drop>(alloc: Global, input: R, shape: Shape, line: &mut L
 
 fn play_feed(alloc: Global, kind: &str, line: &mut Line) {
     let Some(kind) = kind_of_name(kind) else {
-        line.tell(Fault::NoWord);
+        line.tell(Unplayed::NoWord);
         return;
     };
     match Vec::from_slice(alloc, &[Event::Fail(kind)]) {
@@ -54,11 +54,11 @@ impl Stream for Playing {
         match shape_of(call.word) {
             Some(shape) => show_play(alloc, call.bytes.as_slice(), shape, line),
             None if call.word == "feed" => play_feed(alloc, call.rest, line),
-            None => line.tell(Fault::NoCall),
+            None => line.tell(Unplayed::NoCall),
         }
     }
 }
 
-pub fn lend(player: &mut Player<'_, '_>) -> Made<()> {
+pub fn lend(player: &mut Player<'_, '_>) -> Played<()> {
     player.play(&mut Playing)
 }

@@ -2,10 +2,10 @@
 use crate::shown::{Shown, show_number};
 use no_std_io2::io::{BufRead, Cursor, Read, Result, Take};
 use rows_play::calls::Call;
-use rows_play::fault::{Fault, Made};
 use rows_play::line::Line;
 use rows_play::player::{Player, Stream};
 use rows_play::reads::{make_lend, make_read};
+use rows_play::unplayed::{Played, Unplayed};
 use std::alloc::Global;
 
 // A reader.
@@ -22,7 +22,7 @@ impl<R: Read + Shown + Drop> Stream for Reading<R> {
 }
 
 /// Plays the rows on a reader.
-pub fn play_reading<R: Read + Shown + Drop>(reader: R, player: &mut Player<'_, '_>) -> Made<()> {
+pub fn play_reading<R: Read + Shown + Drop>(reader: R, player: &mut Player<'_, '_>) -> Played<()> {
     player.play(&mut Reading { reader })
 }
 
@@ -40,7 +40,10 @@ impl<R: BufRead + Shown + Drop> Stream for Lending<R> {
 }
 
 /// Plays the rows on a reader that lends.
-pub fn play_lending<R: BufRead + Shown + Drop>(reader: R, player: &mut Player<'_, '_>) -> Made<()> {
+pub fn play_lending<R: BufRead + Shown + Drop>(
+    reader: R,
+    player: &mut Player<'_, '_>,
+) -> Played<()> {
     player.play(&mut Lending { reader })
 }
 
@@ -65,7 +68,7 @@ impl Stream for Limited {
 }
 
 /// Plays the rows on a limit over a cursor.
-pub fn play_limited(reader: Take<Cursor<Vec<u8>>>, player: &mut Player<'_, '_>) -> Made<()> {
+pub fn play_limited(reader: Take<Cursor<Vec<u8>>>, player: &mut Player<'_, '_>) -> Played<()> {
     player.play(&mut Limited { reader })
 }
 
@@ -82,7 +85,7 @@ fn step<A: BufRead, B: BufRead>(first: &mut A, second: &mut B, line: &mut Line) 
     let other = second.fill_buf()?;
     let n = lent.len().min(other.len());
     if lent[..n] != other[..n] {
-        line.tell(Fault::Otherwise);
+        line.tell(Unplayed::Otherwise);
     }
     line.number(n as u64);
     line.column();
@@ -105,6 +108,6 @@ pub fn play_walking<A: BufRead + Drop, B: BufRead + Drop>(
     first: A,
     second: B,
     player: &mut Player<'_, '_>,
-) -> Made<()> {
+) -> Played<()> {
     player.play(&mut Walking { first, second })
 }

@@ -7,9 +7,9 @@ use crate::writing::show_replies;
 use io_bench::{Act, Faulty, Op, Reply, joined, run_writes};
 use no_std_io2::io::{BufWriter, ErrorKind, LineWriter, Write};
 use rows_play::calls::Call;
-use rows_play::fault::{Fault, Made};
 use rows_play::line::{Line, cut_last};
 use rows_play::player::{Player, Stream};
+use rows_play::unplayed::{Played, Unplayed};
 use std::alloc::Global;
 
 const OPS: [Op<'static>; 6] = [
@@ -188,7 +188,7 @@ fn is_lawful_above<const S: usize>(
             )
         }
         _ => {
-            line.tell(Fault::NoStream);
+            line.tell(Unplayed::NoStream);
             false
         }
     }
@@ -209,7 +209,7 @@ impl<'n> Sweeping<'n> {
             "1" => is_lawful_kind::<1>(alloc, self.kind, device, line),
             "8" => is_lawful_kind::<8>(alloc, self.kind, device, line),
             _ => {
-                line.tell(Fault::NoStream);
+                line.tell(Unplayed::NoStream);
                 false
             }
         }
@@ -231,7 +231,7 @@ impl<'n> Stream for Sweeping<'n> {
 }
 
 /// Lends the towers of this name.
-pub fn lend(name: &str, player: &mut Player<'_, '_>) -> Made<()> {
+pub fn lend(name: &str, player: &mut Player<'_, '_>) -> Played<()> {
     let (kind, size) = cut_last(name, " ");
     player.play(&mut Sweeping { kind, size })
 }

@@ -7,9 +7,9 @@ use crate::writing::{play, play_unwrapping};
 use io_bench::{Faulty, Tally};
 use no_std_io2::io::{BufWriter, LineWriter, Result, Sink, Write};
 use rows_play::calls::Call;
-use rows_play::fault::{Fault, Made};
 use rows_play::line::{Line, cut, cut_last};
 use rows_play::player::{Player, Stream};
+use rows_play::unplayed::{Played, Unplayed};
 use std::alloc::Global;
 use system_streams::{Patient, ToStd};
 
@@ -45,7 +45,7 @@ impl Shown for Narrow {
 type Object = Box<dyn Write + Drop>;
 
 /// Lends the writer of this name, which ends with the name of its device.
-pub fn lend(name: &str, words: &str, player: &mut Player<'_, '_>) -> Made<()> {
+pub fn lend(name: &str, words: &str, player: &mut Player<'_, '_>) -> Played<()> {
     let (level, device) = cut_last(name, " ");
     match device {
         "Vec" => lend_vector(level, player),
@@ -53,21 +53,21 @@ pub fn lend(name: &str, words: &str, player: &mut Player<'_, '_>) -> Made<()> {
         "Sink" => lend_sink(level, player),
         "Narrow" => lend_narrow(words, player),
         "std" => lend_patient(words, player),
-        _ => Err(Fault::NoStream),
+        _ => Err(Unplayed::NoStream),
     }
 }
 
-fn lend_vector(level: &str, player: &mut Player<'_, '_>) -> Made<()> {
+fn lend_vector(level: &str, player: &mut Player<'_, '_>) -> Played<()> {
     let vector = Vec::<u8>::new(player.alloc);
     match level {
         "" => play(vector, player),
         "BufWriter 8" => play_unwrapping(BufWriter::<Vec<u8>, 8>::new(vector), player),
         "LineWriter 64" => play(LineWriter::<Vec<u8>, 64>::new(vector), player),
-        _ => Err(Fault::NoStream),
+        _ => Err(Unplayed::NoStream),
     }
 }
 
-fn lend_faulty(level: &str, words: &str, player: &mut Player<'_, '_>) -> Made<()> {
+fn lend_faulty(level: &str, words: &str, player: &mut Player<'_, '_>) -> Played<()> {
     let device = new_device(player.alloc, words)?;
     match level {
         "" => play(device, player),
@@ -77,17 +77,17 @@ fn lend_faulty(level: &str, words: &str, player: &mut Player<'_, '_>) -> Made<()
         "LineWriter 4" => play(LineWriter::<Device, 4>::new(device), player),
         "LineWriter 8" => play(LineWriter::<Device, 8>::new(device), player),
         "LineWriter 8 BufWriter 8 Box dyn" => lend_boxed(device, player),
-        _ => Err(Fault::NoStream),
+        _ => Err(Unplayed::NoStream),
     }
 }
 
-fn lend_boxed(device: Device, player: &mut Player<'_, '_>) -> Made<()> {
+fn lend_boxed(device: Device, player: &mut Player<'_, '_>) -> Played<()> {
     let object: Object = Box::new(player.alloc, device)?;
     let below = BufWriter::<Object, 8>::new(object);
     play(LineWriter::<BufWriter<Object, 8>, 8>::new(below), player)
 }
 
-fn lend_sink(level: &str, player: &mut Player<'_, '_>) -> Made<()> {
+fn lend_sink(level: &str, player: &mut Player<'_, '_>) -> Played<()> {
     let tally = Tally::new(Sink::new());
     match level {
         "BufWriter 0 Tally" => play(BufWriter::<Tally<Sink>, 0>::new(tally), player),
@@ -96,25 +96,25 @@ fn lend_sink(level: &str, player: &mut Player<'_, '_>) -> Made<()> {
             let object: Object = Box::new(player.alloc, Sink::new())?;
             play(LineWriter::<Object, 8>::new(object), player)
         }
-        _ => Err(Fault::NoStream),
+        _ => Err(Unplayed::NoStream),
     }
 }
 
-fn lend_narrow(words: &str, player: &mut Player<'_, '_>) -> Made<()> {
+fn lend_narrow(words: &str, player: &mut Player<'_, '_>) -> Played<()> {
     let taken = Vec::new(player.alloc);
     match words.parse::<usize>() {
         Ok(most) => play(Narrow { taken, most }, player),
-        Err(_) => Err(Fault::NoNumber),
+        Err(_) => Err(Unplayed::NoNumber),
     }
 }
 
 // Lends a writer of the standard library with this many turns, `1 of ACTS`.
-fn lend_patient(words: &str, player: &mut Player<'_, '_>) -> Made<()> {
+fn lend_patient(words: &str, player: &mut Player<'_, '_>) -> Played<()> {
     let (turns, acts) = cut(words, " of ");
     let device = ToStd::new(new_device(player.alloc, acts)?);
     match turns.parse::<u64>() {
         Ok(turns) => play(Patient::new(device, turns), player),
-        Err(_) => Err(Fault::NoNumber),
+        Err(_) => Err(Unplayed::NoNumber),
     }
 }
 
@@ -134,7 +134,7 @@ fn write_and_drop<W: Write + Drop>(device: W, call: &Call<'_>, line: &mut Line)
     match call.word {
         "write" => line.length(&w.write(&call.bytes)),
         "write_all" => line.done(&w.write_all(&call.bytes)),
-        _ => line.tell(Fault::NoCall),
+        _ => line.tell(Unplayed::NoCall),
     }
 }
 
@@ -145,14 +145,14 @@ impl<'a> Stream for Lending<'a> {
             ("BufWriter 8 Faulty &mut Vec", Ok(acts)) => {
                 write_and_drop(Faulty::new(&mut self.vector, acts), call, line);
             }
-            _ => line.tell(Fault::NoStream),
+            _ => line.tell(Unplayed::NoStream),
         }
         show_bytes("vector ", &self.vector, line);
     }
 }
 
 /// Lends a buffer over a borrowed vector.
-pub fn lend_lent(name: &str, words: &str, player: &mut Player<'_, '_>) -> Made<()> {
+pub fn lend_lent(name: &str, words: &str, player: &mut Player<'_, '_>) -> Played<()> {
     let vector = Vec::new(player.alloc);
     player.play(&mut Lending {
         name,

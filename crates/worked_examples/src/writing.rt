@@ -4,9 +4,9 @@ use crate::shown::Shown;
 use io_bench::{Op, Reply, run_writes};
 use no_std_io2::io::{BufWriter, Write};
 use rows_play::calls::{Call, make_call};
-use rows_play::fault::{Fault, Made};
 use rows_play::line::Line;
 use rows_play::player::{Player, Stream};
+use rows_play::unplayed::{Played, Unplayed};
 use std::alloc::Global;
 
 // Appends an item.
@@ -39,7 +39,7 @@ pub fn ops_of<'a>(alloc: Global, calls: &'a [Call<'_>], line: &mut Line) -> Vec<
             "write" => push(&mut ops, Op::Write(&call.bytes), line),
             "write_all" => push(&mut ops, Op::WriteAll(&call.bytes), line),
             "flush" => push(&mut ops, Op::Flush, line),
-            _ => line.tell(Fault::NoCall),
+            _ => line.tell(Unplayed::NoCall),
         }
     }
     ops
@@ -99,7 +99,7 @@ impl<W: Write + Shown + Drop> Stream for Writing<W> {
 }
 
 /// Plays the rows on a writer.
-pub fn play<W: Write + Shown + Drop>(writer: W, player: &mut Player<'_, '_>) -> Made<()> {
+pub fn play<W: Write + Shown + Drop>(writer: W, player: &mut Player<'_, '_>) -> Played<()> {
     player.play(&mut Writing { writer })
 }
 
@@ -142,7 +142,7 @@ struct Unwrapping<T: Drop> {
 impl<T: Unwrapped> Stream for Unwrapping<T> {
     fn play(&mut self, alloc: Global, call: &Call<'_>, line: &mut Line) {
         let Some(mut writer) = self.writer.take() else {
-            line.tell(Fault::NotReady);
+            line.tell(Unplayed::NotReady);
             return;
         };
         if call.word == "into_inner" {
@@ -156,7 +156,7 @@ impl<T: Unwrapped> Stream for Unwrapping<T> {
 }
 
 /// Plays the rows on a writer that may be unwrapped.
-pub fn play_unwrapping<T: Unwrapped>(writer: T, player: &mut Player<'_, '_>) -> Made<()> {
+pub fn play_unwrapping<T: Unwrapped>(writer: T, player: &mut Player<'_, '_>) -> Played<()> {
     let writer = Some(writer);
     player.play(&mut Unwrapping { writer })
 }

@@ -3,16 +3,16 @@ use Rattle.no_std_io2.proofs.Words.{[], ◌∷◌, ◌++◌, List, ℕ, take, No
 use Rattle.no_std_io2.specs.declared.io.Error.{Error}
 use Rattle.framing.specs.{declared.reader.FrameReader.{FrameReader}, Taking.{TakesFrame}}
 use Rattle.line_log.specs.declared.LineLog.{LineLog}
-use Rattle.frame_lines.specs.Printing.{nothing, frame, PrintEnds, PrintsEach, PrintsFrames}
+use Rattle.frame_lines.specs.Printing.{no_frame, and_frame, PrintEnds, PrintsEach, PrintsFrames}
 use Rattle.frame_lines.proofs.print_frames.Goals as goal
 
 pub frames-init : goal.frames-init
-frames-init g c = record { payloads = []; prints = nothing }
+frames-init g c = record { payloads = []; prints = no_frame }
 
 pub frames-preserved : goal.frames-preserved
 frames-preserved g c = record {
   payloads = c.frames.invariant.payloads ++ take c.in-Some.len c.next.new.room ∷ [];
-  prints = frame c.in-Some.len c.frames.invariant.prints (rw c.in-Some.is at c.in_ok-len.ensures.takes) c.in_ok-print_line.ensures;
+  prints = and_frame c.in-Some.len c.frames.invariant.prints (rw c.in-Some.is at c.in_ok-len.ensures.takes) c.in_ok-print_line.ensures;
 }
 
 -- frames were printed, and then it ended so

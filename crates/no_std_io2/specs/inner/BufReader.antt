@@ -7,7 +7,7 @@ use Rattle.no_std_io2_base.specs.{Calls.{ReadCall, Gave, GaveExactly, GaveAll, F
 use Rattle.no_std_io2_base.specs.{inner.Read.{bytes_given, gave_whole, ToEndCalls}, inner.Reads.{Reads}}
 use Rattle.no_std_io2.specs.declared.buffered.buf_reader.BufReader.{BufReader}
 use Rattle.no_std_io2.specs.inner.Buffer.{IsSuffix, behind_held, store_before, AreBefore, HasTo}
-use Rattle.no_std_io2.specs.BufReader.{reader_held, reader_behind, reader_inner, HasBuffer, KeepsBuffer}
+use Rattle.no_std_io2.specs.BufReader.{reader_held, reader_behind, reader_inner, KeepsBuffer}
 
 -- r after `*r.get_mut() = x`
 abbrev pub reader_with_inner : {R : Type 0} {S : ℕ} → BufReader R S → R → BufReader R S
@@ -32,6 +32,10 @@ reader_told room held inner = record {
   store = store_before held inner.store;
   turns = length held + (room + 1) * inner.turns;
 }
+
+-- these bytes lie behind, and these are held
+abbrev pub HasBuffer : {R : Type 0} {S : ℕ} → BufReader R S → List ℕ → List ℕ → Type 0
+HasBuffer r behind held = (reader_behind r ≡ behind) × (reader_held r ≡ held)
 
 -- nothing lies behind, and nothing is held
 abbrev pub HasNoBuffer : {R : Type 0} {S : ℕ} → BufReader R S → Type 0

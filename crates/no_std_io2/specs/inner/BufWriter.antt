@@ -58,8 +58,8 @@ Step A = List ℕ → List WriteCall → Result A Error → List ℕ → Type 0
 -- `first?; next`: if the first step fails, its error is the result, and the next step is not taken
 pub data Then {A : Type 0} (first : Step (Unit {0})) (next : Step A) (held : List ℕ) : List WriteCall → Result A Error → List ℕ → Type 0
   where
-    stops : {C : List WriteCall} {e : Error} {left : List ℕ} → first held C (Err e) left → Then first next held C (Err e) left
-    goes_on : {C D : List WriteCall} {mid left : List ℕ} {reply : Result A Error} → first held C (Ok tt) mid → next mid D reply left
+    first_stops : {C : List WriteCall} {e : Error} {left : List ℕ} → first held C (Err e) left → Then first next held C (Err e) left
+    first_goes_on : {C D : List WriteCall} {mid left : List ℕ} {reply : Result A Error} → first held C (Ok tt) mid → next mid D reply left
         → Then first next held (C ++ D) reply left
 
 -- these calls, with nothing held before and after them

@@ -21,7 +21,7 @@ pub data SeeksSent {W B : Type 0} (I : Writer W) (K : Seeker W) (inner : B → W
         → Moves (with_buffer (I.told (inner old)) (buffer old)) [] [] (I.told sent) → SeekLaw K sent to reply (inner new)
         → buffer new ≡ [] → SeeksSent I K inner buffer old to reply new
     -- some bytes are still held, no byte is lost, and no seek was made
-    failed : {e : Error} {new : B} → TakesStep I inner buffer SendCalls old (Err e) new
+    sending_failed : {e : Error} {new : B} → TakesStep I inner buffer SendCalls old (Err e) new
         → Moves (with_buffer (I.told (inner old)) (buffer old)) [] (error_kind e ∷ []) (with_buffer (I.told (inner new)) (buffer new))
         → 0 < length (buffer new) → SeeksSent I K inner buffer old to (Err e) new
 

@@ -1,7 +1,7 @@
 -- Which bytes a copy moves, which calls it makes, and which side ended it.
 use Rattle.std.specs.{Prelude.{◌≡◌, ℕ, ◌+◌, ◌-◌, ◌^◌, ◌≤◌, ◌<◌, min, List, [], ◌∷◌, ◌++◌, length, Ok, Err, Result}, List.{concat}}
 use Rattle.no_std_io2_base.specs.{declared.error.Error.{Error}, Errors.{error_kind, IsFault, IsInterruption}}
-use Rattle.no_std_io2_base.specs.{Events.{Event, bytes, HasNoFault}, inner.Events.{EndsInFault}, Takes.{ReaderState, IsAtEnd, Reader}}
+use Rattle.no_std_io2_base.specs.{Events.{Event, event_bytes, HasNoFault}, inner.Events.{EndsInFault}, Takes.{ReaderState, IsAtEnd, Reader}}
 use Rattle.no_std_io2_base.specs.{Calls.{ReadCall, WriteCall, Made, Filled, Consumed}, inner.Read.{Gathers}, Read.{ReadCallLaw}}
 use Rattle.no_std_io2_base.specs.{Moves.{WriterState, Moves, IsFront}, inner.Write.{AllCalls}, Writers.{Writer}, inner.Writers.{CallOf}}
 use Rattle.no_std_io2.specs.{declared.util.sides.CopyError.{CopyError}, declared.util.sides.CopyError.TheVariants.{Read, Write}}
@@ -14,13 +14,13 @@ counted b = min (length b) (2 ^ 64 - 1)
 pub record CopiedWhole (room n : ℕ) (P : List Event) (end : ReaderState) (old new : WriterState) : Type 0 where
   pub no_fault : HasNoFault P
   pub at_end : 0 < room → IsAtEnd end
-  pub count : n ≡ counted (bytes P)
-  pub moves : Moves old (bytes P) [] new
+  pub count : n ≡ counted (event_bytes P)
+  pub moves : Moves old (event_bytes P) [] new
 
 -- It ended at the reader's fault, when the writer had accepted all bytes before it.
 pub record ReaderStops (e : Error) (P : List Event) (old new : WriterState) : Type 0 where
   pub fault : EndsInFault P e
-  pub moves : Moves old (bytes P) [] new
+  pub moves : Moves old (event_bytes P) [] new
 
 -- Of these bytes some first ones were accepted, all except at most the last `room`.
 pub record IsNearlyAll (room : ℕ) (accepted x : List ℕ) : Type 0 where
@@ -34,7 +34,7 @@ pub record WriterRefuses (room : ℕ) (e : Error) (P : List Event) (old new : Wr
   pub some_room : 0 < room
   pub fault : IsFault e
   pub accepted : List ℕ
-  pub nearly : IsNearlyAll room accepted (bytes P)
+  pub nearly : IsNearlyAll room accepted (event_bytes P)
   pub moves : Moves old accepted (error_kind e ∷ []) new
 
 -- how a copy that took P from the reader ended: at the reader's end, at its fault, or at the writer's fault
@@ -85,13 +85,13 @@ pub data HandsLent : List ReadCall → List WriteCall → Result ℕ CopyError �
       → HandsLent (Filled (Err e) ∷ C) D reply
   piece_lent : {C : List ReadCall} {B D : List WriteCall} {reply : Result ℕ CopyError} {x : List ℕ} → 0 < length x → AllCalls B x (Ok tt)
       → HandsLent C D reply → HandsLent (Filled (Ok x) ∷ Consumed (length x) ∷ C) (B ++ D) reply
-  piece_refused : {B : List WriteCall} {x : List ℕ} {e : Error} → 0 < length x → AllCalls B x (Err e)
+  lends_refused : {B : List WriteCall} {x : List ℕ} {e : Error} → 0 < length x → AllCalls B x (Err e)
       → HandsLent (Filled (Ok x) ∷ []) B (Err (Write e))
 
 -- A copy that took P from the reader ended: at the reader's end; or at the reader's fault; or at the writer's fault, when the reader
 -- had none. The writer accepted all that was taken, and after its own fault also a front of the piece that the reader still holds.
 abbrev pub LentEnds : Result ℕ CopyError → List Event → List ℕ → ReaderState → WriterState → WriterState → Type 0
-LentEnds (Ok n) P held end old new = HasNoFault P × IsAtEnd end × (n ≡ counted (bytes P)) × Moves old (bytes P) [] new
-LentEnds (Err (Read e)) P held end old new = EndsInFault P e × Moves old (bytes P) [] new
+LentEnds (Ok n) P held end old new = HasNoFault P × IsAtEnd end × (n ≡ counted (event_bytes P)) × Moves old (event_bytes P) [] new
+LentEnds (Err (Read e)) P held end old new = EndsInFault P e × Moves old (event_bytes P) [] new
 LentEnds (Err (Write e)) P held end old new = HasNoFault P × IsFault e
-    × ((b : List ℕ) × IsFront b held × Moves old (bytes P ++ b) (error_kind e ∷ []) new)
+    × ((b : List ℕ) × IsFront b held × Moves old (event_bytes P ++ b) (error_kind e ∷ []) new)

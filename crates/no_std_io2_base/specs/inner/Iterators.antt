@@ -1,11 +1,12 @@
 -- What `Bytes`, `Split` and `Lines` have, and what they yield.
 use Rattle.std.specs.Prelude.{ℕ, List, Result, Option, ◌≡◌, ◌<◌, true, false, Bool, length, if◌then◌else◌, None, Some, Ok, Err, suc, []}
 use Rattle.std.specs.Prelude.{◌∷◌, ◌++◌}
-use Rattle.no_std_io2_base.specs.{declared.error.Error.{Error}, Events.{Event, bytes, byte, fails, HasNoFault}}
-use Rattle.no_std_io2_base.specs.{Takes.{Takes, Reader, tells, ReaderState, IsAtEnd}, Read.{ReadCallLaw}, Pieces.{PieceEnds}}
+use Rattle.no_std_io2_base.specs.{declared.error.Error.{Error}, Events.{Event, event_bytes, byte, fails, HasNoFault}}
+use Rattle.no_std_io2_base.specs.{Takes.{Takes, Reader, tells, ReaderState, IsAtEnd}, Read.{ReadCallLaw}}
 use Rattle.no_std_io2_base.specs.{inner.Pieces.{PieceCalls}, Calls.{ByCalls}, declared.traits.split.Split.{Split}}
 use Rattle.no_std_io2_base.specs.{declared.traits.lines.Lines.{Lines}, Errors.{IsFault}, declared.traits.bytes.Bytes.{Bytes}}
 use Rattle.no_std_io2_base.specs.inner.Read.{GathersUntil}
+use Rattle.no_std_io2_base.specs.inner.Pieces.{PieceEnds}
 
 -- the inner reader
 abbrev pub bytes_reader : {R : Type 0} → Bytes R → R
@@ -13,7 +14,7 @@ bytes_reader s = s.inner
 
 -- E has only interruptions
 abbrev IsInterruptionsAlone : List Event → Type 0
-IsInterruptionsAlone E = HasNoFault E × (bytes E ≡ [])
+IsInterruptionsAlone E = HasNoFault E × (event_bytes E ≡ [])
 
 -- P are interruptions, and then this event
 abbrev IsRetried : List Event → Event → Type 0
@@ -88,6 +89,6 @@ pub record NextPieceLaw {X T : Type 0} (R : Reader X) (old : X) (view : T → Li
   pub read : Result ℕ Error
   pub ends : PieceEnds (λ _. Unit {0}) d (tells R old) taken read
   -- that is what it yields
-  pub yields : YieldsRead view trim refuses (bytes taken) read result
+  pub yields : YieldsRead view trim refuses (event_bytes taken) read result
   -- which calls it made
-  pub calls : ByCalls (ReadCallLaw R) old (λ C. PieceCalls (Unit {0}) d C (bytes taken) read) new
+  pub calls : ByCalls (ReadCallLaw R) old (λ C. PieceCalls (Unit {0}) d C (event_bytes taken) read) new

@@ -1,7 +1,7 @@
 -- Lines, which are the pieces that a newline ends, and the text of one.
 use Rattle.std.specs.Prelude.{ℕ, Vec, String, ◌==◌, if◌then◌else◌, vec_capacity, string_len, string_capacity, ◌≡◌, List, Contains, true}
 use Rattle.std.specs.{Prelude.{not, length, filter, ◌+◌, ◌<◌, ◌++◌, ◌⊎◌, Some, Result, Ok, Err, codes, IsUtf8}, List.{concat}}
-use Rattle.no_std_io2_base.specs.{Pieces.{newline}, inner.Pieces.{ends_in, pieces, without}, declared.error.Error.{Error}}
+use Rattle.no_std_io2_base.specs.{Pieces.{newline}, inner.Pieces.{ends_in, pieces_of, without}, declared.error.Error.{Error}}
 use Rattle.no_std_io2_base.specs.{Errors.{error_kind, IsOutOfMemory}, inner.Kinds.{error_text}}
 use Rattle.no_std_io2_base.specs.declared.error.ErrorKind.TheVariants.{InvalidData, OutOfMemory}
 
@@ -14,11 +14,11 @@ line_text bs = if ends_in newline bs then without carriage_return (without newli
 
 -- the lines: the pieces that end in a newline, joined
 unfoldable pub lines_of : List ℕ → List ℕ
-lines_of xs = concat (filter (ends_in newline) (pieces newline xs))
+lines_of xs = concat (filter (ends_in newline) (pieces_of newline xs))
 
 -- what follows the lines: the last piece, if it does not end in a newline
 unfoldable pub unfinished_line : List ℕ → List ℕ
-unfinished_line xs = concat (filter (λ piece. not (ends_in newline piece)) (pieces newline xs))
+unfinished_line xs = concat (filter (λ piece. not (ends_in newline piece)) (pieces_of newline xs))
 
 -- the number of bytes up to and including the last newline, or 0 if there is none
 abbrev pub lines_len : List ℕ → ℕ

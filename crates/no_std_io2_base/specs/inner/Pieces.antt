@@ -1,8 +1,10 @@
 -- Pieces of bytes, each of which ends in a delimiter, and the calls that take one.
-use Rattle.std.specs.Prelude.{◌≡◌, ◌≢◌, ℕ, ◌<◌, ◌≤◌, ◌==◌, true, false, Bool, List, [], ◌∷◌, ◌++◌, length, take, filter, if◌then◌else◌, ◌⊎◌}
+use Rattle.std.specs.Prelude.{◌≡◌, ◌≢◌, ℕ, ◌<◌, ◌+◌, ◌≤◌, ◌==◌, true, false, Bool, List, [], ◌∷◌, ◌++◌, length, take, filter, if◌then◌else◌}
+use Rattle.std.specs.Prelude.{◌⊎◌}
 use Rattle.std.specs.{Prelude.{Option, None, Some, Result, Ok, Err, IfSome}, List.{AllByRecursion, concat}}
 use Rattle.no_std_io2_base.specs.{declared.error.Error.{Error}, Errors.{IsInterruption, IsFault, IsOutOfMemory}}
-use Rattle.no_std_io2_base.specs.{Events.{Event, byte, events_of, bytes}, inner.Events.{bytes_to_fault, first_fault}}
+use Rattle.no_std_io2_base.specs.Events.{Event, byte, events_of, event_bytes, HasNoFault}
+use Rattle.no_std_io2_base.specs.inner.Events.{bytes_to_fault, first_fault, EndsInFault}
 use Rattle.no_std_io2_base.specs.{Takes.{ReaderState, to_come}, Calls.{ReadCall, Filled, Consumed}, Moves.{IsFront}}
 
 -- d is not among these bytes
@@ -31,9 +33,9 @@ in_front b [] = (b ∷ []) ∷ []
 in_front b (p ∷ ps) = (b ∷ p) ∷ ps
 
 -- the bytes, cut right after each d
-abbrev pub pieces : ℕ → List ℕ → List (List ℕ)
-pieces d [] = []
-pieces d (b ∷ bs) = if b == d then (b ∷ []) ∷ pieces d bs else in_front b (pieces d bs)
+abbrev pub pieces_of : ℕ → List ℕ → List (List ℕ)
+pieces_of d [] = []
+pieces_of d (b ∷ bs) = if b == d then (b ∷ []) ∷ pieces_of d bs else in_front b (pieces_of d bs)
 
 -- These are the pieces of the bytes: exactly one list of pieces has these four properties.
 pub record ArePieces (d : ℕ) (bs : List ℕ) (ps : List (List ℕ)) : Type 0 where
@@ -52,7 +54,7 @@ EndsPiece d bs = (front : List ℕ) × (bs ≡ front ++ d ∷ []) × Lacks d fro
 
 -- the events P end in the byte d, the only d in them
 abbrev pub EndsAt : ℕ → List Event → Type 0
-EndsAt d P = (front : List Event) × (P ≡ front ++ byte d ∷ []) × Lacks d (bytes front)
+EndsAt d P = (front : List Event) × (P ≡ front ++ byte d ∷ []) × Lacks d (event_bytes front)
 
 -- The first n of these bytes belong to the next piece. They complete it if they end in d, or if there are no bytes: then nothing is to
 -- come. If they do not complete it, they are all of these bytes.
@@ -73,13 +75,22 @@ ComesBehind t P x = IfSome (to_come t) (λ E. (rest : List Event) × (E ≡ P ++
 abbrev pub IsAll : ReaderState → List Event → Type 0
 IsAll t P = IfSome (to_come t) (λ E. E ≡ P)
 
+-- How a call that took the events P of one piece ended: with the first d, or at the end; or before a d, with a fault, or since an
+-- allocation failed for the next bytes of the piece. `lacks` is the reason why these and the bytes of P needed one. At the end P is all
+-- that was told. The last call is then a `consume` of no byte, after which a reader that told nothing may tell events (`at_end_after`).
+abbrev pub PieceEnds : (ℕ → Type 0) → ℕ → ReaderState → List Event → Result ℕ Error → Type 0
+PieceEnds lacks d old P (Ok n) = HasNoFault P × (n ≡ length (event_bytes P)) × (EndsAt d P ⊎ (Lacks d (event_bytes P) × IsAll old P))
+PieceEnds lacks d old P (Err e) = Lacks d (event_bytes P) × (EndsInFault P e ⊎ (HasNoFault P × IsOutOfMemory e
+    × ((part : List ℕ) × IsPiecePart d part × ComesBehind old P part × lacks (length (event_bytes P) + length part))))
+
 -- C are the calls of a loop that took x, and no d yet: each `fill_buf` lent some bytes without d, and all of them were consumed;
 -- or it was interrupted
 pub data PartCalls (d : ℕ) : List ReadCall → List ℕ → Type 0 where
   no_part : PartCalls d [] []
   and_part : (C : List ReadCall) (x lent : List ℕ) → PartCalls d C x → 0 < length lent → Lacks d lent
       → PartCalls d (C ++ Filled (Ok lent) ∷ Consumed (length lent) ∷ []) (x ++ lent)
-  and_waited : (C : List ReadCall) (x : List ℕ) (e : Error) → PartCalls d C x → IsInterruption e → PartCalls d (C ++ Filled (Err e) ∷ []) x
+  part_interrupted : (C : List ReadCall) (x : List ℕ) (e : Error) → PartCalls d C x → IsInterruption e
+      → PartCalls d (C ++ Filled (Err e) ∷ []) x
 
 -- C are the calls of a loop that took a piece x: the last `fill_buf` lent the end of x, and the bytes up to this end were consumed; or it
 -- lent nothing. If the result is an error, the last `fill_buf` returned this fault; or, if the loop allocates, it lent some bytes, the
@@ -92,8 +103,8 @@ PieceCalls may_refuse d C x (Err e) = (D : List ReadCall) × PartCalls d D x × 
 
 -- all pieces; or, if a fault comes after them, those that end in d
 abbrev pub pieces_before : ℕ → Option Error → List ℕ → List (List ℕ)
-pieces_before d None bs = pieces d bs
-pieces_before d (Some e) bs = filter (ends_in d) (pieces d bs)
+pieces_before d None bs = pieces_of d bs
+pieces_before d (Some e) bs = filter (ends_in d) (pieces_of d bs)
 
 -- the pieces that a reader with these events gives: all, or those that end in d before the first fault
 abbrev pub pieces_given : ℕ → List Event → List (List ℕ)

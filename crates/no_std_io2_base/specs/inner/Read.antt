@@ -2,8 +2,8 @@
 use Rattle.std.specs.Prelude.{ℕ, ◌-◌, List, Ok, Err, Result, ◌^◌, min, ◌≡◌, ◌<◌, [], ◌∷◌, ◌++◌, length, ◌⊎◌, ◌+◌, ◌≤◌, IfOk, IfSome}
 use Rattle.std.specs.Borrow.{Bor}
 use Rattle.no_std_io2_base.specs.{declared.error.Error.{Error}, Errors.{IsInterruption, IsFault, IsUnexpectedEnd, IsOutOfMemory}}
-use Rattle.no_std_io2_base.specs.{Events.{Event, fails, bytes, HasNoFault}, inner.Events.{cut, BeginsWith}}
-use Rattle.no_std_io2_base.specs.{Takes.{Takes, to_come, IsAtEnd, Reader, tells, answered}, Moves.{IsFront}}
+use Rattle.no_std_io2_base.specs.{Events.{Event, fails, event_bytes, HasNoFault}, inner.Events.{cut, BeginsWith, EndsInFault}}
+use Rattle.no_std_io2_base.specs.{Takes.{ReaderState, Takes, to_come, IsAtEnd, Reader, tells, answered}, Moves.{IsFront}}
 use Rattle.no_std_io2_base.specs.Calls.{ReadCall, Gave, GaveExactly, GaveAll, Filled}
 
 -- all of buf, or the error
@@ -12,9 +12,9 @@ gave_whole (Ok u) buf = Ok buf
 gave_whole (Err e) buf = Err e
 
 -- the result without its number
-abbrev pub ended : Result ℕ Error → Result (Unit {0}) Error
-ended (Ok n) = Ok tt
-ended (Err e) = Err e
+abbrev pub without_number : Result ℕ Error → Result (Unit {0}) Error
+without_number (Ok n) = Ok tt
+without_number (Err e) = Err e
 
 -- the bytes of a result: none if it is an error
 abbrev pub bytes_given : Result (List ℕ) Error → List ℕ
@@ -76,12 +76,23 @@ fault_of (Err e) = fails e ∷ []
 -- P has no fault, and its bytes are x. If these are `room` bytes, it ends with the last of them.
 pub record Gives (room : ℕ) (P : List Event) (x : List ℕ) : Type 0 where
   pub no_fault : HasNoFault P
-  pub given : bytes P ≡ x
+  pub given : event_bytes P ≡ x
   pub within : cut room P ≡ P
 
 -- all was taken; or nothing was, of fewer bytes than `room` without a fault
 abbrev pub AllOrNone : List Event → ℕ → List Event → Type 0
-AllOrNone P room left = (left ≡ []) ⊎ ((P ≡ []) × HasNoFault left × (length (bytes left) < room))
+AllOrNone P room left = (left ≡ []) ⊎ ((P ≡ []) × HasNoFault left × (length (event_bytes left) < room))
+
+-- how a `read_exact` of `room` bytes that took P ended: it gave them; or a fault came before the last of them, or the end
+abbrev pub FillsOrEnds : ℕ → List Event → Result (List ℕ) Error → ReaderState → Type 0
+FillsOrEnds room P (Ok x) new = Gives room P x × (length x ≡ room)
+FillsOrEnds room P (Err e) new = (length (event_bytes P) < room)
+    × (EndsInFault P e ⊎ (IsUnexpectedEnd e × HasNoFault P × IfSome (to_come new) (AllOrNone P room)))
+
+-- how a `read_to_end` that took P ended: at the end; or after a fault; or since an allocation failed, for which `lacks` is a reason
+abbrev pub DrainsOrStops : {A : Type 0} → Type 0 → List Event → Result A Error → ReaderState → Type 0
+DrainsOrStops lacks P (Ok _) new = HasNoFault P × IsAtEnd new
+DrainsOrStops lacks P (Err e) new = EndsInFault P e ⊎ (HasNoFault P × IsOutOfMemory e × lacks)
 
 -- a `read`, by its answer
 pub record GaveLaw {X : Type 0} (R : Reader X) (old : X) (room : ℕ) (answer : Result (List ℕ) Error) (new : X) : Type 0 where

@@ -57,7 +57,7 @@ pub data PortionCalls (want : ℕ) : List ReadCall → List ℕ → Type 0 where
   no_portion : PortionCalls want [] []
   and_portion : (C : List ReadCall) (x lent : List ℕ) (n : ℕ) → PortionCalls want C x → length x < want → 0 < length lent
       → n ≡ min (length lent) (want - length x) → PortionCalls want (C ++ Filled (Ok lent) ∷ Consumed n ∷ []) (x ++ take n lent)
-  and_waited : (C : List ReadCall) (x : List ℕ) (e : Error) → PortionCalls want C x → length x < want → IsInterruption e
+  portion_interrupted : (C : List ReadCall) (x : List ℕ) (e : Error) → PortionCalls want C x → length x < want → IsInterruption e
       → PortionCalls want (C ++ Filled (Err e) ∷ []) x
 
 -- C are such calls, and then a `fill_buf` with this answer, which ended the loop too early

@@ -17,10 +17,11 @@ here = Current (pos 0)
 -- to the end, and back if the position was elsewhere. The first error ends them.
 pub data LenCalls : List SeekCall → Result ℕ Error → Type 0 where
   measured : {reply : Result ℕ Error} → LenCalls (Measured reply ∷ []) reply
-  no_place : {e : Error} → LenCalls (Sought here (Err e) ∷ []) (Err e)
+  no_position : {e : Error} → LenCalls (Sought here (Err e) ∷ []) (Err e)
   no_end : {n : ℕ} {e : Error} → LenCalls (Sought here (Ok n) ∷ Sought (End (pos 0)) (Err e) ∷ []) (Err e)
-  at_end : {n : ℕ} → LenCalls (Sought here (Ok n) ∷ Sought (End (pos 0)) (Ok n) ∷ []) (Ok n)
-  back : {n len at : ℕ} → n ≢ len → LenCalls (Sought here (Ok n) ∷ Sought (End (pos 0)) (Ok len) ∷ Sought (Start n) (Ok at) ∷ []) (Ok len)
+  was_at_end : {n : ℕ} → LenCalls (Sought here (Ok n) ∷ Sought (End (pos 0)) (Ok n) ∷ []) (Ok n)
+  went_back : {n len at : ℕ} → n ≢ len
+      → LenCalls (Sought here (Ok n) ∷ Sought (End (pos 0)) (Ok len) ∷ Sought (Start n) (Ok at) ∷ []) (Ok len)
   no_way_back : {n len : ℕ} {e : Error} → n ≢ len
       → LenCalls (Sought here (Ok n) ∷ Sought (End (pos 0)) (Ok len) ∷ Sought (Start n) (Err e) ∷ []) (Err e)
 

@@ -5,7 +5,7 @@ use Rattle.no_std_io2_base.specs.{declared.error.Error.{Error}, declared.traits.
 use Rattle.no_std_io2_base.specs.{declared.traits.seek.SeekFrom.TheVariants.{Current}, declared.traits.take.Take.{Take}}
 use Rattle.no_std_io2_base.specs.{inner.Errors.{IsInvalidSeek}, Seek.{Seeker, SeekRelativeLaw, IsTarget}}
 use Rattle.no_std_io2_base.specs.{Calls.{SeekCall, Sought, Measured, Moved, ReadCall, Gave, Filled, Consumed}, inner.Seek.{IsAtOffset}}
-use Rattle.no_std_io2_base.specs.{Events.{Event, bytes}, inner.Events.{cut}, Takes.{ReaderState, Takes, to_come, Reader, tells}}
+use Rattle.no_std_io2_base.specs.{Events.{Event, event_bytes}, inner.Events.{cut}, Takes.{ReaderState, Takes, to_come, Reader, tells}}
 use Rattle.no_std_io2_base.specs.{Read.{ReadCallLaw}, inner.Read.{bytes_given}}
 
 -- `t.limit()`
@@ -51,7 +51,7 @@ lent_within k (Err e) = Err e
 pub record LimitTakes {T : Type 0} (inner : Reader T) (old : Take T) (P : List Event) (new : Take T) : Type 0 where
   pub takes : Takes (tells inner (limit_inner old)) P (tells inner (limit_inner new))
   pub within : cut (limit_left old) P ≡ P
-  pub limit : limit_left new + length (bytes P) ≡ limit_left old
+  pub limit : limit_left new + length (event_bytes P) ≡ limit_left old
   pub len : limit_set new ≡ limit_set old
   pub at_limit : limit_left old ≡ 0 → new ≡ old
 

@@ -1,7 +1,7 @@
 -- What is to come, by a store or by events, and what is gone from it.
 use Rattle.std.specs.Prelude.{ℕ, List, [], Option, None, Some, ◌≡◌, ◌<◌, ◌^◌, ◌++◌, length, drop, ⊤, Bool, true, false, ◌&&◌, nat_lt, refl}
 use Rattle.std.proofs.lemmas.Bool.Decides.{Decides-and, Decides-ltb}
-use Rattle.no_std_io2_base.specs.Events.{Event, bytes, events_of, Store}
+use Rattle.no_std_io2_base.specs.Events.{Event, event_bytes, events_of, Store}
 
 -- whether this length and this position fit
 abbrev pub fits_u64 : List ℕ → ℕ → Bool
@@ -31,4 +31,4 @@ AreTaken (Some E) P (Some after) = E ≡ P ++ after
 -- the bytes of these events, or none if no events are told
 abbrev pub told_bytes : Option (List Event) → List ℕ
 told_bytes None = []
-told_bytes (Some E) = bytes E
+told_bytes (Some E) = event_bytes E

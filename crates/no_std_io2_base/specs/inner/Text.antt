@@ -8,8 +8,8 @@ use Rattle.no_std_io2_base.specs.{inner.Errors.{IsUnwritten}, Moves.{WriterState
 -- From old to new this text was printed to a writer, by one `write_all` after another; this is the result of the last.
 pub data Prints {W : Type 0} (told : W → WriterState) (takes_all : W → Type 0) (may : W → WriteCall → W → Type 0) (old : W) : List ℕ
     → Result (Unit {0}) Error → W → Type 0 where
-  nothing : Prints told takes_all may old [] (Ok tt) old
-  piece : {text : List ℕ} (x : List ℕ) {reply : Result (Unit {0}) Error} {mid new : W}
+  none_printed : Prints told takes_all may old [] (Ok tt) old
+  printed_piece : {text : List ℕ} (x : List ℕ) {reply : Result (Unit {0}) Error} {mid new : W}
       → Prints told takes_all may old text (Ok tt) mid → WriteAllLaw told takes_all may mid x reply new
       → Prints told takes_all may old (text ++ x) reply new
   -- after an error there is no call

@@ -13,17 +13,17 @@ zero_write n x = if (n == 0) && nat_lt 0 (length x) then WriteZero ∷ [] else [
 -- takes no byte.
 pub data Writes (text : List ℕ) : List WriteCall → List ℕ → Result (Unit {0}) Error → List ℕ → Type 0 where
   -- if x is empty, there is no call
-  none : Writes text [] [] (Ok tt) []
+  no_write : Writes text [] [] (Ok tt) []
   -- some bytes were taken, and the loop continues with the others
-  took : {C : List WriteCall} {x left : List ℕ} {reply : Result (Unit {0}) Error} {n : ℕ} → 0 < length x → 0 < n
+  write_took : {C : List WriteCall} {x left : List ℕ} {reply : Result (Unit {0}) Error} {n : ℕ} → 0 < length x → 0 < n
       → Writes text C (drop n x) reply left → Writes text (Wrote x (Ok n) ∷ C) x reply left
   -- an interruption is ignored
-  again : {C : List WriteCall} {x left : List ℕ} {reply : Result (Unit {0}) Error} {e : Error} → 0 < length x → IsInterruption e
+  write_again : {C : List WriteCall} {x left : List ℕ} {reply : Result (Unit {0}) Error} {e : Error} → 0 < length x → IsInterruption e
       → Writes text C x reply left → Writes text (Wrote x (Err e) ∷ C) x reply left
   -- no byte was taken: that ends the loop, with an error
-  stuck : {x : List ℕ} {e : Error} → 0 < length x → SaysError WriteZero text e → Writes text (Wrote x (Ok 0) ∷ []) x (Err e) x
+  write_stuck : {x : List ℕ} {e : Error} → 0 < length x → SaysError WriteZero text e → Writes text (Wrote x (Ok 0) ∷ []) x (Err e) x
   -- a fault ends the loop, and is the result
-  fault : {x : List ℕ} {e : Error} → 0 < length x → IsFault e → Writes text (Wrote x (Err e) ∷ []) x (Err e) x
+  write_fault : {x : List ℕ} {e : Error} → 0 < length x → IsFault e → Writes text (Wrote x (Err e) ∷ []) x (Err e) x
 
 -- C are the calls of a `write_all(x)`: the writes of a `write_rest`, or the `write_all` of a type that has a body of its own for it
 abbrev pub AllCalls : List WriteCall → List ℕ → Result (Unit {0}) Error → Type 0

@@ -8,9 +8,9 @@ use crate::devices::Devices;
 use crate::streams::make_seeking_call;
 use no_std_io2::io::{AsSlice, BufRead, BufReader, BufWriter, Cursor, Seek, Write};
 use rows_play::calls::{Call, make_call};
-use rows_play::fault::{Fault, Made};
 use rows_play::line::{Line, unescape};
 use rows_play::player::{Player, Stream};
+use rows_play::unplayed::{Played, Unplayed};
 use std::alloc::Global;
 
 type Text = Cursor<Vec<u8>>;
@@ -150,7 +150,7 @@ impl<'a> OnLent<'a> {
 
     // The row names no stream that there is.
     fn refuse(&self, line: &mut Line) -> u64 {
-        line.tell(Fault::NoStream);
+        line.tell(Unplayed::NoStream);
         self.position
     }
 }
@@ -200,7 +200,7 @@ impl<'j> Stream for Moving<'j> {
     }
 }
 
-pub fn lend(name: &str, words: &str, player: &mut Player<'_, '_>) -> Made<()> {
+pub fn lend(name: &str, words: &str, player: &mut Player<'_, '_>) -> Played<()> {
     let content = unescape(player.alloc, words)?;
     match name {
         "Vec" => player.play(&mut OnVector {
@@ -213,7 +213,7 @@ pub fn lend(name: &str, words: &str, player: &mut Player<'_, '_>) -> Made<()> {
             [first, second] => player.play(&mut OnArray {
                 cursor: Cursor::new([*first, *second]),
             }),
-            _ => Err(Fault::NoWord),
+            _ => Err(Unplayed::NoWord),
         },
         _ => player.play(&mut OnLent {
             name,
@@ -223,7 +223,7 @@ pub fn lend(name: &str, words: &str, player: &mut Player<'_, '_>) -> Made<()> {
     }
 }
 
-pub fn lend_moved(words: &str, devices: &Devices<'_>, player: &mut Player<'_, '_>) -> Made<()> {
+pub fn lend_moved(words: &str, devices: &Devices<'_>, player: &mut Player<'_, '_>) -> Played<()> {
     let reader = BufReader::<Text, 4>::new(new_text(player.alloc, words)?);
     player.play(&mut Moving {
         reader,

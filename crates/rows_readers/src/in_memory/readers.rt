@@ -3,9 +3,9 @@ use super::new_text;
 use crate::devices::Devices;
 use crate::streams::{play_chain, play_lending, play_limited, play_reading};
 use no_std_io2::io::{Chain, Read, repeat};
-use rows_play::fault::{Fault, Made};
 use rows_play::line::{cut_last, unescape};
 use rows_play::player::Player;
+use rows_play::unplayed::{Played, Unplayed};
 
 // Lends the stream of this name, which ends with the name of its device.
 pub fn lend(
@@ -13,14 +13,14 @@ pub fn lend(
     words: &str,
     devices: &Devices<'_>,
     player: &mut Player<'_, '_>,
-) -> Made<()> {
+) -> Played<()> {
     let (tower, device) = cut_last(name, " ");
     match device {
         "Cursor" => lend_text(tower, words, devices, player),
         "&[u8]" if tower.starts_with("Chain of") => lend_slices(tower, words, devices, player),
         "&[u8]" => lend_slice(tower, words, devices, player),
         "Repeat" => lend_repeat(words, devices, player),
-        _ => Err(Fault::NoStream),
+        _ => Err(Unplayed::NoStream),
     }
 }
 
@@ -29,14 +29,14 @@ fn lend_text(
     words: &str,
     devices: &Devices<'_>,
     player: &mut Player<'_, '_>,
-) -> Made<()> {
+) -> Played<()> {
     let (first, second) = cut_last(words, " + ");
     let second = new_text(player.alloc, second)?;
     match tower {
         "" => play_lending(second, devices, player),
         "Take" => play_limited(second, 2, devices, player),
         "Chain Cursor" => play_chain(new_text(player.alloc, first)?, second, devices, player),
-        _ => Err(Fault::NoStream),
+        _ => Err(Unplayed::NoStream),
     }
 }
 
@@ -45,7 +45,7 @@ fn lend_slice(
     words: &str,
     devices: &Devices<'_>,
     player: &mut Player<'_, '_>,
-) -> Made<()> {
+) -> Played<()> {
     let (first, second) = cut_last(words, " + ");
     let bytes = unescape(player.alloc, second)?;
     let slice = bytes.as_slice();
@@ -55,16 +55,16 @@ fn lend_slice(
             let first = unescape(player.alloc, first)?;
             play_chain(first.as_slice(), slice, devices, player)
         }
-        _ => Err(Fault::NoStream),
+        _ => Err(Unplayed::NoStream),
     }
 }
 
 // Lends a byte as often as the number behind it says.
-fn lend_repeat(words: &str, devices: &Devices<'_>, player: &mut Player<'_, '_>) -> Made<()> {
+fn lend_repeat(words: &str, devices: &Devices<'_>, player: &mut Player<'_, '_>) -> Played<()> {
     let (byte, len) = cut_last(words, " ");
     match (byte.as_bytes().first(), len.parse::<u64>()) {
         (Some(byte), Ok(len)) => play_reading(repeat(*byte, len), devices, player),
-        _ => Err(Fault::NoNumber),
+        _ => Err(Unplayed::NoNumber),
     }
 }
 
@@ -81,7 +81,7 @@ fn lend_slices(
     words: &str,
     devices: &Devices<'_>,
     player: &mut Player<'_, '_>,
-) -> Made<()> {
+) -> Played<()> {
     let (words, last) = cut_last(words, " + ");
     match tower {
         "Chain of 3" => play_chain(two(words), last.as_bytes(), devices, player),
@@ -94,6 +94,6 @@ fn lend_slices(
                 player,
             )
         }
-        _ => Err(Fault::NoStream),
+        _ => Err(Unplayed::NoStream),
     }
 }

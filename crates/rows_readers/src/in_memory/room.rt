@@ -8,9 +8,9 @@ ghost use Rattle.std.specs.Prelude.{◌<◌, ◌^◌};
 use io_bench::{Event, Feed, Tally};
 use no_std_io2::io::{BufRead, BufReader, Cursor, Read};
 use rows_play::calls::Call;
-use rows_play::fault::Fault;
 use rows_play::line::{Line, cut};
 use rows_play::player::Stream;
+use rows_play::unplayed::Unplayed;
 use std::alloc::Global;
 
 // The bytes that follow a piece or a line.
@@ -29,7 +29,7 @@ fn number_of(word: &str, line: &mut Line) -> usize {
     match word.parse::<usize>() {
         Ok(number) => number,
         Err(_) => {
-            line.tell(Fault::NoNumber);
+            line.tell(Unplayed::NoNumber);
             0
         }
     }
@@ -99,7 +99,7 @@ fn read_all<R: Read>(alloc: Global, trial: Trial<'_>, r: &mut R, line: &mut Line
     let mut room = room_of(alloc, trial, line);
     match trial.word {
         "read_to_end" => line.length(&r.read_to_end(&mut room)),
-        _ => line.tell(Fault::NoCall),
+        _ => line.tell(Unplayed::NoCall),
     }
     show(alloc, room.len(), room.capacity(), r, line);
 }
@@ -177,7 +177,7 @@ fn read_buffer<const S: usize>(
 {
     let mut reader = BufReader::<Cursor<&[u8]>, S>::new(Cursor::new(bytes));
     if is_full && reader.fill_buf().is_err() {
-        line.tell(Fault::NotReady);
+        line.tell(Unplayed::NotReady);
     }
     read_some(alloc, trial, &mut reader, line);
 }
@@ -189,7 +189,7 @@ fn read_limit(alloc: Global, trial: Trial<'_>, bytes: &[u8], limit: &str, line: 
     };
     match most {
         Ok(most) => read_some(alloc, trial, &mut Cursor::new(bytes).take(most), line),
-        Err(_) => line.tell(Fault::NoNumber),
+        Err(_) => line.tell(Unplayed::NoNumber),
     }
 }
 
@@ -229,7 +229,7 @@ impl<'a> Room<'a> {
             }
             _ => match self.name.split_once(" ") {
                 Some(("Take", limit)) => read_limit(alloc, trial, bytes, limit, line),
-                _ => line.tell(Fault::NoStream),
+                _ => line.tell(Unplayed::NoStream),
             },
         }
     }

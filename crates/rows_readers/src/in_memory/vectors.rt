@@ -2,10 +2,10 @@
 use super::cursors::{place_of, show};
 use no_std_io2::io::{BufWriter, Cursor};
 use rows_play::calls::{Call, make_call, make_seek};
-use rows_play::fault::{Fault, Made};
 use rows_play::line::{Line, unescape};
 use rows_play::player::{Player, Stream};
 use rows_play::reads::make_read;
+use rows_play::unplayed::{Played, Unplayed};
 use std::alloc::Global;
 use std::collections::VecDeque;
 
@@ -74,19 +74,19 @@ impl Stream for Queue {
     }
 }
 
-pub fn lend_queue(words: &str, player: &mut Player<'_, '_>) -> Made<()> {
+pub fn lend_queue(words: &str, player: &mut Player<'_, '_>) -> Played<()> {
     let bytes = VecDeque::from_vec(unescape(player.alloc, words)?);
     player.play(&mut Queue { bytes })
 }
 
 // Lends a stream with room for as many bytes as a row's `new` says.
-pub fn lend(name: &str, words: &str, player: &mut Player<'_, '_>) -> Made<()> {
+pub fn lend(name: &str, words: &str, player: &mut Player<'_, '_>) -> Played<()> {
     let is_cursor = name == "Cursor";
     let Ok(room) = words.parse::<usize>() else {
-        return Err(Fault::NoNumber);
+        return Err(Unplayed::NoNumber);
     };
     if !is_cursor && name != "Vec" {
-        return Err(Fault::NoStream);
+        return Err(Unplayed::NoStream);
     }
     let cursor = Cursor::new(Vec::with_capacity(player.alloc, room)?);
     player.play(&mut Grown { cursor, is_cursor })

@@ -2,10 +2,10 @@
 use super::reads::{Outcome, Trial, read, read_all};
 use io_bench::{Event, Feed, Tally};
 use no_std_io2::io::{BufRead, BufReader, Chain, Cursor, Read};
-use rows_play::fault::{Fault, Made};
 use rows_play::line::Line;
+use rows_play::unplayed::{Played, Unplayed};
 
-fn read_lent<R: BufRead>(trial: Trial, r: &mut R, line: &mut Line) -> Made<Outcome> {
+fn read_lent<R: BufRead>(trial: Trial, r: &mut R, line: &mut Line) -> Played<Outcome> {
     read(trial, &mut &mut *r, line)
 }
 
@@ -14,7 +14,7 @@ fn read_box(
     boxed: Box<Cursor<Vec<u8>>>,
     form: &str,
     line: &mut Line,
-) -> Made<Outcome> {
+) -> Played<Outcome> {
     match form {
         "object" => {
             let mut object: Box<dyn Read + Drop> = boxed;
@@ -31,15 +31,15 @@ fn read_box(
     }
 }
 
-fn read_boxed(trial: Trial, form: &str, line: &mut Line) -> Made<Outcome> {
+fn read_boxed(trial: Trial, form: &str, line: &mut Line) -> Played<Outcome> {
     let text = Cursor::new(Vec::from_slice(trial.alloc, trial.text())?);
     read_box(trial, Box::new(trial.alloc, text)?, form, line)
 }
 
-fn read_buffer(trial: Trial, is_held: bool, line: &mut Line) -> Made<Outcome> {
+fn read_buffer(trial: Trial, is_held: bool, line: &mut Line) -> Played<Outcome> {
     let mut reader = BufReader::<Cursor<&[u8]>, 4>::new(Cursor::new(trial.text()));
     if is_held && reader.fill_buf().is_err() {
-        line.tell(Fault::NotReady);
+        line.tell(Unplayed::NotReady);
     }
     read(trial, &mut reader, line)
 }
@@ -49,19 +49,19 @@ fn read_both<A: BufRead, B: BufRead>(
     trial: Trial,
     chain: &mut Chain<A, B>,
     line: &mut Line,
-) -> Made<Outcome> {
+) -> Played<Outcome> {
     read(trial, chain, line)
 }
 
 // Reads through `limit N`, at most N bytes.
-fn read_limit(trial: Trial, form: &str, line: &mut Line) -> Made<Outcome> {
+fn read_limit(trial: Trial, form: &str, line: &mut Line) -> Played<Outcome> {
     match form.strip_prefix("limit ").unwrap_or("").parse::<u64>() {
         Ok(limit) => read(trial, &mut Cursor::new(trial.text()).take(limit), line),
-        Err(_) => Err(Fault::NoStream),
+        Err(_) => Err(Unplayed::NoStream),
     }
 }
 
-fn read_feed(trial: Trial, line: &mut Line) -> Made<Outcome> {
+fn read_feed(trial: Trial, line: &mut Line) -> Played<Outcome> {
     let mut events = Vec::new(trial.alloc);
     events.resize(trial.bytes, Event::Byte(b'a'))?;
     read_all(trial, &mut Feed::new(events, 7), line)
@@ -69,7 +69,7 @@ fn read_feed(trial: Trial, line: &mut Line) -> Made<Outcome> {
 
 /// Reads from a slice, from a cursor by itself or below another reader, through a buffer of four bytes that may hold
 /// some, from a chain of two halves, or of nothing and then a cursor, or from a feed, which has the trait's body.
-pub fn read_form(trial: Trial, form: &str, line: &mut Line) -> Made<Outcome> {
+pub fn read_form(trial: Trial, form: &str, line: &mut Line) -> Played<Outcome> {
     let text = trial.text();
     let (first, second) = text.split_at(text.len() / 2);
     match form {

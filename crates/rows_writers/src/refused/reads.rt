@@ -9,9 +9,9 @@ use super::readers::read_form;
 use linked_list_allocator::LocalHeap;
 use no_std_io2::io::{BufRead, ErrorKind, Read, Result};
 use rows_play::calls::Call;
-use rows_play::fault::{Fault, Made};
 use rows_play::line::{Line, cut};
 use rows_play::player::Stream;
+use rows_play::unplayed::{Played, Unplayed};
 use std::alloc::Global;
 
 const TEXT: &[u8] = &[b'a'; 600];
@@ -32,16 +32,16 @@ pub struct Trial {
 }
 
 // Returns whether a call is `read_until`, and not `read_to_end`.
-fn is_until(word: &str) -> Made<bool> {
+fn is_until(word: &str) -> Played<bool> {
     match word {
         "read_to_end" => Ok(false),
         "read_until" => Ok(true),
-        _ => Err(Fault::NoCall),
+        _ => Err(Unplayed::NoCall),
     }
 }
 
 impl Trial {
-    fn parse(alloc: Global, call: &Call<'_>) -> Made<Trial> {
+    fn parse(alloc: Global, call: &Call<'_>) -> Played<Trial> {
         let is_within = call.word == "within";
         let (heap, rest) = cut_number(call.rest)?;
         let (word, capacity, held, bytes) = if is_within {
@@ -84,7 +84,7 @@ impl Trial {
     ) -> Outcome {
         let (front, given) = all.split_at(self.held.min(all.len()));
         if front != self.dots() || given != text_of(given.len()) {
-            line.tell(Fault::Otherwise);
+            line.tell(Unplayed::Otherwise);
         }
         Outcome {
             is_refused: is_refused(answer, given.len(), line),
@@ -105,13 +105,13 @@ fn is_refused(answer: &Result<usize>, given: usize, line: &mut Line) -> bool {
     match answer {
         Ok(n) => {
             if *n != given {
-                line.tell(Fault::Otherwise);
+                line.tell(Unplayed::Otherwise);
             }
             false
         }
         Err(e) => {
             if e.kind() != ErrorKind::OutOfMemory || e.get_ref().is_some() {
-                line.tell(Fault::Otherwise);
+                line.tell(Unplayed::Otherwise);
             }
             true
         }
@@ -124,7 +124,7 @@ fn left_of<R: Read>(alloc: Global, r: &mut R, line: &mut Line) -> usize {
     match r.read_to_end(&mut rest) {
         Ok(left) if rest.as_slice() == text_of(left) => left,
         _ => {
-            line.tell(Fault::Otherwise);
+            line.tell(Unplayed::Otherwise);
             0
         }
     }
@@ -140,7 +140,7 @@ pub struct Outcome {
 }
 
 /// Reads all.
-pub fn read_all<R: Read>(trial: Trial, r: &mut R, line: &mut Line) -> Made<Outcome> {
+pub fn read_all<R: Read>(trial: Trial, r: &mut R, line: &mut Line) -> Played<Outcome> {
     let heap = LocalHeap::new(trial.alloc, trial.heap)?;
     let mut all = vector_of(&heap, trial.capacity, trial.dots())?;
     let answer = r.read_to_end(&mut all);
@@ -148,7 +148,7 @@ pub fn read_all<R: Read>(trial: Trial, r: &mut R, line: &mut Line) -> Made<Outco
 }
 
 /// Reads all, by `read_to_end`, or by a `read_until` whose delimiter does not come.
-pub fn read<R: BufRead>(trial: Trial, r: &mut R, line: &mut Line) -> Made<Outcome> {
+pub fn read<R: BufRead>(trial: Trial, r: &mut R, line: &mut Line) -> Played<Outcome> {
     if !trial.is_until {
         return read_all(trial, r, line);
     }
@@ -171,12 +171,12 @@ fn show(trial: Trial, outcome: Outcome, line: &mut Line) {
 }
 
 // Tries each size of the heap up to the first in which a read succeeds, and prints whether that is at most this size.
-fn show_need(trial: Trial, form: &str, line: &mut Line) -> Made<()> {
+fn show_need(trial: Trial, form: &str, line: &mut Line) -> Played<()> {
     'heaps: for units in 1..400 {
         let heap = 16 * units;
         let outcome = read_form(Trial { heap, ..trial }, form, line)?;
         if outcome.len.wrapping_add(outcome.left) != trial.bytes {
-            return Err(Fault::Otherwise);
+            return Err(Unplayed::Otherwise);
         }
         if !outcome.is_refused {
             if heap <= trial.heap {
@@ -187,10 +187,10 @@ fn show_need(trial: Trial, form: &str, line: &mut Line) -> Made<()> {
             return Ok(());
         }
     }
-    Err(Fault::Otherwise)
+    Err(Unplayed::Otherwise)
 }
 
-fn try_form(trial: Trial, form: &str, line: &mut Line) -> Made<()> {
+fn try_form(trial: Trial, form: &str, line: &mut Line) -> Played<()> {
     if trial.is_within {
         return show_need(trial, form, line);
     }

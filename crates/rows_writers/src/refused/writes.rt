@@ -9,9 +9,9 @@ use crate::writing::make_any_call;
 use linked_list_allocator::LocalHeap;
 use no_std_io2::io::{BufWriter, Cursor, LineWriter, Write};
 use rows_play::calls::{Call, make_call};
-use rows_play::fault::{Fault, Made};
 use rows_play::line::Line;
 use rows_play::player::{Player, Stream};
+use rows_play::unplayed::{Played, Unplayed};
 use std::alloc::{Allocator, Global};
 use std::collections::VecDeque;
 
@@ -114,7 +114,7 @@ struct Writing<'h, W: Drop> {
 fn fill(filler: &mut HeapVec<'_>, heap: &LocalHeap, line: &mut Line) {
     line.word("-");
     if filler.reserve(heap.free()).is_err() {
-        line.tell(Fault::NotReady);
+        line.tell(Unplayed::NotReady);
     }
 }
 
@@ -139,7 +139,7 @@ fn play<W: HeapWriter + Drop>(
     writer: W,
     heap: &LocalHeap,
     player: &mut Player<'_, '_>,
-) -> Made<()> {
+) -> Played<()> {
     let filler = Vec::new(heap);
     player.play(&mut Writing {
         writer,
@@ -154,7 +154,7 @@ fn lend_writer<'h>(
     heap: &'h LocalHeap,
     vector: HeapVec<'h>,
     player: &mut Player<'_, '_>,
-) -> Made<()> {
+) -> Played<()> {
     match name {
         "Vec" => play(vector, heap, player),
         "BufWriter 8 Vec" => play(BufWriter::<HeapVec<'h>, 8>::new(vector), heap, player),
@@ -165,11 +165,11 @@ fn lend_writer<'h>(
             let mut vector = vector;
             play(Cursor::new(&mut vector), heap, player)
         }
-        _ => Err(Fault::NoStream),
+        _ => Err(Unplayed::NoStream),
     }
 }
 
-pub fn lend(name: &str, words: &str, player: &mut Player<'_, '_>) -> Made<()> {
+pub fn lend(name: &str, words: &str, player: &mut Player<'_, '_>) -> Played<()> {
     let (size, rest) = cut_number(words)?;
     let (capacity, bytes) = cut_number(rest)?;
     let heap = LocalHeap::new(player.alloc, size)?;

@@ -1,5 +1,5 @@
 -- The vector has what the decoder tells, which is the decoding of the text; the search does not find that.
-use Rattle.no_std_io2.proofs.Words.{[], false, Some, ◌++◌, sym, ap, subst, refl, ◌∙◌, arith, bytes, events_of, err_from_is_err_and}
+use Rattle.no_std_io2.proofs.Words.{[], false, Some, ◌++◌, sym, ap, subst, refl, ◌∙◌, arith, event_bytes, events_of, err_from_is_err_and}
 use Rattle.no_std_io2.proofs.{InMemoryReads.{slice_reader}, KnownBytes.{to_end_known}}
 use Rattle.base64.specs.GeneralPurpose.{IsStrict, encode_of}
 use Rattle.base64_stream.specs.{Decoder.{decoder_engine}, Decoding.{decoded_events}}
@@ -29,7 +29,7 @@ returns-clause-exact c =
     (ap (λ r. Some (events_of r.now)) new.inner) in
     let whole = drained_whole E c.in_ok-read_to_end.ensures.law told in
     only_encoding engine strict s (λ i. let f = c.type_inv.text i in omega arith) whole.0
-    ∙ ap (encode_of engine) (sym (whole.1 ∙ ap (λ l. l ++ bytes E) c.new-bytes.ensures.items))
+    ∙ ap (encode_of engine) (sym (whole.1 ∙ ap (λ l. l ++ event_bytes E) c.new-bytes.ensures.items))
     ∙ ap (λ e. encode_of e c.read_to_end.new.buf.items) new.engine
 
 pub returns-in_err-read_to_end-clause-err : goal.returns-in_err-read_to_end-clause-err

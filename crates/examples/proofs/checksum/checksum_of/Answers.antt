@@ -1,5 +1,5 @@
 -- The law of a call of an object is named whole; the search does not join its turns of the loop.
-use Rattle.no_std_io2.proofs.Words.{common_steps, ◌+◌, ◌%◌, ◌^◌, ◌∙◌, ap, arith, refl, ◌++◌, returned_err, sum, bytes}
+use Rattle.no_std_io2.proofs.Words.{common_steps, ◌+◌, ◌%◌, ◌^◌, ◌∙◌, ap, arith, refl, ◌++◌, returned_err, sum, event_bytes}
 use Rattle.no_std_io2.proofs.{GivenPieces.{piece_spends}, ReadsLemmas.{Took-then}}
 use Rattle.examples.proofs.SumLemmas.{sums_none, sums_more}
 use Rattle.examples.proofs.checksum.checksum_of.Goals as goal
@@ -14,9 +14,9 @@ pieces-preserved g c =
     let next = c.add_all-total.ensures ∙ ap (λ l. (c.pieces.total + sum l) % 2 ^ 64) law.fills in
     record {
       sums = record {
-        bytes = before.sums.bytes ++ bytes law.taken;
+        bytes = before.sums.bytes ++ event_bytes law.taken;
         took = Took-then before.sums.took (record { taken = law.taken; takes = law.takes; are = refl; ends = law.ends.0 });
-        is = sums_more _ (bytes law.taken) before.sums next;
+        is = sums_more _ (event_bytes law.taken) before.sums next;
       };
       room = c.read_full.auto.buf ∙ before.room;
     }
@@ -33,9 +33,9 @@ returns-then-filled-buf g c =
     let end = law.ends.2 (omega (arith, law.counts, c.if-filled-buf.true, c.read_full.auto.buf)) in
     record {
       all = record {
-        bytes = before.bytes ++ bytes law.taken;
+        bytes = before.bytes ++ event_bytes law.taken;
         took = Took-then before.took (record { taken = law.taken; takes = law.takes; are = refl; ends = (law.ends.0, end) });
-        is = sums_more _ (bytes law.taken) before next;
+        is = sums_more _ (event_bytes law.taken) before next;
       };
       fault = tt;
     }

@@ -2,7 +2,7 @@
 use Rattle.no_std_io2.proofs.Words.{◌≡◌, ◌+◌, ◌*◌, Ok, negsuc, arith, subst, ⊤, returned_err}
 use Rattle.no_std_io2.proofs.TakesLemmas.{reader, seeker}
 use Rattle.no_std_io2.specs.{Reads.{ReadAtLaw}, declared.io.SeekFrom.TheVariants.{Start, End}}
-use Rattle.examples.specs.Indexed.{IsNumberAt, ReadsNumber, no_index, found}
+use Rattle.examples.specs.Indexed.{IsNumberAt, ReadsNumber, no_index, entry_was_read}
 use Rattle.examples.proofs.EntryLemmas.{content_stays, entry_read, no_place_at}
 use Rattle.examples.proofs.indexed.read_entry.Goals as goal
 
@@ -21,7 +21,7 @@ returns-clause-reads g c =
     let S = seeker g.R.Stored g.R.Seek in
     let R = reader g.R.Stored g.R.Read in
     let slot : c.from.result + 4 * c.from-2.result ≡ c.in_ok-index.index + 4 * c.args.i = omega (arith, c.from.ensures, c.from-2.ensures) in
-    found c.in_ok-index.ensures.reads
+    entry_was_read c.in_ok-index.ensures.reads
     (subst (λ n. ReadsNumber S R c.read_u32_at.new.r (Start n) (Ok c.in_ok-place.place) c.read_u32_at-2.new.r) slot
     c.in_ok-place.ensures.reads)
     (subst

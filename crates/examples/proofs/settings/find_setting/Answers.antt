@@ -1,5 +1,5 @@
 -- One line more, an early success, and an error inside a line are joined to the lines before by lemmas, which the search does not try.
-use Rattle.no_std_io2.proofs.Words.{◌≡◌, ◌∙◌, ap, List, ℕ, Some, bytes, err_from_is_err_and, returned_err, [], ◌∷◌}
+use Rattle.no_std_io2.proofs.Words.{◌≡◌, ◌∙◌, ap, List, ℕ, Some, event_bytes, err_from_is_err_and, returned_err, [], ◌∷◌}
 use Rattle.no_std_io2.proofs.GivenPieces.{pieces_none, piece_alone}
 use Rattle.examples.specs.Settings.{setting_in}
 use Rattle.examples.proofs.SettingLemmas.{without_more, finds_here, finds_none, misses_reading, misses_copying}
@@ -20,7 +20,7 @@ returns-in_err-copy-in-Some-clause-stops g c =
 pub returns-in-Some-clause-found : goal.returns-in-Some-clause-found
 returns-in-Some-clause-found g c =
     let law = c.in_ok-read_until.ensures.law in
-    let text : c.deref.result.now ≡ bytes law.taken = piece_alone law c.clear.ensures.items c.deref.ensures.value in
+    let text : c.deref.result.now ≡ event_bytes law.taken = piece_alone law c.clear.ensures.items c.deref.ensures.value in
     finds_here c.lines.invariant law c.if-branch-eq0.false _
     (ap (λ (l : List ℕ). Some l) c.in_ok-copy-in-Some.ensures.items
     ∙ (c.in-Some.ensures ∙ ap (λ (l : List ℕ). setting_in c.args.key.now l) text))
@@ -28,5 +28,5 @@ returns-in-Some-clause-found g c =
 pub lines-preserved : goal.lines-preserved
 lines-preserved g c =
     let law = c.in_ok-read_until.ensures.law in
-    let text : c.deref.result.now ≡ bytes law.taken = piece_alone law c.clear.ensures.items c.deref.ensures.value in
+    let text : c.deref.result.now ≡ event_bytes law.taken = piece_alone law c.clear.ensures.items c.deref.ensures.value in
     without_more c.lines.invariant law c.if-branch-eq0.false (c.in-None.ensures ∙ ap (λ (l : List ℕ). setting_in c.args.key.now l) text)

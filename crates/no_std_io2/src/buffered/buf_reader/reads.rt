@@ -3,7 +3,7 @@ ghost use Rattle.std.specs.Prelude.{◌≡◌, ◌<◌, ◌-◌, ◌++◌, ℕ, 
 ghost use Rattle.no_std_io2_base.specs.Takes.{tells};
 ghost use Rattle.no_std_io2_base.specs.Read.{ReadExactLaw, ReadFullLaw, ReadToEndLaw};
 ghost use Rattle.no_std_io2_base.specs.Calls.{GaveAll};
-ghost use Rattle.no_std_io2_base.specs.inner.Read.{ended};
+ghost use Rattle.no_std_io2_base.specs.inner.Read.{without_number};
 ghost use Rattle.no_std_io2.specs.BufReader.{reader_held};
 ghost use Rattle.no_std_io2.specs.inner.BufReader.{reader_events, reader_turns, LeavesExact, ReadsThrough, full_ended, ReaderMay};
 
@@ -104,7 +104,8 @@ impl<R: Read, const S: usize> Read for BufReader<R, S> {
         ensures law { ReadToEndLaw ⟦<Self as Read>⟧ self.old buf.old result buf.new self.new }
 
         // It is one call of this type, as its `may` says, and not the reads of the trait's body.
-        ensures own { (x : List ℕ) × (buf.new.items ≡ buf.old.items ++ x) × ReaderMay R.Read self.old (GaveAll x (ended result)) self.new }
+        ensures own { (x : List ℕ) × (buf.new.items ≡ buf.old.items ++ x)
+            × ReaderMay R.Read self.old (GaveAll x (without_number result)) self.new }
     {
         if self.buffer().is_empty() {
             self.buffer.clear();

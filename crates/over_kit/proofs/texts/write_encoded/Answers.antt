@@ -2,7 +2,7 @@
 use Rattle.std.proofs.Common.{◌++◌, [], ap, ap₂, ◌∙◌, append-nil}
 use Rattle.std.proofs.lemmas.Option.{same_Some}
 use Rattle.base64.specs.{Engines.{standard}, GeneralPurpose.{encode_of}}
-use Rattle.system_streams.specs.ToStd.{accepted}
+use Rattle.system_streams.specs.ToStd.{accepted_so_far}
 use Rattle.over_kit.proofs.texts.write_encoded.Goals as goal
 
 pub returns : goal.returns
@@ -11,5 +11,5 @@ returns g c =
     let begun = same_Some _ _ (c.new-text.ensures (x ++ [])) in
     let took = c.in_ok-write_all.ensures.ok [] in
     let done = c.in_ok-finish.ensures in
-    ap (λ w. accepted (g.W.Write.told w)) c.into_inner.ensures ∙ done ∙ took ∙ begun
-    ∙ ap₂ (λ w t. accepted (g.W.Write.told w) ++ encode_of standard t) c.new.ensures (append-nil x)
+    ap (λ w. accepted_so_far (g.W.Write.told w)) c.into_inner.ensures ∙ done ∙ took ∙ begun
+    ∙ ap₂ (λ w t. accepted_so_far (g.W.Write.told w) ++ encode_of standard t) c.new.ensures (append-nil x)

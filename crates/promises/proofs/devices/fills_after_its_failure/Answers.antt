@@ -1,7 +1,7 @@
 -- The prover does not find that only the bytes are left.
 use Rattle.no_std_io2.proofs.Words.{common_steps, nat_tests, ◌≡◌, ◌<◌, ℕ, List, ◌∷◌, Result, Err, length, drop, map, arith, ap, ◌∙◌}
 use Rattle.no_std_io2.proofs.Words.{answered}
-use Rattle.no_std_io2.specs.{declared.io.Error.{Error}, declared.io.ErrorKind.{ErrorKind}, inner.Kinds.{error_of}, Takes.{gave}}
+use Rattle.no_std_io2.specs.{declared.io.Error.{Error}, declared.io.ErrorKind.{ErrorKind}, inner.Kinds.{error_of}, Takes.{gave_front}}
 use Rattle.std.specs.Prelude.{IsErr}
 use Rattle.io_bench.specs.{declared.feed.{Event.{TheVariants.{Byte, Fail}}, Feed.{Feed}}, Feed.{feed_left, feed_answer}}
 use Rattle.io_bench.proofs.DeviceLemmas.{feed_fills}
@@ -13,7 +13,7 @@ fails_first : (f : Feed) (kind : ErrorKind) (x : List ℕ) (room : ℕ) → feed
 fails_first f kind x room is some = grind (arith, common_steps, nat_tests)
 
 -- it is an error then
-is_error : (reply : Result ℕ Error) (buf : List ℕ) {e : Error} → gave reply buf ≡ Err e → IsErr reply
+is_error : (reply : Result ℕ Error) (buf : List ℕ) {e : Error} → gave_front reply buf ≡ Err e → IsErr reply
 is_error reply buf is = grind (arith, common_steps)
 
 pub returns : goal.returns

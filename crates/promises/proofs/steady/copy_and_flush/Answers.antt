@@ -1,11 +1,11 @@
 -- The prover does not join what the copy and the flush did, nor find that neither can fail by the writer.
 use Rattle.std.proofs.{Common.{arith}, lemmas.Grind.{common_steps}}
 use Rattle.no_std_io2.proofs.{MovesLemmas.{Moves-steady}, CopyLoop.{took_told, copied_ok, copied_err, copies_steadily, stays_steady}}
-use Rattle.no_std_io2.proofs.CopyLoop.{flushed}
+use Rattle.no_std_io2.proofs.CopyLoop.{out_after_flush}
 use Rattle.promises.proofs.steady.copy_and_flush.Goals as goal
 
 pub returns : goal.returns
-returns g c = grind (arith, common_steps, copied_ok, flushed, stays_steady, took_told)
+returns g c = grind (arith, common_steps, copied_ok, out_after_flush, stays_steady, took_told)
 
 pub returns-in_err-n : goal.returns-in_err-n
 returns-in_err-n g c = λ some E told none steady.

@@ -1,6 +1,6 @@
 -- The last group was put and then all was sent, or one of them failed; the search does not join the two.
 use Rattle.no_std_io2.proofs.Words.{[], refl, ◌∙◌, err_from_is_err_and}
-use Rattle.base64_stream.specs.Finish.{stopped, flushed}
+use Rattle.base64_stream.specs.Finish.{group_stopped, text_flushed}
 use Rattle.base64_stream.proofs.EncoderLemmas.{adds_sent, last_keeps, finished_if}
 use Rattle.base64_stream.proofs.encoder.EncoderWriter.finish.Goals as goal
 
@@ -13,7 +13,7 @@ pub returns-in_err-close-clause-finishes : goal.returns-in_err-close-clause-fini
 returns-in_err-close-clause-finishes g c =
     let p = err_from_is_err_and c.from_residual.result c.from_residual.ensures.1 in
     let (some, keeps, puts) = c.in_err-close.ensures.err in
-    rw (p.1, p.2) (stopped some puts keeps)
+    rw (p.1, p.2) (group_stopped some puts keeps)
 
 pub returns-clause-keeps : goal.returns-clause-keeps
 returns-clause-keeps g c =
@@ -32,4 +32,4 @@ returns-clause-done g c =
 pub returns-clause-finishes : goal.returns-clause-finishes
 returns-clause-finishes g c =
     let (last, closed, none) = c.in_ok-close.ensures.put in
-    flushed c.close.new.self last c.flush.ensures.law closed none
+    text_flushed c.close.new.self last c.flush.ensures.law closed none

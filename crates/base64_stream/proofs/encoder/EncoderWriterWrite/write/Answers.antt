@@ -1,6 +1,6 @@
 -- A write is refused, kept, or puts whole groups into the buffer; the search does not make the law of an encoder of that.
 use Rattle.no_std_io2.proofs.Words.{◌<◌, ◌++◌, length, refl, ap, arith, inl, inr, length-append, err_from_is_err_and}
-use Rattle.base64_stream.specs.{Encoder.{unfinished}, Finish.{refused, kept, put}}
+use Rattle.base64_stream.specs.{Encoder.{unfinished}, Finish.{closed_refused, all_kept, groups_put}}
 use Rattle.base64_stream.proofs.EncoderLemmas.{law_refused, law_kept, law_put, law_failed, whole_of}
 use Rattle.base64_stream.proofs.encoder.EncoderWriterWrite.write.Goals as goal
 
@@ -8,7 +8,8 @@ pub returns-then-refuses-clause-law : goal.returns-then-refuses-clause-law
 returns-then-refuses-clause-law g c = law_refused g.W.Write c.args.self.now c.args.buf.now c.closed.ensures
 
 pub returns-then-refuses-clause-puts : goal.returns-then-refuses-clause-puts
-returns-then-refuses-clause-puts g c = let (closed, some) = c.refuses.ensures c.if-refuses.true in refused closed some c.closed.ensures
+returns-then-refuses-clause-puts g c =
+    let (closed, some) = c.refuses.ensures c.if-refuses.true in closed_refused closed some c.closed.ensures
 
 pub returns-then-held-buf-lt3-clause-law : goal.returns-then-held-buf-lt3-clause-law
 returns-then-held-buf-lt3-clause-law g c =
@@ -19,7 +20,7 @@ pub returns-then-held-buf-lt3-clause-puts : goal.returns-then-held-buf-lt3-claus
 returns-then-held-buf-lt3-clause-puts g c =
     let few : length (unfinished c.args.self.now ++ c.args.buf.now) < 3 =
     omega (arith, length-append (unfinished c.args.self.now) c.args.buf.now, ap length c.as_slice-held.ensures.value) in
-    kept few refl c.keep.ensures refl
+    all_kept few refl c.keep.ensures refl
 
 pub returns-in_err-put-clause-law : goal.returns-in_err-put-clause-law
 returns-in_err-put-clause-law g c =
@@ -31,7 +32,7 @@ returns-in_err-put-clause-puts g c =
     let p = err_from_is_err_and c.from_residual.result c.from_residual.ensures.1 in
     let fits = c.fitting-n.ensures in
     let whole = whole_of (unfinished c.args.self.now) c.args.buf.now c.fitting-n.result fits.within fits.whole in
-    rw (p.1, p.2) (put c.fitting-n.result fits.some fits.within whole c.in_err-put.ensures.puts (inr c.in_err-put.ensures.err))
+    rw (p.1, p.2) (groups_put c.fitting-n.result fits.some fits.within whole c.in_err-put.ensures.puts (inr c.in_err-put.ensures.err))
 
 pub returns-clause-law : goal.returns-clause-law
 returns-clause-law g c =
@@ -45,4 +46,4 @@ pub returns-clause-puts : goal.returns-clause-puts
 returns-clause-puts g c =
     let fits = c.fitting-n.ensures in
     let whole = whole_of (unfinished c.args.self.now) c.args.buf.now c.fitting-n.result fits.within fits.whole in
-    put c.fitting-n.result fits.some fits.within whole c.in_ok-put.ensures.puts (inl refl)
+    groups_put c.fitting-n.result fits.some fits.within whole c.in_ok-put.ensures.puts (inl refl)

@@ -1,7 +1,7 @@
 -- The account of the tries so far, which the search does not build.
 use Rattle.no_std_io2.proofs.Words.{arith}
 use Rattle.no_std_io2_base.proofs.{MovesLemmas.{Sends-then, Moves-quiet}, TextLemmas.{spent_more, spent_all, tries_again}}
-use Rattle.no_std_io2_base.specs.Retries.{last}
+use Rattle.no_std_io2_base.specs.Retries.{last_try}
 use Rattle.no_std_io2.proofs.util.retries.write_with_retries.Goals as goal
 
 pub tries-preserved : goal.tries-preserved
@@ -23,11 +23,11 @@ returns-in-Err-clause-enough g c = λ most.
 
 pub returns-in-Ok-clause-calls : goal.returns-in-Ok-clause-calls
 returns-in-Ok-clause-calls g c =
-    c.tries.invariant.so_far _ _ _ (last (rw c.in-Ok.is at c.write_and_flush.ensures.calls) tt)
+    c.tries.invariant.so_far _ _ _ (last_try (rw c.in-Ok.is at c.write_and_flush.ensures.calls) tt)
 
 pub returns-in-Err-clause-calls : goal.returns-in-Err-clause-calls
 returns-in-Err-clause-calls g c =
-    c.tries.invariant.so_far _ _ _ (last (rw c.in-Err.is at c.write_and_flush.ensures.calls) c.if-left-eq0.true)
+    c.tries.invariant.so_far _ _ _ (last_try (rw c.in-Err.is at c.write_and_flush.ensures.calls) c.if-left-eq0.true)
 
 pub returns-in-Err-clause-sends : goal.returns-in-Err-clause-sends
 returns-in-Err-clause-sends g c = Sends-then c.tries.invariant.sends (rw c.in-Err.is at c.write_and_flush.ensures.sends)

@@ -1,6 +1,6 @@
 -- The loop and each of its exits, by the lemmas of loops that read to the end.
 use Rattle.std.proofs.{Common.{sym, arith, ◌∙◌}, lemmas.Grind.{common_steps}, lemmas.Result.{err_from_is_err_and}}
-use Rattle.no_std_io2_base.proofs.ToEndLemmas.{wrote, to_end_none, to_end_no_room, to_end_read, to_end_interruption, to_end_done}
+use Rattle.no_std_io2_base.proofs.ToEndLemmas.{part_was_written, to_end_none, to_end_no_room, to_end_read, to_end_interruption, to_end_done}
 use Rattle.no_std_io2_base.proofs.{ToEndLemmas.{to_end_fault}, TakesLemmas.{read_spends}}
 use Rattle.no_std_io2_base.proofs.impls.dyn_read_to_end.drain.Goals as goal
 
@@ -16,7 +16,8 @@ returns-in_err-open_room g c = grind (arith, common_steps)
 pub returns-in-Ok-eq0 : goal.returns-in-Ok-eq0
 returns-in-Ok-eq0 g c =
     let room = c.open_room.ensures in
-    let w = wrote c.open_room.new.buf.ok.0 c.deref_mut.ensures.value c.read_object.auto.buf room.front c.in_ok-open_room.ensures.room in
+    let w = part_was_written c.open_room.new.buf.ok.0 c.deref_mut.ensures.value c.read_object.auto.buf room.front
+    c.in_ok-open_room.ensures.room in
     record {
       law = to_end_done c.reads.invariant c.read_object.ensures.law c.in-Ok-eq0.is c.in-Ok-eq0.field-0-test w.some
           (c.truncate.ensures.items ∙ w.kept) (omega (arith, room.grows, c.truncate.ensures.capacity)) c.len-start.ensures;
@@ -25,7 +26,8 @@ returns-in-Ok-eq0 g c =
 pub returns-in-Err-2 : goal.returns-in-Err-2
 returns-in-Err-2 g c =
     let room = c.open_room.ensures in
-    let w = wrote c.open_room.new.buf.ok.0 c.deref_mut.ensures.value c.read_object.auto.buf room.front c.in_ok-open_room.ensures.room in
+    let w = part_was_written c.open_room.new.buf.ok.0 c.deref_mut.ensures.value c.read_object.auto.buf room.front
+    c.in_ok-open_room.ensures.room in
     record {
       law = to_end_fault c.reads.invariant c.in-Err.ensures.law
           (sym c.is_interrupted.ensures ∙ c.if-is_interrupted.false) w.some (c.truncate-in-Err-2.ensures.items ∙ w.kept)
@@ -35,13 +37,15 @@ returns-in-Err-2 g c =
 pub reads-preserved-in-Ok : goal.reads-preserved-in-Ok
 reads-preserved-in-Ok g c =
     let room = c.open_room.ensures in
-    let w = wrote c.open_room.new.buf.ok.0 c.deref_mut.ensures.value c.read_object.auto.buf room.front c.in_ok-open_room.ensures.room in
+    let w = part_was_written c.open_room.new.buf.ok.0 c.deref_mut.ensures.value c.read_object.auto.buf room.front
+    c.in_ok-open_room.ensures.room in
     to_end_read c.reads.invariant c.in-Ok.ensures.law c.in-Ok.n-test.1 w room.grows
 
 pub reads-preserved : goal.reads-preserved
 reads-preserved g c =
     let room = c.open_room.ensures in
-    let w = wrote c.open_room.new.buf.ok.0 c.deref_mut.ensures.value c.read_object.auto.buf room.front c.in_ok-open_room.ensures.room in
+    let w = part_was_written c.open_room.new.buf.ok.0 c.deref_mut.ensures.value c.read_object.auto.buf room.front
+    c.in_ok-open_room.ensures.room in
     to_end_interruption c.reads.invariant c.in-Err.ensures.law
     (sym c.is_interrupted.ensures ∙ c.if-is_interrupted.true) w
     room.grows

@@ -2,7 +2,7 @@
 use Rattle.std.proofs.{lemmas.Grind.{common_steps}, Common.{◌≡◌, ℕ, ◌-◌, List, refl, sym, ap, subst, ◌∙◌, take, drop, length, arith}}
 use Rattle.std.proofs.{Common.{take_all, length-drop, string_bytes, IsUtf8}, lemmas.{Str.{IsUtf8-append}, List.{take-append-drop}}}
 use Rattle.no_std_io2_base.specs.inner.Lines.{AnswersLine}
-use Rattle.no_std_io2_base.proofs.LineLemmas.{kept, became, refused}
+use Rattle.no_std_io2_base.proofs.LineLemmas.{line_kept, became, line_refused}
 use Rattle.no_std_io2_base.proofs.traits.pieces.put_back.Goals as goal
 
 -- the bytes from a place on, as a slice has them
@@ -16,7 +16,7 @@ from_utf8_unchecked-requires c =
     (subst IsUtf8 (behind c.args.start c.args.bytes.items _ same) (c.is_text.ensures.yes c.if-is_text.true)))
 
 pub returns-then-is_out_of_memory-clause-answers : goal.returns-then-is_out_of_memory-clause-answers
-returns-then-is_out_of_memory-clause-answers c = λ len capacity. kept _ c.args.read _ len capacity
+returns-then-is_out_of_memory-clause-answers c = λ len capacity. line_kept _ c.args.read _ len capacity
     (c.is_out_of_memory.ensures.memory c.if-is_out_of_memory.true) refl c.text_front.ensures.bytes
 
 pub returns-then-is_text-clause-answers : goal.returns-then-is_text-clause-answers
@@ -33,6 +33,6 @@ returns-clause-answers c =
     let line = drop c.args.start c.args.bytes.items in
     λ len capacity. subst (λ r. AnswersLine line c.args.read len capacity r (take c.args.start c.args.bytes.items)
     (string_bytes c.text_front-2.result))
-    (sym c.and.ensures) (refused line c.args.read _ len capacity
+    (sym c.and.ensures) (line_refused line c.args.read _ len capacity
     (λ text. c.is_text.ensures.no c.if-is_text.false (subst IsUtf8 (sym (behind c.args.start c.args.bytes.items _ same)) text))
     c.invalid_text.ensures (c.is_out_of_memory.ensures.other c.if-is_out_of_memory.false) c.text_front-2.ensures.bytes)

@@ -4,7 +4,7 @@ use Rattle.std.proofs.Common.{[], ◌++◌, Result, Err, IsErrAnd, IsOk, IsUtf8,
 use Rattle.std.proofs.Common.{true≢false, string_bytes, string_len}
 use Rattle.std.specs.Result.{result_and}
 use Rattle.no_std_io2_base.specs.{declared.error.Error.{Error}, declared.error.ErrorKind.TheVariants.{OutOfMemory}, Errors.{error_kind}}
-use Rattle.no_std_io2_base.proofs.LineLemmas.{kept, became, refused}
+use Rattle.no_std_io2_base.proofs.LineLemmas.{line_kept, became, line_refused}
 use Rattle.no_std_io2_base.proofs.traits.pieces.put_line.Goals as goal
 use Rattle.no_std_io2_base.proofs.traits.pieces.put_line.Goals.{then-is_out_of_memory, else-is_out_of_memory}
 
@@ -26,7 +26,7 @@ returns-in-Ok-clause-answers c =
     elim c.if-is_out_of_memory.branch [
       | then-is_out_of_memory w ↦
           let memory = c.is_out_of_memory.ensures.memory w.if-is_out_of_memory.true in
-          kept c.args.line.items c.args.read _ _ _ memory refl (given ∙ ap (λ v. v.items) w.line-is ∙ w.clear.ensures.items ∙ sym none)
+          line_kept c.args.line.items c.args.read _ _ _ memory refl (given ∙ ap (λ v. v.items) w.line-is ∙ w.clear.ensures.items ∙ sym none)
       | else-is_out_of_memory w ↦
           let is : string_bytes c.in-Ok.text ≡ c.args.line.items = given ∙ ap (λ v. v.items) w.line-is in
           became c.args.line.items c.args.read _ _ _ (subst IsUtf8 is (IsUtf8-string_bytes c.in-Ok.text))
@@ -35,4 +35,4 @@ returns-in-Ok-clause-answers c =
 
 pub returns-in-Err-clause-answers : goal.returns-in-Err-clause-answers
 returns-in-Err-clause-answers c =
-    grind (arith, common_steps, empty, then-is_out_of_memory, kept, stays, else-is_out_of_memory, refused, failed)
+    grind (arith, common_steps, empty, then-is_out_of_memory, line_kept, stays, else-is_out_of_memory, line_refused, failed)

@@ -12,5 +12,5 @@ room_fits S n {reply = reply} short way = grind (arith, common_steps, writes_who
 pub returns : goal.returns
 returns g c =
     let calls = c.make_room.ensures in
-    let told = (effect_of (room_does g.W.Write g.row.S c.args.n) calls).tells in
+    let told = (effect_of (room_does g.W.Write g.row.S c.args.n) calls).told in
     record { calls = calls; moves = told.1; never_interrupted = told.0; room = λ h. room_fits g.row.S c.args.n h calls.are }

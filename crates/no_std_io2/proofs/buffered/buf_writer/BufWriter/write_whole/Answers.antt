@@ -5,7 +5,7 @@ use Rattle.no_std_io2.proofs.Words.{writer_inner, writer_buffer, writer_told, Ta
 use Rattle.no_std_io2_base.specs.declared.error.Error.{Error}
 use Rattle.no_std_io2.specs.{declared.buffered.buf_writer.BufWriter.{BufWriter}, BufWriter.{Puts}}
 use Rattle.no_std_io2_base.proofs.MovesLemmas.{Moves-then}
-use Rattle.no_std_io2.proofs.{BufWriterLemmas.{Moves-kept, then_stops, then_goes_on}, BufWriterCalls.{puts}}
+use Rattle.no_std_io2.proofs.{BufWriterLemmas.{Moves-kept, then_stops, then_goes_on}, BufWriterCalls.{put_beside}}
 use Rattle.no_std_io2.proofs.buffered.buf_writer.BufWriter.write_whole.Goals as goal
 
 module _ {W : Type 0} {S : ℕ} (I : Writer W) {old : BufWriter W S} {n : ℕ} (head tail : List ℕ) (is : n ≡ length head + length tail) where
@@ -19,10 +19,21 @@ module _ {W : Type 0} {S : ℕ} (I : Writer W) {old : BufWriter W S} {n : ℕ} (
       → writer_inner new ≡ writer_inner mid → writer_buffer new ≡ (writer_buffer mid ++ head) ++ tail
       → Puts I writer_inner writer_buffer S (head ++ tail) old (Ok tt) new
   room mid new short way moves same put =
-      grind (arith, common_steps, append_assoc, writer_buffer, Moves-then, Moves-kept, writer_inner, then_goes_on, length-append, puts)
+      grind (
+        arith,
+        common_steps,
+        append_assoc,
+        writer_buffer,
+        Moves-then,
+        Moves-kept,
+        writer_inner,
+        then_goes_on,
+        length-append,
+        put_beside,
+      )
 
 pub returns-in_err-make_room : goal.returns-in_err-make_room
-returns-in_err-make_room g c = grind (arith, common_steps, err_from_is_err_and, puts, no_room)
+returns-in_err-make_room g c = grind (arith, common_steps, err_from_is_err_and, put_beside, no_room)
 
 pub returns : goal.returns
 returns g c =

@@ -8,6 +8,6 @@ returns g c =
     let done = effect_of (flush_does g.W.Write) calls in
     let empty = flush_empty g.W.Write calls in
     record {
-      law = record { empty = empty; moves = done.tells; all = λ t. (done.counts t).0; call = calls };
+      law = record { empty = empty; moves = done.told; all = λ t. (done.counts t).0; call = calls };
       unheld = buffer_none _ _ _ empty;
     }

@@ -11,7 +11,7 @@ returns g c =
     record {
       law = record {
         bound = write_bound I g.row.S calls;
-        moves = done.tells;
+        moves = done.told;
         all = λ t. ((done.counts t).0, write_takes I g.row.S calls t);
         call = calls;
       };

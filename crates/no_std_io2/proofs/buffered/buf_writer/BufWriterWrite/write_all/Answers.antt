@@ -10,6 +10,6 @@ returns g c =
     let calls = c.write_all.ensures in
     let done = effect_of (write_all_does I g.row.S c.args.buf.now) calls in
     record {
-      law = own_law (calls, done.tells.0, done.tells.1, λ t. (done.counts t).0);
+      law = own_law (calls, done.told.0, done.told.1, λ t. (done.counts t).0);
       buffer = buffers_all_of I writer_inner writer_buffer g.row.S calls;
     }

@@ -11,6 +11,6 @@ returns g c =
     let calls = c.flush.ensures in
     let empty = flush_empty g.W.Write calls in
     record {
-      law = record { empty = empty; moves = (effect_of (flush_does g.W.Write) calls).tells; all = λ no. absurd no.0; call = calls };
+      law = record { empty = empty; moves = (effect_of (flush_does g.W.Write) calls).told; all = λ no. absurd no.0; call = calls };
       unheld = buffer_none _ _ _ empty;
     }

@@ -12,7 +12,7 @@ returns g c =
     let calls = c.write.ensures in
     let done = line_write_does g.W.Write S calls in
     record {
-      law = record { bound = line_write_bound g.W.Write S calls; moves = done.tells; all = λ no. absurd no.0; call = calls };
+      law = record { bound = line_write_bound g.W.Write S calls; moves = done.told; all = λ no. absurd no.0; call = calls };
       short = line_write_short S calls.are;
       fits = λ short plain room.
           let fits = line_write_fits S calls.are short plain room in

@@ -13,7 +13,7 @@ returns g c =
     let calls = c.write_all.ensures in
     let done = line_write_all_does g.W.Write S calls in
     record {
-      law = own_law (calls, done.tells.0, done.tells.1, λ no. absurd no.0);
+      law = own_law (calls, done.told.0, done.told.1, λ no. absurd no.0);
       calls = calls;
       no_newline_held = (line_write_all_state S calls.are c.args.self.now.sender.line).1;
       held = done.leaves c.args.self.now.sender.line;

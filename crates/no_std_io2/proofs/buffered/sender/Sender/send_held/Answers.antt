@@ -1,5 +1,6 @@
 -- Sending: each turn moves a front of what is held from the buffer to what was sent.
-use Rattle.no_std_io2.proofs.Words.{CallOf, WriterState, Moves, Wrote, none as no_write, took, again, stuck, fault, common_steps}
+use Rattle.no_std_io2.proofs.Words.{CallOf, WriterState, Moves, Wrote, no_write, write_took, write_again, write_stuck, write_fault}
+use Rattle.no_std_io2.proofs.Words.{common_steps}
 use Rattle.no_std_io2.proofs.Words.{nil_from_length}
 use Rattle.no_std_io2.proofs.Words.{◌≡◌, ℕ, ◌+◌, ◌<◌, ◌≤◌, List, ◌∷◌, length, drop, Result, Ok, Err, refl, sym, ap, subst, ◌∙◌, arith, []}
 use Rattle.no_std_io2.proofs.Words.{sender_buffer, SendCalls}
@@ -17,7 +18,7 @@ sends-preserved-in-Ok g c =
     let rest = c.drop_front.ensures in
     record {
       made = calls_more before.made (subst wrote c.as_slice.ensures.value c.in-Ok.ensures.law)
-          (λ D r e w. took (omega arith) (omega (arith, c.in-Ok.n-test.1)) (subst (λ l. SendCalls l D r e) rest.held w));
+          (λ D r e w. write_took (omega arith) (omega (arith, c.in-Ok.n-test.1)) (subst (λ l. SendCalls l D r e) rest.held w));
       unmoved = rest.unmoved ∙ before.unmoved;
     }
 
@@ -36,7 +37,7 @@ sends-preserved g c =
     let interrupted = sym c.is_interrupted.ensures ∙ c.if-is_interrupted.true in
     record {
       made = calls_more before.made (subst wrote c.as_slice.ensures.value c.in-Err.ensures.law)
-          (λ D r end w. again (omega arith) interrupted w);
+          (λ D r end w. write_again (omega arith) interrupted w);
       unmoved = before.unmoved;
     }
 
@@ -47,7 +48,7 @@ returns-in-Ok-eq0-clause-calls g c =
     let none = subst (wrote c.as_slice.result.now) (c.in-Ok-eq0.is ∙ ap Ok c.in-Ok-eq0.field-0-test) c.write.ensures.law in
     let last = subst (λ y. wrote y (Ok 0)) c.as_slice.ensures.value none in
     calls_end c.sends.invariant.made (Err c.new.result) held (Wrote held (Ok 0) ∷ []) (_, last, refl)
-    (stuck (omega arith) (c.new.ensures.kind, c.new.ensures.text))
+    (write_stuck (omega arith) (c.new.ensures.kind, c.new.ensures.text))
 
 pub returns-in-Err-2-clause-calls : goal.returns-in-Err-2-clause-calls
 returns-in-Err-2-clause-calls g c =
@@ -55,7 +56,7 @@ returns-in-Err-2-clause-calls g c =
     let wrote : List ℕ → Type 0 = λ y. CallOf g.W.Write c.sends.self.inner (Wrote y (Err c.in-Err.e)) c.write.new.self in
     let last = subst wrote c.as_slice.ensures.value c.in-Err.ensures.law in
     calls_end c.sends.invariant.made (Err c.in-Err.e) held (Wrote held (Err c.in-Err.e) ∷ []) (_, last, refl)
-    (fault (omega arith) (sym c.is_interrupted.ensures ∙ c.if-is_interrupted.false))
+    (write_fault (omega arith) (sym c.is_interrupted.ensures ∙ c.if-is_interrupted.false))
 
 pub returns-clause-calls : goal.returns-clause-calls
 returns-clause-calls g c =

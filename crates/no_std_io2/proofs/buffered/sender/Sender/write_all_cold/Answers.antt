@@ -1,6 +1,6 @@
 -- A `write_all` off the hot path: room is made, and then the bytes go past the buffer or into it.
 use Rattle.no_std_io2.proofs.{Words.{common_steps, AllCalls, arith, rules, err_from_is_err_and}, BufWriterLemmas.{then_stops, then_goes_on}}
-use Rattle.no_std_io2.proofs.BufWriterCalls.{room_none, room_enough, puts, passes}
+use Rattle.no_std_io2.proofs.BufWriterCalls.{room_none, room_enough, put_beside, put_past}
 use Rattle.no_std_io2.proofs.buffered.sender.Sender.write_all_cold.Goals as goal
 
 pub returns-in_err-make_room : goal.returns-in_err-make_room
@@ -10,10 +10,10 @@ pub returns-then-buf : goal.returns-then-buf
 returns-then-buf g c =
     let way = c.in_ok-make_room.ensures in
     let none = room_none _ _ c.if-buf.true way.are in
-    then_goes_on _ way (passes _ (λ C. AllCalls C c.args.buf.now) c.if-buf.true none none c.write_all.ensures.law.calls)
+    then_goes_on _ way (put_past _ (λ C. AllCalls C c.args.buf.now) c.if-buf.true none none c.write_all.ensures.law.calls)
 
 pub push-requires : goal.push-requires
 push-requires g c = (search rules, room_enough _ _ (omega (arith, c.if-buf.false)) c.in_ok-make_room.ensures.are)
 
 pub returns : goal.returns
-returns g c = grind (arith, common_steps, then_goes_on, puts)
+returns g c = grind (arith, common_steps, then_goes_on, put_beside)

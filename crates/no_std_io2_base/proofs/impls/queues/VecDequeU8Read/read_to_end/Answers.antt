@@ -1,8 +1,9 @@
 -- Room was made before the reads: the law says the same of the vector with less room.
 use Rattle.std.proofs.{Common.{◌≡◌, ℕ, List, ◌≤◌, ◌++◌, ◌∙◌, Result, Vec, vec_len, vec_capacity}}
 use Rattle.std.proofs.Common.{Ok, Err, inl, inr, ap, arith, le_trans}
-use Rattle.no_std_io2_base.specs.{declared.error.Error.{Error}, Events.{Event, bytes}, Takes.{ReaderState}}
-use Rattle.no_std_io2_base.specs.{Takes.{Reader, tells}, Read.{ReadToEndLaw, DrainsOrStops}}
+use Rattle.no_std_io2_base.specs.{declared.error.Error.{Error}, Events.{Event, event_bytes}, Takes.{ReaderState}}
+use Rattle.no_std_io2_base.specs.{Takes.{Reader, tells}, Read.{ReadToEndLaw}}
+use Rattle.no_std_io2_base.specs.inner.Read.{DrainsOrStops}
 use Rattle.no_std_io2_base.proofs.impls.queues.VecDequeU8Read.read_to_end.Goals as goal
 
 -- how it ended, with a weaker reason for a failed allocation
@@ -19,7 +20,7 @@ reserved : {X A : Type 0} {R : Reader X} {old new : X} {buf mid v : Vec ℕ A} (
 reserved {R = R} {new = new} reply same len grown law = record {
   taken = law.taken;
   takes = law.takes;
-  appends = (law.appends.0 ∙ ap (λ l. l ++ bytes law.taken) same, law.appends.1);
+  appends = (law.appends.0 ∙ ap (λ l. l ++ event_bytes law.taken) same, law.appends.1);
   ends = ends_weaker law.taken reply (tells R new) (λ lack. omega (arith, lack, len, grown)) law.ends;
   capacity = le_trans grown law.capacity;
   calls = law.calls;

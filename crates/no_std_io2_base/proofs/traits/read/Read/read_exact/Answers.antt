@@ -1,6 +1,7 @@
 -- The loop and each of its exits, by the lemmas of loops that fill a buffer.
 use Rattle.std.proofs.{lemmas.Grind.{common_steps}, Common.{sym, ◌∙◌, arith}}
-use Rattle.no_std_io2_base.proofs.ReadLoops.{exact_end, exact_fault, full_none, full_read, full_interruption, full_end, full_fault, stays}
+use Rattle.no_std_io2_base.proofs.ReadLoops.{exact_end, exact_fault, full_none, full_read, full_interruption, full_end, full_fault}
+use Rattle.no_std_io2_base.proofs.ReadLoops.{length_is_kept}
 use Rattle.no_std_io2_base.proofs.TakesLemmas.{read_spends}
 use Rattle.no_std_io2_base.proofs.traits.read.Read.read_exact.Goals as goal
 
@@ -10,7 +11,7 @@ reads-init g c = full_none
 pub returns-in-Ok-eq0 : goal.returns-in-Ok-eq0
 returns-in-Ok-eq0 g c =
     let so_far = c.reads.invariant in
-    let long = stays so_far c.reads-test.true _ c.read.auto.buf in
+    let long = length_is_kept so_far c.reads-test.true _ c.read.auto.buf in
     let full = full_end so_far c.reads-test.true _ c.read.auto.buf c.read.ensures.law c.in-Ok-eq0.is c.in-Ok-eq0.field-0-test in
     record { law = exact_end long full (omega (arith, c.reads-test.true, long, so_far.long)) c.failed_to_fill.ensures }
 
@@ -25,7 +26,7 @@ returns-in-Err-2 g c =
     let so_far = c.reads.invariant in
     let full = full_fault so_far c.reads-test.true _ c.read.auto.buf c.in-Err.ensures.law
     (sym c.is_interrupted.ensures ∙ c.if-is_interrupted.false) in
-    record { law = exact_fault (stays so_far c.reads-test.true _ c.read.auto.buf) full }
+    record { law = exact_fault (length_is_kept so_far c.reads-test.true _ c.read.auto.buf) full }
 
 pub reads-preserved : goal.reads-preserved
 reads-preserved g c =

@@ -1,6 +1,6 @@
 -- One answer for each end: no position, no end, no way back, and the two ends that return a length.
 use Rattle.std.proofs.{Common.{rules}, lemmas.Result.{err_from_is_err_and}}
-use Rattle.no_std_io2_base.specs.inner.Seek.{no_place, no_end, back, no_way_back}
+use Rattle.no_std_io2_base.specs.inner.Seek.{no_position, no_end, went_back, no_way_back}
 use Rattle.no_std_io2_base.proofs.{CallsLemmas.{by_call, by_two, by_three}, CursorLemmas.{len_at_end}}
 use Rattle.no_std_io2_base.proofs.traits.seek.Seek.stream_len.Goals.{then-old-end+in_ok-seek, else-old-end}
 use Rattle.no_std_io2_base.proofs.traits.seek.Seek.stream_len.Goals as goal
@@ -9,7 +9,7 @@ pub returns-in_err-old : goal.returns-in_err-old
 returns-in_err-old g c =
     let p = err_from_is_err_and c.from_residual.result c.from_residual.ensures.1 in
     let call = c.in_err-old.ensures.law.call in
-    rw (p.1, p.2) (record { law = record { store = search rules; sound = search rules; calls = by_call _ call no_place } })
+    rw (p.1, p.2) (record { law = record { store = search rules; sound = search rules; calls = by_call _ call no_position } })
 
 pub returns-in_err-end : goal.returns-in_err-end
 returns-in_err-end g c =
@@ -43,7 +43,7 @@ returns g c =
             law = record {
               store = search rules;
               sound = search rules;
-              calls = by_three _ _ _ _ _ first second call (back w.if-old-end.true);
+              calls = by_three _ _ _ _ _ first second call (went_back w.if-old-end.true);
             };
           })
       | else-old-end w ↦
