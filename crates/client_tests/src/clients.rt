@@ -1,6 +1,6 @@
 // The examples in the comments of `framing`, `line_log`, `system_streams` and `io_bench`, a function for each, and those
 // of `IntoInnerError`, over a device of `examples`.
-use examples::{Narrow, checksum_of, entry_of_file, grep, head, save};
+use examples::{Narrow, checksum_of, entry_of, entry_of_file, grep, head, save, save_summed};
 use framing::{FrameReader, FrameWriter};
 use io_bench::{Act, Event, Faulty, Feed, Op, Reply, joined};
 use line_log::LineLog;
@@ -235,6 +235,32 @@ fn refusal_of(rt: &impl Files, i: u32) -> Result<io::ErrorKind, Fail> {
     }
 }
 
+// An entry of a file in memory that is there and is refused, or another one's bytes.
+fn in_memory(rt: &impl Abort) -> Result<(), Fail> {
+    let file = b"onetwosix\0\0\0\0\x03\0\0\0\x06\0\0\0\x09\0\0\0".as_slice();
+    let mut entry = [0u8; 3];
+    entry_of(file, 0, &mut entry)?;
+    assert!(rt; entry == *b"one");
+    entry_of(file, 2, &mut entry)?;
+    assert!(rt; entry == *b"six");
+    match entry_of(file, 5, &mut entry) {
+        Ok(()) => Err(Fail::new("found")),
+        Err(e) => {
+            assert!(rt; e.kind() == ErrorKind::UnexpectedEof);
+            Ok(())
+        }
+    }
+}
+
+// A sum of other bytes than those that the vector got behind its own, or a long text that is refused.
+fn summed(rt: &(impl Abort + AllocGlobal)) -> Result<(), Fail> {
+    let text = [3u8; 5000];
+    let (device, sum) = save_summed(vec![in rt.alloc(); b'a', b'b']?, text.as_slice())?;
+    assert!(rt; sum == 15000);
+    assert!(rt; device.len() == 5002 && device.starts_with(b"ab\x03") && device.ends_with(b"\x03"));
+    Ok(())
+}
+
 // The example of `indexed` of `examples`, over a file with three entries and their index. An entry of another place;
 // one that is not there, or cut off, taken for one; an error of the system without its kind.
 fn indexed(rt: &(impl Abort + Files)) -> Result<(), Fail> {
@@ -277,5 +303,7 @@ fn each_example(rt: HostRuntime) -> Result<(), Fail> {
     lines_before_a_fault(rt)?;
     lines_with_a_word(rt)?;
     indexed(rt)?;
+    in_memory(rt)?;
+    summed(rt)?;
     Ok(())
 }
