@@ -216,7 +216,8 @@ fn write_all_parts<W: Write + Drop, const S: usize>(w: &mut Sender<W, S>, x: &[u
         return w.write_all(x);
     }
     send_lines(w, &x[..len])?;
-    if len == x.len() {
+    // Without a buffer no bytes are passed on too, as Rust's std does.
+    if S > 0 && len == x.len() {
         return Ok(());
     }
     w.write_all(&x[len..])
