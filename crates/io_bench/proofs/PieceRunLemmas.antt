@@ -3,7 +3,7 @@ use Rattle.no_std_io2.proofs.Words.{◌≡◌, ℕ, true, false, Bool, Option, S
 use Rattle.no_std_io2.proofs.Words.{◌∙◌, subst, sym, inl, inr, ◌<◌, ◌⊎◌, length, arith, length-append, append-nil, append_assoc, IfErr}
 use Rattle.no_std_io2.proofs.Words.{concat, common_steps, IsFault, IsOutOfMemory, Event, byte, fails, event_bytes, HasNoFault}
 use Rattle.no_std_io2.proofs.Words.{bytes_to_fault}
-use Rattle.no_std_io2.proofs.Words.{first_fault, to_come, Reader, tells, Made, newline, without, split_reader, split_delim}
+use Rattle.no_std_io2.proofs.Words.{first_fault, to_come, Reader, tells, Made, newline, strip_last, split_reader, split_delim}
 use Rattle.no_std_io2.proofs.{GivenPieces.{GivesNext, GivesNone, next_error, next_fault, next_item, next_none}, CallsLemmas.{made_more}}
 use Rattle.std.proofs.Common.{IfSome}
 use Rattle.no_std_io2.specs.{declared.io.Error.{Error}, inner.Kinds.{is_interruption}, inner.Pieces.{pieces_given}}
@@ -163,7 +163,7 @@ run_faults next full xs s now reply faults run = grind (arith, common_steps)
 abbrev pub split_next : {X T : Type 0} → Reader X → (T → List ℕ) → Split X → Option (Result T Error) → Split X → Type 0
 split_next R view s r t = (split_is_ended s ≡ true → (r ≡ None) × (t ≡ s))
     × (split_is_ended s ≡ false → (split_is_ended t ≡ ends_at r)
-    × NextPieceLaw R (split_reader s) view (without (split_delim s)) (λ _ _. ⊥) (split_delim s) r (split_reader t))
+    × NextPieceLaw R (split_reader s) view (strip_last (split_delim s)) (λ _ _. ⊥) (split_delim s) r (split_reader t))
     × (split_delim t ≡ split_delim s)
 
 -- and one of a `lines`
@@ -187,10 +187,10 @@ lines_faults R view s t e does = next_fault (Some (Err e)) refused_fault (does.1
 
 -- a `split` takes pieces without their delimiter,
 pub split_takes : {X T : Type 0} (R : Reader X) (view : T → List ℕ) (d : ℕ)
-    → TakesPieces R split_reader view (without d) (λ _ _. ⊥) d (split_next R view)
+    → TakesPieces R split_reader view (strip_last d) (λ _ _. ⊥) d (split_next R view)
     (λ s. (split_is_ended s ≡ false) × (split_delim s ≡ d))
 split_takes R view d = record {
-  law = λ s t r lives does. law_at without lives.1 refl (does.1 lives.0).1;
+  law = λ s t r lives does. law_at strip_last lives.1 refl (does.1 lives.0).1;
   lives = λ s t x lives does. ((does.1 lives.0).0, does.2 ∙ lives.1);
 }
 

@@ -1,13 +1,13 @@
 // [`run_split`] and [`run_lines`], which take all items of a `split` and of a `lines`.
 ghost use Rattle.std.specs.Prelude.{◌≡◌, ◌+◌, ◌<◌, ◌++◌, map, false, OnOk, OnErr, IfErr, IfSome};
 ghost use Rattle.std.specs.Iterator.{IsFinite};
+ghost use Rattle.std.specs.Io.BufRead.{strip_last};
 ghost use Rattle.std.specs.Prelude.{vec_items, vec_len, vec_capacity, string_bytes};
 ghost use Rattle.no_std_io2.specs.Errors.{IsFault, IsOutOfMemory};
 ghost use Rattle.no_std_io2.specs.Takes.{to_come};
 ghost use Rattle.no_std_io2.specs.Takes.{tells};
 ghost use Rattle.no_std_io2.specs.Pieces.{newline};
 ghost use Rattle.no_std_io2.specs.inner.Lines.{line_text, RefusesLine};
-ghost use Rattle.no_std_io2.specs.inner.Pieces.{without};
 ghost use Rattle.no_std_io2.specs.inner.Iterators.{split_reader, split_delim, split_is_ended, lines_reader, lines_is_ended};
 ghost use Rattle.io_bench.specs.PieceRuns.{GathersPieces, RunsNexts};
 ghost use Rattle.io_bench.specs.Appended.{appended};
@@ -56,7 +56,7 @@ fn run_items<T: Drop, I: Iterator<Item = Result<T>>>(iter: &mut I, items: &mut V
 /// was full, or the next piece had no room for a byte.
 pub fn run_split<R: BufRead + Drop>(split: &mut Split<R>, items: &mut Vec<Vec<u8>>) -> Result<()>
     ensures told { split_is_ended split.old ≡ false → IfSome (to_come (tells ⟦<R as Read>⟧ (split_reader split.old)))
-        (λ E. GathersPieces (without (split_delim split.old)) (λ _ _. ⊥) (vec_capacity items.new < vec_len items.new + 1)
+        (λ E. GathersPieces (strip_last (split_delim split.old)) (λ _ _. ⊥) (vec_capacity items.new < vec_len items.new + 1)
         (split_delim split.old) E result (map vec_items (appended items.old.items items.new.items))) }
     ensures appends { items.new.items ≡ items.old.items ++ appended items.old.items items.new.items }
     ensures calls { RunsNexts ⟦<Split<R> as Iterator>⟧.next_gives (vec_capacity items.new < vec_len items.new + 1) split.old

@@ -84,7 +84,9 @@ pub MovesFront-line_device : {W : Type 0} {S : ℕ} (told : W → WriterState) (
     → MovesFront (line_told told w) x r (line_told told v) → line_buffer w ≡ []
     → OnOk r ((line_told told v).held ≡ [])
     → OnOk r (Moves (told (line_inner w)) x [] (told (line_inner v)))
-MovesFront-line_device told w v x r f none flushed = grind (arith, common_steps, device_moves, line_buffer, buffer_none, line_inner)
+MovesFront-line_device told w v x r f none flushed =
+    let after = told (line_inner v) in
+    device_moves (told (line_inner w)) after r (line_buffer w) (line_buffer v) none (buffer_none r after.held (line_buffer v) flushed) f
 
 -- an empty `LineWriter` in front of a device, as `Moves-device`
 pub Moves-line_device : {W : Type 0} {S : ℕ} {a : WriterState} {b : WriterState} {x : List ℕ} {k : List ErrorKind} (told : W → WriterState)

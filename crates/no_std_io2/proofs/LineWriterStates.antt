@@ -10,11 +10,12 @@ use Rattle.no_std_io2.proofs.Words.{WriteAllCalls, FlushCalls, SendLinesCalls, L
 use Rattle.no_std_io2.proofs.{BufWriterLemmas.{IsSuffix-trans}, BufWriterCalls.{buffered_fits, write_whole}}
 use Rattle.std.proofs.lemmas.List.{take_min}
 use lib.Seq.{take-add}
-use Rattle.no_std_io2_base.specs.{inner.Pieces.{Lacks, ends_in}, declared.error.Error.{Error}}
+use Rattle.std.specs.Io.BufRead.{ends_with_byte}
+use Rattle.no_std_io2_base.specs.{inner.Pieces.{Lacks}, declared.error.Error.{Error}}
 use Rattle.no_std_io2_base.proofs.LineLemmas.{lines_split, lines_bound, lines_end, lacks_lines, unfinished_lacks, plain_state, state_rest}
 use Rattle.no_std_io2_base.proofs.LineLemmas.{take_lines, drop_lines, lines_some, unfinished_none, lacks_contains, contains_lines}
-use Rattle.no_std_io2_base.proofs.{LineLemmas.{lacks_rest, ends_in-append}, CallsLemmas.{by_call, writes_whole}, MovesLemmas.{after_ok}}
-use Rattle.no_std_io2_base.proofs.PieceLemmas.{Lacks-append}
+use Rattle.no_std_io2_base.proofs.{LineLemmas.{lacks_rest}, CallsLemmas.{by_call, writes_whole}, MovesLemmas.{after_ok}}
+use Rattle.no_std_io2_base.proofs.PieceLemmas.{Lacks-append, ends_with_byte-append}
 use Rattle.no_std_io2.specs.inner.LineWriter.{held_tail, lines_or_all, SendLineCalls, HoldsTail, LinesCalls, IsShortText}
 
 -- The bytes that a line writer holds of those that its inner writer left (`held_tail`). For the `write` of a `LineWriter`.
@@ -35,7 +36,7 @@ lines_rest x n within =
 rest_state : (x : List ℕ) (n : ℕ) → 0 < lines_len x → IsLineState (drop n (lines_of x))
 rest_state x n some =
     let lines = lines_of x in
-    state_rest (take n lines) (drop n lines) (λ has. ap (ends_in newline) (take-append-drop n lines) ∙ lines_end x some)
+    state_rest (take n lines) (drop n lines) (λ has. ap (ends_with_byte newline) (take-append-drop n lines) ∙ lines_end x some)
 
 -- nothing is held if none were taken, or all bytes
 pub tail_none : (S : ℕ) (x : List ℕ) (n : ℕ) → n ≡ 0 ⊎ n ≡ length x → held_tail S x n ≡ []
@@ -207,7 +208,7 @@ behind_lines_state S {y} (first_goes_on w s) line ended =
 
 -- lines that follow other bytes end in a newline
 lines_ended : (x : List ℕ) → 0 < lines_len x → (front : List ℕ) → IsLineState (front ++ lines_of x)
-lines_ended x some front has = ends_in-append newline front (lines_of x) some ∙ lines_end x some
+lines_ended x some front has = ends_with_byte-append newline front (lines_of x) some ∙ lines_end x some
 
 -- a `write_all` has no newline left after an `Ok`, and a line state after an error
 all_lines_state : (S : ℕ) (x : List ℕ) {held left : List ℕ} {C : List WriteCall} {reply : Result (Unit {0}) Error}
@@ -229,7 +230,10 @@ all_lines_state S x (first_goes_on {mid = mid} {reply = reply} p q) line some =
 -- with or without lines
 pub line_write_all_state : (S : ℕ) {x held left : List ℕ} {C : List WriteCall} {reply : Result (Unit {0}) Error}
     → LineWriteAllCalls S x held C reply left → IsLineState held → IsLineState left × OnOk reply (Lacks newline left)
-line_write_all_state S {x} write line = grind (arith, common_steps, all_lines_state, lines_some, text_state)
+line_write_all_state S {x} write line = elim write [
+  | inl plain ↦ text_state S x tt (λ C. AllCalls C x) plain.1 line plain.0
+  | inr lines ↦ all_lines_state S x lines.1 line (lines_some x lines.0)
+]
 
 -- a short text that fits is held without a call
 pub line_write_all_fits : (S : ℕ) {x held left : List ℕ} {C : List WriteCall} {reply : Result (Unit {0}) Error}

@@ -14,6 +14,7 @@ pub use Rattle.std.proofs.lemmas.Result.{err_from_is_err_and}
 pub use Rattle.no_std_io2_base.proofs.QuestionMark.{returned_err}
 pub use Rattle.std.specs.Cmp.Lexicographic.{same_text}
 pub use Rattle.std.specs.Int.{w64}
+pub use Rattle.std.specs.Io.BufRead.{ends_with_byte, strip_last}
 pub use Rattle.std.specs.List.{concat, sum}
 pub use Rattle.std.specs.Prelude.{is_some, ⊤}
 pub use Rattle.no_std_io2.specs.inner.BufReader.{AsksExact, FillsBelow, PassesOn, ReadsBelow, lent_held, lent_read, of_held, was_filled}
@@ -31,7 +32,7 @@ pub use Rattle.no_std_io2_base.specs.Events.{Event, HasNoFault, byte, event_byte
 pub use Rattle.no_std_io2_base.specs.inner.Events.{bytes_to_fault, first_fault}
 pub use Rattle.no_std_io2_base.specs.inner.Lines.{IsLineState, lines_len, lines_of, unfinished_line}
 pub use Rattle.no_std_io2_base.specs.{Meter.{IsMeter, FillsRoom, IsReadMeter}, inner.Charges.{charges, calls_for}, Pieces.{newline}}
-pub use Rattle.no_std_io2_base.specs.{inner.Iterators.{split_delim, split_reader}, inner.Pieces.{without}}
+pub use Rattle.no_std_io2_base.specs.{inner.Iterators.{split_delim, split_reader}}
 pub use Rattle.no_std_io2_base.specs.inner.Read.{ExactCalls, Gathers, GathersUntil, GaveLaw, IsRest, and_again, and_gave, bytes_given}
 pub use Rattle.no_std_io2_base.specs.Calls.{Consumed, Filled, Gave, GaveAll, ReadCall, ByCalls, Flushed, Made, WriteCall, Wrote, WroteAll}
 pub use Rattle.no_std_io2_base.specs.{inner.Read.{no_read}, Read.{ReadCallLaw, ReadLaw}}

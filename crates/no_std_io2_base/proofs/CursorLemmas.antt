@@ -4,7 +4,7 @@ use Rattle.std.proofs.Common.{replicate, refl, sym, ap, ◌∙◌, arith, count_
 use Rattle.std.proofs.{Common.{true, Some, length-drop, ℤ, pos, subst}, lemmas.{Grind.{common_steps}, Bool.{cases_lt}}}
 use Rattle.std.proofs.lemmas.{List.{length-replicate, drop-drop, take_all, drop_all, take-replicate}, Bool.Decides.{nat_tests}}
 use Rattle.std.proofs.Math.Seq.{take-append-add, drop-append_seam}
-use Rattle.std.specs.{Result.{OnOk, OnErr, IfErr}, declared.dyn_box.DynBox.{DynBox}}
+use Rattle.std.specs.{Result.{OnOk, OnErr, IfErr}, List.{splice}, declared.dyn_box.DynBox.{DynBox}}
 use Rattle.no_std_io2_base.specs.{declared.error.{Error.{Error}, ErrorKind.{ErrorKind, TheVariants.{WriteZero}}}, Errors.{error_kind}}
 use Rattle.no_std_io2_base.specs.{inner.Kinds.{is_interruption}, Errors.{IsFault, IsNoInterruption, IsOutOfMemory}}
 use Rattle.no_std_io2_base.specs.{Moves.{WriterState, Moves, MovesFront, told_out}, Write.{accepted_of, write_mishap}}
@@ -56,7 +56,7 @@ lengthened_reaches end bs grown x4 = grind (arith, common_steps)
 
 -- x was put into such bytes
 pub put_lengthened : (place end : ℕ) (x bs grown : List ℕ) → end ≡ place + length x → IsLengthened end bs grown
-    → take place grown ++ x ++ drop end grown ≡ put_at place x bs
+    → splice grown place end x ≡ put_at place x bs
 put_lengthened place end x bs grown at x7 = grind (arith, common_steps, length-append, length-replicate, drop_all, append-nil, put_opened)
 
 -- bytes are out as soon as they are accepted
@@ -85,7 +85,9 @@ quiet_count n x = grind (arith, nat_tests)
 pub puts_moves : (bs : List ℕ) (place : ℕ) (x : List ℕ) (reply : Result ℕ Error) (bs' : List ℕ) (place' : ℕ)
     → PutsWhole bs place x reply bs' place'
     → Moves (told_out (bytes_before place bs)) (accepted_of reply x) (write_mishap reply x) (told_out (bytes_before place' bs'))
-puts_moves bs place x (Ok n) bs' place' h = grind (arith, common_steps)
+puts_moves bs place x (Ok n) bs' place' h =
+    let whole : x ≡ take n x = sym (take_all n x (omega (arith, h.1))) in
+    appends_moves (put_goes_out bs place x bs' place' h.2 h.3 ∙ ap (λ l. bytes_before place bs ++ l) whole) (quiet_count n x)
 puts_moves bs place x (Err e) bs' place' h = grind (arith, common_steps)
 
 -- what fits in a slice goes out

@@ -1,6 +1,6 @@
 -- All pieces that are to come, and those that calls have given so far.
 use Rattle.no_std_io2_base.proofs.TakesLemmas.{left_of, spends, bytes-append, bytes-events_of, HasNoFault-events_of}
-use Rattle.no_std_io2_base.proofs.PieceLemmas.{pieces-first, pieces-last, ends_in-end, ends_in-lacks}
+use Rattle.no_std_io2_base.proofs.PieceLemmas.{pieces-first, pieces-last, ends_with_byte-end, ends_with_byte-lacks}
 use Rattle.std.proofs.Common.{rules, ◌≡◌, ℕ, ◌+◌, ◌<◌, ◌≤◌, ◌⊎◌, false, cond, if◌then◌else◌, Option, Some, None, List, [], ◌∷◌, ◌++◌}
 use Rattle.std.proofs.Common.{length, filter, refl, sym, ap, ap₂, ◌∙◌, subst, arith, append-nil, append_assoc, Result, Ok, Err, inl, inr}
 use Rattle.std.proofs.Common.{⊎_elim, length-append, IfSome, OnSome, IfErr, Vec, String, vec_len, vec_capacity, IsSomeAnd, true}
@@ -9,9 +9,9 @@ use Rattle.no_std_io2_base.specs.{declared.error.Error.{Error}, Errors.{IsFault,
 use Rattle.no_std_io2_base.specs.{Events.{event_bytes, HasNoFault}, inner.Events.{EndsInFault, bytes_to_fault, first_fault}}
 use Rattle.no_std_io2_base.specs.{Takes.{ReaderState, Takes, to_come, Reader, tells}, inner.Iterators.{NextPieceLaw, ends_at, items_left}}
 use Rattle.no_std_io2_base.specs.{BufRead.{ReadUntilLaw, ReadLineLaw}, inner.Lines.{line_room}}
-use Rattle.no_std_io2_base.specs.inner.Pieces.{Lacks, EndsAt, ends_in, pieces_of, pieces_before, pieces_given, GivesFirst, ComeFirst}
+use Rattle.no_std_io2_base.specs.inner.Pieces.{Lacks, EndsAt, pieces_of, pieces_before, pieces_given, GivesFirst, ComeFirst}
 use Rattle.no_std_io2_base.specs.{Pieces.{newline, GivesPieces, AreAllPieces}, Moves.{IsFront}, Reads.{StopsAfter}}
-use Rattle.std.specs.List.{concat}
+use Rattle.std.specs.{List.{concat}, Io.BufRead.{ends_with_byte}}
 use Rattle.no_std_io2_base.specs.inner.Pieces.{PieceEnds}
 
 -- What a call that takes one piece says of all pieces that are to come, if the reader tells its events; and what its error is.
@@ -31,7 +31,7 @@ bytes_to_fault-append (fails e ∷ P) Q h = ap (λ t. if t then bytes_to_fault (
 -- a piece that ends in d is the first piece, whatever follows
 before-first : (d : ℕ) (f : Option Error) (bs cs : List ℕ) → Lacks d bs
     → pieces_before d f (bs ++ d ∷ cs) ≡ (bs ++ d ∷ []) ∷ pieces_before d f cs
-before-first d x2 bs cs h = grind (arith, common_steps, pieces-first, filter, cond, ends_in-end)
+before-first d x2 bs cs h = grind (arith, common_steps, pieces-first, filter, cond, ends_with_byte-end)
 
 -- what a front without faults is in what is given
 given-front : (d : ℕ) (P Q : List Event) → HasNoFault P
@@ -83,9 +83,10 @@ given_none d x2 x3 after split free x7 x8 =
     grind (arith, common_steps, bytes-append, length-append, given-front, nil_from_length, first_fault-append)
 
 -- bytes without a d give no piece that a d ended
-none_ended : (d : ℕ) (bs : List ℕ) → Lacks d bs → filter (ends_in d) (pieces_of d bs) ≡ []
+none_ended : (d : ℕ) (bs : List ℕ) → Lacks d bs → filter (ends_with_byte d) (pieces_of d bs) ≡ []
 none_ended d [] h = refl
-none_ended d (b ∷ bs) h = ap (filter (ends_in d)) (pieces-last d b bs h) ∙ ap (λ t. cond t ((b ∷ bs) ∷ []) []) (ends_in-lacks d (b ∷ bs) h)
+none_ended d (b ∷ bs) h =
+    ap (filter (ends_with_byte d)) (pieces-last d b bs h) ∙ ap (λ t. cond t ((b ∷ bs) ∷ []) []) (ends_with_byte-lacks d (b ∷ bs) h)
 
 -- the first fault ends what is given
 given_fault : (d : ℕ) (E : List Event) (e : Error) (taken after : List Event) → E ≡ taken ++ after

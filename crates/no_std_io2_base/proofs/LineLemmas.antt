@@ -1,36 +1,57 @@
 -- The lines of some bytes, and a line that goes to a text.
 use Rattle.std.proofs.{lemmas.Grind.{common_steps}, Common.{◌≡◌, ◌≢◌, ℕ, ◌<◌, ◌≤◌, ◌==◌, ◌⊎◌, Bool, true, false, List, [], ◌∷◌, ◌++◌}}
-use Rattle.std.proofs.Common.{length, refl, sym, ap, ◌∙◌, suc, subst, arith, true≢false, eqb-true, eq-eqb, Contains, take, drop, Result}
+use Rattle.std.proofs.Common.{length, refl, sym, ap, ◌∙◌, subst, arith, true≢false, eq-eqb, Contains, take, drop, Result}
 use Rattle.std.proofs.Common.{Err, String, string_bytes, string_len, string_capacity, Vec, vec_capacity, IfErr, IsErrAnd, IsUtf8, ◌+◌, Ok}
 use Rattle.std.proofs.{Common.{vec_len, le_refl, length-take-le, length-append, append-nil, ⊎_elim, inl, inr}, lemmas.List.{get_or_default}}
 use Rattle.std.proofs.lemmas.List.Elements.{recursion_from_All, All-from_recursion, Contains-append_left, Contains-append_right}
 use Rattle.std.proofs.{lemmas.Str.{IsUtf8-nil, IsUtf8-string_bytes}, Math.Seq.{take-append_seam, drop-append_seam}}
 use Rattle.no_std_io2_base.specs.inner.Lines.{AnswersLine, IsInvalidText, Follows, lines_of, unfinished_line, lines_len, IsLineState}
-use Rattle.no_std_io2_base.specs.{inner.Pieces.{Lacks, ends_in, pieces_of, ArePieces, FindsPiece}, Pieces.{newline}}
+use Rattle.no_std_io2_base.specs.{inner.Pieces.{Lacks, pieces_of, ArePieces, FindsPiece, but_last}, Pieces.{newline}}
 use Rattle.no_std_io2_base.specs.{inner.Lines.{line_room, text_room}, declared.error.Error.{Error}}
 use Rattle.no_std_io2_base.specs.{declared.error.ErrorKind.TheVariants.{OutOfMemory}, Errors.{error_kind, IsFault}}
 use Rattle.no_std_io2_base.specs.{BufRead.{ReadUntilLaw, ReadLineLaw}, declared.error.ErrorKind.{ErrorKind}}
 use Rattle.no_std_io2_base.specs.{Events.{event_bytes, events_of, fails}, Takes.{Reader, tells}, Read.{ConsumeLaw}, inner.Read.{FilledLaw}}
-use Rattle.no_std_io2_base.proofs.{PieceLemmas.{pieces_are, ends_in-lacks}, TakesLemmas.{bytes-events_of}, PieceLoops.{PieceTaken}}
+use Rattle.no_std_io2_base.proofs.{PieceLemmas.{pieces_are, pieces-other}, TakesLemmas.{bytes-events_of}, PieceLoops.{PieceTaken}}
+use Rattle.no_std_io2_base.proofs.PieceLemmas.{ends_with_byte-append, ends_with_byte-contains, ends_with_byte-lacks}
 use Rattle.no_std_io2_base.proofs.PieceLoops.{part_none, piece_whole, piece_faulted, piece_since}
-use Rattle.std.specs.{Result.{result_and}, String.{string_vec}}
+use Rattle.std.specs.{Result.{result_and}, String.{string_vec}, List.{AllByRecursion, concat}, Prelude.{filter, not}}
+use Rattle.std.specs.Io.BufRead.{ends_with_byte}
 
 -- The lines of a list of bytes, and what follows them.
 
 -- one byte more in front: it belongs to the lines, if there are some or it is a newline; if not, to the unfinished line
+abbrev JoinsEither : ℕ → List ℕ → List ℕ → List ℕ → List ℕ → Type 0
+JoinsEither b lines lines' rest rest' = ((b ≡ newline ⊎ 0 < length lines) × (lines' ≡ b ∷ lines) × (rest' ≡ rest))
+    ⊎ (b ≢ newline × (lines ≡ []) × (lines' ≡ []) × (rest' ≡ b ∷ rest))
+
 abbrev JoinsLine : ℕ → List ℕ → Type 0
-JoinsLine b bs =
-    ((b ≡ newline ⊎ 0 < lines_len bs) × (lines_of (b ∷ bs) ≡ b ∷ lines_of bs) × (unfinished_line (b ∷ bs) ≡ unfinished_line bs))
-    ⊎ (b ≢ newline × (lines_of bs ≡ []) × (lines_of (b ∷ bs) ≡ []) × (unfinished_line (b ∷ bs) ≡ b ∷ unfinished_line bs))
+JoinsLine b bs = JoinsEither b (lines_of bs) (lines_of (b ∷ bs)) (unfinished_line bs) (unfinished_line (b ∷ bs))
+
+-- so it is if b joins the first piece, by any test of a piece's end that b does not change
+joins_first : (ended : List ℕ → Bool) (b : ℕ) (p : List ℕ) (ps : List (List ℕ)) (t : Bool) → ended p ≡ t → ended (b ∷ p) ≡ t
+    → (t ≡ false → ps ≡ []) → 0 < length p → b ≢ newline
+    → JoinsEither b (concat (filter ended (p ∷ ps))) (concat (filter ended ((b ∷ p) ∷ ps)))
+    (concat (filter (λ q. not (ended q)) (p ∷ ps))) (concat (filter (λ q. not (ended q)) ((b ∷ p) ∷ ps)))
+joins_first ended b p ps true is same last some other = grind (arith, common_steps)
+joins_first ended b p ps false is same last some other = grind (arith, common_steps)
+
+-- only the last piece may have no newline at its end
+only_last : (c : ℕ) (p : List ℕ) (ps : List (List ℕ)) → AllByRecursion (λ q. ends_with_byte newline q ≡ true) (but_last ((c ∷ p) ∷ ps))
+    → ends_with_byte newline (c ∷ p) ≡ false → ps ≡ []
+only_last c p [] ended other = refl
+only_last c p (q ∷ ps) ended other = absurd (true≢false (sym ended.0 ∙ other))
 
 joins_line : (b : ℕ) (bs : List ℕ) → JoinsLine b bs
 unfolding lines_of unfinished_line
 joins_line b bs = by_byte (b == newline) refl
   where
     by_end : (ps : List (List ℕ)) → b ≢ newline → pieces_of newline bs ≡ ps → ArePieces newline bs ps → JoinsLine b bs
+    by_end [] other is h = grind (arith, common_steps)
     by_end ([] ∷ ps) other is h = absurd (omega (arith, h.none_empty.0))
-    by_end ((c ∷ p) ∷ q ∷ ps) other is h = grind (arith, common_steps)
-    by_end ps other is h = grind (arith, common_steps)
+    by_end ((c ∷ p) ∷ ps) other is h =
+        let last = ends_with_byte newline (c ∷ p) in
+        rw (pieces-other newline b bs other, is) (joins_first (ends_with_byte newline) b (c ∷ p) ps last refl
+        (ends_with_byte-append newline (b ∷ []) (c ∷ p) (omega arith)) (only_last c p ps h.ended) (omega arith) other)
 
     by_byte : (t : Bool) → (b == newline) ≡ t → JoinsLine b bs
     by_byte true e = grind (arith, common_steps)
@@ -50,7 +71,7 @@ unfinished_lacks [] = tt
 unfinished_lacks (b ∷ bs) = grind (arith, common_steps, joins_line b bs, unfinished_lacks bs)
 
 -- the lines end in a newline
-pub lines_end : (xs : List ℕ) → 0 < lines_len xs → ends_in newline (lines_of xs) ≡ true
+pub lines_end : (xs : List ℕ) → 0 < lines_len xs → ends_with_byte newline (lines_of xs) ≡ true
 unfolding lines_of
 lines_end [] some = absurd (omega (arith, some))
 lines_end (b ∷ bs) some = grind (arith, common_steps, joins_line b bs, lines_end bs)
@@ -83,19 +104,6 @@ pub lacks_rest : (d : ℕ) (front rest : List ℕ) → Lacks d (front ++ rest) �
 lacks_rest d [] rest h = h
 lacks_rest d (b ∷ front) rest h = lacks_rest d front rest h.1
 
--- how joined bytes end
-pub ends_in-append : (d : ℕ) (bs cs : List ℕ) → 0 < length cs → ends_in d (bs ++ cs) ≡ ends_in d cs
-ends_in-append d bs [] some = absurd (omega (arith, some))
-ends_in-append d [] (c ∷ cs) some = refl
-ends_in-append d (b ∷ []) (c ∷ cs) some = refl
-ends_in-append d (b ∷ e ∷ bs) (c ∷ cs) some = ends_in-append d (e ∷ bs) (c ∷ cs) some
-
--- bytes that end in d have one
-pub ends_in-contains : (d : ℕ) (xs : List ℕ) → ends_in d xs ≡ true → Contains xs d
-ends_in-contains d [] e = absurd (true≢false (sym e))
-ends_in-contains d (b ∷ []) e = (0, omega arith, eqb-true b d e)
-ends_in-contains d (b ∷ c ∷ bs) e = let rest = ends_in-contains d (c ∷ bs) e in (suc rest.0, omega (arith, rest.1), rest.2)
-
 -- without lines all bytes are unfinished, and so have no newline
 pub lacks_lines : (xs : List ℕ) → 0 ≡ lines_len xs → Lacks newline xs
 lacks_lines xs none = subst (Lacks newline) (grind (arith, common_steps, lines_split xs)) (unfinished_lacks xs)
@@ -106,7 +114,7 @@ lines_some xs has = grind (arith, common_steps, lacks_lines xs, lacks_contains n
 
 -- and only they
 pub contains_lines : (xs : List ℕ) {n : ℕ} → n ≡ lines_len xs → 0 < n → Contains xs newline
-contains_lines xs is some = grind (arith, common_steps, lines_end xs, lines_split xs, Contains-append_left, ends_in-contains)
+contains_lines xs is some = grind (arith, common_steps, lines_end xs, lines_split xs, Contains-append_left, ends_with_byte-contains)
 
 -- the lines are the first bytes,
 pub take_lines : (xs : List ℕ) {n : ℕ} → n ≡ lines_len xs → take n xs ≡ lines_of xs
@@ -120,21 +128,21 @@ pub lines_bound : (xs : List ℕ) → lines_len xs ≤ length xs
 lines_bound xs = grind (arith, common_steps, lines_split xs)
 
 -- if the last byte is a newline, all bytes are lines
-pub unfinished_none : (xs : List ℕ) → ends_in newline xs ≡ true → unfinished_line xs ≡ []
-unfinished_none xs last = grind (arith, common_steps, lines_split xs, unfinished_lacks xs, ends_in-lacks, ends_in-append)
+pub unfinished_none : (xs : List ℕ) → ends_with_byte newline xs ≡ true → unfinished_line xs ≡ []
+unfinished_none xs last = grind (arith, common_steps, lines_split xs, unfinished_lacks xs, ends_with_byte-lacks, ends_with_byte-append)
 
 -- bytes without a newline are a line state
 pub plain_state : (xs : List ℕ) → Lacks newline xs → IsLineState xs
 plain_state xs plain has = absurd (lacks_contains newline xs plain has)
 
 -- a line state that does not end in a newline has none
-pub unended_lacks : (xs : List ℕ) → IsLineState xs → ends_in newline xs ≡ false → Lacks newline xs
+pub unended_lacks : (xs : List ℕ) → IsLineState xs → ends_with_byte newline xs ≡ false → Lacks newline xs
 unended_lacks xs line other = contains_lacks newline xs (λ has. true≢false (sym (line has) ∙ other))
 
 -- the end of a line state is a line state
 pub state_rest : (front rest : List ℕ) → IsLineState (front ++ rest) → IsLineState rest
 state_rest front rest line has =
-    sym (ends_in-append newline front rest (omega (arith, has.1))) ∙ line (Contains-append_right front rest newline has)
+    sym (ends_with_byte-append newline front rest (omega (arith, has.1))) ∙ line (Contains-append_right front rest newline has)
 
 -- The room for what is read for a text, in a vector that has the memory of an empty text.
 

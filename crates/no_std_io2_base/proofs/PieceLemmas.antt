@@ -1,21 +1,55 @@
 -- Pieces of bytes, and what calls took of one.
 use Rattle.std.proofs.{lemmas.Grind.{common_steps}, Common.{◌≡◌, ◌≢◌, ℕ, ◌==◌, true, false, Bool, if◌then◌else◌, List, [], ◌∷◌, ◌++◌}}
 use Rattle.std.proofs.Common.{length, refl, sym, ap, ◌∙◌, arith, true≢false, eqb-true, eq-eqb, ne_eqb, suc-ne-zero, get_or, drop, count_by}
-use Rattle.std.proofs.Common.{cond, ◌⊎◌, inl, inr, ◌+◌, ◌<◌, ◌≤◌, take, All, Option, None, Some, IfSome, append_assoc, append-nil, add-one}
+use Rattle.std.proofs.Common.{ap₂, cond, ◌&&◌, length-append, ◌⊎◌, inl, inr, ◌+◌, ◌<◌, ◌≤◌, take, All, Option, None, Some, IfSome}
+use Rattle.std.proofs.Common.{append_assoc, append-nil, add-one}
 use Rattle.std.proofs.Common.{take-suc, slice_index, drop_of_length-le, take_all, le_refl, length-take, take-append-drop, rules, Result, Ok}
-use Rattle.std.proofs.{Common.{Err, Vec, vec_len, vec_capacity, subst, ⊎_elim, suc, ◌-◌}, lemmas.List.Sums.{sum_by-append, sum_by-cons}}
-use Rattle.std.proofs.lemmas.List.Elements.{recursion_from_All}
-use Rattle.no_std_io2_base.specs.inner.Pieces.{Lacks, ends_in, in_front, pieces_of, ArePieces, EndsPiece, EndsAt, but_last, FindsPiece}
+use Rattle.std.proofs.{Common.{Err, Vec, vec_len, vec_capacity, subst, ⊎_elim, ◌-◌}, lemmas.List.Sums.{sum_by-append, sum_by-cons}}
+use Rattle.std.proofs.lemmas.{Bool.{lt-ltb}, List.{get_or-append-add, get_or_default, Elements.{recursion_from_All}}}
+use Rattle.no_std_io2_base.specs.inner.Pieces.{Lacks, in_front, pieces_of, ArePieces, EndsPiece, EndsAt, but_last, FindsPiece}
 use Rattle.no_std_io2_base.specs.inner.Pieces.{IsPiecePart, ComesBehind, PartCalls, no_part, and_part, part_interrupted, PieceCalls}
-use Rattle.no_std_io2_base.specs.inner.Pieces.{without}
+use Rattle.std.specs.Io.BufRead.{ends_with_byte}
 use Rattle.no_std_io2_base.specs.{inner.Pieces.{IsAll}, Events.{Event, byte, event_bytes, fails, events_of, HasNoFault}}
 use Rattle.no_std_io2_base.specs.{inner.Events.{BeginsWith}, Takes.{ReaderState, Takes, to_come, Reader}, inner.Takes.{AreTaken}}
 use Rattle.no_std_io2_base.specs.{declared.error.Error.{Error}, Errors.{IsInterruption}, Calls.{ReadCall, Filled, Consumed}}
 use Rattle.no_std_io2_base.specs.{inner.Read.{FilledLaw}, BufRead.{ReadUntilLaw}}
 use Rattle.no_std_io2_base.proofs.TakesLemmas.{bytes-append, bytes-events_of, events_of-append, HasNoFault-append, takes_then, IsAll-behind}
 use Rattle.no_std_io2_base.proofs.TakesLemmas.{EndsInFault-behind}
-use Rattle.std.specs.List.{AllWithin}
+use Rattle.std.specs.List.{AllByRecursion, AllWithin, Contains, concat}
 use Rattle.no_std_io2_base.specs.inner.Pieces.{PieceEnds}
+
+-- How bytes end.
+
+-- some bytes, by the last one
+ends_with_byte-some : (d : ℕ) (bs : List ℕ) → 0 < length bs → ends_with_byte d bs ≡ (slice_index bs (length bs - 1) == d)
+ends_with_byte-some d bs some = ap (λ t. t && (slice_index bs (length bs - 1) == d)) (lt-ltb 0 (length bs) some)
+
+-- joined bytes, as the second ones do
+pub ends_with_byte-append : (d : ℕ) (bs cs : List ℕ) → 0 < length cs → ends_with_byte d (bs ++ cs) ≡ ends_with_byte d cs
+ends_with_byte-append d bs cs some =
+    let long = length-append bs cs in
+    let last : length (bs ++ cs) - 1 ≡ length bs + (length cs - 1) = omega (arith, long, some) in
+    ends_with_byte-some d (bs ++ cs) (omega (arith, long, some))
+    ∙ ap (λ b. b == d) (ap (slice_index (bs ++ cs)) last ∙ get_or-append-add bs cs (length cs - 1) 0)
+    ∙ sym (ends_with_byte-some d cs some)
+
+-- bytes followed by d end in d
+pub ends_with_byte-end : (d : ℕ) (bs : List ℕ) → ends_with_byte d (bs ++ d ∷ []) ≡ true
+ends_with_byte-end d bs = ends_with_byte-append d bs (d ∷ []) (omega arith) ∙ eq-eqb d d refl
+
+-- bytes that end in d have one
+pub ends_with_byte-contains : (d : ℕ) (bs : List ℕ) → ends_with_byte d bs ≡ true → Contains bs d
+ends_with_byte-contains d [] e = absurd (true≢false (sym e))
+ends_with_byte-contains d (b ∷ bs) e =
+    let last = eqb-true (slice_index (b ∷ bs) (length (b ∷ bs) - 1)) d (sym (ends_with_byte-some d (b ∷ bs) (omega arith)) ∙ e) in
+    (length (b ∷ bs) - 1, omega arith, get_or_default (b ∷ bs) (length (b ∷ bs) - 1) d 0 (omega arith) ∙ last)
+
+-- bytes without a d do not end in d
+pub ends_with_byte-lacks : (d : ℕ) (bs : List ℕ) → Lacks d bs → ends_with_byte d bs ≡ false
+ends_with_byte-lacks d [] h = refl
+ends_with_byte-lacks d (b ∷ []) h = ne_eqb b d h.0
+ends_with_byte-lacks d (b ∷ c ∷ bs) h =
+    ends_with_byte-append d (b ∷ []) (c ∷ bs) (omega arith) ∙ ends_with_byte-lacks d (c ∷ bs) h.1
 
 -- The laws that determine the pieces of some bytes.
 
@@ -24,7 +58,7 @@ pieces-at : (d b : ℕ) (bs : List ℕ) → b ≡ d → pieces_of d (b ∷ bs) �
 pieces-at d b bs is = ap (λ t. if t then (b ∷ []) ∷ pieces_of d bs else in_front b (pieces_of d bs)) (eq-eqb b d is)
 
 -- a first byte that is not d joins the first piece of the rest, or is a piece by itself if there is no rest
-pieces-other : (d b : ℕ) (bs : List ℕ) → b ≢ d → pieces_of d (b ∷ bs) ≡ in_front b (pieces_of d bs)
+pub pieces-other : (d b : ℕ) (bs : List ℕ) → b ≢ d → pieces_of d (b ∷ bs) ≡ in_front b (pieces_of d bs)
 pieces-other d b bs differ = ap (λ t. if t then (b ∷ []) ∷ pieces_of d bs else in_front b (pieces_of d bs)) (ne_eqb b d differ)
 
 -- of one byte more, by whether that is d
@@ -49,8 +83,17 @@ joined_rest b c bs cs h = (ap (λ l. get_or l 0 0) h, ap (drop 1) h)
 
 -- without its first byte, a longer piece begins the pieces of the rest
 rest_are : (d b c e : ℕ) (bs p : List ℕ) (ps : List (List ℕ)) → ArePieces d (b ∷ bs) ((c ∷ e ∷ p) ∷ ps) → ArePieces d bs ((e ∷ p) ∷ ps)
-rest_are d b c e bs p [] h = grind (arith, common_steps)
-rest_are d b c e bs p (q ∷ ps) h = grind (arith, common_steps)
+rest_are d b c e bs p ps h = record {
+  joined = (joined_rest b c bs ((e ∷ p) ++ concat ps) h.joined).1;
+  none_empty = (omega arith, h.none_empty.1);
+  ended = by ps h.ended;
+  nowhere_else = (h.nowhere_else.0.1, h.nowhere_else.1);
+}
+  where
+    by : (ps : List (List ℕ)) → AllByRecursion (λ q. ends_with_byte d q ≡ true) (but_last ((c ∷ e ∷ p) ∷ ps))
+        → AllByRecursion (λ q. ends_with_byte d q ≡ true) (but_last ((e ∷ p) ∷ ps))
+    by [] ended = tt
+    by (q ∷ ps) ended = (sym (ends_with_byte-append d (c ∷ []) (e ∷ p) (omega arith)) ∙ ended.0, ended.1)
 
 -- a list that keeps these laws is what `pieces_of` gives
 pub pieces_only : (d : ℕ) (bs : List ℕ) (ps : List (List ℕ)) → ArePieces d bs ps → ps ≡ pieces_of d bs
@@ -59,9 +102,19 @@ pieces_only d (b ∷ bs) [] h = absurd (suc-ne-zero _ (sym (ap length h.joined))
 pieces_only d (b ∷ bs) ([] ∷ ps) h = absurd (omega (arith, h.none_empty.0))
 -- d alone
 pieces_only d (b ∷ bs) ((c ∷ []) ∷ []) h = grind (arith, common_steps)
-pieces_only d (b ∷ bs) ((c ∷ []) ∷ q ∷ ps) h = grind (arith, common_steps, pieces_only d bs (q ∷ ps), pieces-at, eqb-true)
+pieces_only d (b ∷ bs) ((c ∷ []) ∷ q ∷ ps) h =
+    let first = joined_rest b c bs (q ++ concat ps) h.joined in
+    let rest : ArePieces d bs (q ∷ ps) = record {
+      joined = first.1;
+      none_empty = h.none_empty.1;
+      ended = h.ended.1;
+      nowhere_else = h.nowhere_else.1;
+    } in
+    ap₂ (λ x l. (x ∷ []) ∷ l) first.0 (pieces_only d bs (q ∷ ps) rest) ∙ sym (pieces-at d b bs (sym first.0 ∙ eqb-true c d h.ended.0))
 pieces_only d (b ∷ bs) ((c ∷ e ∷ p) ∷ ps) h =
-    grind (arith, common_steps, pieces_only d bs ((e ∷ p) ∷ ps), rest_are, pieces-other, joined_rest)
+    let first = joined_rest b c bs ((e ∷ p) ++ concat ps) h.joined in
+    let rest = pieces_only d bs ((e ∷ p) ∷ ps) (rest_are d b c e bs p ps h) in
+    ap₂ in_front first.0 rest ∙ sym (pieces-other d b bs (λ is. h.nowhere_else.0.0 (first.0 ∙ is)))
 
 -- the first piece ends at the first d
 pub pieces-first : (d : ℕ) (bs cs : List ℕ) → Lacks d bs → pieces_of d (bs ++ d ∷ cs) ≡ (bs ++ d ∷ []) ∷ pieces_of d cs
@@ -72,18 +125,6 @@ pieces-first d (b ∷ bs) cs h = pieces-other d b (bs ++ d ∷ cs) h.0 ∙ ap (i
 pub pieces-last : (d b : ℕ) (bs : List ℕ) → Lacks d (b ∷ bs) → pieces_of d (b ∷ bs) ≡ (b ∷ bs) ∷ []
 pieces-last d b [] h = pieces-other d b [] h.0
 pieces-last d b (c ∷ bs) h = pieces-other d b (c ∷ bs) h.0 ∙ ap (in_front b) (pieces-last d c bs h.1)
-
--- bytes followed by d end in d
-pub ends_in-end : (d : ℕ) (bs : List ℕ) → ends_in d (bs ++ d ∷ []) ≡ true
-ends_in-end d [] = eq-eqb d d refl
-ends_in-end d (b ∷ []) = eq-eqb d d refl
-ends_in-end d (b ∷ c ∷ bs) = ends_in-end d (c ∷ bs)
-
--- bytes without a d do not end in d
-pub ends_in-lacks : (d : ℕ) (bs : List ℕ) → Lacks d bs → ends_in d bs ≡ false
-ends_in-lacks d [] h = refl
-ends_in-lacks d (b ∷ []) h = ne_eqb b d h.0
-ends_in-lacks d (b ∷ c ∷ bs) h = ends_in-lacks d (c ∷ bs) h.1
 
 -- bytes without a d have none
 pub count-lacks : (d : ℕ) (bs : List ℕ) → Lacks d bs → count_by (λ b. b == d) bs ≡ 0
@@ -101,12 +142,12 @@ piece_bytes {d} {P} (front, is, none) = (event_bytes front, ap event_bytes is �
 
 -- What one piece is, by its last byte: it ends in d, or it is the last one.
 pub piece_ended : (d : ℕ) (old : ReaderState) (P : List Event) → EndsAt d P ⊎ (Lacks d (event_bytes P) × IsAll old P)
-    → (ends_in d (event_bytes P) ≡ true → EndsPiece d (event_bytes P))
-    × (ends_in d (event_bytes P) ≡ false → Lacks d (event_bytes P) × IsAll old P)
+    → (ends_with_byte d (event_bytes P) ≡ true → EndsPiece d (event_bytes P))
+    × (ends_with_byte d (event_bytes P) ≡ false → Lacks d (event_bytes P) × IsAll old P)
 piece_ended d old P (inl at) =
     let ends = piece_bytes at in
-    (λ _. ends, λ not. absurd (true≢false (sym (ap (ends_in d) ends.1 ∙ ends_in-end d ends.0) ∙ not)))
-piece_ended d old P (inr last) = (λ ended. absurd (true≢false (sym ended ∙ ends_in-lacks d (event_bytes P) last.0)), λ _. last)
+    (λ _. ends, λ not. absurd (true≢false (sym (ap (ends_with_byte d) ends.1 ∙ ends_with_byte-end d ends.0) ∙ not)))
+piece_ended d old P (inr last) = (λ ended. absurd (true≢false (sym ended ∙ ends_with_byte-lacks d (event_bytes P) last.0)), λ _. last)
 
 -- Bytes that belong to one piece.
 
@@ -267,31 +308,3 @@ module _ {X A : Type 0} {R : Reader X} {d : ℕ} {old now new : X} {buf buf' : V
         are = piece_waited (Unit {0}) d e until.calls.calls (event_bytes until.taken) reply again until.calls.are;
       };
     }
-
--- A piece without what ended it.
-
--- the last byte, by its place
-ends_in-at : (d d' : ℕ) (bs : List ℕ) (k : ℕ) → length bs ≡ suc k → ends_in d bs ≡ (get_or bs k d' == d)
-ends_in-at d d' [] k h = absurd (omega (arith, h))
-ends_in-at d d' (b ∷ []) k h = let first : k ≡ 0 = omega (arith, h) in ap (λ n. get_or (b ∷ []) n d' == d) (sym first)
-ends_in-at d d' (b ∷ c ∷ bs) k h = grind (arith, common_steps, ends_in-at d d' (c ∷ bs) (k - 1))
-
--- of k + 1 bytes all but the last are the first k
-but_last-at : (bs : List ℕ) (k : ℕ) → length bs ≡ suc k → but_last bs ≡ take k bs
-but_last-at [] k h = absurd (omega (arith, h))
-but_last-at (b ∷ []) k h = let first : k ≡ 0 = omega (arith, h) in ap (λ n. take n (b ∷ [])) (sym first)
-but_last-at (b ∷ c ∷ bs) k h = grind (arith, common_steps, but_last-at (c ∷ bs) (k - 1))
-
--- another byte is last
-pub other_last : (d b n : ℕ) (bs : List ℕ) → n ≡ length bs → (n ≡ 0 → ⊥) → b ≡ get_or bs (n - 1) b → (b ≡ d → ⊥) → ends_in d bs ≡ false
-other_last d b n bs long some is differ =
-    ends_in-at d b bs (n - 1) (omega (arith, long, some)) ∙ ap (λ x. x == d) (sym is) ∙ ne_eqb b d differ
-
--- this byte is last
-pub is_last : (d b n : ℕ) (bs : List ℕ) → n ≡ length bs → (n ≡ 0 → ⊥) → b ≡ get_or bs (n - 1) b → b ≡ d → ends_in d bs ≡ true
-is_last d b n bs long some is same = ends_in-at d b bs (n - 1) (omega (arith, long, some)) ∙ ap (λ x. x == d) (sym is) ∙ eq-eqb b d same
-
--- of n bytes that end in d the first n - 1 are what stays without it
-pub dropped_last : (d n : ℕ) (bs : List ℕ) {new : List ℕ} → n ≡ length bs → (n ≡ 0 → ⊥) → ends_in d bs ≡ true
-    → new ≡ take (n - 1) bs → new ≡ without d bs
-dropped_last d n bs long some last is = grind (arith, common_steps, but_last-at)

@@ -2,7 +2,7 @@
 use Rattle.no_std_io2.proofs.Words.{◌≡◌, ℕ, zero, suc, true, nat_lt, List, [], ◌∷◌, arith, common_steps, nat_tests, get_or, subst, ◌+◌, ◌-◌}
 use Rattle.no_std_io2.proofs.Words.{◌^◌, ◌++◌, false, Option, None, Some, refl, sym, ap, ◌∙◌, length, length-append, map, Result, Ok, Err}
 use Rattle.no_std_io2.proofs.Words.{inl, ◌⊎◌, is_some, append_assoc, IsFault, IsOutOfMemory, Event, byte, fails, first_fault, HasNoFault}
-use Rattle.no_std_io2.proofs.Words.{Made, Reader, tells, split_delim, split_reader, to_come, without, Bool, error_kind, if◌then◌else◌}
+use Rattle.no_std_io2.proofs.Words.{Made, Reader, tells, split_delim, split_reader, to_come, strip_last, Bool, error_kind, if◌then◌else◌}
 use Rattle.no_std_io2.proofs.CallsLemmas.{made_more}
 use Rattle.std.specs.{List.{list_all}, Str.{IsUtf8, IsAscii}, Prelude.{min}, Option.{IfSome}}
 use Rattle.std.proofs.lemmas.Str.{IsUtf8-from_ascii}
@@ -178,7 +178,7 @@ first_is E e is =
 
 -- a line that could not be read: the reader had its first fault, or an allocation failed
 stopped : (d : ℕ) (lines : List (List ℕ)) (e : Error) (told : Option (List Event))
-    → IfSome told (λ E. GathersPieces {A = Unit {0}} (without d) (λ _ _. ⊥) ⊥ d E (Err e) lines)
+    → IfSome told (λ E. GathersPieces {A = Unit {0}} (strip_last d) (λ _ _. ⊥) ⊥ d E (Err e) lines)
     → IfSome told (λ E. HasFirstFault E e) ⊎ IsOutOfMemory e
 stopped d lines e told h = grind (arith, common_steps, first_is)
 
@@ -192,20 +192,20 @@ module _ {X T : Type 0} (R : Reader X) (view : T → List ℕ) {old mid : Split 
 
   -- what this result of a whole run says of the lines
   gathers : (reply : Result (Unit {0}) Error) → RunsNexts (split_next R view) ⊥ old so.items reply now
-      → IfSome told (λ E. GathersPieces {A = Unit {0}} (without d) (λ _ _. ⊥) ⊥ d E reply so.lines)
+      → IfSome told (λ E. GathersPieces {A = Unit {0}} (strip_last d) (λ _ _. ⊥) ⊥ d E reply so.lines)
   gathers reply run =
-      subst (λ lines. IfSome told (λ E. GathersPieces {A = Unit {0}} (without d) (λ _ _. ⊥) ⊥ d E reply lines)) so.are
-      (run_gathers R split_reader view (without d) (λ _ _. ⊥) d (split_next R view) _ (split_takes R view d) (Unit {0}) ⊥ so.items old now
-      reply (fresh, refl) run)
+      subst (λ lines. IfSome told (λ E. GathersPieces {A = Unit {0}} (strip_last d) (λ _ _. ⊥) ⊥ d E reply lines)) so.are
+      (run_gathers R split_reader view (strip_last d) (λ _ _. ⊥) d (split_next R view) _ (split_takes R view d) (Unit {0}) ⊥ so.items old
+      now reply (fresh, refl) run)
 
   -- after the last line the script is read, or the first bad line is known
   pub read_all : split_next R view mid None now → bad ≡ None → IfSome told (λ E. IsRead d E script)
-  read_all last none = if_map (λ E. AllPieces (without d) d E so.lines) (λ E. IsRead d E script) told
+  read_all last none = if_map (λ E. AllPieces (strip_last d) d E so.lines) (λ E. IsRead d E script) told
       (λ E all. record { lines = so.lines; all = all; start = so.start; fresh = so.fresh; adds = so.adds none })
       (gathers (Ok tt) (mid, so.made, last))
 
   pub read_first : {n : ℕ} → split_next R view mid None now → bad ≡ Some n → IfSome told (λ E. IsBadAt d E n)
-  read_first {n} last some = if_map (λ E. AllPieces (without d) d E so.lines) (λ E. IsBadAt d E n) told
+  read_first {n} last some = if_map (λ E. AllPieces (strip_last d) d E so.lines) (λ E. IsBadAt d E n) told
       (λ E all. record { lines = so.lines; all = all; first = subst (λ b. IfSome b (IsFirstBad so.lines)) some so.first })
       (gathers (Ok tt) (mid, so.made, last))
 

@@ -1,6 +1,7 @@
 -- The script that lines make.
 use Rattle.std.specs.Prelude.{◌≡◌, ℕ, ◌+◌, ◌-◌, ◌^◌, ◌<◌, ◌⊎◌, min, true, false, List, [], ◌∷◌, ◌++◌, length, vec_len, vec_capacity, None}
-use Rattle.no_std_io2.specs.{Events.{Event}, inner.Pieces.{without}}
+use Rattle.std.specs.Io.BufRead.{strip_last}
+use Rattle.no_std_io2.specs.{Events.{Event}}
 use Rattle.io_bench.specs.PieceRuns.{AllPieces}
 use Rattle.tower_play.specs.declared.script.{Calls.{Calls}, Script.{Script}, Line.{Line, TheVariants.{Empty, Act, Write, WriteAll, Flush}}}
 use Rattle.tower_play.specs.{declared.script.{Line.TheVariants.{Bad}, Step.TheVariants.{Flush as flush_step}}, Script.{unescaped}}
@@ -59,7 +60,7 @@ pub record IsFreshScript (script : Script) : Type 0 where
 -- the script is what the lines of these events add, each ended by d, and no event is a fault
 pub record IsRead (d : ℕ) (E : List Event) (script : Script) : Type 0 where
   pub lines : List (List ℕ)
-  pub all : AllPieces (without d) d E lines
+  pub all : AllPieces (strip_last d) d E lines
   pub start : Script
   pub fresh : IsFreshScript start
   pub adds : AddsAll lines start script
@@ -80,5 +81,5 @@ pub record IsFirstBad (lines : List (List ℕ)) (n : ℕ) : Type 0 where
 -- no event is a fault, and this is the number of the first bad line of these events, each ended by d
 pub record IsBadAt (d : ℕ) (E : List Event) (n : ℕ) : Type 0 where
   pub lines : List (List ℕ)
-  pub all : AllPieces (without d) d E lines
+  pub all : AllPieces (strip_last d) d E lines
   pub first : IsFirstBad lines n

@@ -1,6 +1,6 @@
 -- What a write to a `Cursor` changes.
 use Rattle.std.specs.Prelude.{◌≡◌, ℕ, ◌+◌, ◌-◌, ◌^◌, ◌<◌, ◌≤◌, ◌⊎◌, List, ◌++◌, length, take, drop, replicate, codes, None, Some, Ok, Err}
-use Rattle.std.specs.Prelude.{Result, IsOk, IsOkAnd, OnOk, OnErr, IfErr, ◌↔◌, min}
+use Rattle.std.specs.{Prelude.{Result, IsOk, IsOkAnd, OnOk, OnErr, IfErr, ◌↔◌, min}, List.{splice}}
 use Rattle.no_std_io2_base.specs.{declared.cursor.Cursor.{Cursor}, declared.error.Error.{Error}}
 use Rattle.no_std_io2_base.specs.{declared.error.ErrorKind.TheVariants.{InvalidInput, OutOfMemory}, Errors.{error_kind}}
 use Rattle.no_std_io2_base.specs.{inner.Kinds.{error_text}, inner.Errors.{IsUnwritten}, Calls.{WriteCall, Wrote, WroteAll, Flushed}}
@@ -17,17 +17,13 @@ cursor_with_inner c x = record c { inner = x }
 abbrev pub cursor_left : {T : Type 0} → (T → List ℕ) → Cursor T → List ℕ
 cursor_left slice c = drop c.pos (slice c.inner)
 
--- the bytes after x was put at a place: the bytes before the place and after x stay
+-- the bytes after x was put at a place, with zeros before it if there are too few bytes
 abbrev pub put_at : ℕ → List ℕ → List ℕ → List ℕ
-put_at place x bs = bytes_before place bs ++ x ++ drop (place + length x) bs
+put_at place x bs = splice (bs ++ replicate (place - length bs) 0) place (place + length x) x
 
 -- the front of x that fits between a place and the end
 abbrev pub fitting : ℕ → List ℕ → List ℕ → List ℕ
 fitting place x bs = take (length bs - place) x
-
--- the bytes, with those from a place on overwritten by x
-abbrev put_over : ℕ → List ℕ → List ℕ → List ℕ
-put_over place x bs = take place bs ++ x ++ drop (place + length x) bs
 
 -- the error if x cannot be put at a place: it would end past `usize::MAX`, or an allocation failed
 abbrev pub IsRefusal : ℕ → List ℕ → Error → Type 0
@@ -52,7 +48,7 @@ PutsAll bs place x (Err e) bs' place' = (length bs < place + length x) × IsRefu
 -- a slice has the front of x that fits at the place, and the place moved to its end
 abbrev pub PutsFitting : List ℕ → ℕ → List ℕ → List ℕ → ℕ → Type 0
 PutsFitting bs place x bs' place' =
-    let front = fitting place x bs in (bs' ≡ put_over place front bs) × (place' ≡ place + length front)
+    let front = fitting place x bs in (bs' ≡ splice bs place (place + length front) front) × (place' ≡ place + length front)
 
 -- What a call may do to a cursor over a vector with this content and this capacity: the whole buffer is put at the position, or nothing
 -- changes. The capacity does not shrink.

@@ -1,7 +1,8 @@
 -- Lines, which are the pieces that a newline ends, and the text of one.
 use Rattle.std.specs.Prelude.{ℕ, Vec, String, ◌==◌, if◌then◌else◌, vec_capacity, string_len, string_capacity, ◌≡◌, List, Contains, true}
 use Rattle.std.specs.{Prelude.{not, length, filter, ◌+◌, ◌<◌, ◌++◌, ◌⊎◌, Some, Result, Ok, Err, codes, IsUtf8}, List.{concat}}
-use Rattle.no_std_io2_base.specs.{Pieces.{newline}, inner.Pieces.{ends_in, pieces_of, without}, declared.error.Error.{Error}}
+use Rattle.std.specs.Io.BufRead.{ends_with_byte, strip_last}
+use Rattle.no_std_io2_base.specs.{Pieces.{newline}, inner.Pieces.{pieces_of}, declared.error.Error.{Error}}
 use Rattle.no_std_io2_base.specs.{Errors.{error_kind, IsOutOfMemory}, inner.Kinds.{error_text}}
 use Rattle.no_std_io2_base.specs.declared.error.ErrorKind.TheVariants.{InvalidData, OutOfMemory}
 
@@ -10,15 +11,15 @@ carriage_return = 13
 
 -- a line's text: without its newline, and without one carriage return right before that newline
 abbrev pub line_text : List ℕ → List ℕ
-line_text bs = if ends_in newline bs then without carriage_return (without newline bs) else bs
+line_text bs = if ends_with_byte newline bs then strip_last carriage_return (strip_last newline bs) else bs
 
 -- the lines: the pieces that end in a newline, joined
 unfoldable pub lines_of : List ℕ → List ℕ
-lines_of xs = concat (filter (ends_in newline) (pieces_of newline xs))
+lines_of xs = concat (filter (ends_with_byte newline) (pieces_of newline xs))
 
 -- what follows the lines: the last piece, if it does not end in a newline
 unfoldable pub unfinished_line : List ℕ → List ℕ
-unfinished_line xs = concat (filter (λ piece. not (ends_in newline piece)) (pieces_of newline xs))
+unfinished_line xs = concat (filter (λ piece. not (ends_with_byte newline piece)) (pieces_of newline xs))
 
 -- the number of bytes up to and including the last newline, or 0 if there is none
 abbrev pub lines_len : List ℕ → ℕ
@@ -26,7 +27,7 @@ lines_len xs = length (lines_of xs)
 
 -- There is no newline, or one at the end: if any byte is a newline, the last one is.
 abbrev pub IsLineState : List ℕ → Type 0
-IsLineState xs = Contains xs newline → ends_in newline xs ≡ true
+IsLineState xs = Contains xs newline → ends_with_byte newline xs ≡ true
 
 -- e is the error of bytes that are not UTF-8
 abbrev pub IsInvalidText : Error → Type 0

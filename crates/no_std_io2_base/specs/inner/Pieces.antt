@@ -1,6 +1,6 @@
 -- Pieces of bytes, each of which ends in a delimiter, and the calls that take one.
 use Rattle.std.specs.Prelude.{◌≡◌, ◌≢◌, ℕ, ◌<◌, ◌+◌, ◌≤◌, ◌==◌, true, false, Bool, List, [], ◌∷◌, ◌++◌, length, take, filter, if◌then◌else◌}
-use Rattle.std.specs.Prelude.{◌⊎◌}
+use Rattle.std.specs.{Prelude.{◌⊎◌}, Io.BufRead.{ends_with_byte}}
 use Rattle.std.specs.{Prelude.{Option, None, Some, Result, Ok, Err, IfSome}, List.{AllByRecursion, concat}}
 use Rattle.no_std_io2_base.specs.{declared.error.Error.{Error}, Errors.{IsInterruption, IsFault, IsOutOfMemory}}
 use Rattle.no_std_io2_base.specs.Events.{Event, byte, events_of, event_bytes, HasNoFault}
@@ -11,21 +11,11 @@ use Rattle.no_std_io2_base.specs.{Takes.{ReaderState, to_come}, Calls.{ReadCall,
 abbrev pub Lacks : ℕ → List ℕ → Type 0
 Lacks d bs = AllByRecursion (λ b. b ≢ d) bs
 
--- whether the last byte is d
-abbrev pub ends_in : ℕ → List ℕ → Bool
-ends_in d [] = false
-ends_in d (b ∷ []) = b == d
-ends_in d (b ∷ c ∷ bs) = ends_in d (c ∷ bs)
-
 -- the list without its last element
 abbrev pub but_last : {X : Type 0} → List X → List X
 but_last [] = []
 but_last (x ∷ []) = []
 but_last (x ∷ y ∷ xs) = x ∷ but_last (y ∷ xs)
-
--- the bytes without the d at their end, if there is one
-abbrev pub without : ℕ → List ℕ → List ℕ
-without d bs = if ends_in d bs then but_last bs else bs
 
 -- the pieces with b put in front of the first one; if there is no piece, b alone is the first
 abbrev pub in_front : ℕ → List (List ℕ) → List (List ℕ)
@@ -44,7 +34,7 @@ pub record ArePieces (d : ℕ) (bs : List ℕ) (ps : List (List ℕ)) : Type 0 w
   -- none is empty
   pub none_empty : AllByRecursion (λ p. 0 < length p) ps
   -- each except possibly the last ends in d
-  pub ended : AllByRecursion (λ p. ends_in d p ≡ true) (but_last ps)
+  pub ended : AllByRecursion (λ p. ends_with_byte d p ≡ true) (but_last ps)
   -- d is nowhere else in a piece
   pub nowhere_else : AllByRecursion (λ p. Lacks d (but_last p)) ps
 
@@ -104,7 +94,7 @@ PieceCalls may_refuse d C x (Err e) = (D : List ReadCall) × PartCalls d D x × 
 -- all pieces; or, if a fault comes after them, those that end in d
 abbrev pub pieces_before : ℕ → Option Error → List ℕ → List (List ℕ)
 pieces_before d None bs = pieces_of d bs
-pieces_before d (Some e) bs = filter (ends_in d) (pieces_of d bs)
+pieces_before d (Some e) bs = filter (ends_with_byte d) (pieces_of d bs)
 
 -- the pieces that a reader with these events gives: all, or those that end in d before the first fault
 abbrev pub pieces_given : ℕ → List Event → List (List ℕ)

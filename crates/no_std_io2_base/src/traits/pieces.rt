@@ -4,7 +4,8 @@ ghost use Rattle.std.specs.Prelude.{string_bytes, string_len, string_capacity, v
 ghost use Rattle.std.specs.String.{string_vec};
 ghost use Rattle.std.specs.Bool.{OnTrue, OnFalse};
 ghost use Rattle.std.specs.List.{AllWithin};
-ghost use Rattle.no_std_io2_base.specs.inner.Pieces.{FindsPiece, ends_in, without};
+ghost use Rattle.std.specs.Io.BufRead.{ends_with_byte, strip_last};
+ghost use Rattle.no_std_io2_base.specs.inner.Pieces.{FindsPiece};
 ghost use Rattle.no_std_io2_base.specs.inner.Lines.{line_text, IsInvalidText, AnswersLine, Follows, text_room};
 ghost use Rattle.no_std_io2_base.specs.Errors.{error_kind};
 ghost use Rattle.no_std_io2_base.specs.declared.error.ErrorKind.TheVariants.{OutOfMemory};
@@ -61,8 +62,8 @@ pub(crate) fn find_piece(lent: &[u8], delim: u8) -> (usize, bool)
 
 // Drops the last byte if it is this one, and returns whether it was.
 pub(super) fn drop_last(bytes: &mut Vec<u8>, last: u8) -> bool
-    ensures dropped { result ≡ ends_in last bytes.old.items }
-    ensures items { bytes.new.items ≡ without last bytes.old.items }
+    ensures dropped { result ≡ ends_with_byte last bytes.old.items }
+    ensures items { bytes.new.items ≡ strip_last last bytes.old.items }
 {
     let len = bytes.len();
     if len == 0 {

@@ -1,7 +1,7 @@
 // [`Split`], the iterator over pieces.
 ghost use Rattle.std.specs.Prelude.{◌≡◌, true, false, None, vec_items};
 ghost use Rattle.std.specs.Iterator.{at_most};
-ghost use Rattle.no_std_io2_base.specs.inner.Pieces.{without};
+ghost use Rattle.std.specs.Io.BufRead.{strip_last};
 ghost use Rattle.no_std_io2_base.specs.inner.Iterators.{split_reader, split_delim, split_is_ended, ends_at, items_left, NextPieceLaw};
 
 use super::buf_read::BufRead;
@@ -41,7 +41,7 @@ impl<R> Split<R> {
 
 // Reads the next piece, and drops its delimiter. `None` means the end.
 fn next_piece<R: BufRead>(reader: &mut R, alloc: Global, delim: u8) -> Option<Result<Vec<u8>>>
-    ensures law { NextPieceLaw ⟦<R as Read>⟧ reader.old vec_items (without delim) (λ _ _. ⊥) delim result reader.new }
+    ensures law { NextPieceLaw ⟦<R as Read>⟧ reader.old vec_items (strip_last delim) (λ _ _. ⊥) delim result reader.new }
 {
     let mut piece = Vec::new(alloc);
     match reader.read_until(delim, &mut piece) {
@@ -63,7 +63,7 @@ where
     ghost next_gives = { λ s r t.
         (split_is_ended s ≡ true → (r ≡ None) × (t ≡ s))
         × (split_is_ended s ≡ false → (split_is_ended t ≡ ends_at r)
-        × NextPieceLaw ⟦<R as Read>⟧ (split_reader s) vec_items (without (split_delim s)) (λ _ _. ⊥) (split_delim s) r (split_reader t))
+        × NextPieceLaw ⟦<R as Read>⟧ (split_reader s) vec_items (strip_last (split_delim s)) (λ _ _. ⊥) (split_delim s) r (split_reader t))
         × (split_delim t ≡ split_delim s) };
 
     ghost remaining = { λ s. at_most (items_left (split_is_ended s) (R.turns (split_reader s))) };

@@ -1,8 +1,8 @@
 // The steps of the calls of a `LineWriter`.
 ghost use Rattle.std.specs.Prelude.{◌≡◌, ◌≢◌, ◌+◌, ◌-◌, ◌<◌, ◌≤◌, true, length, slice_range};
 ghost use Rattle.std.specs.List.{AllWithin};
+ghost use Rattle.std.specs.Io.BufRead.{ends_with_byte};
 ghost use Rattle.no_std_io2_base.specs.inner.Lines.{IsLineState, lines_len};
-ghost use Rattle.no_std_io2_base.specs.inner.Pieces.{ends_in};
 ghost use Rattle.no_std_io2_base.specs.Pieces.{newline};
 ghost use Rattle.no_std_io2.specs.inner.LineWriter.{held_tail, SendLineCalls, SendLinesCalls, LineWriteCalls, LineWriteAllCalls};
 ghost use Rattle.no_std_io2.specs.inner.BufWriter.{sender_inner, sender_buffer, TakesStep};
@@ -52,7 +52,7 @@ fn lacks_before_last(bytes: &[u8], wanted: u8) -> bool
 // Returns whether the last byte is a newline.
 #[inline(always)]
 fn ends_in_newline(bytes: &[u8]) -> bool
-    ensures { result ≡ ends_in newline bytes.now }
+    ensures { result ≡ ends_with_byte newline bytes.now }
 {
     bytes.last() == Some(&b'\n')
 }

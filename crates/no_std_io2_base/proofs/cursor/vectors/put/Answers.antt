@@ -1,5 +1,5 @@
 -- The bytes are put over those of the vector, or behind zeros: the search does not split the vector there.
-use Rattle.std.proofs.Common.{◌≡◌, ◌+◌, ◌-◌, ◌++◌, length, take, drop, replicate, arith, ap, sym, ◌∙◌, inl, inr, append_assoc}
+use Rattle.std.proofs.Common.{◌≡◌, ◌+◌, ◌-◌, ◌++◌, length, take, drop, replicate, arith, ap, sym, ◌∙◌, inl, inr}
 use Rattle.std.proofs.{Common.{length-append, length-take, length-drop}, lemmas.List.{with_items_is}}
 use borrow.Rule.Slice.PartMut.{put_mid}
 use Rattle.no_std_io2_base.specs.inner.Cursor.{put_at}
@@ -34,7 +34,6 @@ returns-clause-put g c =
     ap (λ l. take start shown ++ (l ++ drop k (drop start shown))) c.copy_bytes.ensures
     ∙ ap (λ l. take start shown ++ (x ++ l)) rest
     ∙ ap (λ l. take start l ++ (x ++ drop end l)) c.deref_mut.ensures.value
-    ∙ sym (append_assoc (take start now.items) x (drop end now.items))
     ∙ put_lengthened start end x bs now.items at grown in
     let reach = lengthened_reaches end bs now.items grown in
     let tail = drop k (drop start shown) in

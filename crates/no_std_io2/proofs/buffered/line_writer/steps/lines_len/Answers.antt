@@ -3,8 +3,9 @@ use Rattle.no_std_io2.proofs.Words.{common_steps, ◌≡◌, ◌+◌, ◌∷◌,
 use Rattle.no_std_io2.proofs.Words.{newline, lines_len, lines_of, unfinished_line, ◌-◌, ◌≢◌, [], List, ℕ, true, false, true≢false, inl, inr}
 use Rattle.no_std_io2.proofs.Words.{nil_from_length, cases_lt, rules}
 use Rattle.std.specs.{List.{AllWithin}, Prelude.{Contains}}
-use Rattle.no_std_io2_base.specs.inner.Pieces.{ends_in}
-use Rattle.no_std_io2_base.proofs.LineLemmas.{lines_are, lines_none, lines_split, unfinished_none, contains_lacks, ends_in-append}
+use Rattle.std.specs.Io.BufRead.{ends_with_byte}
+use Rattle.no_std_io2_base.proofs.LineLemmas.{lines_are, lines_none, lines_split, unfinished_none, contains_lacks}
+use Rattle.no_std_io2_base.proofs.PieceLemmas.{ends_with_byte-append}
 use Rattle.no_std_io2.proofs.buffered.line_writer.steps.lines_len.Goals as goal
 
 pub returns-in-Some-clause-lines : goal.returns-in-Some-clause-lines
@@ -23,15 +24,16 @@ returns-in-None-clause-lines g c =
     c.in-None.ensures has.0 (omega arith) has.1 (grind (arith, common_steps, has.2))))))
 
 -- neither the bytes before the last nor the last are newlines
-lacks_all : (x : List ℕ) → ends_in newline x ≡ false → AllWithin (λ b. b ≢ newline) x 0 (length x - 1) → Contains x newline → ⊥
+lacks_all : (x : List ℕ) → ends_with_byte newline x ≡ false → AllWithin (λ b. b ≢ newline) x 0 (length x - 1) → Contains x newline → ⊥
 lacks_all x other before has = elim (cases_lt has.0 (length x - 1)) [
   | inl less ↦ before has.0 0 (omega arith) less (grind (arith, common_steps, has.2))
   | inr last ↦
       let at = has.0 in
       let whole : x ≡ take at x ++ newline ∷ drop (at + 1) x = grind (arith, common_steps, has.1, has.2) in
       let none : drop (at + 1) x ≡ [] = nil_from_length _ (omega (arith, last, has.1, length-drop (at + 1) x)) in
-      let ends : ends_in newline x ≡ true =
-      ap (ends_in newline) (whole ∙ ap (λ l. take at x ++ newline ∷ l) none) ∙ ends_in-append newline (take at x) (newline ∷ [])
+      let ends : ends_with_byte newline x ≡ true =
+      ap (ends_with_byte newline) (whole ∙ ap (λ l. take at x ++ newline ∷ l) none)
+      ∙ ends_with_byte-append newline (take at x) (newline ∷ [])
       (omega arith) in
       true≢false (sym ends ∙ other)
 ]
