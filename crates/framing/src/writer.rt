@@ -3,7 +3,7 @@ ghost use Rattle.std.specs.Prelude.{◌≡◌, [], map};
 ghost use Rattle.no_std_io2.specs.BufWriter.{writer_inner, writer_buffer, Unwraps};
 ghost use Rattle.no_std_io2.specs.Retries.{FlushTries};
 ghost use Rattle.no_std_io2.specs.Writers.{FlushOf};
-ghost use Rattle.framing.specs.Sending.{writes_to, frames_held, frame_writer, SaysTooLong, SendsFrame, SendsFrames};
+ghost use Rattle.framing.specs.Sending.{writes_to, frames_held, frame_writer, SendsFrame, SendsFrames};
 
 use no_std_io2::io::{
     BufWriter, Error, ErrorKind, IntoInnerError, Result, Write, flush_with_retries,
@@ -49,13 +49,13 @@ impl<W: Write + Drop, const S: usize> FrameWriter<W, S> {
     pub fn send(&mut self, payload: &[u8]) -> Result<()>
         ensures sends { SendsFrame W.Write payload.now self.old result self.new }
     {
-        let Ok(len) = u32::try_from(payload.len()) else {
-            return Err(too_long());
-        };
-        if payload.len() + 4 >= S {
-            return Err(too_long());
+        match u32::try_from(payload.len()) {
+            Ok(len) if payload.len() + 4 < S => self.inner.write_whole(&len.to_le_bytes(), payload),
+            _ => {
+                let text = "a frame is longer than the buffer";
+                Err(Error::new(ErrorKind::InvalidInput, text))
+            }
         }
-        self.inner.write_whole(&len.to_le_bytes(), payload)
     }
 
     /// Sends these payloads in order, and removes each from the front of `rest` once its frame is accepted. So
@@ -121,12 +121,4 @@ impl<W: Write + Drop, const S: usize> FrameWriter<W, S> {
         let FrameWriter { inner } = self;
         inner.into_inner()
     }
-}
-
-// Makes the error of a frame that is not shorter than the buffer.
-fn too_long() -> Error
-    ensures { SaysTooLong result }
-{
-    let text = "a frame is longer than the buffer";
-    Error::new(ErrorKind::InvalidInput, text)
 }
