@@ -1,21 +1,21 @@
 -- A look at a header, records that are skipped, and a message that is known to come next.
 use Rattle.no_std_io2.proofs.Words.{◌≡◌, ℕ, ◌+◌, ◌≤◌, List, [], ◌∷◌, ◌++◌, length, take, Bool, true, false, Option, None, Some, Result, Ok}
-use Rattle.no_std_io2.proofs.Words.{Err, refl, sym, ap, subst, ◌∙◌, arith, inl, inr, IsSomeAnd, append_assoc, append-nil, length-append}
+use Rattle.no_std_io2.proofs.Words.{Err, refl, sym, ap, subst, ◌∙◌, arith, inl, inr, append_assoc, append-nil, length-append}
 use Rattle.no_std_io2.proofs.Words.{if◌then◌else◌, drop, take-append_seam, drop-append_seam, common_steps, reader_held, reader_inner}
 use Rattle.no_std_io2.proofs.Words.{behind_held, Event, fails, event_bytes, events_of, bytes_to_fault, first_fault, Reader, tells}
 use Rattle.no_std_io2.proofs.Words.{ReaderState}
-use Rattle.no_std_io2.proofs.Words.{Takes, AreTaken, to_come, IsFront, ◌<◌, get_or, IsInterruption, IsFault, ◌^◌, IsOk}
+use Rattle.no_std_io2.proofs.Words.{AreTaken, to_come, IsFront, ◌<◌, get_or, IsInterruption, IsFault}
 use Rattle.no_std_io2.proofs.{BufferedReads.{buf_reader, told_behind}, TakesLemmas.{bytes-append, bytes-behind, bytes-events_of}}
 use Rattle.no_std_io2.proofs.{TakesLemmas.{HasNoFault-append, HasNoFault-events_of, events_of-append}, GivenPieces.{first_fault-append}}
 use Rattle.no_std_io2.proofs.{GivenPieces.{bytes_to_fault-append}, ReadsLemmas.{Reads-takes, Took-none, Took-then, Took-again, Took-end}}
-use Rattle.no_std_io2.proofs.{ReadsLemmas.{Took-fault}, FillToLemmas.{fills_lose}, KnownBytes.{exact_known}}
-use Rattle.std.proofs.{Common.{slice_index_or, IfSome}, lemmas.Nat.{from_be_bytes-to_be_bytes_2}}
+use Rattle.no_std_io2.proofs.{ReadsLemmas.{Took-fault}, FillToLemmas.{fills_lose}}
+use Rattle.std.proofs.Common.{slice_index_or, IfSome}
 use Rattle.no_std_io2.specs.{declared.{io.Error.{Error}, buffered.buf_reader.BufReader.{BufReader}}, Errors.{IsUnexpectedEnd}}
 use Rattle.no_std_io2.specs.{inner.Buffer.{HasTo}, BufReader.{FillsTo}, inner.Reads.{GathersTo}, Reads.{Took, Skipped}, Takes.{LosesFirst}}
-use Rattle.no_std_io2.specs.{inner.Read.{FilledLaw}, Read.{ConsumeLaw, ReadExactLaw}}
+use Rattle.no_std_io2.specs.{inner.Read.{FilledLaw}, Read.{ConsumeLaw}}
 use Rattle.examples.specs.{Headers.{LooksAhead, SeesHeader, PeeksAt}, Lengths.{AreRecords, no_record, and_record, IsCutOff, SkipsRecords}}
 use Rattle.examples.specs.Messages.{message}
-use Rattle.std.specs.Int.{w16, to_be_bytes, from_be_bytes}
+use Rattle.std.specs.Int.{w16, to_be_bytes}
 
 -- A look at a header: no byte is lost, and it is the next two bytes.
 
@@ -190,19 +190,8 @@ module _ {X : Type 0} {R : Reader X} {old now after : X} (before : RecordsTaken 
             ],
           )
 
--- A message that is known to come next.
-
--- the two bytes of a length determine it
-pub same_length : (n m : ℕ) → n < 2 ^ 16 → m < 2 ^ 16 → to_be_bytes w16 n ≡ to_be_bytes w16 m → n ≡ m
-same_length n m small small' same =
-    sym (from_be_bytes-to_be_bytes_2 n small) ∙ ap (from_be_bytes w16) same ∙ from_be_bytes-to_be_bytes_2 m small'
-
--- the length comes first
-pub prefix_known : {X : Type 0} {R : Reader X} {old new : X} {buf buf' : List ℕ} {reply : Result (Unit {0}) Error} (payload : List ℕ)
-    (rest : List Event) → ReadExactLaw R old buf reply buf' new → length buf' ≡ 2
-    → to_come (tells R old) ≡ Some (events_of (message payload) ++ rest)
-    → IsOk reply × (buf' ≡ to_be_bytes w16 (length payload)) × (to_come (tells R new) ≡ Some (events_of payload ++ rest))
-prefix_known payload rest law two told =
-    let prefix = to_be_bytes w16 (length payload) in
-    let first = ap (λ l. l ++ rest) (events_of-append prefix payload) ∙ append_assoc (events_of prefix) (events_of payload) rest in
-    exact_known prefix (events_of payload ++ rest) law (sym two) (told ∙ ap Some first)
+-- The parts of a message: the length comes first, and then the payload.
+pub message_parts : (payload : List ℕ) (rest : List Event)
+    → events_of (message payload) ++ rest ≡ events_of (to_be_bytes w16 (length payload)) ++ (events_of payload ++ rest)
+message_parts payload rest = ap (λ l. l ++ rest) (events_of-append (to_be_bytes w16 (length payload)) payload)
+    ∙ append_assoc (events_of (to_be_bytes w16 (length payload))) (events_of payload) rest

@@ -1,5 +1,5 @@
 -- Lines of a reader that go on to a writer: `kept` says which of the lines that came.
-use Rattle.std.specs.Prelude.{◌≡◌, ◌≤◌, ◌<◌, ◌⊎◌, ℕ, List, [], ◌∷◌, ◌++◌, length, filter, Bool, None, Result, Ok, Err, is_some}
+use Rattle.std.specs.Prelude.{◌≡◌, ◌≤◌, ◌<◌, ◌⊎◌, ℕ, List, [], ◌∷◌, ◌++◌, length, filter, Bool, None, Result, Err, is_some}
 use Rattle.std.specs.{List.{concat}, Result.{result_and}}
 use Rattle.memchr.specs.Find.{matches, first_of}
 use Rattle.no_std_io2.specs.{Pieces.{newline, GivesPieces, AreAllPieces}, Reads.{StopsAfter}, Takes.{ReaderState}}

@@ -1,6 +1,5 @@
 //! Messages: the length of the payload, as a big-endian `u16`, followed by the payload.
 ghost use Rattle.std.specs.Prelude.{◌≡◌, ◌<◌, ◌^◌, ◌++◌, ℕ, List, Some, length, IfErr, IfOk};
-ghost use Rattle.std.specs.Int.{w16, to_be_bytes};
 ghost use Rattle.no_std_io2.specs.Errors.{IsOutOfMemory};
 ghost use Rattle.no_std_io2.specs.Events.{Event, events_of};
 ghost use Rattle.no_std_io2.specs.Takes.{tells};
@@ -8,20 +7,14 @@ ghost use Rattle.no_std_io2.specs.Takes.{TakesBytes, to_come};
 ghost use Rattle.examples.specs.Messages.{message};
 
 use no_std_io2::io::{Read, Result};
+use numbers::{BigEndian, ReadBytesExt};
 use std::alloc::Global;
-
-// Returns the length that these bytes are.
-fn length_of(prefix: [u8; 2]) -> u16
-    ensures { to_be_bytes w16 result ≡ prefix }
-{
-    u16::from_be_bytes(prefix)
-}
 
 /// Reads a message, and returns its payload.
 ///
 /// # Errors
-/// Returns the error of a `read_exact` that fails, and `OutOfMemory` if an allocation failed. Some first bytes of the
-/// message may be taken then.
+/// Returns the error of a `read_u16` or `read_exact` that fails, and `OutOfMemory` if an allocation failed. Some first
+/// bytes of the message may be taken then.
 pub fn read_message<R: Read>(alloc: Global, r: &mut R) -> Result<Vec<u8>>
     ensures takes { IfOk result (λ v. TakesBytes (tells R.Read r.old) (message v.items) (tells R.Read r.new)) }
 
@@ -30,9 +23,7 @@ pub fn read_message<R: Read>(alloc: Global, r: &mut R) -> Result<Vec<u8>>
         → to_come (tells R.Read r.old) ≡ Some (events_of (message payload) ++ rest)
         → IfOk result (λ v. (v.items ≡ payload) × (to_come (tells R.Read r.new) ≡ Some rest)) × IfErr result IsOutOfMemory }
 {
-    let mut prefix = [0u8; 2];
-    r.read_exact(&mut prefix)?;
-    let len = length_of(prefix);
+    let len = r.read_u16::<BigEndian>()?;
     let mut payload = Vec::from_elem(alloc, 0u8, usize::from(len))?;
     r.read_exact(&mut payload)?;
     Ok(payload)

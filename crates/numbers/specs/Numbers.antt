@@ -12,17 +12,22 @@ first_byte bytes = slice_index bytes 0
 abbrev pub signed_by : Width → (ℕ → List ℕ → ℕ) → ℕ → List ℕ → ℤ
 signed_by w number n bytes = cast_signed w (number n bytes)
 
+-- each of them is a byte
+abbrev pub AreBytes : List ℕ → Type 0
+AreBytes bytes = (i : ℕ) → slice_index bytes i < 256
+
 -- the result without its value
 abbrev pub outcome : {X : Type 0} → Result X Error → Result (Unit {0}) Error
 outcome (Ok x) = Ok tt
 outcome (Err e) = Err e
 
--- A number of n bytes was read, by one `read_exact` of n bytes. After `Ok` these bytes spell the result; an error is that of the
+-- A number of n bytes was read, by one `read_exact` of n bytes. After `Ok` these are bytes, and spell the result; an error is that of the
 -- `read_exact`, whose law says what was taken.
 pub record ReadsValue {V X : Type 0} (R : Reader V) (value : List ℕ → X) (n : ℕ) (old : V) (reply : Result X Error) (new : V) : Type 0 where
   pub buf : List ℕ
   pub long : length buf ≡ n
   pub law : ReadExactLaw R old (replicate n 0) (outcome reply) buf new
+  pub are : IfOk reply (λ x. AreBytes buf)
   pub spells : IfOk reply (λ x. x ≡ value buf)
 
 -- if the bytes of a number are known to come next, that number is read, and no other byte

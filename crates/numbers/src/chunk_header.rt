@@ -1,10 +1,9 @@
 //! A caller: headers of chunks, the kind in two bytes and the length in four, big-endian. What was written is read back.
-ghost use Rattle.std.specs.Prelude.{◌≡◌, ◌<◌, ◌^◌, ◌++◌, ℕ, List, Ok, Some};
+ghost use Rattle.std.specs.Prelude.{◌≡◌, ◌<◌, ◌^◌, ◌++◌, ℕ, List, IfOk, Ok, Some};
 ghost use Rattle.numbers.specs.ChunkHeaders.{chunk_header, ReadsChunkHeader, WritesChunkHeader};
 ghost use Rattle.no_std_io2.specs.Events.{Event, events_of};
-ghost use Rattle.no_std_io2.specs.Takes.{tells};
 ghost use Rattle.no_std_io2.specs.Moves.{MovesFront};
-ghost use Rattle.no_std_io2.specs.Takes.{to_come};
+ghost use Rattle.no_std_io2.specs.Takes.{TakesBytes, tells, to_come};
 
 use crate::{BigEndian, ReadBytesExt, WriteBytesExt};
 use no_std_io2::io::{Read, Result, Write};
@@ -27,6 +26,7 @@ pub fn write_chunk_header<W: Write>(w: &mut W, kind: u16, len: u32) -> Result<()
 /// Returns the error of a `read_exact` that fails. Some first bytes of the header may be taken then.
 pub fn read_chunk_header<R: Read>(r: &mut R) -> Result<(u16, u32)>
     ensures reads { ReadsChunkHeader R.Read r.old result r.new }
+    ensures takes { IfOk result (λ h. TakesBytes (tells R.Read r.old) (chunk_header h.0 h.1) (tells R.Read r.new)) }
     ensures back { (kind len : ℕ) (rest : List Event) → kind < 256 ^ 2 → len < 256 ^ 4
         → to_come (tells R.Read r.old) ≡ Some (events_of (chunk_header kind len) ++ rest)
         → (result ≡ Ok (kind, len)) × (to_come (tells R.Read r.new) ≡ Some rest) }

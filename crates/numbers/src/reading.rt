@@ -1,7 +1,7 @@
 // [`ReadBytesExt`], which reads numbers.
-ghost use Rattle.std.specs.Prelude.{FitsSigned, ◌<◌, ◌^◌, [], ◌∷◌};
+ghost use Rattle.std.specs.Prelude.{FitsSigned, ◌≡◌, ◌<◌, ◌^◌, [], ◌∷◌};
 ghost use Rattle.std.specs.Int.{w8, w16, w32, w64, cast_signed, cast_unsigned};
-ghost use Rattle.numbers.specs.Numbers.{ReadsValue, ReadsBack, ReadsInto, first_byte, signed_by};
+ghost use Rattle.numbers.specs.Numbers.{AreBytes, ReadsValue, ReadsBack, ReadsInto, first_byte, signed_by};
 
 use byteorder::ByteOrder;
 use no_std_io2::io::{Read, Result};
@@ -23,6 +23,7 @@ pub trait ReadBytesExt: Read {
     {
         let mut bytes = [0u8; 1];
         self.read_exact(&mut bytes)?;
+        let bytes = plain_bytes(&bytes);
         Ok(bytes[0])
     }
 
@@ -35,7 +36,7 @@ pub trait ReadBytesExt: Read {
     {
         let mut bytes = [0u8; 2];
         self.read_exact(&mut bytes)?;
-        Ok(T::read_u16(&bytes))
+        Ok(T::read_u16(plain_bytes(&bytes)))
     }
 
     /// Reads a number of 4 bytes.
@@ -47,7 +48,7 @@ pub trait ReadBytesExt: Read {
     {
         let mut bytes = [0u8; 4];
         self.read_exact(&mut bytes)?;
-        Ok(T::read_u32(&bytes))
+        Ok(T::read_u32(plain_bytes(&bytes)))
     }
 
     /// Reads a number of 8 bytes.
@@ -59,7 +60,7 @@ pub trait ReadBytesExt: Read {
     {
         let mut bytes = [0u8; 8];
         self.read_exact(&mut bytes)?;
-        Ok(T::read_u64(&bytes))
+        Ok(T::read_u64(plain_bytes(&bytes)))
     }
 
     /// Reads a signed byte.
@@ -221,3 +222,12 @@ pub trait ReadBytesExt: Read {
 }
 
 impl<R: Read> ReadBytesExt for R {}
+
+// Returns these bytes. That each of them is below 256 follows from the type of an argument, and not from that of an array
+// which a call has filled.
+fn plain_bytes(bytes: &[u8]) -> &[u8]
+    ensures same { result.now ≡ bytes.now }
+    ensures are { AreBytes bytes.now }
+{
+    bytes
+}

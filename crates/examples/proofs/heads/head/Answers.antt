@@ -1,5 +1,5 @@
 -- A line more, or an error, is joined to the lines so far by a lemma, which the search does not try.
-use Rattle.no_std_io2.proofs.Words.{Ok, Err, refl, inl, inr, arith, rules, returned_err}
+use Rattle.no_std_io2.proofs.Words.{Ok, Err, refl, inl, inr, rules, returned_err}
 use Rattle.std.proofs.Common.{tests}
 use Rattle.no_std_io2.proofs.GivenPieces.{piece_alone}
 use Rattle.examples.specs.Lines.{every_line}

@@ -1,6 +1,6 @@
 -- One line more, an early success, and an error inside a line are joined to the lines before by lemmas, which the search does not try.
-use Rattle.no_std_io2.proofs.Words.{◌≡◌, ◌∙◌, ap, List, ℕ, Some, event_bytes, err_from_is_err_and, returned_err, [], ◌∷◌}
-use Rattle.no_std_io2.proofs.GivenPieces.{pieces_none, piece_alone}
+use Rattle.no_std_io2.proofs.Words.{◌≡◌, ◌∙◌, ap, List, ℕ, Some, event_bytes, err_from_is_err_and, returned_err}
+use Rattle.no_std_io2.proofs.GivenPieces.{piece_alone}
 use Rattle.examples.specs.Settings.{setting_in}
 use Rattle.examples.proofs.SettingLemmas.{without_more, finds_here, finds_none, misses_reading, misses_copying}
 use Rattle.examples.proofs.settings.find_setting.Goals as goal

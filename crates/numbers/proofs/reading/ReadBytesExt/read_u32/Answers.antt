@@ -15,4 +15,4 @@ returns-clause-back g c = λ x rest fits told.
     let long = g.met.T.ByteOrder.length_bytes 4 x ∙ sym c.read_exact.auto.buf in
     let known = exact_known (g.T.ByteOrder.bytes_of 4 x) rest c.in_ok-read_exact.ensures.law long told in
     let is = spelled_back (g.T.ByteOrder.number_of 4) (g.T.ByteOrder.bytes_of 4 x) x (g.met.T.ByteOrder.reads_back 4 x [] fits) in
-    (ap Ok (c.read_u32.ensures ∙ ap (g.T.ByteOrder.number_of 4) known.1 ∙ is), known.2)
+    (ap Ok (c.read_u32.ensures ∙ ap (g.T.ByteOrder.number_of 4) (c.plain_bytes.ensures.same ∙ known.1) ∙ is), known.2)

@@ -15,4 +15,4 @@ returns-clause-back g c = λ x rest fits told.
     let long = g.met.T.ByteOrder.length_bytes 8 x ∙ sym c.read_exact.auto.buf in
     let known = exact_known (g.T.ByteOrder.bytes_of 8 x) rest c.in_ok-read_exact.ensures.law long told in
     let is = spelled_back (g.T.ByteOrder.number_of 8) (g.T.ByteOrder.bytes_of 8 x) x (g.met.T.ByteOrder.reads_back 8 x [] fits) in
-    (ap Ok (c.read_u64.ensures ∙ ap (g.T.ByteOrder.number_of 8) known.1 ∙ is), known.2)
+    (ap Ok (c.read_u64.ensures ∙ ap (g.T.ByteOrder.number_of 8) (c.plain_bytes.ensures.same ∙ known.1) ∙ is), known.2)

@@ -12,4 +12,4 @@ returns-in_err-read_exact-clause-back g c = λ x rest fits told.
 pub returns-clause-back : goal.returns-clause-back
 returns-clause-back g c = λ x rest fits told.
     let known = exact_known (x ∷ []) rest c.in_ok-read_exact.ensures.law (sym c.read_exact.auto.buf) told in
-    (ap (λ bytes. Ok (first_byte bytes)) known.1, known.2)
+    (ap (λ bytes. Ok (first_byte bytes)) (c.plain_bytes-bytes.ensures.same ∙ known.1), known.2)
