@@ -2,7 +2,7 @@
 //! another type.
 ghost use Rattle.std.specs.Prelude.{◌≡◌, [], ◌++◌, IfOk, IfErr, OnOk};
 ghost use Rattle.no_std_io2.specs.Cursor.{cursor_out};
-ghost use Rattle.no_std_io2.specs.Moves.{Moves};
+ghost use Rattle.no_std_io2.specs.Moves.{Moves, told_out};
 ghost use Rattle.examples.specs.Tables.{table, StopsTable};
 
 use no_std_io2::io::{BufWriter, Cursor, LineWriter, Result, Write, print_to_object};
@@ -42,7 +42,9 @@ pub fn table_of(alloc: Global, rows: &[(u32, u32)]) -> Result<Vec<u8>>
 /// # Errors
 /// Returns `WriteZero` if the page has too little room; it then has some front of the table.
 pub fn table_at(page: &mut Cursor<[u8; 64]>, rows: &[(u32, u32)]) -> Result<()>
-    ensures { OnOk result (cursor_out (λ a. a) page.new ≡ cursor_out (λ a. a) page.old ++ table rows.now) }
+    ensures all { OnOk result (cursor_out (λ a. a) page.new ≡ cursor_out (λ a. a) page.old ++ table rows.now) }
+    ensures stops { IfErr result (λ e. StopsTable (told_out (cursor_out (λ a. a) page.old)) rows.now e
+        (told_out (cursor_out (λ a. a) page.new))) }
 {
     print_table(page, rows)
 }
