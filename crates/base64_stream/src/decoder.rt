@@ -4,6 +4,7 @@ ghost use Rattle.base64.specs.GeneralPurpose.{encode_of, IsBytes, IsConsistent};
 ghost use Rattle.base64.specs.Engines.{standard};
 ghost use Rattle.no_std_io2.specs.Errors.{IsOutOfMemory};
 ghost use Rattle.no_std_io2.specs.inner.Kinds.{error_of};
+ghost use Rattle.no_std_io2.specs.Read.{ReadLaw};
 ghost use Rattle.no_std_io2.specs.Takes.{tells};
 ghost use Rattle.no_std_io2.specs.Events.{events_of};
 ghost use Rattle.no_std_io2.specs.Takes.{to_come};
@@ -131,7 +132,8 @@ impl<R: Read> DecoderReader<R> {
 
     // Decodes the next group if no bytes wait.
     fn fill(&mut self) -> Result<()>
-        ensures { FillsWaiting R.Read self.old result self.new }
+        ensures fills { FillsWaiting R.Read self.old result self.new }
+        ensures ready { 0 < length (decoder_waiting self.old) → self.new ≡ self.old }
     {
         if self.waiting.is_empty() {
             return self.refill();
@@ -152,12 +154,17 @@ impl<R: Read> Read for DecoderReader<R> {
     // The given bytes are the decoding of what was read below.
     ghost may = { DecoderMay R.Read };
 
-    /// Gives up to three bytes: those of one group, or those of it that did not fit before.
+    /// Gives up to three bytes: those of one group, or those of it that did not fit before. If bytes wait, or `buf` is empty,
+    /// it makes no call.
     ///
     /// # Errors
     /// Returns the fault of the reader below, and `InvalidData` for a group that is refused; the next read continues behind
     /// it. Never returns `Interrupted`.
-    fn read(&mut self, buf: &mut [u8]) -> Result<usize> {
+    fn read(&mut self, buf: &mut [u8]) -> Result<usize>
+        ensures law { ReadLaw ⟦<Self as Read>⟧ self.old buf.old result buf.new self.new }
+        ensures empty { length buf.old ≡ 0 → self.new ≡ self.old }
+        ensures waits { 0 < length (decoder_waiting self.old) → decoder_inner self.new ≡ decoder_inner self.old }
+    {
         if buf.is_empty() {
             return Ok(0);
         }

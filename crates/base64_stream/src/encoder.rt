@@ -1,5 +1,6 @@
 // [`EncoderWriter`], which passes on base64.
-ghost use Rattle.std.specs.Prelude.{◌≡◌, ◌+◌, ◌*◌, ◌%◌, ◌/◌, ◌<◌, ◌≢◌, ◌≤◌, true, false, [], ◌++◌, length, take, IfOk, OnOk, OnErr};
+ghost use Rattle.std.specs.Prelude.{◌≡◌, ◌+◌, ◌*◌, ◌%◌, ◌/◌, ◌<◌, ◌≢◌, ◌≤◌, true, false, [], ◌++◌, length, take};
+ghost use Rattle.std.specs.Prelude.{IfOk, IsErrAnd, OnOk, OnErr};
 ghost use Rattle.base64.specs.GeneralPurpose.{encode_of};
 ghost use Rattle.base64.specs.Engines.{standard};
 ghost use Rattle.no_std_io2.specs.BufWriter.{Unwraps, writer_inner, writer_buffer};
@@ -134,7 +135,8 @@ impl<W: Write + Drop, const S: usize> EncoderWriter<W, S> {
 
     // Returns whether a write of these bytes comes after the end of the text.
     fn refuses(&self, buf: &[u8]) -> bool
-        ensures { result ≡ true → (is_closed self.now ≡ true) × (0 < length buf.now) }
+        ensures yes { result ≡ true → (is_closed self.now ≡ true) × (0 < length buf.now) }
+        ensures no { result ≡ false → is_closed self.now ≡ true → length buf.now ≡ 0 }
     {
         self.closed && !buf.is_empty()
     }
@@ -227,6 +229,8 @@ impl<W: Write + Drop, const S: usize> Write for EncoderWriter<W, S> {
     fn write(&mut self, buf: &[u8]) -> Result<usize>
         ensures law { WriteOf ⟦<Self as Write>⟧ self.old buf.now result self.new }
         ensures puts { PutsGroups W.Write self.old buf.now result self.new }
+        ensures open { is_closed self.new ≡ is_closed self.old }
+        ensures end { is_closed self.old ≡ true → 0 < length buf.now → IsErrAnd result SaysClosed × (self.new ≡ self.old) }
     {
         if self.refuses(buf) {
             return Err(closed());

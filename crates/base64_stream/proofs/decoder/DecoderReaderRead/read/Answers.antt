@@ -4,19 +4,17 @@ use Rattle.no_std_io2.proofs.{TakesLemmas.{reader}, TextLemmas.{is_empty}}
 use Rattle.base64_stream.proofs.DecoderLemmas.{gave_error, gave_nothing, gave_waiting}
 use Rattle.base64_stream.proofs.decoder.DecoderReaderRead.read.Goals as goal
 
-pub returns-then-is_empty : goal.returns-then-is_empty
-returns-then-is_empty g c = record {
-  law = gave_nothing (reader g.R.Stored g.R.Read) c.args.self.now _ c.args.buf.now
-      (ap length (is_empty _ _ c.is_empty.ensures c.if-is_empty.true));
-}
+pub returns-then-is_empty-clause-law : goal.returns-then-is_empty-clause-law
+returns-then-is_empty-clause-law g c =
+    gave_nothing (reader g.R.Stored g.R.Read) c.args.self.now _ c.args.buf.now
+    (ap length (is_empty _ _ c.is_empty.ensures c.if-is_empty.true))
 
-pub returns-in_err-fill : goal.returns-in_err-fill
-returns-in_err-fill g c =
+pub returns-in_err-fill-clause-law : goal.returns-in_err-fill-clause-law
+returns-in_err-fill-clause-law g c =
     let p = err_from_is_err_and c.from_residual.result c.from_residual.ensures.1 in
-    rw (p.1, p.2) (record { law = gave_error (reader g.R.Stored g.R.Read) _ _ c.in_err-fill.ensures })
+    rw (p.1, p.2) (gave_error (reader g.R.Stored g.R.Read) _ _ c.in_err-fill.ensures.fills)
 
-pub returns : goal.returns
-returns g c = record {
-  law = gave_waiting (reader g.R.Stored g.R.Read) c.args.buf.now c.give.new.buf c.give.result c.in_ok-fill.ensures
-      (omega (arith, c.give.ensures.count, c.give.auto.buf)) c.give.ensures.bytes refl refl refl refl;
-}
+pub returns-clause-law : goal.returns-clause-law
+returns-clause-law g c =
+    gave_waiting (reader g.R.Stored g.R.Read) c.args.buf.now c.give.new.buf c.give.result c.in_ok-fill.ensures.fills
+    (omega (arith, c.give.ensures.count, c.give.auto.buf)) c.give.ensures.bytes refl refl refl refl

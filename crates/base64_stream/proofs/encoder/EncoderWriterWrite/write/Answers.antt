@@ -9,7 +9,7 @@ returns-then-refuses-clause-law g c = law_refused g.W.Write c.args.self.now c.ar
 
 pub returns-then-refuses-clause-puts : goal.returns-then-refuses-clause-puts
 returns-then-refuses-clause-puts g c =
-    let (closed, some) = c.refuses.ensures c.if-refuses.true in closed_refused closed some c.closed.ensures
+    let (closed, some) = c.refuses.ensures.yes c.if-refuses.true in closed_refused closed some c.closed.ensures
 
 pub returns-then-held-buf-lt3-clause-law : goal.returns-then-held-buf-lt3-clause-law
 returns-then-held-buf-lt3-clause-law g c =
@@ -34,6 +34,9 @@ returns-in_err-put-clause-puts g c =
     let whole = whole_of (unfinished c.args.self.now) c.args.buf.now c.fitting-n.result fits.within fits.whole in
     rw (p.1, p.2) (groups_put c.fitting-n.result fits.some fits.within whole c.in_err-put.ensures.puts (inr c.in_err-put.ensures.err))
 
+pub returns-in_err-put-clause-end : goal.returns-in_err-put-clause-end
+returns-in_err-put-clause-end g c closed some = absurd (omega (arith, some, c.refuses.ensures.no c.if-refuses.false closed))
+
 pub returns-clause-law : goal.returns-clause-law
 returns-clause-law g c =
     let fits = c.fitting-n.ensures in
@@ -47,3 +50,6 @@ returns-clause-puts g c =
     let fits = c.fitting-n.ensures in
     let whole = whole_of (unfinished c.args.self.now) c.args.buf.now c.fitting-n.result fits.within fits.whole in
     groups_put c.fitting-n.result fits.some fits.within whole c.in_ok-put.ensures.puts (inl refl)
+
+pub returns-clause-end : goal.returns-clause-end
+returns-clause-end g c closed some = absurd (omega (arith, some, c.refuses.ensures.no c.if-refuses.false closed))
