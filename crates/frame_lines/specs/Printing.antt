@@ -1,11 +1,13 @@
 -- What the program does with frames: it takes one after another, and logs one line for each.
-use Rattle.std.specs.Prelude.{◌≡◌, ◌⊎◌, ℕ, List, [], ◌∷◌, ◌++◌, take, Option, Some, None, Result, Ok, Err}
+use Rattle.std.specs.Prelude.{◌≡◌, ◌⊎◌, ℕ, List, [], ◌∷◌, ◌++◌, take, replicate, Option, Some, None, Result, Ok, Err}
 use Rattle.no_std_io2.specs.declared.io.Error.{Error}
 use Rattle.no_std_io2.specs.{Takes.{Reader}, Moves.{WriterState, Moves}}
 use Rattle.framing.specs.declared.reader.FrameReader.{FrameReader}
-use Rattle.framing.specs.Taking.{TakesFrame}
+use Rattle.framing.specs.Taking.{TakesFrame, reads_from}
 use Rattle.line_log.specs.declared.LineLog.{LineLog}
-use Rattle.line_log.specs.Log.{line_of, log_held, log_tells}
+use Rattle.line_log.specs.Log.{line_of, log_held, log_inner, log_tells}
+use Rattle.system_streams.specs.declared.{patient.Patient.{Patient}, reason.Reason.{Reason}}
+use Rattle.system_streams.specs.{Patient.{patient_error}, Reasons.{IsReasonOfEither}}
 
 -- One line was accepted, and the writer below the log has all of it. Its text is the one that the standard library
 -- prints for the payload, of which no contract says more.
@@ -39,3 +41,18 @@ pub record PrintsFrames {R W : Type 0} (I : Reader R) (told : W → WriterState)
   pub log : LineLog W 16386
   pub prints : PrintsEach I told from room to payloads mid held log
   pub ends : PrintEnds I mid held reply new
+
+-- what the program returns for that: after `Ok` the log holds nothing, and after an error the reason of the stream that failed
+abbrev pub PrintAnswer : {D E : Type 0} → (Patient E → WriterState) → Result (Unit {0}) Error → Result (Unit {0}) Reason
+    → FrameReader (Patient D) 512 → LineLog (Patient E) 16386 → Type 0
+PrintAnswer told (Ok u) reply frames log = (reply ≡ Ok tt) × ((log_tells told log).held ≡ [])
+PrintAnswer told (Err e) reply frames log =
+    (why : Reason) × (reply ≡ Err why) × IsReasonOfEither (patient_error (reads_from frames)) (patient_error (log_inner log)) e why
+
+-- Frames of one stream were printed to another.
+pub record PrintsAll {D E : Type 0} (I : Reader (Patient D)) (told : Patient E → WriterState) (from : FrameReader (Patient D) 512)
+    (to : LineLog (Patient E) 16386) (reply : Result (Unit {0}) Reason) (new : FrameReader (Patient D) 512)
+    (log : LineLog (Patient E) 16386) : Type 0 where
+  pub printed : Result (Unit {0}) Error
+  pub prints : PrintsFrames I told from (replicate 4096 0) to printed new
+  pub answer : PrintAnswer told printed reply new log

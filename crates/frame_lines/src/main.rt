@@ -9,8 +9,9 @@
 ghost use Rattle.std.specs.Prelude.{◌≡◌, [], OnOk, replicate};
 ghost use Rattle.std.specs.Vec.Iter.{into_iter_items};
 ghost use Rattle.line_log.specs.Log.{log_tells};
+ghost use Rattle.system_streams.specs.contracts.patient.Patient.{the_row as patient-row};
 ghost use Rattle.frame_lines.specs.Asking.{AsksFor};
-ghost use Rattle.frame_lines.specs.Printing.{PrintsPayload, PrintsFrames};
+ghost use Rattle.frame_lines.specs.Printing.{PrintsPayload, PrintsFrames, PrintsAll};
 ghost use Rattle.frame_lines.specs.Fits.{FramesFit, LogFits};
 
 use framing::FrameReader;
@@ -20,7 +21,9 @@ use std::alloc::Global;
 use std::env;
 use std::process::ExitCode;
 use std::rt::Env;
-use system_streams::{about, arguments, report, stdin, stdout, usage};
+use system_streams::{
+    Patient, Reason, SystemRead, SystemWrite, about, arguments, report, stdin, stdout, usage,
+};
 
 const USAGE: &str = "usage: frame_lines";
 
@@ -102,10 +105,25 @@ fn print_frames<R: Read + Drop, W: Write + Drop>(
     lines.flush()
 }
 
-fn run(rt: &HostRuntime) -> Result<()> {
+// Prints a line for each frame, and returns the reason of the stream that failed.
+fn print_all<D: SystemRead + Drop, E: SystemWrite + Drop>(
+    frames: &mut FrameReader<Patient<D>, 512>,
+    lines: &mut LineLog<Patient<E>, LINE>,
+) -> std::result::Result<(), Reason>
+    requires frames { FramesFit (patient-row D.row) }
+    requires log { LogFits (patient-row E.row) }
+    ensures { PrintsAll ⟦<Patient<D> as Read>⟧ ⟦<Patient<E> as Write>⟧.told frames.old lines.old result frames.new lines.new }
+{
+    match print_frames(frames, lines) {
+        Ok(()) => Ok(()),
+        Err(e) => Err(Reason::of_either(frames.get_ref(), lines.get_ref(), e)),
+    }
+}
+
+fn run(rt: &HostRuntime) -> std::result::Result<(), Reason> {
     let mut frames = FrameReader::<_, 512>::new(stdin(rt));
     let mut lines = LineLog::<_, LINE>::new(stdout(rt));
-    print_frames(&mut frames, &mut lines)
+    print_all(&mut frames, &mut lines)
 }
 
 fn main(rt: HostRuntime) -> ExitCode {

@@ -4,3 +4,4 @@ pub mod ToStd
 pub mod Copies
 pub mod About
 pub mod Files
+pub mod Reasons

@@ -178,7 +178,7 @@ fn device_fault() -> Error
 }
 
 // Returns whether an error is the one that `device_fault` makes.
-fn is_device_fault(fault: &Error) -> bool
+pub(crate) fn is_device_fault(fault: &Error) -> bool
     ensures yes { result ≡ true → IsDeviceFault fault.now }
     ensures no { result ≡ false → IsDeviceFault fault.now → ⊥ }
 {

@@ -5,6 +5,7 @@ use Rattle.std.proofs.{Common.{IsErrAnd, IfSome}, lemmas.{List.{map-append}, Lis
 use Rattle.no_std_io2.specs.{declared.io.Error.{Error}, declared.io.Take.{Take}, Errors.{IsTextError}}
 use Rattle.tar_reader.specs.{declared.archive.Archive.{Archive}, declared.header.Header.{Header}, Members.{NextHeaderLaw, FindHeaderLaw}}
 use Rattle.tar_reader.proofs.MemberLemmas.{Skipping, comes_to}
+use Rattle.tar_list.specs.declared.CopyFault.{CopyFault}
 use Rattle.tar_list.specs.Listing.{member_line, member_lines, PrintsMember, ListEnds, Lists, MemberEnds, CopiesMember}
 
 -- a text was printed, and no formatter failed
@@ -37,6 +38,6 @@ lists {last = last} before law ends =
 
 -- a `find` returned this, and then the copy ended like this
 pub copy_ended : {X W : Type 0} {R : Reader X} {K : Reader (Take X)} {I : Writer W} {name : List ℕ} {old mid new : Archive X} {was now : W}
-    {reply : Result (Unit {0}) Error} (found : Result (Option Header) Error) → FindHeaderLaw R old name found mid
+    {reply : Result (Unit {0}) CopyFault} (found : Result (Option Header) Error) → FindHeaderLaw R old name found mid
     → MemberEnds K I found mid was reply new now → CopiesMember R K I name old was reply new now
 copy_ended found finds ends = record { found = found; mid = _; finds = finds; ends = ends }

@@ -2,7 +2,8 @@
 use Rattle.std.specs.Prelude.{◌≡◌, ◌≢◌, ◌⊎◌, ◌<◌, List, ℕ, [], ◌++◌, ⊤, codes, decimal, map, Option, Some, None, Result, Ok, Err, OnOk}
 use Rattle.std.specs.Prelude.{IsErr, IsErrAnd}
 use Rattle.std.specs.List.{concat}
-use Rattle.no_std_io2.specs.{Errors.{SaysError}, declared.io.{Error.{Error}, ErrorKind.TheVariants.{InvalidInput, NotFound, UnexpectedEof}}}
+use Rattle.no_std_io2.specs.{Errors.{SaysError}, declared.io.{Error.{Error}, ErrorKind.{ErrorKind}}}
+use Rattle.no_std_io2.specs.declared.io.ErrorKind.TheVariants.{InvalidInput, NotFound, UnexpectedEof}
 use Rattle.no_std_io2.specs.{Takes.{Reader}, Copy.{Copied}, Writers.{Writer, FlushOf}, declared.io.Take.{Take}, Errors.{IsTextError}}
 use Rattle.no_std_io2.specs.Moves.{WriterState, Moves, MovesFront, call_mishap}
 use Rattle.tar_reader.specs.declared.archive.Archive.{Archive}
@@ -12,6 +13,7 @@ use Rattle.tar_reader.specs.Archives.{member_of, with_member, left_of_member}
 use Rattle.tar_reader.specs.Headers.{member_length}
 use Rattle.tar_reader.specs.Members.{ComesTo, FindHeaderLaw}
 use Rattle.tar_reader.specs.Names.{name_bytes}
+use Rattle.tar_list.specs.declared.CopyFault.{CopyFault, TheVariants.{Member, Stream}}
 
 -- the line of a member: its size and its name
 abbrev pub member_line : Header → List ℕ
@@ -42,15 +44,25 @@ pub record Lists {X : Type 0} (R : Reader X) (old : Archive X) (was : WriterStat
   pub comes : ComesTo (λ others. others ≡ headers) (λ h. ⊤) R old last new
   pub prints : ListEnds (member_lines headers) last was reply told
 
+-- a copy failed by an error of this kind and text, about the member
+abbrev pub IsMemberFault : ErrorKind → List ℕ → Result (Unit {0}) CopyFault → Type 0
+IsMemberFault kind text reply = (e : Error) × (reply ≡ Err (Member e)) × SaysError kind text e
+
+-- the same result, whose error is one of the streams
+abbrev pub IsStreamFault : Result (Unit {0}) Error → Result (Unit {0}) CopyFault → Type 0
+IsStreamFault (Ok u) reply = reply ≡ Ok tt
+IsStreamFault (Err e) reply = reply ≡ Err (Stream e)
+
 -- how a copy of a member's bytes ended, after this result of `copy`, with so many bytes left: its error; or the writer was flushed; or the
 -- archive ended inside the member
-abbrev pub BytesEnd : {W : Type 0} → Writer W → Result ℕ Error → ℕ → W → Result (Unit {0}) Error → W → Type 0
-BytesEnd I (Err e) left out reply now = (reply ≡ Err e) × (now ≡ out)
-BytesEnd I (Ok n) left out reply now = ((left ≡ 0) × FlushOf I out reply now)
-    ⊎ ((0 < left) × IsErrAnd reply (SaysError UnexpectedEof (codes "the archive ends inside a member")) × (now ≡ out))
+abbrev pub BytesEnd : {W : Type 0} → Writer W → Result ℕ Error → ℕ → W → Result (Unit {0}) CopyFault → W → Type 0
+BytesEnd I (Err e) left out reply now = (reply ≡ Err (Stream e)) × (now ≡ out)
+BytesEnd I (Ok n) left out reply now =
+    ((left ≡ 0) × ((flushed : Result (Unit {0}) Error) × FlushOf I out flushed now × IsStreamFault flushed reply))
+    ⊎ ((0 < left) × IsMemberFault UnexpectedEof (codes "the archive ends inside a member") reply × (now ≡ out))
 
 -- The bytes of the member that was found were copied, until all were, or a fault came, or the archive ended.
-pub record CopiesBytes {X W : Type 0} (K : Reader (Take X)) (I : Writer W) (mid : Archive X) (was : W) (reply : Result (Unit {0}) Error)
+pub record CopiesBytes {X W : Type 0} (K : Reader (Take X)) (I : Writer W) (mid : Archive X) (was : W) (reply : Result (Unit {0}) CopyFault)
     (new : Archive X) (now : W) : Type 0 where
   pub copied : Result ℕ Error
   pub out : W
@@ -64,17 +76,17 @@ CopiesNone mid was new now = (new ≡ mid) × (now ≡ was)
 
 -- how `copy_member` ended, by what `find` returned: that error; no member has this name; or it is a directory, or its bytes were copied
 abbrev pub MemberEnds : {X W : Type 0} → Reader (Take X) → Writer W → Result (Option Header) Error → Archive X → W
-    → Result (Unit {0}) Error → Archive X → W → Type 0
-MemberEnds K I (Err e) mid was reply new now = (reply ≡ Err e) × CopiesNone mid was new now
+    → Result (Unit {0}) CopyFault → Archive X → W → Type 0
+MemberEnds K I (Err e) mid was reply new now = (reply ≡ Err (Stream e)) × CopiesNone mid was new now
 MemberEnds K I (Ok None) mid was reply new now =
-    IsErrAnd reply (SaysError NotFound (codes "no member has this name")) × CopiesNone mid was new now
+    IsMemberFault NotFound (codes "no member has this name") reply × CopiesNone mid was new now
 MemberEnds K I (Ok (Some h)) mid was reply new now =
-    ((h.kind ≡ Directory) × IsErrAnd reply (SaysError InvalidInput (codes "this member is a directory")) × CopiesNone mid was new now)
+    ((h.kind ≡ Directory) × IsMemberFault InvalidInput (codes "this member is a directory") reply × CopiesNone mid was new now)
     ⊎ ((h.kind ≢ Directory) × CopiesBytes K I mid was reply new now)
 
 -- `copy_member`: a `find`, and what followed. K are the ghost members of the reader of a member's bytes.
 pub record CopiesMember {X W : Type 0} (R : Reader X) (K : Reader (Take X)) (I : Writer W) (name : List ℕ) (old : Archive X) (was : W)
-    (reply : Result (Unit {0}) Error) (new : Archive X) (now : W) : Type 0 where
+    (reply : Result (Unit {0}) CopyFault) (new : Archive X) (now : W) : Type 0 where
   pub found : Result (Option Header) Error
   pub mid : Archive X
   pub finds : FindHeaderLaw R old name found mid

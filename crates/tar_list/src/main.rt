@@ -6,19 +6,23 @@
 //! members: it prints that, and reads no archive.
 #![tactic(auto)]
 
-ghost use Rattle.std.specs.Prelude.{◌<◌, length, IfSome, IfNone};
+ghost use Rattle.std.specs.Prelude.{◌≡◌, ◌<◌, length, IfSome, IfNone};
 ghost use Rattle.std.specs.Vec.Iter.{into_iter_items};
 ghost use Rattle.tar_list.specs.Words.{Asks};
 ghost use Rattle.tar_list.specs.Listing.{PrintsMember, Lists, CopiesMember};
+ghost use Rattle.system_streams.specs.Patient.{patient_error};
+ghost use Rattle.tar_list.specs.Failing.{CopyFails, failure_text};
+ghost use Rattle.tar_list.specs.declared.CopyFault.TheVariants.{Stream as StreamFault};
 
 use no_std_io2::io::{
     BufRead, BufReader, BufWriter, Error, ErrorKind, Read, Result, Take, Write, copy,
 };
 use std::alloc::Global;
-use std::env;
+use std::fmt::Display;
 use std::process::ExitCode;
 use std::rt::Env;
-use system_streams::{about, arguments, report, stdin, stdout, usage};
+use std::{env, fmt};
+use system_streams::{Patient, Reason, about, arguments, report, stdin, stdout, usage};
 use tar_reader::{Archive, Header, Kind};
 
 const USAGE: &str = "usage: tar_list [NAME]";
@@ -87,6 +91,23 @@ fn list<R: BufRead, W: Write>(archive: &mut Archive<R>, out: &mut W) -> Result<(
     out.flush()
 }
 
+// Why a copy of a member failed.
+#[derive(Drop)]
+enum CopyFault {
+    // No member has this name, it is a directory, or the archive ends inside it.
+    Member(Error),
+    // The archive cannot be read, or the output failed.
+    Stream(Error),
+}
+
+impl From<Error> for CopyFault {
+    ghost from_gives = { λ e fault. fault ≡ StreamFault e };
+
+    fn from(e: Error) -> CopyFault {
+        CopyFault::Stream(e)
+    }
+}
+
 // Copies the member with this name, and flushes. Returns the error of the `find`, the `copy` or the `flush` that fails,
 // and an error if no member has this name, if it is a directory, or if the archive ends inside it. All its bytes up to
 // there are accepted then, but are not flushed.
@@ -94,28 +115,80 @@ fn copy_member<R: BufRead, W: Write>(
     archive: &mut Archive<R>,
     name: &str,
     out: &mut W,
-) -> Result<()>
+) -> std::result::Result<(), CopyFault>
     ensures { CopiesMember R.Read ⟦<Take<R> as Read>⟧ W.Write name.now archive.old out.old result archive.new out.new }
 {
     let Some(header) = archive.find(name.as_bytes())? else {
-        return Err(Error::new(ErrorKind::NotFound, "no member has this name"));
+        let text = "no member has this name";
+        return Err(CopyFault::Member(Error::new(ErrorKind::NotFound, text)));
     };
     if header.kind == Kind::Directory {
-        return Err(Error::new(ErrorKind::InvalidInput, "this member is a directory"));
+        let text = "this member is a directory";
+        return Err(CopyFault::Member(Error::new(ErrorKind::InvalidInput, text)));
     }
     copy::<_, _, BUFFER>(archive.member(), out)?;
     if archive.member().limit() > 0 {
-        return Err(Error::new(ErrorKind::UnexpectedEof, "the archive ends inside a member"));
+        let text = "the archive ends inside a member";
+        return Err(CopyFault::Member(Error::new(ErrorKind::UnexpectedEof, text)));
     }
-    out.flush()
+    out.flush()?;
+    Ok(())
 }
 
-fn run(rt: &HostRuntime, command: Command) -> Result<()> {
+// Why the program failed.
+#[derive(Drop)]
+enum Failure {
+    // The archive cannot be read, or the output failed.
+    Stream(Reason),
+    // What is wrong with the member of this name.
+    Member(String, Error),
+}
+
+// Prints the reason, and before it the name of a member.
+impl Display for Failure {
+    ghost output = { failure_text };
+
+    fn fmt<W: fmt::Write>(&self, f: &mut fmt::Formatter<W>) -> fmt::Result {
+        match self {
+            Failure::Stream(why) => Display::fmt(why, f),
+            Failure::Member(name, e) => write!(f, "{name}: {e}"),
+        }
+    }
+}
+
+// Returns why a copy of the member with this name failed: what is wrong with the member, or the reason of the stream.
+fn copy_failure<D, E>(
+    name: String,
+    fault: CopyFault,
+    input: &Patient<D>,
+    output: &Patient<E>,
+) -> Failure
+    ensures { CopyFails name fault (patient_error input.now) (patient_error output.now) result }
+{
+    match fault {
+        CopyFault::Member(e) => Failure::Member(name, e),
+        CopyFault::Stream(e) => Failure::Stream(Reason::of_either(input, output, e)),
+    }
+}
+
+fn run(rt: &HostRuntime, command: Command) -> std::result::Result<(), Failure> {
     let mut archive = Archive::new(BufReader::<_, BUFFER>::new(stdin(rt)));
     let mut out = BufWriter::<_, BUFFER>::new(stdout(rt));
     match command {
-        Command::List => list(&mut archive, &mut out),
-        Command::Copy(name) => copy_member(&mut archive, name.as_str(), &mut out),
+        Command::List => match list(&mut archive, &mut out) {
+            Ok(()) => Ok(()),
+            Err(e) => {
+                let input = archive.member().get_ref().get_ref();
+                Err(Failure::Stream(Reason::of_either(input, out.get_ref(), e)))
+            }
+        },
+        Command::Copy(name) => match copy_member(&mut archive, name.as_str(), &mut out) {
+            Ok(()) => Ok(()),
+            Err(fault) => {
+                let input = archive.member().get_ref().get_ref();
+                Err(copy_failure(name, fault, input, out.get_ref()))
+            }
+        },
     }
 }
 

@@ -1,53 +1,55 @@
 -- How a member is added to the archive on standard output, and what is told of it. K are the ghost members of the reader of a file's bytes,
 -- and I those of the output.
-use Rattle.std.specs.Prelude.{◌≡◌, ◌⊎◌, ℕ, Bool, List, [], codes, Option, Some, None, Result, Ok, Err}
+use Rattle.std.specs.Prelude.{◌≡◌, ◌⊎◌, ℕ, Bool, List, [], codes, Option, Some, Result, Ok, Err}
 use Rattle.std.specs.Fmt.{◌++?◌}
-use Rattle.no_std_io2.specs.{declared.io.{BufReader.{BufReader}, BufWriter.{BufWriter}, Error.{Error}}, inner.Errors.{error_display}}
+use Rattle.no_std_io2.specs.{declared.io.{BufReader.{BufReader}, BufWriter.{BufWriter}, Error.{Error}}}
 use Rattle.no_std_io2.specs.{BufReader.{reader_inner, reader_held}, Takes.{Reader}, Writers.{Writer}}
 use Rattle.no_std_io2.specs.declared.util.sides.CopyError.{CopyError, TheVariants.{Read, Write}}
 use Rattle.system_streams.specs.declared.{files.FileFault.{FileFault, TheVariants.{File, Output}}, patient.Patient.{Patient}}
-use Rattle.system_streams.specs.Patient.{IsFresh}
+use Rattle.system_streams.specs.{declared.reason.Reason.{Reason}, Patient.{IsFresh, patient_error}, Reasons.{IsReason}}
 use Rattle.tar_reader.specs.declared.header.Kind.{Kind}
-use Rattle.tar_writer.specs.{Builders.{AppendsHeader, Finishes}, Says.{IsHeaderOf}, Sides.{AppendsFilled}}
+use Rattle.tar_writer.specs.{Builders.{AppendsHeader, Finishes, builder_inner}, Says.{IsHeaderOf}, Sides.{AppendsFilled}}
 use Rattle.tar_writer.specs.declared.{builder.Builder.{Builder}, header.{Header.{Header}, Metadata.{Metadata}}}
-use Rattle.tar_make.specs.declared.Reason.{Reason, TheVariants.{System, Own}}
 
 -- what a try of a member returned
 abbrev Tried : Type 0
 Tried = Result (Unit {0}) (FileFault Reason)
 
--- the text of a reason, if it is known: that of the system is not
-abbrev pub reason_text : Reason → Option (List ℕ)
-reason_text (System e) = None
-reason_text (Own e) = Some (error_display e)
-
 -- the line that is told of a member of this name
 abbrev pub member_fault : List ℕ → Option (List ℕ) → Option (List ℕ)
 member_fault name text = Some (codes "tar_make: ") ++? Some name ++? Some (codes ": ") ++? text
 
--- After a fault of the output no member may follow. After any other fault the next one may.
-abbrev pub BlamesMember : Result (Unit {0}) CopyError → Tried → Type 0
-BlamesMember (Ok u) reply = reply ≡ Ok tt
-BlamesMember (Err (Read e)) reply = reply ≡ Err (File (Own e))
-BlamesMember (Err (Write e)) reply = reply ≡ Err (Output (Own e))
+-- the output failed by this error, and the reason is that of its device, if that failed
+abbrev pub BlamesOutput : {D : Type 0} {S : ℕ} → Error → Tried → Builder (Patient D) S → Type 0
+BlamesOutput e reply archive = (why : Reason) × (reply ≡ Err (Output why)) × IsReason (patient_error (builder_inner archive)) e why
+
+-- After a fault of the output no member may follow. After any other fault, for the reason of the file, the next one may.
+abbrev pub BlamesMember : {D E : Type 0} {S T : ℕ} → Result (Unit {0}) CopyError → Tried → BufReader (Patient D) T → Builder (Patient E) S
+    → Type 0
+BlamesMember (Ok u) reply body archive = reply ≡ Ok tt
+BlamesMember (Err (Read e)) reply body archive =
+    (why : Reason) × (reply ≡ Err (File why)) × IsReason (patient_error (reader_inner body)) e why
+BlamesMember (Err (Write e)) reply body archive = BlamesOutput e reply archive
 
 -- The bytes of a file were appended, and zeros for those that it lacks.
-pub record AddsBody {X W : Type 0} {S : ℕ} (K : Reader X) (I : Writer W) (from : X) (old : Builder W S) (reply : Tried) (to : X)
-    (new : Builder W S) : Type 0 where
+pub record AddsBody {D E : Type 0} {S T : ℕ} (K : Reader (BufReader (Patient D) T)) (I : Writer (Patient E))
+    (from : BufReader (Patient D) T) (old : Builder (Patient E) S) (reply : Tried) (to : BufReader (Patient D) T)
+    (new : Builder (Patient E) S) : Type 0 where
   pub filled : Result (Unit {0}) CopyError
   pub appends : AppendsFilled K I from old filled to new
-  pub blames : BlamesMember filled reply
+  pub blames : BlamesMember filled reply to new
 
 -- a header was appended, or the output failed
-abbrev pub AddsHeader : {W : Type 0} {S : ℕ} → Writer W → Header → Builder W S → Tried → Builder W S → Type 0
+abbrev pub AddsHeader : {E : Type 0} {S : ℕ} → Writer (Patient E) → Header → Builder (Patient E) S → Tried → Builder (Patient E) S → Type 0
 AddsHeader I h old reply new = ((reply ≡ Ok tt) × AppendsHeader I h old (Ok tt) new)
-    ⊎ ((e : Error) × (reply ≡ Err (Output (Own e))) × AppendsHeader I h old (Err e) new)
+    ⊎ ((e : Error) × BlamesOutput e reply new × AppendsHeader I h old (Err e) new)
 
 -- A header was appended, and then the bytes of a file. If the header was not, no byte of the file was read.
-abbrev pub AddsFile : {X W : Type 0} {S : ℕ} → Reader X → Writer W → Header → X → Builder W S → Tried → X → Builder W S → Type 0
-AddsFile {W = W} {S = S} K I h from old reply to new =
-    ((mid : Builder W S) × AppendsHeader I h old (Ok tt) mid × AddsBody K I from mid reply to new)
-    ⊎ ((e : Error) × (reply ≡ Err (Output (Own e))) × AppendsHeader I h old (Err e) new × (to ≡ from))
+abbrev pub AddsFile : {D E : Type 0} {S T : ℕ} → Reader (BufReader (Patient D) T) → Writer (Patient E) → Header → BufReader (Patient D) T
+    → Builder (Patient E) S → Tried → BufReader (Patient D) T → Builder (Patient E) S → Type 0
+AddsFile {E = E} {S = S} K I h from old reply to new =
+    ((mid : Builder (Patient E) S) × AppendsHeader I h old (Ok tt) mid × AddsBody K I from mid reply to new)
+    ⊎ ((e : Error) × BlamesOutput e reply new × AppendsHeader I h old (Err e) new × (to ≡ from))
 
 -- the header is of a member of this name
 abbrev pub HasName : List ℕ → Header → Type 0
@@ -58,16 +60,16 @@ abbrev pub IsUnread : {D : Type 0} {S : ℕ} → BufReader (Patient D) S → Typ
 IsUnread r = IsFresh (reader_inner r) × (reader_held r ≡ [])
 
 -- A member of this name was added: a header alone, or a file. Or it was left out, and the archive is as it was.
-abbrev pub AddsMember : {D W : Type 0} {S T : ℕ} → Reader (BufReader (Patient D) T) → Writer W → List ℕ → Builder W S → Tried → Builder W S
-    → Type 0
+abbrev pub AddsMember : {D E : Type 0} {S T : ℕ} → Reader (BufReader (Patient D) T) → Writer (Patient E) → List ℕ → Builder (Patient E) S
+    → Tried → Builder (Patient E) S → Type 0
 AddsMember {D = D} {T = T} K I name old reply new = (((why : Reason) × (reply ≡ Err (File why))) × (new ≡ old))
     ⊎ ((h : Header) × HasName name h × (AddsHeader I h old reply new
     ⊎ ((from : BufReader (Patient D) T) × (to : BufReader (Patient D) T) × IsUnread from × AddsFile K I h from old reply to new)))
 
 -- How the archive was ended, after the members were tried with this result: unless the output had failed, `finish` was called. F are the
 -- ghost members of the buffer in front of the output.
-abbrev pub EndsAll : {W : Type 0} {S : ℕ} → Writer (BufWriter W S) → Writer W → Result Bool Reason → Builder W S → Result Bool Reason
-    → Builder W S → Type 0
+abbrev pub EndsAll : {E : Type 0} {S : ℕ} → Writer (BufWriter (Patient E) S) → Writer (Patient E) → Result Bool Reason
+    → Builder (Patient E) S → Result Bool Reason → Builder (Patient E) S → Type 0
 EndsAll F I (Ok whole) old reply new = ((reply ≡ Ok whole) × Finishes F I old (Ok tt) new)
-    ⊎ ((e : Error) × (reply ≡ Err (Own e)) × Finishes F I old (Err e) new)
+    ⊎ ((e : Error) × (why : Reason) × (reply ≡ Err why) × IsReason (patient_error (builder_inner new)) e why × Finishes F I old (Err e) new)
 EndsAll F I (Err why) old reply new = (reply ≡ Err why) × (new ≡ old)

@@ -9,17 +9,18 @@
 ghost use Rattle.std.specs.Prelude.{◌≡◌, ◌≢◌, Ok, Err, true, IfOk, IfErr, codes};
 ghost use Rattle.std.specs.Process.{exit_status};
 ghost use Rattle.system_streams.specs.About.{TellsLine, error_line};
-ghost use Rattle.tar_make.specs.Adding.{AddsBody, AddsHeader, AddsFile, AddsMember, EndsAll, HasName, member_fault, reason_text};
+ghost use Rattle.system_streams.specs.Reasons.{reason_text};
+ghost use Rattle.tar_make.specs.Adding.{AddsBody, AddsHeader, AddsFile, AddsMember, EndsAll, HasName, member_fault};
 
-use no_std_io2::io::{BufReader, BufWriter, CopyError, Error, Read, Write};
+use no_std_io2::io::{BufReader, BufWriter, CopyError, Read, Write};
 use std::alloc::Global;
-use std::fmt::Display;
 use std::os::unix::fs::{MetadataExt, PermissionsExt};
 use std::process::ExitCode;
 use std::rt::{Env, Files};
-use std::{env, fmt, fs, io};
+use std::{env, fs, io};
 use system_streams::{
-    FileFault, Patient, PerFile, SystemMessages, about, each_file, named, open, report, stdout,
+    FileFault, Patient, PerFile, Reason, SystemMessages, SystemRead, SystemWrite, about, each_file,
+    named, open, report, stdout,
 };
 use tar_writer::{Builder, Header, Metadata};
 
@@ -35,27 +36,6 @@ output. Of a directory it has the name, and not what is in it.
 
 // The size in bytes of each buffer: of a file, and of the archive.
 const BUFFER: usize = 65536;
-
-// Why a member is not what it should be, or why there is no archive.
-#[derive(Drop)]
-enum Reason {
-    // The system's reason: the file cannot be found or opened.
-    System(io::Error),
-    // No header can hold it, it cannot be read, or it has another size by now; or standard output failed.
-    Own(Error),
-}
-
-// Prints the reason.
-impl Display for Reason {
-    ghost output = { reason_text };
-
-    fn fmt<W: fmt::Write>(&self, f: &mut fmt::Formatter<W>) -> fmt::Result {
-        match self {
-            Reason::System(e) => Display::fmt(e, f),
-            Reason::Own(e) => Display::fmt(e, f),
-        }
-    }
-}
 
 // Returns the permissions and the time of a file. A time before 1970 is 1970.
 fn described(found: &fs::Metadata) -> Metadata {
@@ -96,60 +76,62 @@ fn header_of(rt: &HostRuntime, name: &str, found: &fs::Metadata) -> Result<Heade
 }
 
 // Appends the bytes of a file. What it lacks is filled with zeros.
-fn add_body<R: Read, W: Write + Drop, const S: usize>(
-    archive: &mut Builder<W, S>,
-    body: &mut R,
+fn add_body<D: SystemRead + Drop, E: SystemWrite + Drop, const S: usize, const T: usize>(
+    archive: &mut Builder<Patient<E>, S>,
+    body: &mut BufReader<Patient<D>, T>,
 ) -> Result<(), FileFault<Reason>>
-    ensures { AddsBody R.Read W.Write body.old archive.old result body.new archive.new }
+    ensures { AddsBody ⟦<BufReader<Patient<D>, T> as Read>⟧ ⟦<Patient<E> as Write>⟧ body.old archive.old result body.new
+        archive.new }
 {
     match archive.append_filled(body) {
         Ok(()) => Ok(()),
-        Err(CopyError::Read(e)) => Err(FileFault::File(Reason::Own(e))),
-        Err(CopyError::Write(e)) => Err(FileFault::Output(Reason::Own(e))),
+        Err(CopyError::Read(e)) => Err(FileFault::File(Reason::of(body.get_ref(), e))),
+        Err(CopyError::Write(e)) => Err(FileFault::Output(Reason::of(archive.get_ref(), e))),
     }
 }
 
 // Appends a header.
-fn add_header<W: Write + Drop, const S: usize>(
-    archive: &mut Builder<W, S>,
+fn add_header<E: SystemWrite + Drop, const S: usize>(
+    archive: &mut Builder<Patient<E>, S>,
     header: &Header,
 ) -> Result<(), FileFault<Reason>>
-    ensures { AddsHeader W.Write header.now archive.old result archive.new }
+    ensures { AddsHeader ⟦<Patient<E> as Write>⟧ header.now archive.old result archive.new }
 {
     match archive.append_header(header) {
         Ok(()) => Ok(()),
-        Err(e) => Err(FileFault::Output(Reason::Own(e))),
+        Err(e) => Err(FileFault::Output(Reason::of(archive.get_ref(), e))),
     }
 }
 
 // Appends a header, and the bytes of its file.
-fn add_file<R: Read, W: Write + Drop, const S: usize>(
-    archive: &mut Builder<W, S>,
+fn add_file<D: SystemRead + Drop, E: SystemWrite + Drop, const S: usize, const T: usize>(
+    archive: &mut Builder<Patient<E>, S>,
     header: &Header,
-    body: &mut R,
+    body: &mut BufReader<Patient<D>, T>,
 ) -> Result<(), FileFault<Reason>>
-    ensures { AddsFile R.Read W.Write header.now body.old archive.old result body.new archive.new }
+    ensures { AddsFile ⟦<BufReader<Patient<D>, T> as Read>⟧ ⟦<Patient<E> as Write>⟧ header.now body.old archive.old result
+        body.new archive.new }
 {
     match archive.append_header(header) {
         Ok(()) => add_body(archive, body),
-        Err(e) => Err(FileFault::Output(Reason::Own(e))),
+        Err(e) => Err(FileFault::Output(Reason::of(archive.get_ref(), e))),
     }
 }
 
 // A run: where the files are, where messages go, and the archive.
 #[derive(Drop)]
-struct Making<'a, M, W: Write + Drop, const S: usize> {
+struct Making<'a, M, E: SystemWrite + Drop, const S: usize> {
     files: &'a HostRuntime,
     messages: &'a M,
-    archive: Builder<W, S>,
+    archive: Builder<Patient<E>, S>,
 }
 
-impl<M: SystemMessages, W: Write + Drop, const S: usize> PerFile for Making<'_, M, W, S> {
+impl<M: SystemMessages, E: SystemWrite + Drop, const S: usize> PerFile for Making<'_, M, E, S> {
     type Reason = Reason;
 
     // The member is added, or left out.
-    ghost may_try = { λ old name reply new. AddsMember ⟦<BufReader<Patient<fs::File>, BUFFER> as Read>⟧ W.Write
-        name old.archive reply new.archive };
+    ghost may_try = { λ old name reply new. AddsMember ⟦<BufReader<Patient<fs::File>, BUFFER> as Read>⟧
+        ⟦<Patient<E> as Write>⟧ name old.archive reply new.archive };
 
     // A line with its name goes to standard error, and nothing to the archive.
     ghost may_tell_of = { λ old name why new. (new ≡ old)
@@ -182,16 +164,16 @@ impl<M: SystemMessages, W: Write + Drop, const S: usize> PerFile for Making<'_, 
 }
 
 // Ends the archive, if the members were tried with this result.
-fn end_all<W: Write + Drop, const S: usize>(
-    archive: &mut Builder<W, S>,
+fn end_all<E: SystemWrite + Drop, const S: usize>(
+    archive: &mut Builder<Patient<E>, S>,
     tried: Result<bool, Reason>,
 ) -> Result<bool, Reason>
-    ensures { EndsAll ⟦<BufWriter<W, S> as Write>⟧ W.Write tried archive.old result archive.new }
+    ensures { EndsAll ⟦<BufWriter<Patient<E>, S> as Write>⟧ ⟦<Patient<E> as Write>⟧ tried archive.old result archive.new }
 {
     match tried {
         Ok(whole) => match archive.finish() {
             Ok(()) => Ok(whole),
-            Err(e) => Err(Reason::Own(e)),
+            Err(e) => Err(Reason::of(archive.get_ref(), e)),
         },
         Err(why) => Err(why),
     }

@@ -11,12 +11,12 @@ returns-in_err-header g c =
 pub returns-in_default : goal.returns-in_default
 returns-in_default g c =
     copy_ended (Ok None) (rw (c.in_default.is, c.as_bytes.ensures.value) at c.in_ok-header.ensures.law)
-    ((c.new.ensures.kind, c.new.ensures.text), (refl, refl))
+    ((_, refl, (c.new.ensures.kind, c.new.ensures.text)), (refl, refl))
 
 pub returns-then-eq : goal.returns-then-eq
 returns-then-eq g c =
     copy_ended (Ok (Some _)) (rw (c.in-Some.is, c.as_bytes.ensures.value) at c.in_ok-header.ensures.law)
-    (inl (grind (arith, common_steps), (c.new-then-eq.ensures.kind, c.new-then-eq.ensures.text), (refl, refl)))
+    (inl (grind (arith, common_steps), (_, refl, (c.new-then-eq.ensures.kind, c.new-then-eq.ensures.text)), (refl, refl)))
 
 pub returns-in_err-copy : goal.returns-in_err-copy
 returns-in_err-copy g c =
@@ -38,11 +38,27 @@ returns-then-limit-gt0 g c =
         rest = refl;
         ends = inr (
           omega (arith, c.limit.ensures, c.if-limit-gt0.true),
-          (c.new-then-limit-gt0.ensures.kind, c.new-then-limit-gt0.ensures.text),
+          (_, refl, (c.new-then-limit-gt0.ensures.kind, c.new-then-limit-gt0.ensures.text)),
           refl,
         );
       },
     ))
+
+pub returns-in_err-flush : goal.returns-in_err-flush
+returns-in_err-flush g c =
+    let p = err_from_is_err_and c.from_residual-in_err-flush.result c.from_residual-in_err-flush.ensures.1 in
+    let copies = rw (c.in_ok-copy.was, c.member.ensures.value, ← c.member-2.ensures.value) at c.copy.ensures in
+    rw (p.1, p.2) (copy_ended (Ok (Some _)) (rw (c.in-Some.is, c.as_bytes.ensures.value) at c.in_ok-header.ensures.law)
+    (inr (
+      (λ same. grind (arith, common_steps)),
+      record {
+        copied = _;
+        out = _;
+        copies = copies;
+        rest = refl;
+        ends = inl (omega (arith, c.limit.ensures, c.if-limit-gt0.false), (_, c.in_err-flush.ensures.law, refl));
+      },
+    )))
 
 pub returns : goal.returns
 returns g c =
@@ -55,6 +71,6 @@ returns g c =
         out = _;
         copies = copies;
         rest = refl;
-        ends = inl (omega (arith, c.limit.ensures, c.if-limit-gt0.false), c.flush.ensures.law);
+        ends = inl (omega (arith, c.limit.ensures, c.if-limit-gt0.false), (_, c.in_ok-flush.ensures.law, refl));
       },
     ))
