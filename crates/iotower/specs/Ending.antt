@@ -1,6 +1,6 @@
 -- What the program does for its arguments, and how it ends. F are the ghost members of the device of a play, K those of the input, and I
 -- those of the output.
-use Rattle.std.specs.Prelude.{◌≡◌, ◌⊎◌, ℕ, Bool, List, [], codes, Option, Some, None, Result, Ok, Err, IfSome, String, Vec}
+use Rattle.std.specs.Prelude.{◌≡◌, ◌⊎◌, ℕ, Bool, List, [], codes, Option, Some, None, Result, Ok, Err, IfSome, String}
 use Rattle.std.specs.{Global.{Global}, Process.{exit_status}}
 use Rattle.std.specs.declared.io.Error as Std
 use Rattle.std.specs.declared.process.ExitCode.{ExitCode}

@@ -1,5 +1,5 @@
 -- The search does not see that the two puts are one of the whole line, and the two sendings one sending of all.
-use Rattle.no_std_io2.proofs.Words.{common_steps, ◌≡◌, length, ◌++◌, ap, subst, inl, arith}
+use Rattle.no_std_io2.proofs.Words.{◌≡◌, length, ◌++◌, ap, subst, inl, arith}
 use Rattle.bare.specs.{Queue.{waiting}, Kept.{Resumes}, Log.{line}}
 use Rattle.bare.proofs.KeptLemmas.{resumed_more, line_put}
 use Rattle.bare.proofs.log.bare_log.Goals as goal
