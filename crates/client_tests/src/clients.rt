@@ -136,6 +136,7 @@ fn accepted(rt: &(impl Abort + AllocGlobal)) -> Result<(), Fail> {
 fn saved(rt: &(impl Abort + AllocGlobal)) -> Result<(), Fail> {
     let device = save(Vec::new(rt.alloc()), b"a record")?;
     assert!(rt; device.as_slice() == b"a record".as_slice());
+    assert!(rt; save(device, b"")?.as_slice() == b"a record".as_slice()); // an empty text is no error
     Ok(())
 }
 

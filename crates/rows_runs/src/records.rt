@@ -2,8 +2,8 @@
 //
 // A row is a record, `LEVEL TEXT`, or a call; then the error that was taken, or whether the unwrapped log is behind, how
 // many records are lost, the bytes out and the calls that reached the device. `pairs TEXT` and `span TEXT` have a pair and
-// a span too. The value of `broken` fails as it is printed, and that of `nested` logs a record meanwhile. `log_readings`
-// shows how many of its readings were lost twice.
+// a span too. The value of `broken` fails as it is printed; that of `nested` logs a record meanwhile, and that of
+// `flushing` flushes the sink. `log_readings` shows how many of its readings were lost twice.
 use crate::readings::values_of;
 use line_log::LineLog;
 use log::{Level, Log, info};
@@ -48,6 +48,22 @@ fn log_nested(sink: &Sink, inner: &Sink) {
     info!(sink; target: "io", "{}", Nested(inner));
 }
 
+// A value that flushes a sink as it is printed.
+#[derive(Drop)]
+struct Flushing<'a>(&'a Sink);
+
+impl<'a> fmt::Display for Flushing<'a> {
+    fn fmt<W: fmt::Write>(&self, f: &mut fmt::Formatter<W>) -> fmt::Result {
+        self.0.flush();
+        f.write_str("outer")
+    }
+}
+
+// Logs a record whose value flushes the inner sink.
+fn log_flushing(sink: &Sink, inner: &Sink) {
+    info!(sink; target: "io", "{}", Flushing(inner));
+}
+
 // Logs the record of a row. The word is a level, or one of those above.
 fn log_record(sink: &Sink, call: &Call<'_>, text: &str, line: &mut Line) {
     match call.word {
@@ -55,6 +71,7 @@ fn log_record(sink: &Sink, call: &Call<'_>, text: &str, line: &mut Line) {
         "span" => info!(sink.span("job").with("id", 7u32); target: "io", "{text}"),
         "broken" => info!(sink; target: "io", "{}", Broken),
         "nested" => log_nested(sink, sink),
+        "flushing" => log_flushing(sink, sink),
         word => match word.parse::<Level>() {
             Ok(level) => log::log!(sink; target: "io", level, "{text}"),
             Err(_) => line.tell(Unplayed::NoCall),
