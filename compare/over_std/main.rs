@@ -183,7 +183,7 @@ fn read_call<R: BufRead + ?Sized>(r: &mut R, word: &str, rest: &str) -> Option<S
         "read_to_end" => (number(&r.read_to_end(&mut all)), all),
         "read_into" => { let mut all = Vec::with_capacity(count); (number(&r.read_to_end(&mut all)), all) }
         "next" => return r.bytes().next().map_or(Some("-".into()), |it| Some(it.map_or_else(|e| error(&e), |b| bytes(&[b])))),
-        "take" => { all.clear(); (number(&Read::by_ref(&mut &mut *r).take(count as u64).read_to_end(&mut all)), all) }
+        "take" | "read_at_most" => { all.clear(); (number(&Read::by_ref(&mut &mut *r).take(count as u64).read_to_end(&mut all)), all) }
         "fill_buf" => match r.fill_buf() { Ok(b) => (b.len().to_string(), b.to_vec()), Err(e) => (error(&e), vec![]) },
         "pass" => { let n = r.fill_buf().map(|b| b.len().min(count)); if let Ok(n) = n { r.consume(n) } (number(&n), vec![]) }
         "read_until" => { let d = all.first().copied().unwrap_or(b'\n'); all.clear(); (number(&r.read_until(d, &mut all)), all) }

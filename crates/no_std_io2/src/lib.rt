@@ -36,7 +36,7 @@ pub mod io {
     pub use no_std_io2_base::error::{Error, ErrorKind, Result};
     pub use no_std_io2_base::traits::{
         Answers, BufRead, Bytes, Chain, Lines, Read, Seek, SeekFrom, Split, Stored, Take, Write,
-        print_to_object,
+        print_to_object, read_at_most,
     };
 
     /// Re-exports the traits, for `use no_std_io2::io::prelude::*`. Follows `std::io::prelude`.

@@ -31,6 +31,12 @@ made_map may may' put each [] a b made = ap put made
 made_map may may' put each (call ∷ C) a b made =
     (put made.0, each _ _ _ made.1, made_map may may' put each C made.0 b made.2)
 
+-- what each call keeps, the calls keep
+pub made_keeps : {W V A : Type 0} (may : W → A → W → Type 0) (of : W → V) → ((a b : W) (call : A) → may a call b → of b ≡ of a)
+    → (C : List A) (a b : W) → Made may a C b → of b ≡ of a
+made_keeps may of each [] a b made = ap of made
+made_keeps may of each (call ∷ C) a b made = made_keeps may of each C made.0 b made.2 ∙ each a made.0 call made.1
+
 -- some of them and then the others
 pub made_split : {W A : Type 0} (may : W → A → W → Type 0) (C : List A) (a : W) (D : List A) (c : W)
     → Made may a (C ++ D) c → (b : W) × Made may a C b × Made may b D c

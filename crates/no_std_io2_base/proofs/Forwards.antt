@@ -11,7 +11,7 @@ use Rattle.no_std_io2_base.specs.{Moves.{WriterState}, Write.{CallLaw, WriteAllL
 use Rattle.no_std_io2_base.specs.{inner.Calls.{BoxMay}, Writers.{Writer, WriteAllOf}, inner.Writers.{CallOf}}
 use Rattle.no_std_io2_base.specs.{Read.{ReadCallLaw, ReadLaw, ReadExactLaw, ReadFullLaw, ToEndLaw, ConsumeLaw}, BufRead.{AfterLoan}}
 use Rattle.no_std_io2_base.specs.{Writers.{WriteRestOf}, contracts.cursor.Cursor.{the_row as cursor-row}, declared.cursor.Cursor.{Cursor}}
-use Rattle.no_std_io2_base.proofs.CallsLemmas.{made_map}
+use Rattle.no_std_io2_base.proofs.CallsLemmas.{made_map, made_keeps}
 use base.Stored.{Gv}
 use denote.{Builtin.{u8, Array}, RattleType.{RattleType}, Ref.{MutBor}, Param.Table.{Entry}}
 use borrow.Pointer.Hide.{carry_nowᵐ, carried_sameᵐ}
@@ -64,6 +64,12 @@ module _ {X Y : Type 0} {R : Reader X} {R' : Reader Y} (put : X → Y) (through 
   pub line_through : {A : Type 0} {buf buf' : String A} {reply : Result ℕ Error} → ReadLineLaw R a buf reply buf' b
       → ReadLineLaw R' (put a) buf reply buf' (put b)
   line_through {buf = buf} law = grind (arith, common_steps, between, made_map, call_through)
+
+-- what each call of a reader keeps, its `read_to_end` keeps
+pub drained_keeps : {X V A : Type 0} {R : Reader X} (of : X → V) → ((a b : X) (call : ReadCall) → R.may a call b → of b ≡ of a)
+    → {a b : X} {lacks : ℕ → Type 0} {buf buf' : Vec ℕ A} {reply : Result ℕ Error} → ToEndLaw lacks R a buf reply buf' b → of b ≡ of a
+drained_keeps {R = R} of each {a} {b} law =
+    made_keeps (ReadCallLaw R) of (λ x y call did. grind (arith, common_steps, each)) law.calls.calls a b law.calls.made
 
 -- a writer that a part is put into: what a call did to the part, it did to the whole
 pub wrote_through : {W V : Type 0} (told : V → WriterState) (takes_all : V → Type 0) (may : W → WriteCall → W → Type 0)

@@ -4,8 +4,8 @@ use Rattle.std.proofs.Common.{take-append-drop, length-take-le, ◌+◌, ◌-◌
 use Rattle.std.proofs.Common.{inl, inr, sym, subst, append-nil, length-append, length-take, refl, rules, length-drop, OnOk}
 use Rattle.std.proofs.{lemmas.{Grind.{common_steps}, List.{append_cancel_left}}, Math.Seq.{take-append_seam}}
 use Rattle.no_std_io2_base.specs.{Events.{Event, event_bytes, events_of, fails, HasNoFault, Store}, inner.Events.{cut, EndsInFault}}
-use Rattle.no_std_io2_base.specs.Takes.{ReaderState, Takes, to_come, TakesBytes, KeepsContent, LosesFirst, Reader, tells}
-use Rattle.no_std_io2_base.specs.{inner.Takes.{AreTaken}, declared.error.Error.{Error}, Read.{ReadExactLaw}}
+use Rattle.no_std_io2_base.specs.Takes.{ReaderState, Takes, to_come, TakesBytes, KeepsContent, LosesFirst, Reader, tells, IsAtEnd}
+use Rattle.no_std_io2_base.specs.{inner.Takes.{AreTaken}, declared.error.Error.{Error}, Read.{ReadExactLaw, ReadAtMostLaw}}
 use Rattle.no_std_io2_base.specs.{inner.Read.{AllOrNone, gave_whole}, Seek.{Seeks, IsTarget}, inner.Reads.{ReadsAt, HasBytesAt}}
 use Rattle.no_std_io2_base.specs.{Read.{ReadFullLaw, ReadToEndLaw}, Errors.{IsOutOfMemory}, declared.traits.seek.SeekFrom.{SeekFrom}}
 use Rattle.no_std_io2_base.proofs.TakesLemmas.{bytes-append, events_of-append, bytes-events_of, bytes-behind, cut-bytes, cut-append}
@@ -87,7 +87,7 @@ pub exact_known : {X : Type 0} {R : Reader X} {old new : X} {buf buf' : List ℕ
 exact_known x rest law long told = ends_known x rest told law.taken _ _ long law.takes law.ends
 
 -- no more bytes are before a cut than it allows
-bytes_within : (n : ℕ) (P : List Event) → cut n P ≡ P → length (event_bytes P) ≤ n
+pub bytes_within : (n : ℕ) (P : List Event) → cut n P ≡ P → length (event_bytes P) ≤ n
 bytes_within n P within = omega (arith, ap (λ l. length (event_bytes l)) within, ap length (bytes-cut n P), length-take n (event_bytes P))
 
 -- A `read_full` into room for as many bytes gives x, and the rest is to come.
@@ -130,27 +130,90 @@ in_parts {x = x} {y} ps qs rest first next told long longer =
     let one = same_front ps x _ _ same long in
     (one, same_front qs y rest more (append_cancel_left x _ _ (ap (λ l. l ++ (qs ++ rest)) one ∙ same)) longer)
 
+-- What a call gives if only bytes are to come, and what it took is all of them.
+
+module _ {a b : ReaderState} (x : List ℕ) (told : to_come a ≡ Some (events_of x)) {P : List Event} (takes : Takes a P b) where
+  -- at the end these bytes were taken, and nothing is left
+  all_known : IsAtEnd b → (event_bytes P ≡ x) × (to_come b ≡ Some [])
+  all_known end =
+      let (after, still, split) = left_of takes told in
+      let none : after ≡ [] = subst (λ o. IfSome o (λ l. l ≡ [])) still end in (
+        ap event_bytes (sym (append-nil P) ∙ ap (λ l. P ++ l) (sym none) ∙ sym split) ∙ bytes-events_of x,
+        still ∙ ap Some none,
+      )
+
+  -- no fault comes
+  no_fault_known : {e : Error} → EndsInFault P e → ⊥
+  no_fault_known {e} fault =
+      let (after, still, split) = left_of takes told in
+      let clean = HasNoFault-front P after (subst HasNoFault split (HasNoFault-events_of x)) in
+      let last = HasNoFault-behind fault.0 (fails e ∷ []) (subst HasNoFault fault.1 clean) in
+      let no : ⊥ = cc (last.0, fault.3) in no
+
+  -- no more bytes were taken than these
+  few_known : length (event_bytes P) ≤ length x
+  few_known =
+      let (after, still, split) = left_of takes told in
+      omega (
+        arith,
+        ap length (sym (bytes-events_of x) ∙ ap event_bytes split ∙ bytes-append P after),
+        length-append (event_bytes P) (event_bytes after),
+      )
+
 -- A `read_to_end` of bytes that are all that is known to come appends them, and nothing is left; or an allocation failed.
 pub to_end_known : {X A : Type 0} {R : Reader X} {old new : X} {buf buf' : Vec ℕ A} (reply : Result ℕ Error) (x : List ℕ)
     → ReadToEndLaw R old buf reply buf' new → to_come (tells R old) ≡ Some (events_of x)
     → IfOk reply (λ n. (n ≡ length x) × (buf'.items ≡ buf.items ++ x) × (to_come (tells R new) ≡ Some []))
     × IfErr reply IsOutOfMemory
 to_end_known {buf = buf} (Ok n) x law told =
-    let (after, still, split) = left_of law.takes told in
-    let none : after ≡ [] = subst (λ o. IfSome o (λ l. l ≡ [])) still law.ends.1 in
-    let all : event_bytes law.taken ≡ x =
-    ap event_bytes (sym (append-nil law.taken) ∙ ap (λ l. law.taken ++ l) (sym none) ∙ sym split) ∙ bytes-events_of x in (
-      (law.appends.1 ∙ ap length all, law.appends.0 ∙ ap (λ l. buf.items ++ l) all, still ∙ ap Some none),
-      tt,
-    )
+    let (all, none) = all_known x told law.takes law.ends.1 in
+    ((law.appends.1 ∙ ap length all, law.appends.0 ∙ ap (λ l. buf.items ++ l) all, none), tt)
 to_end_known (Err e) x law told = elim law.ends [
-  | inl fault ↦
-      let (after, still, split) = left_of law.takes told in
-      let clean = HasNoFault-front law.taken after (subst HasNoFault split (HasNoFault-events_of x)) in
-      let last = HasNoFault-behind fault.0 (fails e ∷ []) (subst HasNoFault fault.1 clean) in
-      let no : ⊥ = cc (last.0, fault.3) in absurd no
+  | inl fault ↦ absurd (no_fault_known x told law.takes fault)
   | inr refused ↦ (tt, refused.1)
 ]
+
+module _ {X A : Type 0} {R : Reader X} {limit : ℕ} {old new : X} {buf buf' : Vec ℕ A} where
+  -- A `read_at_most` that returned `Ok` took the bytes that it appended, and no fault, and they are within its limit.
+  pub at_most_takes : {n : ℕ} → ReadAtMostLaw R limit old buf (Ok n) buf' new → (x : List ℕ) × TakesBytes (tells R old) x (tells R new)
+      × (buf'.items ≡ buf.items ++ x) × (n ≡ length x) × (n ≤ limit)
+  at_most_takes law = (
+    event_bytes law.taken,
+    record { taken = law.taken; takes = law.takes; no_fault = law.ends.0; are = refl },
+    law.appends.0,
+    law.appends.1,
+    omega (arith, law.appends.1, bytes_within limit law.taken law.within),
+  )
+
+  -- A `read_at_most` of as many bytes appends x, and the rest is to come; or an allocation failed.
+  pub at_most_known : (reply : Result ℕ Error) (x : List ℕ) (rest : List Event) → ReadAtMostLaw R limit old buf reply buf' new
+      → length x ≡ limit → to_come (tells R old) ≡ Some (events_of x ++ rest)
+      → IfOk reply (λ n. (n ≡ length x) × (buf'.items ≡ buf.items ++ x) × (to_come (tells R new) ≡ Some rest))
+      × IfErr reply IsOutOfMemory
+  at_most_known (Ok n) x rest law long told =
+      let few : length (event_bytes law.taken) ≤ length x = omega (arith, long, bytes_within limit law.taken law.within) in
+      let many : length (event_bytes law.taken) ≡ length x =
+      grind (arith, common_steps, few, long, law.ends.1, all_taken, not_too_few x rest told law.taken law.takes) in
+      let (same, behind) =
+      whole_back x rest told law.taken law.takes (subst (λ n. cut n law.taken ≡ law.taken) (sym long) law.within) many in
+      ((law.appends.1 ∙ many, law.appends.0 ∙ ap (λ l. buf.items ++ l) same, behind), tt)
+  at_most_known (Err e) x rest law long told = elim law.ends.1 [
+    | inl fault ↦ absurd (no_fault_before x rest told law.taken law.takes fault (omega (arith, law.ends.0, long)))
+    | inr refused ↦ (tt, refused.1)
+  ]
+
+  -- If fewer bytes than the limit are all that is known to come, it appends them, and nothing is left; or an allocation failed.
+  pub at_most_short : (reply : Result ℕ Error) (x : List ℕ) → ReadAtMostLaw R limit old buf reply buf' new → length x < limit
+      → to_come (tells R old) ≡ Some (events_of x)
+      → IfOk reply (λ n. (n ≡ length x) × (buf'.items ≡ buf.items ++ x) × (to_come (tells R new) ≡ Some []))
+      × IfErr reply IsOutOfMemory
+  at_most_short (Ok n) x law few told =
+      let (all, none) = all_known x told law.takes (law.ends.1 (omega (arith, few, few_known x told law.takes))) in
+      ((law.appends.1 ∙ ap length all, law.appends.0 ∙ ap (λ l. buf.items ++ l) all, none), tt)
+  at_most_short (Err e) x law few told = elim law.ends.1 [
+    | inl fault ↦ absurd (no_fault_known x told law.takes fault)
+    | inr refused ↦ (tt, refused.1)
+  ]
 
 -- A read after a seek.
 

@@ -118,7 +118,7 @@ module _ {T : Type 0} {inner : Reader T} where
   gave_at_limit {t} room low = grind (arith, common_steps)
 
   -- above 0 it is one inner read into as much of the room as the limit allows
-  gave_inner : {old new : Take T} (room : ℕ) (answer : Result (List ℕ) Error) → 0 < limit_left old
+  pub gave_inner : {old new : Take T} (room : ℕ) (answer : Result (List ℕ) Error) → 0 < limit_left old
       → GaveLaw inner (limit_inner old) (min room (limit_left old)) answer (limit_inner new)
       → limit_left new + length (bytes_given answer) ≡ limit_left old → limit_set new ≡ limit_set old
       → GaveLaw (limit_reader inner) old room answer new

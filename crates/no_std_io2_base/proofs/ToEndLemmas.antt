@@ -9,7 +9,7 @@ use Rattle.no_std_io2_base.specs.Read.{ReadLaw, ToEndLaw, ReadToEndLaw}
 use Rattle.no_std_io2_base.specs.{inner.Read.{IsRoom, no_read, GathersUntil, least_room, without_number, FilledLaw}, Calls.{GaveAll}}
 use Rattle.no_std_io2_base.specs.inner.Chain.{chain_first, chain_second, chain_is_done, chain_events, chain_held, by_first, by_both}
 use Rattle.no_std_io2_base.specs.{declared.traits.chain.Chain.{Chain}, inner.Chain.{by_second, ChainMay}, BufRead.{FillBufLaw, AfterLoan}}
-use Rattle.no_std_io2_base.proofs.{CallsLemmas.{by_are, by_then, to_end_then, to_end_own}, TakesLemmas.{bytes-append, HasNoFault-append}}
+use Rattle.no_std_io2_base.proofs.{CallsLemmas.{by_are, to_end_own}, TakesLemmas.{bytes-append, HasNoFault-append}}
 use Rattle.no_std_io2_base.proofs.TakesLemmas.{takes_none, takes_then, takes_still, nothing_read, read_law, EndsInFault-behind}
 use Rattle.no_std_io2_base.proofs.{TakesLemmas.{drains_ended, stays_at_end}, ReadLoops.{ReadsSoFar, reads_none, reads_more, reads_again}}
 use Rattle.no_std_io2_base.proofs.{ReadLoops.{reads_until, written, take-written, take-written_below}, PieceLoops.{filled_law}}
@@ -18,14 +18,15 @@ use Rattle.no_std_io2_base.specs.inner.Read.{DrainsOrStops}
 
 -- What a loop that reads to the end into a vector has done so far, and what it has done at each of its ends.
 
--- the bytes up to `filled` are what was taken
-pub record ToEndSoFar {X A : Type 0} (R : Reader X) (old : X) (buf : Vec ℕ A) (filled : ℕ) (buf' : Vec ℕ A) (now : X) : Type 0 where
+-- the bytes up to `filled` are what was taken, by reads into such room
+pub record ToEndSoFar {X A : Type 0} (asks : ℕ → ℕ → Type 0) (R : Reader X) (old : X) (buf : Vec ℕ A) (filled : ℕ) (buf' : Vec ℕ A)
+    (now : X) : Type 0 where
   pub within : filled ≤ vec_len buf'
   pub capacity : vec_capacity buf ≤ vec_capacity buf'
   pub given : List ℕ
   pub count : filled ≡ vec_len buf + length given
   pub shown : take filled buf'.items ≡ buf.items ++ given
-  pub reads : ReadsSoFar R IsRoom old given now
+  pub reads : ReadsSoFar R asks old given now
   pub open reads use *
 
 -- Zeros were added after the filled bytes, and a read wrote `part` over them.
@@ -43,8 +44,8 @@ part_was_written {filled} {len} {slice} {items} {part} long is room front opened
     grind (arith, common_steps, length-take, length-drop, take-written_below, le_refl, take-written)
 
 -- before the first read nothing is taken
-pub to_end_none : {X A : Type 0} {R : Reader X} {old : X} {buf mid : Vec ℕ A} {start : ℕ} → start ≡ vec_len buf → mid.items ≡ buf.items
-    → vec_len mid ≡ vec_len buf → vec_capacity buf ≤ vec_capacity mid → ToEndSoFar R old buf start mid old
+pub to_end_none : {X A : Type 0} {asks : ℕ → ℕ → Type 0} {R : Reader X} {old : X} {buf mid : Vec ℕ A} {start : ℕ} → start ≡ vec_len buf
+    → mid.items ≡ buf.items → vec_len mid ≡ vec_len buf → vec_capacity buf ≤ vec_capacity mid → ToEndSoFar asks R old buf start mid old
 to_end_none {buf = buf} {mid} {start} is same len grown = record {
   within = omega (arith, is, len);
   capacity = grown;
@@ -98,50 +99,36 @@ module _ {A : Type 0} (buf mid : Vec ℕ A) (P Q : List Event) (first : mid.item
       let more = ap length first ∙ length-append buf.items (event_bytes P) in
       inr (HasNoFault-append P Q free none, refused, omega (arith, why, grown, more, long, buf.ok.0, mid.ok.0))
 
-module _ {X A : Type 0} {R : Reader X} {old now : X} {buf xs : Vec ℕ A} {filled : ℕ} (before : ToEndSoFar R old buf filled xs now) where
+module _ {X A : Type 0} {asks : ℕ → ℕ → Type 0} {R : Reader X} {old now : X} {buf xs : Vec ℕ A} {filled : ℕ}
+    (before : ToEndSoFar asks R old buf filled xs now) where
   -- what was taken was appended
-  given_bytes : {v : List ℕ} → v ≡ take filled xs.items → v ≡ buf.items ++ event_bytes before.taken
+  pub given_bytes : {v : List ℕ} → v ≡ take filled xs.items → v ≡ buf.items ++ event_bytes before.taken
   given_bytes same = same ∙ before.shown ∙ ap (λ l. buf.items ++ l) (sym before.are)
 
-  -- the room was full, and an allocation failed
-  pub to_end_refused : {lacks : ℕ → Type 0} {v : Vec ℕ A} {e : Error} → IsOutOfMemory e → vec_len v ≡ filled
-      → take filled v.items ≡ take filled xs.items → vec_capacity xs ≤ vec_capacity v
-      → ((n : ℕ) → filled ≡ vec_len buf + n → lacks n) → ToEndLaw lacks R old buf (Err e) v now
-  to_end_refused {v = v} refused len front grown why = grind (arith, common_steps)
-
-  -- the room is full, and the reader's own `read_to_end` read on: k bytes in all
-  pub rest_drained : {v : Vec ℕ A} {new : X} (reply : Result ℕ Error) (k : ℕ) → vec_len xs ≤ filled → ReadToEndLaw R now xs reply v new
-      → OnOk reply (k ≡ vec_len v - vec_len buf) → ReadToEndLaw R old buf (recount reply k) v new
-  rest_drained {v} {new} reply k past last is =
-      let P = before.taken in
-      let Q = last.taken in
-      let first = given_bytes (sym (take_all filled xs.items (omega (arith, past, xs.ok.0)))) in
-      let joined : event_bytes (P ++ Q) ≡ before.given ++ event_bytes Q = bytes-append P Q ∙ ap (λ l. l ++ event_bytes Q) before.are in
-      record {
-        taken = P ++ Q;
-        takes = takes_then before.takes last.takes;
-        appends = (both_appended buf xs P Q first v last.appends.0, both_counted buf xs P Q first v last.appends.0 reply k is);
-        ends = both_ended buf xs P Q first reply k _ before.no_fault before.capacity last.ends;
-        capacity = le_trans before.capacity last.capacity;
-        calls = by_then before.reads.made last.calls
-            (λ C D first all. rw (joined, ended_recount reply k) (to_end_then (without_number reply) first all));
-      }
-
-  module _ {new : X} {room part : List ℕ} where
+  module _ {new : X} {room part : List ℕ} (into : asks (length before.given) (length part)) where
     -- a read gave some bytes more
     pub to_end_read : {xs' : Vec ℕ A} {n : ℕ} → ReadLaw R now room (Ok n) part new → (n ≡ 0 → ⊥)
         → PartWritten filled (vec_len xs') xs.items xs'.items part
-        → vec_capacity xs ≤ vec_capacity xs' → ToEndSoFar R old buf (filled + n) xs' new
+        → vec_capacity xs ≤ vec_capacity xs' → ToEndSoFar asks R old buf (filled + n) xs' new
     to_end_read {n = n} read some w grown =
-        let more = reads_more before.reads read some w.some in
+        let more = reads_more before.reads read some into in
         grind (arith, common_steps)
 
     -- a read was interrupted
     pub to_end_interruption : {xs' : Vec ℕ A} {e : Error} → ReadLaw R now room (Err e) part new → IsInterruption e
         → PartWritten filled (vec_len xs') xs.items xs'.items part
-        → vec_capacity xs ≤ vec_capacity xs' → ToEndSoFar R old buf filled xs' new
-    to_end_interruption read interrupted w grown = grind (arith, common_steps, le_trans, reads_again before.reads read interrupted w.some)
+        → vec_capacity xs ≤ vec_capacity xs' → ToEndSoFar asks R old buf filled xs' new
+    to_end_interruption read interrupted w grown = grind (arith, common_steps, le_trans, reads_again before.reads read interrupted into)
 
+module _ {X A : Type 0} {R : Reader X} {old now : X} {buf xs : Vec ℕ A} {filled : ℕ}
+    (before : ToEndSoFar IsRoom R old buf filled xs now) where
+  -- the room was full, and an allocation failed
+  pub to_end_refused : {lacks : ℕ → Type 0} {v : Vec ℕ A} {e : Error} → IsOutOfMemory e → vec_len v ≡ filled
+      → take filled v.items ≡ take filled xs.items → vec_capacity xs ≤ vec_capacity v
+      → ((n : ℕ) → filled ≡ vec_len buf + n → lacks n) → ToEndLaw lacks R old buf (Err e) v now
+  to_end_refused {v = v} refused len front grown why = grind (arith, common_steps, given_bytes before)
+
+  module _ {new : X} {room part : List ℕ} where
     -- a read met the end
     pub to_end_done : {lacks : ℕ → Type 0} {v : Vec ℕ A} {reply : Result ℕ Error} {n start : ℕ} → ReadLaw R now room reply part new
         → reply ≡ Ok n → n ≡ 0 → 0 < length part → v.items ≡ take filled xs.items → vec_capacity xs ≤ vec_capacity v
@@ -151,7 +138,7 @@ module _ {X A : Type 0} {R : Reader X} {old now : X} {buf xs : Vec ℕ A} {fille
         record {
           taken = before.taken;
           takes = takes_still before.takes end.takes;
-          appends = (given_bytes same, omega (arith, from, before.count, ap length before.are));
+          appends = (given_bytes before same, omega (arith, from, before.count, ap length before.are));
           ends = (before.no_fault, end.end refl some);
           capacity = le_trans before.capacity grown;
           calls = by_are (reads_until before.reads end some)
@@ -167,7 +154,7 @@ module _ {X A : Type 0} {R : Reader X} {old now : X} {buf xs : Vec ℕ A} {fille
         record {
           taken = before.taken ++ fails e ∷ [];
           takes = takes_then before.takes read.takes;
-          appends = (given_bytes same ∙ ap (λ l. buf.items ++ l) (sym bare), tt);
+          appends = (given_bytes before same ∙ ap (λ l. buf.items ++ l) (sym bare), tt);
           ends = inl (before.taken, refl, before.no_fault, fault);
           capacity = le_trans before.capacity grown;
           calls = by_are (reads_until before.reads (read_law (Err e) read) some)

@@ -1,10 +1,11 @@
 -- The law of each call of `Read`.
 use Rattle.std.specs.Prelude.{◌≡◌, ℕ, ◌<◌, List, ◌++◌, length, take, Ok, Err, Result, ◌+◌, ◌-◌, ◌≤◌, Vec, vec_len, vec_capacity, IfOk}
-use Rattle.std.specs.Prelude.{IsOk, drop, String, string_len, string_capacity, string_bytes}
+use Rattle.std.specs.Prelude.{IsOk, drop, min, String, string_len, string_capacity, string_bytes}
 use Rattle.no_std_io2_base.specs.{declared.error.Error.{Error}}
 use Rattle.no_std_io2_base.specs.{Events.{Event, events_of, event_bytes, HasNoFault}, inner.Events.{cut, EndsInFault}}
 use Rattle.no_std_io2_base.specs.Takes.{ReaderState, Takes, IsAtEnd, gave_front, Reader, tells, answered}
-use Rattle.no_std_io2_base.specs.inner.Read.{gave_whole, without_number, ExactCalls, FullCalls, ToEndCalls, GaveLaw, FilledLaw}
+use Rattle.no_std_io2_base.specs.inner.Read.{gave_whole, without_number, ExactCalls, FullCalls, ToEndCalls, AtMostCalls, EndsWithin}
+use Rattle.no_std_io2_base.specs.inner.Read.{GaveLaw, FilledLaw}
 use Rattle.no_std_io2_base.specs.{Calls.{ByCalls, ReadCall, Gave, GaveExactly, GaveAll, Filled, Consumed}, inner.Read.{least_room}}
 use Rattle.no_std_io2_base.specs.inner.Lines.{AnswersLine, line_room}
 use Rattle.no_std_io2_base.specs.inner.Read.{FillsOrEnds}
@@ -91,6 +92,25 @@ pub record ToEndLaw {X A : Type 0} (lacks : ℕ → Type 0) (R : Reader X) (old 
 -- `read_to_end(&mut buf)`: an allocation can fail only if buf had no room for the bytes that were taken and 32 more
 abbrev pub ReadToEndLaw : {X A : Type 0} → Reader X → X → Vec ℕ A → Result ℕ Error → Vec ℕ A → X → Type 0
 ReadToEndLaw R old buf = ToEndLaw (λ n. vec_capacity buf < vec_len buf + (n + least_room)) R old buf
+
+-- `read_at_most(&mut r, limit, &mut buf)`
+pub record ReadAtMostLaw {X A : Type 0} (R : Reader X) (limit : ℕ) (old : X) (buf : Vec ℕ A) (reply : Result ℕ Error) (buf' : Vec ℕ A)
+    (new : X) : Type 0 where
+  -- what it takes, which ends with the byte at the limit
+  pub taken : List Event
+  pub takes : Takes (tells R old) taken (tells R new)
+  pub within : cut limit taken ≡ taken
+  -- its bytes are appended, and the result is their number
+  pub appends : (buf'.items ≡ buf.items ++ event_bytes taken) × IfOk reply (λ n. n ≡ length (event_bytes taken))
+  -- these are as many as the limit allows, or all; or a fault came first, or there was no room for 32 more of them and no memory
+  pub ends : EndsWithin limit (vec_capacity buf < vec_len buf + min limit (length (event_bytes taken) + least_room)) taken reply
+      (tells R new)
+  -- the capacity never shrinks
+  pub capacity : vec_capacity buf ≤ vec_capacity buf'
+  -- at limit 0 it makes no call
+  pub none : limit ≡ 0 → IsOk reply × (new ≡ old)
+  -- which calls it made
+  pub calls : ByCalls (ReadCallLaw R) old (λ C. AtMostCalls C limit (event_bytes taken) (without_number reply)) new
 
 -- `read_to_string(alloc, buf)`
 pub record ReadToStringLaw {X A : Type 0} (R : Reader X) (old : X) (buf : String A) (reply : Result ℕ Error) (buf' : String A) (new : X)

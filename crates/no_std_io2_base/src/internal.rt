@@ -4,8 +4,8 @@ ghost use Rattle.no_std_io2_base.specs.Errors.{IsUnexpectedEnd};
 
 use crate::error::{Error, ErrorKind};
 pub use crate::impls::{append_rest, copy_apart, copy_bytes};
+pub use crate::traits::at_most::rest_to_end;
 pub use crate::traits::pieces::{STEP, skip_steps, stands_among};
-pub use crate::traits::room::rest_to_end;
 
 // The errors whose text is the library's own, each made in one place.
 

@@ -2,6 +2,7 @@
 //! [`Read`] and [`BufRead`], which lends what it holds; [`Seek`]; and [`Stored`], the parent of the
 //! last three, which tells contracts the content of a stream. Methods of these traits return the
 //! adaptors [`Chain`], [`Take`], [`Bytes`], [`Split`] and [`Lines`].
+pub(crate) mod at_most;
 mod buf_read;
 mod bytes;
 mod chain;
@@ -17,6 +18,7 @@ mod take;
 mod text;
 mod write;
 
+pub use at_most::read_at_most;
 pub use buf_read::BufRead;
 pub use bytes::Bytes;
 pub use chain::Chain;
@@ -24,7 +26,7 @@ pub use lines::Lines;
 pub use object_text::print_to_object;
 pub(crate) use pieces::find_piece;
 pub use read::Read;
-pub(crate) use room::{LEAST_ROOM, open_room, reserve_first, reserve_room};
+pub(crate) use room::{LEAST_ROOM, reserve_first, reserve_room};
 pub use seek::{Seek, SeekFrom};
 pub use split::Split;
 pub use stored::Stored;

@@ -3,7 +3,7 @@
 use super::calls::{Call, target};
 use super::line::{Line, cut};
 use super::unplayed::Unplayed;
-use no_std_io2::io::{BufRead, Read, Result, Seek, read_exact_at, skip};
+use no_std_io2::io::{BufRead, Read, Result, Seek, read_at_most, read_exact_at, skip};
 use std::alloc::Global;
 
 // Prints the result of a call, a length, and the bytes that it gave.
@@ -67,6 +67,12 @@ fn call_read_into<R: Read>(alloc: Global, r: &mut R, capacity: usize, line: &mut
     }
 }
 
+// Reads at most `limit` bytes into a new vector.
+fn call_read_at_most<R: Read>(alloc: Global, r: &mut R, limit: usize, line: &mut Line) {
+    let mut all = Vec::new(alloc);
+    show_given(&read_at_most(r, limit as u64, &mut all), &all, line);
+}
+
 fn call_fill_buf<R: BufRead>(r: &mut R, line: &mut Line) {
     match r.fill_buf() {
         Ok(lent) => {
@@ -119,14 +125,15 @@ fn call_read_line<R: BufRead>(alloc: Global, r: &mut R, old: &str, line: &mut Li
 }
 
 /// Makes the call of a row on any reader, and prints its result: `read N`, `read_exact N`, `read_full N`,
-/// `read_to_end OLD`, which appends to these bytes, `read_into N`, which reads all into a vector of this capacity, or
-/// `take N`, which reads at most that many bytes through the borrowed reader.
+/// `read_to_end OLD`, which appends to these bytes, `read_into N`, which reads all into a vector of this capacity,
+/// `read_at_most N`, or `take N`, which reads at most that many bytes through the borrowed reader.
 pub fn make_read<R: Read>(alloc: Global, r: &mut R, call: &Call<'_>, line: &mut Line) {
     match call.word {
         "read" => call_read(alloc, r, call.number(line), line),
         "read_exact" => call_read_exact(alloc, r, call.number(line), line),
         "read_full" => call_read_full(alloc, r, call.number(line), line),
         "read_to_end" => call_read_to_end(r, copied(alloc, &call.bytes, line), line),
+        "read_at_most" => call_read_at_most(alloc, r, call.number(line), line),
         "read_into" => call_read_into(alloc, r, call.number(line), line),
         "take" => {
             let mut limited = r.by_ref().take(call.number(line) as u64);

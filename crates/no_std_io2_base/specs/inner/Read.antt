@@ -68,6 +68,16 @@ abbrev pub ToEndCalls : List ReadCall → List ℕ → Result (Unit {0}) Error �
 ToEndCalls C x answer = ((D : List ReadCall) × (y : List ℕ) × (z : List ℕ) × Gathers IsRoom D y × (x ≡ y ++ z)
     × (C ≡ D ++ GaveAll z answer ∷ [])) ⊎ DrainCalls C x answer
 
+-- there is some room, which ends at most `limit` bytes behind the start
+abbrev pub IsRoomWithin : ℕ → ℕ → ℕ → Type 0
+IsRoomWithin limit at room = (0 < room) × (at + room ≤ limit)
+
+-- C are the reads of a `read_at_most` that gave x: up to the limit, the end, a fault, or a failed allocation
+abbrev pub AtMostCalls : List ReadCall → ℕ → List ℕ → Result (Unit {0}) Error → Type 0
+AtMostCalls C limit x (Ok u) = (Gathers (IsRoomWithin limit) C x × (length x ≡ limit)) ⊎ GathersUntil (IsRoomWithin limit) C x (Ok [])
+AtMostCalls C limit x (Err e) = (IsFault e × GathersUntil (IsRoomWithin limit) C x (Err e))
+    ⊎ (IsOutOfMemory e × Gathers (IsRoomWithin limit) C x)
+
 -- the events that a `fill_buf` took: none, or the error that it returned
 abbrev pub fault_of : Result (List ℕ) Error → List Event
 fault_of (Ok x) = []
@@ -93,6 +103,12 @@ FillsOrEnds room P (Err e) new = (length (event_bytes P) < room)
 abbrev pub DrainsOrStops : {A : Type 0} → Type 0 → List Event → Result A Error → ReaderState → Type 0
 DrainsOrStops lacks P (Ok _) new = HasNoFault P × IsAtEnd new
 DrainsOrStops lacks P (Err e) new = EndsInFault P e ⊎ (HasNoFault P × IsOutOfMemory e × lacks)
+
+-- how a `read_at_most` that took P ended: it gave as many bytes as the limit allows, or met the end; or a fault came first, or an
+-- allocation failed, for which `lacks` is a reason
+abbrev pub EndsWithin : ℕ → Type 0 → List Event → Result ℕ Error → ReaderState → Type 0
+EndsWithin limit lacks P (Ok _) new = HasNoFault P × (length (event_bytes P) < limit → IsAtEnd new)
+EndsWithin limit lacks P (Err e) new = (length (event_bytes P) < limit) × DrainsOrStops {A = ℕ} lacks P (Err e) new
 
 -- a `read`, by its answer
 pub record GaveLaw {X : Type 0} (R : Reader X) (old : X) (room : ℕ) (answer : Result (List ℕ) Error) (new : X) : Type 0 where

@@ -8,9 +8,9 @@ ghost use Rattle.no_std_io2_base.specs.inner.Chain.{ChainMay};
 ghost use Rattle.no_std_io2_base.specs.Takes.{tells};
 ghost use Rattle.no_std_io2_base.specs.Read.{ReadToEndLaw, ConsumeLaw};
 
+use super::at_most::rest_to_end;
 use super::buf_read::BufRead;
 use super::read::Read;
-use super::room::rest_to_end;
 use super::stored::Stored;
 use crate::error::Result;
 use std::alloc::Allocator;

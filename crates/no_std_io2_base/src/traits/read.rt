@@ -147,7 +147,7 @@ pub trait Read: Stored {
         let mut filled = start;
         reserve_first(buf, LEAST_ROOM, 0)?;
         'reads: loop {
-            open_room(buf, filled, filled - start, own, LEAST_ROOM)?;
+            open_room(buf, filled, filled - start, own, usize::MAX)?;
             match self.read(&mut buf[filled..]) {
                 Ok(0) => {
                     buf.truncate(filled);

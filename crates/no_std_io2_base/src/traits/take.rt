@@ -13,9 +13,9 @@ ghost use Rattle.no_std_io2_base.specs.Read.{ToEndLaw, ReadToEndLaw, ConsumeLaw}
 
 mod seeking;
 
+use super::at_most::read_at_most;
 use super::buf_read::BufRead;
 use super::read::Read;
-use super::room::{LEAST_ROOM, open_room, reserve_room};
 use super::stored::Stored;
 use crate::error::Result;
 use std::alloc::Allocator;
@@ -101,7 +101,7 @@ impl<T> Take<T> {
     }
 }
 
-fn min_with_limit(n: usize, limit: u64) -> usize
+pub(super) fn min_with_limit(n: usize, limit: u64) -> usize
     ensures { result ≡ min n limit }
 {
     if (n as u64) < limit {
@@ -146,27 +146,9 @@ impl<T: Read> Read for Take<T> {
         ensures at_limit { limit_left self.old ≡ 0 → result ≡ Ok 0 }
     {
         let start = buf.len();
-        let own = buf.capacity();
-        let mut filled = start;
-        reserve_room(buf, min_with_limit(LEAST_ROOM, self.limit), own, 0)?;
-        'reads: while self.limit > 0 {
-            let least = min_with_limit(LEAST_ROOM, self.limit);
-            open_room(buf, filled, filled - start, own, least)?;
-            match self.read(&mut buf[filled..]) {
-                Ok(0) => {
-                    buf.truncate(filled);
-                    return Ok(filled - start);
-                }
-                Ok(n) => filled += n,
-                Err(e) if e.is_interrupted() => {}
-                Err(e) => {
-                    buf.truncate(filled);
-                    return Err(e);
-                }
-            }
-        }
-        buf.truncate(filled);
-        Ok(filled - start)
+        let read = read_at_most(&mut self.inner, self.limit, buf);
+        self.limit -= (buf.len() - start) as u64;
+        read
     }
 }
 
