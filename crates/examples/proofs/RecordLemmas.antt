@@ -14,8 +14,8 @@ use Rattle.no_std_io2.specs.{declared.{io.Error.{Error}, buffered.buf_reader.Buf
 use Rattle.no_std_io2.specs.{inner.Buffer.{HasTo}, BufReader.{FillsTo}, inner.Reads.{GathersTo}, Reads.{Took, Skipped}, Takes.{LosesFirst}}
 use Rattle.no_std_io2.specs.{inner.Read.{FilledLaw}, Read.{ConsumeLaw}}
 use Rattle.examples.specs.{Headers.{LooksAhead, SeesHeader, PeeksAt}, Lengths.{AreRecords, no_record, and_record, IsCutOff, SkipsRecords}}
-use Rattle.examples.specs.Messages.{message}
-use Rattle.std.specs.Int.{w16, to_be_bytes}
+use Rattle.examples.specs.Messages.{message, long_message}
+use Rattle.std.specs.Int.{w16, w32, to_be_bytes}
 
 -- A look at a header: no byte is lost, and it is the next two bytes.
 
@@ -191,7 +191,13 @@ module _ {X : Type 0} {R : Reader X} {old now after : X} (before : RecordsTaken 
           )
 
 -- The parts of a message: the length comes first, and then the payload.
+parts : (len payload : List ℕ) (rest : List Event) → events_of (len ++ payload) ++ rest ≡ events_of len ++ (events_of payload ++ rest)
+parts len payload rest = ap (λ l. l ++ rest) (events_of-append len payload) ∙ append_assoc (events_of len) (events_of payload) rest
+
 pub message_parts : (payload : List ℕ) (rest : List Event)
     → events_of (message payload) ++ rest ≡ events_of (to_be_bytes w16 (length payload)) ++ (events_of payload ++ rest)
-message_parts payload rest = ap (λ l. l ++ rest) (events_of-append (to_be_bytes w16 (length payload)) payload)
-    ∙ append_assoc (events_of (to_be_bytes w16 (length payload))) (events_of payload) rest
+message_parts payload rest = parts (to_be_bytes w16 (length payload)) payload rest
+
+pub long_parts : (payload : List ℕ) (rest : List Event)
+    → events_of (long_message payload) ++ rest ≡ events_of (to_be_bytes w32 (length payload)) ++ (events_of payload ++ rest)
+long_parts payload rest = parts (to_be_bytes w32 (length payload)) payload rest

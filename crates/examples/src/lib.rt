@@ -40,7 +40,7 @@ pub use hex::{Hex, hex_of, write_hex};
 pub use inbox::{Inbox, Source};
 pub use indexed::{entry_of, entry_of_file, read_entry};
 pub use lengths::pass_records;
-pub use messages::read_message;
+pub use messages::{read_long_message, read_message};
 pub use narrow::Narrow;
 use no_std_io2::io::{BufWriter, Result, Write};
 pub use numbered::Numbered;

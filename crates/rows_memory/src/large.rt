@@ -2,8 +2,8 @@
 use crate::outcome::Outcome;
 use crate::texts::front;
 use crate::torn::Torn;
-use examples::read_message;
-use no_std_io2::io::{BufRead, BufReader, Cursor, Read, Write};
+use examples::{read_long_message, read_message};
+use no_std_io2::io::{BufRead, BufReader, Cursor, ErrorKind, Read, Write};
 use std::alloc::Global;
 use std::collections::VecDeque;
 
@@ -107,6 +107,28 @@ pub fn by_read_message(alloc: Global, text: &[u8], len: usize) -> Outcome {
     let mut r = Cursor::new(count.to_be_bytes()).chain(front(text, len));
     match read_message(alloc, &mut r) {
         Ok(payload) => Outcome::Whole.if_right(payload.as_slice() == front(text, len)),
+        Err(e) => Outcome::of_error(&e),
+    }
+}
+
+/// Reads a long message of `len` bytes.
+pub fn by_read_long_message(alloc: Global, text: &[u8], len: usize) -> Outcome {
+    let Ok(count) = u32::try_from(len) else {
+        return Outcome::NoCall;
+    };
+    let mut r = Cursor::new(count.to_be_bytes()).chain(front(text, len));
+    match read_long_message(alloc, &mut r) {
+        Ok(payload) => Outcome::Whole.if_right(payload.as_slice() == front(text, len)),
+        Err(e) => Outcome::of_error(&e),
+    }
+}
+
+/// Reads a long message that says a length of nearly 4 GiB, and of which `len` bytes come: it is too short.
+pub fn by_cut_message(alloc: Global, text: &[u8], len: usize) -> Outcome {
+    let mut r = Cursor::new(u32::MAX.to_be_bytes()).chain(front(text, len));
+    match read_long_message(alloc, &mut r) {
+        Ok(_) => Outcome::OtherBytes,
+        Err(e) if e.kind() == ErrorKind::UnexpectedEof => Outcome::Whole,
         Err(e) => Outcome::of_error(&e),
     }
 }

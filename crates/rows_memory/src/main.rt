@@ -34,6 +34,8 @@ fn play_long(alloc: Global, text: &[u8], word: &str, len: usize) -> Outcome {
         "split" => large::by_split(alloc, text, len),
         "lines" => large::by_lines(alloc, text, len),
         "read_message" => large::by_read_message(alloc, text, len),
+        "read_long_message" => large::by_read_long_message(alloc, text, len),
+        "cut_message" => large::by_cut_message(alloc, text, len),
         _ => Outcome::NoCall,
     }
 }
