@@ -12,6 +12,13 @@ fn add<A: Allocator>(events: &mut Vec<Event, A>, bytes: &[u8]) -> Result<(), Fai
     Ok(())
 }
 
+fn add_zeros<A: Allocator>(events: &mut Vec<Event, A>, count: usize) -> Result<(), Fail> {
+    'zeros: for _ in 0..count {
+        events.push(Event::Byte(0))?;
+    }
+    Ok(())
+}
+
 // Adds the header of a file, whose checksum the caller knows.
 fn add_header<A: Allocator>(
     events: &mut Vec<Event, A>,
@@ -20,16 +27,16 @@ fn add_header<A: Allocator>(
     checksum: &[u8; 6],
 ) -> Result<(), Fail> {
     add(events, name)?;
-    add(events, &[0; 99])?;
+    add_zeros(events, 99)?;
     add(events, b"0000644")?;
-    add(events, &[0; 17])?;
+    add_zeros(events, 17)?;
     add(events, size)?;
     add(events, b"\x0000000000000\0")?;
     add(events, checksum)?;
     add(events, b"\0 0")?;
-    add(events, &[0; 100])?;
+    add_zeros(events, 100)?;
     add(events, b"ustar\x0000")?;
-    add(events, &[0; 247])
+    add_zeros(events, 247)
 }
 
 // Padding that is told to be the rest of a member, and a rest that is lost.
@@ -40,7 +47,7 @@ fn an_archive_keeps_the_rest_of_a_member(rt: HostRuntime) -> Result<(), Fail> {
     add(&mut events, b"x")?;
     events.push(Event::Fail(ErrorKind::WouldBlock))?;
     add(&mut events, b"yz")?;
-    add(&mut events, &[0; 509])?;
+    add_zeros(&mut events, 509)?;
     add_header(&mut events, b"b", b"00000000000", b"004637")?;
     let mut archive = Archive::new(BufReader::<_, 64>::new(Feed::new(events, 512)));
     assert!(rt; archive.next()?.is_some());
@@ -64,7 +71,7 @@ fn an_archive_keeps_the_rest_of_a_member(rt: HostRuntime) -> Result<(), Fail> {
 fn an_archive_asks_for_a_whole_header(rt: HostRuntime) -> Result<(), Fail> {
     let mut events = Vec::new(rt.alloc());
     add_header(&mut events, b"b", b"00000000000", b"004637")?;
-    add(&mut events, &[0; 1024])?;
+    add_zeros(&mut events, 1024)?;
     let device = Tally::new(Feed::new(events, 512));
     let mut archive = Archive::new(BufReader::<_, 64>::new(device));
     let header = archive.next()?.ok_or("no header")?;

@@ -1,5 +1,5 @@
-// The examples in the comments of `framing`, `line_log`, `system_streams` and `io_bench`, a function for each, and those
-// of `IntoInnerError`, over a device of `examples`.
+// The examples in the comments of `framing`, `line_log`, `system_streams` and `io_bench`, and those of `IntoInnerError`,
+// over a device of `examples`: a test for each, which finds an example that is no longer what its call does.
 use examples::{Narrow, checksum_of, entry_of, entry_of_file, grep, head, save, save_summed};
 use framing::{FrameReader, FrameWriter};
 use io_bench::{Act, Event, Faulty, Feed, Op, Reply, joined};
@@ -9,12 +9,12 @@ use no_std_io2::io::{
 };
 use std::fs::remove_file;
 use std::io;
-use std::process::Abort;
 use std::rt::Files;
 use std::test::Fail;
 use system_streams::{Patient, copy_through, create, open};
 
-fn framing(rt: &(impl Abort + AllocGlobal)) -> Result<(), Fail> {
+#[test]
+fn framing(rt: HostRuntime) -> Result<(), Fail> {
     let mut w = FrameWriter::<Vec<u8>, 64>::new(Vec::new(rt.alloc()));
     w.send(b"ab")?;
     w.flush()?;
@@ -27,7 +27,8 @@ fn framing(rt: &(impl Abort + AllocGlobal)) -> Result<(), Fail> {
     Ok(())
 }
 
-fn frame_writer(rt: &(impl Abort + AllocGlobal)) -> Result<(), Fail> {
+#[test]
+fn frame_writer(rt: HostRuntime) -> Result<(), Fail> {
     let payloads = [b"hello".as_slice(), b"ab".as_slice()];
     let mut w = FrameWriter::<Vec<u8>, 64>::new(Vec::new(rt.alloc()));
     let mut rest = payloads.as_slice();
@@ -40,7 +41,8 @@ fn frame_writer(rt: &(impl Abort + AllocGlobal)) -> Result<(), Fail> {
     Ok(())
 }
 
-fn frame_reader(rt: &impl Abort) -> Result<(), Fail> {
+#[test]
+fn frame_reader(rt: HostRuntime) -> Result<(), Fail> {
     let wire = Cursor::new(*b"\x02\0\0\0ab\x01\0\0\0c");
     let mut r = FrameReader::<_, 64>::new(wire);
     let mut room = [0u8; 16];
@@ -52,7 +54,8 @@ fn frame_reader(rt: &impl Abort) -> Result<(), Fail> {
     Ok(())
 }
 
-fn log_lines(rt: &(impl Abort + AllocGlobal)) -> Result<(), Fail> {
+#[test]
+fn log_lines(rt: HostRuntime) -> Result<(), Fail> {
     let mut log = LineLog::<Vec<u8>, 64>::new(Vec::new(rt.alloc()));
     log.log("started")?;
     assert!(rt; log.get_ref().as_slice() == b"started\n".as_slice());
@@ -66,7 +69,8 @@ fn log_lines(rt: &(impl Abort + AllocGlobal)) -> Result<(), Fail> {
     Ok(())
 }
 
-fn fall_behind(rt: &impl Abort) -> Result<(), Fail> {
+#[test]
+fn fall_behind(rt: HostRuntime) -> Result<(), Fail> {
     let mut room = [0u8; 4];
     let mut log = LineLog::<_, 16>::new(Cursor::new(&mut room[..]));
     log.log("started")?; // the device has room for `star` alone
@@ -76,14 +80,16 @@ fn fall_behind(rt: &impl Abort) -> Result<(), Fail> {
     Ok(())
 }
 
-fn copy(rt: &(impl Abort + AllocGlobal)) -> Result<(), Fail> {
+#[test]
+fn copy(rt: HostRuntime) -> Result<(), Fail> {
     let (count, out) = copy_through(&b"abc\nde"[..], Vec::<u8>::new(rt.alloc()), true)?;
     assert!(rt; count == 6);
     assert!(rt; out.as_slice() == b"abc\nde".as_slice());
     Ok(())
 }
 
-fn patient_turns(rt: &impl Abort) -> Result<(), Fail> {
+#[test]
+fn patient_turns(rt: HostRuntime) -> Result<(), Fail> {
     let mut p = Patient::new(&b"abcdef"[..], 3);
     let mut buf = [0u8; 4];
     assert!(rt; p.read(&mut buf)? == 4);
@@ -93,7 +99,8 @@ fn patient_turns(rt: &impl Abort) -> Result<(), Fail> {
     Ok(())
 }
 
-fn patient_get_mut(rt: &impl Abort) -> Result<(), Fail> {
+#[test]
+fn patient_get_mut(rt: HostRuntime) -> Result<(), Fail> {
     let mut p = Patient::new(&b"abcdef"[..], 3);
     p.read(&mut [0u8; 4])?;
     assert!(rt; *p.get_ref() == b"ef".as_slice());
@@ -102,14 +109,17 @@ fn patient_get_mut(rt: &impl Abort) -> Result<(), Fail> {
     Ok(())
 }
 
-fn patient_into_inner(rt: &impl Abort) -> Result<(), Fail> {
+#[test]
+fn patient_into_inner(rt: HostRuntime) -> Result<(), Fail> {
     let mut p = Patient::new(&b"abcdef"[..], 3);
     p.read(&mut [0u8; 4])?;
     assert!(rt; p.into_inner() == b"ef".as_slice());
     Ok(())
 }
 
-fn read_a_file(rt: &(impl Abort + Files)) -> Result<(), Fail> {
+#[test]
+fn read_a_file(rt: HostRuntime) -> Result<(), Fail> {
+    let rt = &rt;
     let mut program = open(rt, "/proc/self/exe")?;
     let mut magic = [0u8; 4];
     read_exact_at(&mut program, SeekFrom::Start(0), &mut magic)?;
@@ -117,14 +127,17 @@ fn read_a_file(rt: &(impl Abort + Files)) -> Result<(), Fail> {
     Ok(())
 }
 
-fn reason_of_a_fault(rt: &(impl Abort + Files)) -> Result<(), Fail> {
+#[test]
+fn reason_of_a_fault(rt: HostRuntime) -> Result<(), Fail> {
+    let rt = &rt;
     let mut folder = open(rt, ".")?;
     let fault = folder.read(&mut [0u8; 4]).err().ok_or("no fault")?; // `device fault`
     assert!(rt; folder.reason(fault).kind() == io::ErrorKind::IsADirectory);
     Ok(())
 }
 
-fn accepted(rt: &(impl Abort + AllocGlobal)) -> Result<(), Fail> {
+#[test]
+fn accepted(rt: HostRuntime) -> Result<(), Fail> {
     let ops = [Op::Write(b"abc"), Op::Flush];
     let replies = [Reply::Took(2), Reply::Done];
     let accepted = joined(rt.alloc(), &ops, &replies)?;
@@ -133,7 +146,8 @@ fn accepted(rt: &(impl Abort + AllocGlobal)) -> Result<(), Fail> {
 }
 
 // The first example of CALLING.md of `no_std_io2`.
-fn saved(rt: &(impl Abort + AllocGlobal)) -> Result<(), Fail> {
+#[test]
+fn saved(rt: HostRuntime) -> Result<(), Fail> {
     let device = save(Vec::new(rt.alloc()), b"a record")?;
     assert!(rt; device.as_slice() == b"a record".as_slice());
     assert!(rt; save(device, b"")?.as_slice() == b"a record".as_slice()); // an empty text is no error
@@ -141,7 +155,8 @@ fn saved(rt: &(impl Abort + AllocGlobal)) -> Result<(), Fail> {
 }
 
 // The example of PROVING.md on objects. The last piece left out, or what stands behind it in the buffer summed too.
-fn checksum(rt: &(impl Abort + AllocGlobal)) -> Result<(), Fail> {
+#[test]
+fn checksum(rt: HostRuntime) -> Result<(), Fail> {
     let mut r = Cursor::new(vec![in rt.alloc(); b'a', b'b', b'c', b'd', b'e']?);
     let mut piece = [0u8; 2];
     assert!(rt; checksum_of(&mut r, &mut piece)? == 495);
@@ -149,7 +164,8 @@ fn checksum(rt: &(impl Abort + AllocGlobal)) -> Result<(), Fail> {
 }
 
 // The loop of PROVING.md over lines. A line too many or too few; the part of a line before a fault, which is lost.
-fn lines_of_a_text(rt: &(impl Abort + AllocGlobal)) -> Result<(), Fail> {
+#[test]
+fn lines_of_a_text(rt: HostRuntime) -> Result<(), Fail> {
     let mut r = Cursor::new(*b"a\nbc\nd");
     let mut out = Vec::<u8>::new(rt.alloc());
     assert!(rt; head(rt.alloc(), &mut r, &mut out, 2)? == 2);
@@ -159,7 +175,8 @@ fn lines_of_a_text(rt: &(impl Abort + AllocGlobal)) -> Result<(), Fail> {
     Ok(())
 }
 
-fn lines_before_a_fault(rt: &(impl Abort + AllocGlobal)) -> Result<(), Fail> {
+#[test]
+fn lines_before_a_fault(rt: HostRuntime) -> Result<(), Fail> {
     let fault = Event::Fail(ErrorKind::WouldBlock);
     let events = vec![in rt.alloc();
         Event::Byte(b'a'),
@@ -175,7 +192,8 @@ fn lines_before_a_fault(rt: &(impl Abort + AllocGlobal)) -> Result<(), Fail> {
 }
 
 // A line too many or too few, or one without the word; the line behind the last one that was wanted.
-fn lines_with_a_word(rt: &(impl Abort + AllocGlobal)) -> Result<(), Fail> {
+#[test]
+fn lines_with_a_word(rt: HostRuntime) -> Result<(), Fail> {
     let mut r = Cursor::new(*b"a key\nkeen\nkey\nno\nkeys");
     let mut out = Vec::<u8>::new(rt.alloc());
     assert!(rt; grep(rt.alloc(), &mut r, &mut out, b"key", 2)? == 2);
@@ -186,7 +204,8 @@ fn lines_with_a_word(rt: &(impl Abort + AllocGlobal)) -> Result<(), Fail> {
     Ok(())
 }
 
-fn failed_into_inner(rt: &(impl Abort + AllocGlobal)) -> Result<(), Fail> {
+#[test]
+fn failed_into_inner(rt: HostRuntime) -> Result<(), Fail> {
     let taken = Vec::new(rt.alloc());
     let mut w = BufWriter::<_, 8>::new(Narrow { taken, most: 0 }); // a device that takes no byte
     w.write_all(b"abc")?;
@@ -200,7 +219,8 @@ fn failed_into_inner(rt: &(impl Abort + AllocGlobal)) -> Result<(), Fail> {
     Ok(())
 }
 
-fn failed_into_parts(rt: &(impl Abort + AllocGlobal)) -> Result<(), Fail> {
+#[test]
+fn failed_into_parts(rt: HostRuntime) -> Result<(), Fail> {
     let taken = Vec::new(rt.alloc());
     let mut w = BufWriter::<_, 8>::new(Narrow { taken, most: 0 }); // a device that takes no byte
     w.write_all(b"abc")?;
@@ -237,7 +257,8 @@ fn refusal_of(rt: &impl Files, i: u32) -> Result<io::ErrorKind, Fail> {
 }
 
 // An entry of a file in memory that is there and is refused, or another one's bytes.
-fn in_memory(rt: &impl Abort) -> Result<(), Fail> {
+#[test]
+fn in_memory(rt: HostRuntime) -> Result<(), Fail> {
     let file = b"onetwosix\0\0\0\0\x03\0\0\0\x06\0\0\0\x09\0\0\0".as_slice();
     let mut entry = [0u8; 3];
     entry_of(file, 0, &mut entry)?;
@@ -254,7 +275,8 @@ fn in_memory(rt: &impl Abort) -> Result<(), Fail> {
 }
 
 // A sum of other bytes than those that the vector got behind its own, or a long text that is refused.
-fn summed(rt: &(impl Abort + AllocGlobal)) -> Result<(), Fail> {
+#[test]
+fn summed(rt: HostRuntime) -> Result<(), Fail> {
     let text = [3u8; 5000];
     let (device, sum) = save_summed(vec![in rt.alloc(); b'a', b'b']?, text.as_slice())?;
     assert!(rt; sum == 15000);
@@ -264,7 +286,9 @@ fn summed(rt: &(impl Abort + AllocGlobal)) -> Result<(), Fail> {
 
 // The example of `indexed` of `examples`, over a file with three entries and their index. An entry of another place;
 // one that is not there, or cut off, taken for one; an error of the system without its kind.
-fn indexed(rt: &(impl Abort + Files)) -> Result<(), Fail> {
+#[test]
+fn indexed(rt: HostRuntime) -> Result<(), Fail> {
+    let rt = &rt;
     let file = b"onetwosix\0\0\0\0\x03\0\0\0\x06\0\0\0\x09\0\0\0".as_slice();
     create(rt, "entries")?.write_all(file)?;
     let mut entry = [0u8; 3];
@@ -277,34 +301,5 @@ fn indexed(rt: &(impl Abort + Files)) -> Result<(), Fail> {
     assert!(rt; refusal_of(rt, 1)? == io::ErrorKind::UnexpectedEof);
     remove_file(rt, "entries")?;
     assert!(rt; refusal_of(rt, 1)? == io::ErrorKind::NotFound);
-    Ok(())
-}
-
-// An example that is no longer what its call does.
-#[test]
-fn each_example(rt: HostRuntime) -> Result<(), Fail> {
-    let rt = &rt;
-    framing(rt)?;
-    frame_writer(rt)?;
-    frame_reader(rt)?;
-    log_lines(rt)?;
-    fall_behind(rt)?;
-    copy(rt)?;
-    patient_turns(rt)?;
-    patient_get_mut(rt)?;
-    patient_into_inner(rt)?;
-    read_a_file(rt)?;
-    reason_of_a_fault(rt)?;
-    accepted(rt)?;
-    failed_into_inner(rt)?;
-    failed_into_parts(rt)?;
-    saved(rt)?;
-    checksum(rt)?;
-    lines_of_a_text(rt)?;
-    lines_before_a_fault(rt)?;
-    lines_with_a_word(rt)?;
-    indexed(rt)?;
-    in_memory(rt)?;
-    summed(rt)?;
     Ok(())
 }

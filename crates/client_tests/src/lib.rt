@@ -1,7 +1,7 @@
 //! Tests of the clients, of devices and of the system's streams: what no clause and no row of a table can show. The
 //! comment above each names the mistake that it would find.
 //!
-//! And the examples in comments of the clients, a function for each, in `clients`. One test plays them.
+//! And the examples in comments of the clients, a test for each, in `clients`.
 #![tactic(auto)]
 
 #[cfg(test)]

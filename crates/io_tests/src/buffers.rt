@@ -1,13 +1,14 @@
-// The examples in the comments of `no_std_io2`, a function for each; those of `IntoInnerError` are in `client_tests`.
+// The examples in the comments of `no_std_io2`, a test for each, which finds an example that is no longer what its call
+// does. Those of `IntoInnerError` are in `client_tests`.
 use no_std_io2::io::{
     BufRead, BufReader, BufWriter, CopyError, Cursor, LineWriter, Read, Seek, SeekFrom, Write,
     copy, copy_lent, copy_sided, copy_with, flush_with_retries, read_exact_at, skip,
     write_with_retries,
 };
-use std::process::Abort;
 use std::test::Fail;
 
-fn buffered_write(rt: &(impl Abort + AllocGlobal)) -> Result<(), Fail> {
+#[test]
+fn buffered_write(rt: HostRuntime) -> Result<(), Fail> {
     let mut w = BufWriter::<Vec<u8>, 8>::new(Vec::new(rt.alloc()));
     w.write_all(b"abc")?;
     w.write_all(b"def")?;
@@ -19,7 +20,8 @@ fn buffered_write(rt: &(impl Abort + AllocGlobal)) -> Result<(), Fail> {
     Ok(())
 }
 
-fn get_mut_of_a_writer(rt: &(impl Abort + AllocGlobal)) -> Result<(), Fail> {
+#[test]
+fn get_mut_of_a_writer(rt: HostRuntime) -> Result<(), Fail> {
     let mut w = BufWriter::<_, 8>::new(Cursor::new(Vec::<u8>::new(rt.alloc())));
     w.write_all(b"abc")?;
     assert!(rt; w.buffer() == b"abc".as_slice());
@@ -29,7 +31,8 @@ fn get_mut_of_a_writer(rt: &(impl Abort + AllocGlobal)) -> Result<(), Fail> {
     Ok(())
 }
 
-fn into_inner(rt: &(impl Abort + AllocGlobal)) -> Result<(), Fail> {
+#[test]
+fn into_inner(rt: HostRuntime) -> Result<(), Fail> {
     let mut w = BufWriter::<Vec<u8>, 8>::new(Vec::new(rt.alloc()));
     assert!(rt; w.capacity() == 8);
     w.write_all(b"abc")?;
@@ -38,7 +41,8 @@ fn into_inner(rt: &(impl Abort + AllocGlobal)) -> Result<(), Fail> {
     Ok(())
 }
 
-fn into_parts(rt: &(impl Abort + AllocGlobal)) -> Result<(), Fail> {
+#[test]
+fn into_parts(rt: HostRuntime) -> Result<(), Fail> {
     let mut w = BufWriter::<Vec<u8>, 8>::new(Vec::new(rt.alloc()));
     w.write_all(b"abc")?;
     let (device, unsent) = w.into_parts();
@@ -47,7 +51,8 @@ fn into_parts(rt: &(impl Abort + AllocGlobal)) -> Result<(), Fail> {
     Ok(())
 }
 
-fn write_whole(rt: &(impl Abort + AllocGlobal)) -> Result<(), Fail> {
+#[test]
+fn write_whole(rt: HostRuntime) -> Result<(), Fail> {
     let mut w = BufWriter::<Vec<u8>, 8>::new(Vec::new(rt.alloc()));
     w.write_whole(b"abc", b"def")?;
     w.write_whole(b"gh", b"i")?; // does not fit beside them: they are sent first
@@ -60,7 +65,8 @@ fn write_whole(rt: &(impl Abort + AllocGlobal)) -> Result<(), Fail> {
     Ok(())
 }
 
-fn line_by_line(rt: &(impl Abort + AllocGlobal)) -> Result<(), Fail> {
+#[test]
+fn line_by_line(rt: HostRuntime) -> Result<(), Fail> {
     let mut w = LineWriter::<Vec<u8>, 16>::new(Vec::new(rt.alloc()));
     w.write_all(b"one\ntw")?;
     assert!(rt; w.get_ref().as_slice() == b"one\n".as_slice());
@@ -70,7 +76,8 @@ fn line_by_line(rt: &(impl Abort + AllocGlobal)) -> Result<(), Fail> {
     Ok(())
 }
 
-fn get_mut_of_a_line_writer(rt: &(impl Abort + AllocGlobal)) -> Result<(), Fail> {
+#[test]
+fn get_mut_of_a_line_writer(rt: HostRuntime) -> Result<(), Fail> {
     let mut w = LineWriter::<Vec<u8>, 16>::new(Vec::new(rt.alloc()));
     w.write_all(b"one\ntw")?;
     w.get_mut().clear(); // forgets `one\n`; `tw` is still held
@@ -79,7 +86,8 @@ fn get_mut_of_a_line_writer(rt: &(impl Abort + AllocGlobal)) -> Result<(), Fail>
     Ok(())
 }
 
-fn buffered_read(rt: &impl Abort) -> Result<(), Fail> {
+#[test]
+fn buffered_read(rt: HostRuntime) -> Result<(), Fail> {
     let mut r = BufReader::<_, 4>::new(Cursor::new(*b"abcdefgh"));
     let mut two = [0u8; 2];
     r.read_exact(&mut two)?; // one inner read, of four bytes
@@ -90,7 +98,8 @@ fn buffered_read(rt: &impl Abort) -> Result<(), Fail> {
     Ok(())
 }
 
-fn get_mut_of_a_reader(rt: &impl Abort) -> Result<(), Fail> {
+#[test]
+fn get_mut_of_a_reader(rt: HostRuntime) -> Result<(), Fail> {
     let mut r = BufReader::<_, 4>::new(Cursor::new(*b"abcdefgh"));
     assert!(rt; r.capacity() == 4);
     r.read_exact(&mut [0u8; 2])?;
@@ -100,7 +109,8 @@ fn get_mut_of_a_reader(rt: &impl Abort) -> Result<(), Fail> {
     Ok(())
 }
 
-fn into_inner_of_a_reader(rt: &impl Abort) -> Result<(), Fail> {
+#[test]
+fn into_inner_of_a_reader(rt: HostRuntime) -> Result<(), Fail> {
     let mut r = BufReader::<_, 4>::new(Cursor::new(*b"abcdefgh"));
     r.read_exact(&mut [0u8; 2])?;
     let inner = r.into_inner(); // `cd`, which was held, is lost
@@ -108,7 +118,8 @@ fn into_inner_of_a_reader(rt: &impl Abort) -> Result<(), Fail> {
     Ok(())
 }
 
-fn position(rt: &impl Abort) -> Result<(), Fail> {
+#[test]
+fn position(rt: HostRuntime) -> Result<(), Fail> {
     let mut r = BufReader::<_, 4>::new(Cursor::new(*b"abcdefgh"));
     r.read_exact(&mut [0u8; 3])?;
     assert!(rt; r.position()? == 3);
@@ -116,7 +127,8 @@ fn position(rt: &impl Abort) -> Result<(), Fail> {
     Ok(())
 }
 
-fn fill_to(rt: &impl Abort) -> Result<(), Fail> {
+#[test]
+fn fill_to(rt: HostRuntime) -> Result<(), Fail> {
     let mut r = BufReader::<_, 4>::new(Cursor::new(*b"abcde"));
     assert!(rt; r.fill_to(2)?);
     assert!(rt; r.buffer() == b"abcd".as_slice()); // one inner read, of four bytes
@@ -126,7 +138,8 @@ fn fill_to(rt: &impl Abort) -> Result<(), Fail> {
     Ok(())
 }
 
-fn copied(rt: &(impl Abort + AllocGlobal)) -> Result<(), Fail> {
+#[test]
+fn copied(rt: HostRuntime) -> Result<(), Fail> {
     let mut from = Cursor::new(*b"abcde");
     let mut to = Vec::<u8>::new(rt.alloc());
     assert!(rt; copy::<_, _, 64>(&mut from, &mut to)? == 5);
@@ -134,7 +147,8 @@ fn copied(rt: &(impl Abort + AllocGlobal)) -> Result<(), Fail> {
     Ok(())
 }
 
-fn skipped(rt: &impl Abort) -> Result<(), Fail> {
+#[test]
+fn skipped(rt: HostRuntime) -> Result<(), Fail> {
     let mut r = Cursor::new(*b"abcde");
     skip(&mut r, &mut 3)?;
     assert!(rt; r.fill_buf()? == b"de".as_slice());
@@ -144,14 +158,16 @@ fn skipped(rt: &impl Abort) -> Result<(), Fail> {
     Ok(())
 }
 
-fn copy_to_a_full_writer(rt: &impl Abort) {
+#[test]
+fn copy_to_a_full_writer(rt: HostRuntime) {
     let mut from = Cursor::new(*b"abcde");
     let mut full = Cursor::new([0u8; 2]);
     let side = copy_sided::<_, _, 64>(&mut from, &mut full);
     assert!(rt; matches!(side, Err(CopyError::Write(_)))); // two of the five bytes fit
 }
 
-fn copy_in_a_room(rt: &(impl Abort + AllocGlobal)) -> Result<(), Fail> {
+#[test]
+fn copy_in_a_room(rt: HostRuntime) -> Result<(), Fail> {
     let mut room = [0u8; 64];
     let mut device = Vec::<u8>::new(rt.alloc());
     copy_with(&mut Cursor::new(*b"abc"), &mut device, &mut room)?;
@@ -160,7 +176,8 @@ fn copy_in_a_room(rt: &(impl Abort + AllocGlobal)) -> Result<(), Fail> {
     Ok(())
 }
 
-fn copy_what_is_lent(rt: &(impl Abort + AllocGlobal)) -> Result<(), Fail> {
+#[test]
+fn copy_what_is_lent(rt: HostRuntime) -> Result<(), Fail> {
     let mut from = Cursor::new(*b"abcde");
     let mut to = Vec::<u8>::new(rt.alloc());
     assert!(rt; copy_lent(&mut from, &mut to)? == 5);
@@ -168,7 +185,8 @@ fn copy_what_is_lent(rt: &(impl Abort + AllocGlobal)) -> Result<(), Fail> {
     Ok(())
 }
 
-fn write_retried(rt: &(impl Abort + AllocGlobal)) -> Result<(), Fail> {
+#[test]
+fn write_retried(rt: HostRuntime) -> Result<(), Fail> {
     let mut w = BufWriter::<Vec<u8>, 64>::new(Vec::new(rt.alloc()));
     let mut rest = b"abc".as_slice();
     write_with_retries(&mut w, &mut rest, 3)?; // tries again after each of the first three faults
@@ -176,7 +194,8 @@ fn write_retried(rt: &(impl Abort + AllocGlobal)) -> Result<(), Fail> {
     Ok(())
 }
 
-fn flush_retried(rt: &(impl Abort + AllocGlobal)) -> Result<(), Fail> {
+#[test]
+fn flush_retried(rt: HostRuntime) -> Result<(), Fail> {
     let mut w = BufWriter::<Vec<u8>, 64>::new(Vec::new(rt.alloc()));
     w.write_all(b"abc")?;
     flush_with_retries(&mut w, 3)?; // tries again after each of the first three faults
@@ -184,37 +203,11 @@ fn flush_retried(rt: &(impl Abort + AllocGlobal)) -> Result<(), Fail> {
     Ok(())
 }
 
-fn read_at(rt: &impl Abort) -> Result<(), Fail> {
+#[test]
+fn read_at(rt: HostRuntime) -> Result<(), Fail> {
     let mut r = Cursor::new(*b"abcdef");
     let mut buf = [0u8; 2];
     read_exact_at(&mut r, SeekFrom::End(-3), &mut buf)?;
     assert!(rt; buf == *b"de");
-    Ok(())
-}
-
-// An example that is no longer what its call does.
-#[test]
-fn each_example(rt: HostRuntime) -> Result<(), Fail> {
-    let rt = &rt;
-    buffered_write(rt)?;
-    get_mut_of_a_writer(rt)?;
-    into_inner(rt)?;
-    into_parts(rt)?;
-    write_whole(rt)?;
-    line_by_line(rt)?;
-    get_mut_of_a_line_writer(rt)?;
-    buffered_read(rt)?;
-    get_mut_of_a_reader(rt)?;
-    into_inner_of_a_reader(rt)?;
-    position(rt)?;
-    fill_to(rt)?;
-    copied(rt)?;
-    skipped(rt)?;
-    copy_to_a_full_writer(rt);
-    copy_in_a_room(rt)?;
-    copy_what_is_lent(rt)?;
-    write_retried(rt)?;
-    flush_retried(rt)?;
-    read_at(rt)?;
     Ok(())
 }

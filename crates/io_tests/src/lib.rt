@@ -1,8 +1,8 @@
 //! Tests of what no clause and no row of a table can show: printed texts, kinds as keys. The comment above each names
 //! the mistake that it would find. Those of clients, devices and files are in `client_tests`.
 //!
-//! And the examples in comments of the library, a function for each, in `base`, `readers` and `buffers`. One test in each
-//! of these files plays its functions.
+//! And the examples in comments of the library, a test for each, in `base`, `readers` and `buffers`. Each takes the runtime
+//! itself: a function that is generic over its handle, as `rt: &impl Abort`, takes a third longer to prove.
 #![tactic(auto)]
 
 #[cfg(test)]

@@ -1,9 +1,10 @@
-// The examples in the comments of `no_std_io2_base` on readers, a function for each.
-use no_std_io2::io::{AsSlice, BufRead, Cursor, Read, Seek, SeekFrom};
-use std::process::Abort;
+// The examples in the comments of `no_std_io2_base` on readers, a test for each, which finds an example that is no longer
+// what its call does.
+use no_std_io2::io::{AsSlice, BufRead, Cursor, Read, Seek, SeekFrom, read_at_most};
 use std::test::Fail;
 
-fn read_some(rt: &impl Abort) -> Result<(), Fail> {
+#[test]
+fn read_some(rt: HostRuntime) -> Result<(), Fail> {
     let mut r = Cursor::new(*b"abc");
     let mut buf = [0u8; 2];
     assert!(rt; r.read(&mut buf)? == 2); // `ab`
@@ -12,7 +13,8 @@ fn read_some(rt: &impl Abort) -> Result<(), Fail> {
     Ok(())
 }
 
-fn read_exact(rt: &impl Abort) -> Result<(), Fail> {
+#[test]
+fn read_exact(rt: HostRuntime) -> Result<(), Fail> {
     let mut r = Cursor::new(*b"abcde");
     let mut header = [0u8; 4];
     r.read_exact(&mut header)?;
@@ -21,7 +23,8 @@ fn read_exact(rt: &impl Abort) -> Result<(), Fail> {
     Ok(())
 }
 
-fn read_full(rt: &impl Abort) -> Result<(), Fail> {
+#[test]
+fn read_full(rt: HostRuntime) -> Result<(), Fail> {
     let mut r = Cursor::new(*b"abcde");
     let mut buf = [0u8; 8];
     let mut filled = 0;
@@ -30,7 +33,8 @@ fn read_full(rt: &impl Abort) -> Result<(), Fail> {
     Ok(())
 }
 
-fn read_to_end(rt: &(impl Abort + AllocGlobal)) -> Result<(), Fail> {
+#[test]
+fn read_to_end(rt: HostRuntime) -> Result<(), Fail> {
     let mut r = Cursor::new(*b"abcde");
     let mut content = Vec::<u8>::new(rt.alloc());
     assert!(rt; r.read_to_end(&mut content)? == 5);
@@ -38,7 +42,8 @@ fn read_to_end(rt: &(impl Abort + AllocGlobal)) -> Result<(), Fail> {
     Ok(())
 }
 
-fn reader_by_ref(rt: &(impl Abort + AllocGlobal)) -> Result<(), Fail> {
+#[test]
+fn reader_by_ref(rt: HostRuntime) -> Result<(), Fail> {
     let mut r = Cursor::new(*b"abcde");
     let mut head = Vec::<u8>::new(rt.alloc());
     Read::by_ref(&mut r).take(2).read_to_end(&mut head)?;
@@ -46,14 +51,26 @@ fn reader_by_ref(rt: &(impl Abort + AllocGlobal)) -> Result<(), Fail> {
     Ok(())
 }
 
-fn take_some(rt: &(impl Abort + AllocGlobal)) -> Result<(), Fail> {
+#[test]
+fn at_most(rt: HostRuntime) -> Result<(), Fail> {
+    let mut r = Cursor::new(*b"abcde");
+    let mut head = Vec::<u8>::new(rt.alloc());
+    assert!(rt; read_at_most(&mut r, 2, &mut head)? == 2);
+    assert!(rt; head.as_slice() == b"ab".as_slice());
+    assert!(rt; r.position() == 2); // `r` continues after `ab`
+    Ok(())
+}
+
+#[test]
+fn take_some(rt: HostRuntime) -> Result<(), Fail> {
     let mut r = Cursor::new(*b"abcde").take(2);
     let mut content = Vec::<u8>::new(rt.alloc());
     assert!(rt; r.read_to_end(&mut content)? == 2);
     Ok(())
 }
 
-fn read_to_string(rt: &(impl Abort + AllocGlobal)) -> Result<(), Fail> {
+#[test]
+fn read_to_string(rt: HostRuntime) -> Result<(), Fail> {
     let mut r = Cursor::new(*b"abc");
     let mut text = String::new(rt.alloc());
     assert!(rt; r.read_to_string(rt.alloc(), &mut text)? == 3);
@@ -61,7 +78,8 @@ fn read_to_string(rt: &(impl Abort + AllocGlobal)) -> Result<(), Fail> {
     Ok(())
 }
 
-fn bytes(rt: &(impl Abort + AllocGlobal)) -> Result<(), Fail> {
+#[test]
+fn bytes(rt: HostRuntime) -> Result<(), Fail> {
     let mut content = Vec::<u8>::new(rt.alloc());
     'bytes: for byte in Cursor::new(*b"abc").bytes() {
         content.push(byte?)?;
@@ -70,7 +88,8 @@ fn bytes(rt: &(impl Abort + AllocGlobal)) -> Result<(), Fail> {
     Ok(())
 }
 
-fn chain(rt: &(impl Abort + AllocGlobal)) -> Result<(), Fail> {
+#[test]
+fn chain(rt: HostRuntime) -> Result<(), Fail> {
     let mut r = Cursor::new(*b"ab").chain(Cursor::new(*b"cd"));
     let mut content = Vec::<u8>::new(rt.alloc());
     r.read_to_end(&mut content)?;
@@ -78,7 +97,8 @@ fn chain(rt: &(impl Abort + AllocGlobal)) -> Result<(), Fail> {
     Ok(())
 }
 
-fn chain_get_mut(rt: &(impl Abort + AllocGlobal)) -> Result<(), Fail> {
+#[test]
+fn chain_get_mut(rt: HostRuntime) -> Result<(), Fail> {
     let mut r = Cursor::new(*b"ab").chain(Cursor::new(*b"cd"));
     let (_, second) = r.get_mut();
     second.set_position(1); // without its `c`
@@ -87,7 +107,8 @@ fn chain_get_mut(rt: &(impl Abort + AllocGlobal)) -> Result<(), Fail> {
     Ok(())
 }
 
-fn chain_get_ref(rt: &impl Abort) -> Result<(), Fail> {
+#[test]
+fn chain_get_ref(rt: HostRuntime) -> Result<(), Fail> {
     let mut r = Cursor::new(*b"ab").chain(Cursor::new(*b"cd"));
     let mut three = [0u8; 3];
     r.read_exact(&mut three)?;
@@ -98,7 +119,8 @@ fn chain_get_ref(rt: &impl Abort) -> Result<(), Fail> {
     Ok(())
 }
 
-fn take_set_limit(rt: &impl Abort) -> Result<(), Fail> {
+#[test]
+fn take_set_limit(rt: HostRuntime) -> Result<(), Fail> {
     let mut r = Cursor::new(*b"abcde").take(2);
     let mut two = [0u8; 2];
     r.read_exact(&mut two)?;
@@ -109,7 +131,8 @@ fn take_set_limit(rt: &impl Abort) -> Result<(), Fail> {
     Ok(())
 }
 
-fn take_get_mut(rt: &impl Abort) -> Result<(), Fail> {
+#[test]
+fn take_get_mut(rt: HostRuntime) -> Result<(), Fail> {
     let mut r = Cursor::new(*b"abcde").take(2);
     let mut two = [0u8; 2];
     r.read_exact(&mut two)?;
@@ -121,7 +144,8 @@ fn take_get_mut(rt: &impl Abort) -> Result<(), Fail> {
     Ok(())
 }
 
-fn take_seek(rt: &impl Abort) -> Result<(), Fail> {
+#[test]
+fn take_seek(rt: HostRuntime) -> Result<(), Fail> {
     let mut r = Cursor::new(*b"-abc-").take(4);
     r.seek_relative(1)?;
     let mut two = [0u8; 2];
@@ -132,7 +156,8 @@ fn take_seek(rt: &impl Abort) -> Result<(), Fail> {
     Ok(())
 }
 
-fn fill_buf(rt: &impl Abort) -> Result<(), Fail> {
+#[test]
+fn fill_buf(rt: HostRuntime) -> Result<(), Fail> {
     let mut r = Cursor::new(*b"abc");
     assert!(rt; r.fill_buf()? == b"abc".as_slice());
     r.consume(1);
@@ -140,7 +165,8 @@ fn fill_buf(rt: &impl Abort) -> Result<(), Fail> {
     Ok(())
 }
 
-fn read_until(rt: &(impl Abort + AllocGlobal)) -> Result<(), Fail> {
+#[test]
+fn read_until(rt: HostRuntime) -> Result<(), Fail> {
     let mut r = Cursor::new(*b"key=value");
     let mut key = Vec::<u8>::new(rt.alloc());
     assert!(rt; r.read_until(b'=', &mut key)? == 4);
@@ -148,14 +174,16 @@ fn read_until(rt: &(impl Abort + AllocGlobal)) -> Result<(), Fail> {
     Ok(())
 }
 
-fn skip_until(rt: &impl Abort) -> Result<(), Fail> {
+#[test]
+fn skip_until(rt: HostRuntime) -> Result<(), Fail> {
     let mut r = Cursor::new(*b"key=value");
     assert!(rt; r.skip_until(b'=')? == 4);
     assert!(rt; r.fill_buf()? == b"value".as_slice());
     Ok(())
 }
 
-fn read_line(rt: &(impl Abort + AllocGlobal)) -> Result<(), Fail> {
+#[test]
+fn read_line(rt: HostRuntime) -> Result<(), Fail> {
     let mut r = Cursor::new(*b"one\ntwo");
     let mut line = String::new(rt.alloc());
     assert!(rt; r.read_line(rt.alloc(), &mut line)? == 4);
@@ -165,7 +193,8 @@ fn read_line(rt: &(impl Abort + AllocGlobal)) -> Result<(), Fail> {
     Ok(())
 }
 
-fn split(rt: &(impl Abort + AllocGlobal)) -> Result<(), Fail> {
+#[test]
+fn split(rt: HostRuntime) -> Result<(), Fail> {
     let mut lens = Vec::<usize>::new(rt.alloc());
     'pieces: for piece in Cursor::new(*b"ab,,c").split(rt.alloc(), b',') {
         lens.push(piece?.len())?;
@@ -174,38 +203,12 @@ fn split(rt: &(impl Abort + AllocGlobal)) -> Result<(), Fail> {
     Ok(())
 }
 
-fn lines(rt: &(impl Abort + AllocGlobal)) -> Result<(), Fail> {
+#[test]
+fn lines(rt: HostRuntime) -> Result<(), Fail> {
     let mut text = String::new(rt.alloc());
     'lines: for line in Cursor::new(*b"one\r\ntwo\n").lines(rt.alloc()) {
         text.push_str(line?.as_str())?;
     }
     assert!(rt; text.as_str() == "onetwo");
-    Ok(())
-}
-
-// An example that is no longer what its call does.
-#[test]
-fn each_example(rt: HostRuntime) -> Result<(), Fail> {
-    let rt = &rt;
-    read_some(rt)?;
-    read_exact(rt)?;
-    read_full(rt)?;
-    read_to_end(rt)?;
-    reader_by_ref(rt)?;
-    take_some(rt)?;
-    read_to_string(rt)?;
-    bytes(rt)?;
-    chain(rt)?;
-    chain_get_mut(rt)?;
-    chain_get_ref(rt)?;
-    take_set_limit(rt)?;
-    take_get_mut(rt)?;
-    take_seek(rt)?;
-    fill_buf(rt)?;
-    read_until(rt)?;
-    skip_until(rt)?;
-    read_line(rt)?;
-    split(rt)?;
-    lines(rt)?;
     Ok(())
 }
