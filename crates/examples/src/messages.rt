@@ -30,8 +30,8 @@ pub fn read_message<R: Read>(alloc: Global, r: &mut R) -> Result<Vec<u8>>
     Ok(payload)
 }
 
-/// Reads a long message, whose length is a `u32`, and returns its payload. Nobody has checked this length, so it costs
-/// no memory: the payload grows with the bytes that come, each time for 32 more at least, if the message has so many.
+/// Reads a long message, whose length is a `u32`, and returns its payload. Nobody has checked this length, so the
+/// memory follows the bytes that come: the payload grows by 32 at least, or by what the message still lacks.
 ///
 /// # Errors
 /// Returns the error of a `read_u32` that fails, and the reader's first fault in the payload; the reader is then right

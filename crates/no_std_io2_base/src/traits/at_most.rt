@@ -9,9 +9,9 @@ use std::alloc::Allocator;
 
 /// Appends at most `limit` of the bytes that `reader` has left to `buf`, and returns their number. If they are fewer
 /// than `limit`, the reader is at its end. It ignores interruptions. This is what `read_to_end` of `reader.take(limit)`
-/// does, for a reader that the caller keeps. Before its first read, and whenever no room is left, it makes room for 32
-/// bytes, or for as many as may still come if these are fewer; a vector that grows again doubles. So a length that
-/// nobody has checked costs no memory. At limit 0 it makes no call. Rust's std has no such call.
+/// does, for a reader that the caller keeps. Before its first read, and whenever no room is left, it makes room for at
+/// least 32 bytes, or for as many as may still come if these are fewer; the vector grows as in `read_to_end`. So the
+/// memory follows the bytes that come, and not `limit`. At limit 0 it makes no call. Rust's std has no such call.
 ///
 /// # Errors
 /// Returns the first fault that comes before the last of these bytes; the reader is then right after it. Returns
