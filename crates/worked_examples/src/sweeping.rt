@@ -2,12 +2,15 @@
 // calls and in three ways.
 //
 // A row is `sweep`; then the number of runs, or the first run that breaks a law.
+ghost use Rattle.no_std_io2.specs.BufWriter.{BufWriterFits};
+ghost use Rattle.no_std_io2.specs.LineWriter.{LineWriterFits};
+
 use crate::devices::Device;
 use crate::writing::show_replies;
 use io_bench::{Act, Faulty, Op, Reply, joined, run_writes};
 use no_std_io2::io::{BufWriter, ErrorKind, LineWriter, Write};
 use rows_play::calls::Call;
-use rows_play::line::{Line, cut_last};
+use rows_play::line::{Line, cut, cut_last};
 use rows_play::player::{Player, Stream};
 use rows_play::unplayed::{Played, Unplayed};
 use std::alloc::Global;
@@ -145,6 +148,26 @@ fn is_lawful<W: Seen>(alloc: Global, tower: &mut W, line: &mut Line) -> bool {
     false
 }
 
+// Makes a run on a tower whose upper level is of this kind. It is proved once for all towers below.
+fn is_lawful_level<W: Seen + Drop, const S: usize>(
+    alloc: Global,
+    kind: &str,
+    below: W,
+    line: &mut Line,
+) -> bool
+    requires buffer { BufWriterFits W.row S }
+    requires lines { LineWriterFits W.row S }
+{
+    match kind {
+        "BufWriter" => is_lawful(alloc, &mut BufWriter::<W, S>::new(below), line),
+        "LineWriter" => is_lawful(alloc, &mut LineWriter::<W, S>::new(below), line),
+        _ => {
+            line.tell(Unplayed::NoStream);
+            false
+        }
+    }
+}
+
 // Makes a run on a tower with buffers of S bytes.
 fn is_lawful_kind<const S: usize>(
     alloc: Global,
@@ -155,37 +178,12 @@ fn is_lawful_kind<const S: usize>(
     if S >= 1 << 32 {
         return false;
     }
-    match kind {
-        "BufWriter" => is_lawful(alloc, &mut BufWriter::<Device, S>::new(device), line),
-        "LineWriter" => is_lawful(alloc, &mut LineWriter::<Device, S>::new(device), line),
-        _ => is_lawful_above::<S>(alloc, kind, BufWriter::<Device, S>::new(device), line),
-    }
-}
-
-// Makes a run on a tower of two levels.
-fn is_lawful_above<const S: usize>(
-    alloc: Global,
-    kind: &str,
-    inner: BufWriter<Device, S>,
-    line: &mut Line,
-) -> bool {
-    if S >= 1 << 32 {
-        return false;
-    }
-    match kind {
-        "BufWriter BufWriter" => {
-            is_lawful(
-                alloc,
-                &mut BufWriter::<BufWriter<Device, S>, S>::new(inner),
-                line,
-            )
-        }
-        "LineWriter BufWriter" => {
-            is_lawful(
-                alloc,
-                &mut LineWriter::<BufWriter<Device, S>, S>::new(inner),
-                line,
-            )
+    let (kind, below) = cut(kind, " ");
+    match below {
+        "" => is_lawful_level::<_, S>(alloc, kind, device, line),
+        "BufWriter" => {
+            let below = BufWriter::<Device, S>::new(device);
+            is_lawful_level::<_, S>(alloc, kind, below, line)
         }
         _ => {
             line.tell(Unplayed::NoStream);

@@ -1,5 +1,6 @@
 // The writers of the examples.
 ghost use Rattle.no_std_io2.specs.BufWriter.{BufWriterFits};
+ghost use Rattle.no_std_io2.specs.LineWriter.{LineWriterFits};
 
 use crate::devices::{Device, new_device, parse_acts};
 use crate::shown::{Shown, show_bytes};
@@ -57,12 +58,32 @@ pub fn lend(name: &str, words: &str, player: &mut Player<'_, '_>) -> Played<()> 
     }
 }
 
+// Plays the rows on a buffer over a device. Like [`play_lines`], it is proved once for all devices and sizes.
+fn play_buffer<W: Write + Shown + Drop, const S: usize>(
+    device: W,
+    player: &mut Player<'_, '_>,
+) -> Played<()>
+    requires { BufWriterFits W.row S }
+{
+    play_unwrapping(BufWriter::<W, S>::new(device), player)
+}
+
+// Plays the rows on a buffer of lines over a device.
+fn play_lines<W: Write + Shown + Drop, const S: usize>(
+    device: W,
+    player: &mut Player<'_, '_>,
+) -> Played<()>
+    requires { LineWriterFits W.row S }
+{
+    play(LineWriter::<W, S>::new(device), player)
+}
+
 fn lend_vector(level: &str, player: &mut Player<'_, '_>) -> Played<()> {
     let vector = Vec::<u8>::new(player.alloc);
     match level {
         "" => play(vector, player),
-        "BufWriter 8" => play_unwrapping(BufWriter::<Vec<u8>, 8>::new(vector), player),
-        "LineWriter 64" => play(LineWriter::<Vec<u8>, 64>::new(vector), player),
+        "BufWriter 8" => play_buffer::<_, 8>(vector, player),
+        "LineWriter 64" => play_lines::<_, 64>(vector, player),
         _ => Err(Unplayed::NoStream),
     }
 }
@@ -71,11 +92,11 @@ fn lend_faulty(level: &str, words: &str, player: &mut Player<'_, '_>) -> Played<
     let device = new_device(player.alloc, words)?;
     match level {
         "" => play(device, player),
-        "BufWriter 8" => play_unwrapping(BufWriter::<Device, 8>::new(device), player),
-        "LineWriter 0" => play(LineWriter::<Device, 0>::new(device), player),
-        "LineWriter 1" => play(LineWriter::<Device, 1>::new(device), player),
-        "LineWriter 4" => play(LineWriter::<Device, 4>::new(device), player),
-        "LineWriter 8" => play(LineWriter::<Device, 8>::new(device), player),
+        "BufWriter 8" => play_buffer::<_, 8>(device, player),
+        "LineWriter 0" => play_lines::<_, 0>(device, player),
+        "LineWriter 1" => play_lines::<_, 1>(device, player),
+        "LineWriter 4" => play_lines::<_, 4>(device, player),
+        "LineWriter 8" => play_lines::<_, 8>(device, player),
         "LineWriter 8 BufWriter 8 Box dyn" => lend_boxed(device, player),
         _ => Err(Unplayed::NoStream),
     }
@@ -83,18 +104,17 @@ fn lend_faulty(level: &str, words: &str, player: &mut Player<'_, '_>) -> Played<
 
 fn lend_boxed(device: Device, player: &mut Player<'_, '_>) -> Played<()> {
     let object: Object = Box::new(player.alloc, device)?;
-    let below = BufWriter::<Object, 8>::new(object);
-    play(LineWriter::<BufWriter<Object, 8>, 8>::new(below), player)
+    play_lines::<_, 8>(BufWriter::<Object, 8>::new(object), player)
 }
 
 fn lend_sink(level: &str, player: &mut Player<'_, '_>) -> Played<()> {
     let tally = Tally::new(Sink::new());
     match level {
-        "BufWriter 0 Tally" => play(BufWriter::<Tally<Sink>, 0>::new(tally), player),
-        "LineWriter 4 Tally" => play(LineWriter::<Tally<Sink>, 4>::new(tally), player),
+        "BufWriter 0 Tally" => play_buffer::<_, 0>(tally, player),
+        "LineWriter 4 Tally" => play_lines::<_, 4>(tally, player),
         "LineWriter 8 Box dyn" => {
             let object: Object = Box::new(player.alloc, Sink::new())?;
-            play(LineWriter::<Object, 8>::new(object), player)
+            play_lines::<_, 8>(object, player)
         }
         _ => Err(Unplayed::NoStream),
     }
@@ -140,11 +160,12 @@ fn write_and_drop<W: Write + Drop>(device: W, call: &Call<'_>, line: &mut Line)
 
 impl<'a> Stream for Lending<'a> {
     fn play(&mut self, alloc: Global, call: &Call<'_>, line: &mut Line) {
-        match (self.name, parse_acts(alloc, self.words)) {
-            ("BufWriter 8 &mut Vec", _) => write_and_drop(&mut self.vector, call, line),
-            ("BufWriter 8 Faulty &mut Vec", Ok(acts)) => {
-                write_and_drop(Faulty::new(&mut self.vector, acts), call, line);
-            }
+        match self.name {
+            "BufWriter 8 &mut Vec" => write_and_drop(&mut self.vector, call, line),
+            "BufWriter 8 Faulty &mut Vec" => match parse_acts(alloc, self.words) {
+                Ok(acts) => write_and_drop(Faulty::new(&mut self.vector, acts), call, line),
+                Err(_) => line.tell(Unplayed::NoStream),
+            },
             _ => line.tell(Unplayed::NoStream),
         }
         show_bytes("vector ", &self.vector, line);
