@@ -4,7 +4,7 @@
 ghost use Rattle.std.specs.Prelude.{⊤};
 
 use crate::writing::{ops_of, parse_calls, show_replies};
-use io_bench::{Op, Reply, Tally, run_closed};
+use io_bench::{Op, Tally, run_closed};
 use no_std_io2::io::{Result, Sink, Write};
 use rows_play::calls::Call;
 use rows_play::line::Line;
@@ -64,12 +64,31 @@ fn most_writes(calls: &[Call<'_>], size: u64) -> u64 {
     sent.wrapping_mul(2).wrapping_add(flushes).wrapping_add(1)
 }
 
-// Makes a run over a sink, and returns the number of its inner writes.
-fn count<const S: usize>(ops: &[Op<'_>], replies: &mut Vec<Reply>) -> Result<u64> {
+// Makes a run over a sink, prints its replies, and returns the number of its inner writes.
+fn show_run<const S: usize>(alloc: Global, ops: &[Op<'_>], line: &mut Line) -> u64 {
     if S == 0 || S >= 1 << 32 {
-        return Ok(0);
+        return 0;
     }
-    Ok(run_closed::<Sink, S>(Tally::new(Sink::new()), ops, replies)?.writes())
+    let mut replies = Vec::new(alloc);
+    let writes = match run_closed::<Sink, S>(Tally::new(Sink::new()), ops, &mut replies) {
+        Ok(tally) => tally.writes(),
+        Err(_refused) => {
+            line.cut();
+            0
+        }
+    };
+    show_replies(&replies, line);
+    line.column();
+    writes
+}
+
+fn show_notes(device: &Lengths, is_all: bool, line: &mut Line) {
+    let notes = if is_all {
+        &device.calls
+    } else {
+        &device.lengths
+    };
+    line.text(notes.as_str());
 }
 
 // Makes the same run over a sink that notes its calls, and prints the lengths of its writes, or all calls.
@@ -83,8 +102,7 @@ fn show_calls<const S: usize>(alloc: Global, ops: &[Op<'_>], is_all: bool, line:
         calls: Line::new(alloc),
     };
     match run_closed::<Lengths, S>(Tally::new(device), ops, &mut Vec::new(alloc)) {
-        Ok(tally) if is_all => line.text(tally.get_ref().calls.as_str()),
-        Ok(tally) => line.text(tally.get_ref().lengths.as_str()),
+        Ok(tally) => show_notes(tally.get_ref(), is_all, line),
         Err(_refused) => line.cut(),
     }
 }
@@ -97,19 +115,12 @@ impl<const S: usize> Stream for Closing<S> {
     fn play(&mut self, alloc: Global, call: &Call<'_>, line: &mut Line) {
         let calls = parse_calls(alloc, call.rest, line);
         let ops = ops_of(alloc, &calls, line);
-        let mut replies = Vec::new(alloc);
-        match count::<S>(&ops, &mut replies) {
-            Ok(writes) => {
-                show_replies(&replies, line);
-                line.column();
-                if call.word == "calls" {
-                    show_calls::<S>(alloc, &ops, true, line);
-                    return;
-                }
-                line.number(writes);
-            }
-            Err(_refused) => line.cut(),
+        let writes = show_run::<S>(alloc, &ops, line);
+        if call.word == "calls" {
+            show_calls::<S>(alloc, &ops, true, line);
+            return;
         }
+        line.number(writes);
         line.word(" writes of ");
         show_calls::<S>(alloc, &ops, false, line);
         line.word(", at most ");
