@@ -38,12 +38,6 @@ impl<R: Levels> Levels for Box<R> {
     }
 }
 
-impl<'a, R: Levels> Levels for &'a mut R {
-    fn show(&self, columns: Columns, line: &mut Line) {
-        R::show(self, columns, line);
-    }
-}
-
 // The bytes that are left.
 impl<'a> Levels for &'a [u8] {
     fn show(&self, _columns: Columns, line: &mut Line) {
