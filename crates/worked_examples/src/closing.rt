@@ -82,6 +82,7 @@ fn show_run<const S: usize>(alloc: Global, ops: &[Op<'_>], line: &mut Line) -> u
     writes
 }
 
+// Prints the lengths of the writes that a sink noted, or all calls.
 fn show_notes(device: &Lengths, is_all: bool, line: &mut Line) {
     let notes = if is_all {
         &device.calls

@@ -58,8 +58,8 @@ pub fn lend(name: &str, words: &str, player: &mut Player<'_, '_>) -> Played<()> 
     }
 }
 
-// Plays the rows on a buffer over a device. Like [`play_lines`], it is proved once for all devices and sizes.
-fn play_buffer<W: Write + Shown + Drop, const S: usize>(
+// Plays the rows on a `BufWriter` over a device. Like [`play_line_writer`], it is proved once for all devices and sizes.
+fn play_buf_writer<W: Write + Shown + Drop, const S: usize>(
     device: W,
     player: &mut Player<'_, '_>,
 ) -> Played<()>
@@ -68,8 +68,8 @@ fn play_buffer<W: Write + Shown + Drop, const S: usize>(
     play_unwrapping(BufWriter::<W, S>::new(device), player)
 }
 
-// Plays the rows on a buffer of lines over a device.
-fn play_lines<W: Write + Shown + Drop, const S: usize>(
+// Plays the rows on a `LineWriter` over a device.
+fn play_line_writer<W: Write + Shown + Drop, const S: usize>(
     device: W,
     player: &mut Player<'_, '_>,
 ) -> Played<()>
@@ -82,8 +82,8 @@ fn lend_vector(level: &str, player: &mut Player<'_, '_>) -> Played<()> {
     let vector = Vec::<u8>::new(player.alloc);
     match level {
         "" => play(vector, player),
-        "BufWriter 8" => play_buffer::<_, 8>(vector, player),
-        "LineWriter 64" => play_lines::<_, 64>(vector, player),
+        "BufWriter 8" => play_buf_writer::<_, 8>(vector, player),
+        "LineWriter 64" => play_line_writer::<_, 64>(vector, player),
         _ => Err(Unplayed::NoStream),
     }
 }
@@ -92,11 +92,11 @@ fn lend_faulty(level: &str, words: &str, player: &mut Player<'_, '_>) -> Played<
     let device = new_device(player.alloc, words)?;
     match level {
         "" => play(device, player),
-        "BufWriter 8" => play_buffer::<_, 8>(device, player),
-        "LineWriter 0" => play_lines::<_, 0>(device, player),
-        "LineWriter 1" => play_lines::<_, 1>(device, player),
-        "LineWriter 4" => play_lines::<_, 4>(device, player),
-        "LineWriter 8" => play_lines::<_, 8>(device, player),
+        "BufWriter 8" => play_buf_writer::<_, 8>(device, player),
+        "LineWriter 0" => play_line_writer::<_, 0>(device, player),
+        "LineWriter 1" => play_line_writer::<_, 1>(device, player),
+        "LineWriter 4" => play_line_writer::<_, 4>(device, player),
+        "LineWriter 8" => play_line_writer::<_, 8>(device, player),
         "LineWriter 8 BufWriter 8 Box dyn" => lend_boxed(device, player),
         _ => Err(Unplayed::NoStream),
     }
@@ -104,17 +104,17 @@ fn lend_faulty(level: &str, words: &str, player: &mut Player<'_, '_>) -> Played<
 
 fn lend_boxed(device: Device, player: &mut Player<'_, '_>) -> Played<()> {
     let object: Object = Box::new(player.alloc, device)?;
-    play_lines::<_, 8>(BufWriter::<Object, 8>::new(object), player)
+    play_line_writer::<_, 8>(BufWriter::<Object, 8>::new(object), player)
 }
 
 fn lend_sink(level: &str, player: &mut Player<'_, '_>) -> Played<()> {
     let tally = Tally::new(Sink::new());
     match level {
-        "BufWriter 0 Tally" => play_buffer::<_, 0>(tally, player),
-        "LineWriter 4 Tally" => play_lines::<_, 4>(tally, player),
+        "BufWriter 0 Tally" => play_buf_writer::<_, 0>(tally, player),
+        "LineWriter 4 Tally" => play_line_writer::<_, 4>(tally, player),
         "LineWriter 8 Box dyn" => {
             let object: Object = Box::new(player.alloc, Sink::new())?;
-            play_lines::<_, 8>(object, player)
+            play_line_writer::<_, 8>(object, player)
         }
         _ => Err(Unplayed::NoStream),
     }
