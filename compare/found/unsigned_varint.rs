@@ -1,0 +1,13 @@
+//! Bugs of `unsigned-varint` 0.5.1.
+#[path = "device.rs"]
+mod device;
+
+use device::Once;
+use std::io::ErrorKind;
+use unsigned_varint::{decode, io::read_u64};
+
+fn main() {
+    println!("varint-1 {:?}", decode::u8(&[0x80, 0x02]).map(|it| it.0).ok());
+    let mut device = Once::of(&[0xac, 0x02], 1, ErrorKind::Interrupted);
+    println!("varint-2 {:?}, {:?}", read_u64(&mut device).ok(), read_u64(&mut device).ok());
+}
