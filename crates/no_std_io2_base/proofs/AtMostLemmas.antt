@@ -1,109 +1,100 @@
 -- Reads of at most so many bytes into a vector, and what a read to the end is by them.
-use Rattle.std.proofs.{Common.{◌≡◌, ℕ, ◌+◌, ◌-◌, ◌<◌, ◌≤◌, min, List, [], ◌∷◌, ◌++◌, Result, Ok, Err, length}}
-use Rattle.std.proofs.Common.{take, refl, sym, ap, subst, ◌∙◌, arith, le_trans, Vec, vec_len, vec_capacity, inl, inr, append_assoc}
+use Rattle.std.proofs.{Common.{◌≡◌, ℕ, ◌+◌, ◌-◌, ◌<◌, ◌≤◌, min, List, ◌++◌, Result, Ok, Err, length}}
+use Rattle.std.proofs.Common.{take, refl, sym, ◌∙◌, arith, le_trans, Vec, vec_len, vec_capacity, inl, inr}
 use Rattle.std.proofs.Common.{append-nil}
 use Rattle.std.proofs.Common.{take_all, OnOk, length-append, length-take-le}
 use Rattle.no_std_io2_base.specs.{declared.error.Error.{Error}, Errors.{IsInterruption, IsFault, IsOutOfMemory}}
-use Rattle.no_std_io2_base.specs.{Events.{fails, event_bytes}, Calls.{ReadCall}, Takes.{Reader, tells}}
+use Rattle.no_std_io2_base.specs.{Events.{event_bytes}, Calls.{ReadCall}, Takes.{Reader, tells}}
 use Rattle.no_std_io2_base.specs.Read.{ReadLaw, ReadAtMostLaw, ReadToEndLaw}
-use Rattle.no_std_io2_base.specs.inner.Read.{IsRoom, IsRoomWithin, Gathers, no_read, and_gave, and_again, GathersUntil, Gives, least_room}
+use Rattle.no_std_io2_base.specs.inner.Read.{IsRoom, IsRoomWithin, Gathers, no_read, and_gave, and_again, GathersUntil, least_room}
 use Rattle.no_std_io2_base.specs.inner.Read.{AtMostCalls, ToEndCalls, DrainsOrStops, without_number}
+use Rattle.no_std_io2_base.specs.{inner.Reads.{Reads}, inner.Read.{EndsWithin}}
 use Rattle.no_std_io2_base.proofs.CallsLemmas.{by_are, by_then, to_end_then}
-use Rattle.no_std_io2_base.proofs.ReadLoops.{reads_until, reads_more, reads_again, some_bytes, reads_none}
-use Rattle.no_std_io2_base.proofs.TakesLemmas.{bytes_more, bytes_still, bytes-append, takes_then, takes_still, nothing_read, read_law}
-use Rattle.no_std_io2_base.proofs.TakesLemmas.{gives_none, gives_bytes, gives_still, cut-append, cut-error, takes_none, cut-none}
-use Rattle.no_std_io2_base.proofs.ToEndLemmas.{ToEndSoFar, PartWritten, given_bytes, both_appended, both_counted, both_ended, recount}
-use Rattle.no_std_io2_base.proofs.ToEndLemmas.{ended_recount}
+use Rattle.no_std_io2_base.proofs.TakesLemmas.{bytes-append, takes_then, nothing_read, read_law}
+use Rattle.no_std_io2_base.proofs.ReadsLemmas.{Reads-none, Reads-end, Reads-fault, Reads-took, Reads-nothing, TookBy}
+use Rattle.no_std_io2_base.proofs.ToEndLemmas.{ToEndSoFar, PartWritten, to_end_none, to_end_read, to_end_interruption}
+use Rattle.no_std_io2_base.proofs.ToEndLemmas.{both_appended, both_counted, both_ended, recount, ended_recount}
+use Rattle.std.proofs.{lemmas.Grind.{common_steps}, Common.{Bool, true, false, IsOk, IsErrAnd, IfOk, ◌⊎◌}}
 
--- The bytes up to `filled` are what was taken, `left` more may be, and the vector has room for no more than these.
+-- The bytes up to `filled` are what was given, `left` more may be, and the vector has room for no more than these.
 pub record AtMostSoFar {X A : Type 0} (R : Reader X) (limit : ℕ) (old : X) (buf : Vec ℕ A) (filled left : ℕ) (buf' : Vec ℕ A) (now : X)
     : Type 0 where
   pub so_far : ToEndSoFar (IsRoomWithin limit) R old buf filled buf' now
   pub open so_far use *
   pub falls : left + length given ≡ limit
   pub fits : vec_len buf' ≤ filled + left
-  pub gives : Gives limit taken given
-  pub untouched : limit ≡ 0 → now ≡ old
 
 -- before the first read nothing is taken
 pub at_most_none : {X A : Type 0} {R : Reader X} {limit : ℕ} {old : X} {buf mid : Vec ℕ A} {start : ℕ} → start ≡ vec_len buf
     → mid.items ≡ buf.items → vec_len mid ≡ vec_len buf → vec_capacity buf ≤ vec_capacity mid
     → AtMostSoFar R limit old buf start limit mid old
-unfolding reads_none
-at_most_none {limit = limit} {buf = buf} {mid} {start} is same len grown = record {
-  so_far = record {
-    within = omega (arith, is, len);
-    capacity = grown;
-    given = [];
-    count = omega (arith, is);
-    shown = take_all start mid.items (omega (arith, is, len, mid.ok.0)) ∙ same ∙ sym (append-nil buf.items);
-    reads = reads_none _;
-  };
-  falls = omega arith;
-  fits = omega (arith, is, len);
-  gives = gives_none limit;
-  untouched = λ none. refl;
-}
+unfolding to_end_none
+at_most_none is same len grown =
+    record { so_far = to_end_none is same len grown; falls = omega arith; fits = omega (arith, is, len) }
+
+-- how a `read_at_most` that gave x answers, by how its reads ended
+abbrev AtMostAnswers : ℕ → Type 0 → List ℕ → Result Bool Error → Result ℕ Error → Type 0
+AtMostAnswers limit lacks x (Ok true) reply =
+    (IsOk reply × (length x ≡ limit)) ⊎ (IsErrAnd reply IsOutOfMemory × (length x < limit) × lacks)
+AtMostAnswers limit lacks x (Ok false) reply = IsOk reply × (length x < limit)
+AtMostAnswers limit lacks x (Err e) reply = (reply ≡ Err e) × (length x < limit)
+
+-- a `read_at_most`, by its reads
+at_most_law : {X A : Type 0} {R : Reader X} {limit : ℕ} {old new : X} {buf v : Vec ℕ A} {x : List ℕ} (how : Result Bool Error)
+    (reply : Result ℕ Error) → Reads R (IsRoomWithin limit) old x how new
+    → AtMostAnswers limit (vec_capacity buf < vec_len buf + min limit (length x + least_room)) x how reply → IfOk reply (λ n. n ≡ length x)
+    → v.items ≡ buf.items ++ x → vec_capacity buf ≤ vec_capacity v → ReadAtMostLaw R limit old buf reply v new
+at_most_law {R = R} {limit} {old} {new} {buf} {x = x} how reply reads says count shown grown =
+    let t = Reads-took (λ at room into. into.0) how reads in
+    record {
+      taken = t.taken;
+      takes = t.takes;
+      within = (t.within limit (λ at room into. into.1)).0;
+      appends = (rw t.are shown, rw t.are count);
+      ends = ended _ how reply t (rw t.are says);
+      capacity = grown;
+      none = λ is. none _ is how reply says (Reads-nothing (λ at room into. omega (arith, into.0, into.1, is)) how reads);
+      calls = record { calls = reads.calls; made = reads.made; are = rw t.are (made _ how reply reads says) };
+    }
+  where
+    ended : (l : Type 0) {x : List ℕ} (how : Result Bool Error) (reply : Result ℕ Error)
+        (t : TookBy (IsRoomWithin limit) (tells R old) x how (tells R new)) → AtMostAnswers limit l (event_bytes t.taken) how reply
+        → EndsWithin limit l t.taken reply (tells R new)
+    ended l how reply t says = grind (arith, common_steps)
+
+    none : (l : Type 0) → limit ≡ 0 → (how : Result Bool Error) (reply : Result ℕ Error) → AtMostAnswers limit l x how reply
+        → (how ≡ Ok true) × (new ≡ old) → IsOk reply × (new ≡ old)
+    none l is how reply says same = grind (arith, common_steps)
+
+    made : (l : Type 0) (how : Result Bool Error) (reply : Result ℕ Error) (r : Reads R (IsRoomWithin limit) old x how new)
+        → AtMostAnswers limit l x how reply → AtMostCalls r.calls limit x (without_number reply)
+    made l how reply r says = let are = r.are in let fault = r.fault in grind (arith, common_steps)
 
 -- there was no room for the first read, and an allocation failed
 pub at_most_no_room : {X A : Type 0} {R : Reader X} {limit : ℕ} {old : X} {buf mid : Vec ℕ A} {e : Error} → IsOutOfMemory e
     → mid.items ≡ buf.items → vec_capacity buf ≤ vec_capacity mid → vec_capacity buf < vec_len buf + min limit least_room
     → vec_len buf ≤ vec_capacity buf → ReadAtMostLaw R limit old buf (Err e) mid old
-at_most_no_room {limit = limit} {buf = buf} refused same grown why within =
-    let some : 0 < limit = omega (arith, why, within) in
-    record {
-      taken = [];
-      takes = takes_none _;
-      within = cut-none limit;
-      appends = (same ∙ sym (append-nil buf.items), tt);
-      ends = (some, inr (tt, refused, why));
-      capacity = grown;
-      none = λ is. absurd (omega (arith, is, some));
-      calls = record { calls = []; made = refl; are = inr (refused, no_read) };
-    }
+at_most_no_room {old = old} {buf} {e = e} refused same grown why within =
+    at_most_law (Ok true) (Err e) (Reads-none old) (inr (refused, omega (arith, why, within), why)) tt
+    (same ∙ sym (append-nil buf.items)) grown
 
 module _ {X A : Type 0} {R : Reader X} {limit : ℕ} {old now : X} {buf xs : Vec ℕ A} {filled left : ℕ}
     (before : AtMostSoFar R limit old buf filled left xs now) where
-  given_before : {v : List ℕ} → v ≡ take filled xs.items → v ≡ buf.items ++ event_bytes before.taken
-  given_before same = given_bytes before.so_far same
-
-  counted : (start : ℕ) → start ≡ vec_len buf → filled - start ≡ length (event_bytes before.taken)
-  counted start from = omega (arith, from, before.count, ap length before.are)
-
   -- the limit was reached
   pub at_most_full : {v : Vec ℕ A} {start : ℕ} → left ≡ 0 → v.items ≡ take filled xs.items → vec_capacity xs ≤ vec_capacity v
       → start ≡ vec_len buf → ReadAtMostLaw R limit old buf (Ok (filled - start)) v now
-  at_most_full {start = start} full same grown from =
-      let whole : length before.given ≡ limit = omega (arith, full, before.falls) in
-      record {
-        taken = before.taken;
-        takes = before.takes;
-        within = before.gives.within;
-        appends = (given_before same, counted start from);
-        ends = (before.no_fault, λ less. absurd (omega (arith, less, whole, ap length before.are)));
-        capacity = le_trans before.capacity grown;
-        none = λ is. (refl, before.untouched is);
-        calls = by_are before.reads.made (λ C gathers.
-            inl (subst (Gathers (IsRoomWithin limit) C) (sym before.are) gathers, ap length before.are ∙ whole));
-      }
+  at_most_full full same grown from = at_most_law (Ok true) (Ok _) before.reads (inl (refl, omega (arith, full, before.falls)))
+      (omega (arith, from, before.count)) (same ∙ before.shown) (le_trans before.capacity grown)
 
   -- the room was full, and an allocation failed
   pub at_most_refused : {v : Vec ℕ A} {e : Error} → IsOutOfMemory e → vec_len v ≡ filled → take filled v.items ≡ take filled xs.items
       → vec_capacity xs ≤ vec_capacity v → vec_capacity xs ≡ filled → 0 < left → ReadAtMostLaw R limit old buf (Err e) v now
-  at_most_refused {v} refused len front grown full more = record {
-    taken = before.taken;
-    takes = before.takes;
-    within = before.gives.within;
-    appends = (given_before (sym (take_all filled v.items (omega (arith, len, v.ok.0))) ∙ front), tt);
-    ends = (
-      omega (arith, more, before.falls, ap length before.are),
-      inr (before.no_fault, refused, omega (arith, full, before.capacity, before.count, before.falls, more, ap length before.are)),
-    );
-    capacity = le_trans before.capacity grown;
-    none = λ is. absurd (omega (arith, is, more, before.falls));
-    calls = by_are before.reads.made (λ C gathers.
-        inr (refused, subst (Gathers (IsRoomWithin limit) C) (sym before.are) gathers));
-  }
+  at_most_refused {v} {e} refused len front grown full more =
+      at_most_law (Ok true) (Err e) before.reads (inr (
+        refused,
+        omega (arith, more, before.falls),
+        omega (arith, full, before.capacity, before.count, before.falls, more),
+      )) tt (sym (take_all filled v.items (omega (arith, len, v.ok.0))) ∙ front ∙ before.shown) (le_trans before.capacity grown)
 
   -- a read was made into room that ends within the limit
   into : {len : ℕ} {items part : List ℕ} → PartWritten filled len xs.items items part → len ≤ filled + left
@@ -116,88 +107,38 @@ module _ {X A : Type 0} {R : Reader X} {limit : ℕ} {old now : X} {buf xs : Vec
     pub at_most_done : {v : Vec ℕ A} {reply : Result ℕ Error} {n start : ℕ} → ReadLaw R now room reply part new
         → reply ≡ Ok n → n ≡ 0 → v.items ≡ take filled xs.items → vec_capacity xs ≤ vec_capacity v
         → start ≡ vec_len buf → ReadAtMostLaw R limit old buf (Ok (filled - start)) v new
-    at_most_done {start = start} read is zero same grown from =
-        let end = nothing_read read is zero in
+    at_most_done read is zero same grown from =
         let inside = into w most in
-        record {
-          taken = before.taken;
-          takes = takes_still before.takes end.takes;
-          within = before.gives.within;
-          appends = (given_before same, counted start from);
-          ends = (before.no_fault, λ less. end.end refl w.some);
-          capacity = le_trans before.capacity grown;
-          none = λ is. absurd (omega (arith, is, inside.0, inside.1));
-          calls = by_are (reads_until before.reads end inside)
-              (λ C until. inr (subst (λ x. GathersUntil (IsRoomWithin limit) C x (Ok [])) (sym before.are) until));
-        }
+        at_most_law (Ok false) (Ok _) (Reads-end before.reads inside (nothing_read read is zero))
+        (refl, omega (arith, inside.0, inside.1)) (omega (arith, from, before.count)) (same ∙ before.shown) (le_trans before.capacity grown)
 
     -- a read met a fault
     pub at_most_fault : {v : Vec ℕ A} {e : Error} → ReadLaw R now room (Err e) part new → IsFault e
         → v.items ≡ take filled xs.items → vec_capacity xs ≤ vec_capacity v → ReadAtMostLaw R limit old buf (Err e) v new
     at_most_fault {e = e} read fault same grown =
-        let bare : event_bytes (before.taken ++ fails e ∷ []) ≡ event_bytes before.taken =
-        bytes-append before.taken (fails e ∷ []) ∙ append-nil (event_bytes before.taken) in
         let inside = into w most in
-        let short : length before.given < limit = omega (arith, inside.0, inside.1) in
-        record {
-          taken = before.taken ++ fails e ∷ [];
-          takes = takes_then before.takes read.takes;
-          within = cut-append before.taken (fails e ∷ []) limit (limit - length before.given) (omega (arith, short))
-              (omega (arith, short, ap length before.are))
-              ∙ ap (λ l. before.taken ++ l) (cut-error (limit - length before.given) e (omega (arith, short)));
-          appends = (given_before same ∙ ap (λ l. buf.items ++ l) (sym bare), tt);
-          ends = (omega (arith, short, ap length bare, ap length before.are), inl (before.taken, refl, before.no_fault, fault));
-          capacity = le_trans before.capacity grown;
-          none = λ is. absurd (omega (arith, is, short));
-          calls = by_are (reads_until before.reads (read_law (Err e) read) inside)
-              (λ C until. inl (fault, subst (λ x. GathersUntil (IsRoomWithin limit) C x (Err e)) (sym (bare ∙ before.are)) until));
-        }
+        at_most_law (Err e) (Err e) (Reads-fault before.reads inside (read_law (Err e) read) fault)
+        (refl, omega (arith, inside.0, inside.1)) tt (same ∙ before.shown) (le_trans before.capacity grown)
 
   module _ {new : X} {room part : List ℕ} {xs' : Vec ℕ A} (w : PartWritten filled (vec_len xs') xs.items xs'.items part)
       (most : vec_len xs' ≤ filled + left) (grown : vec_capacity xs ≤ vec_capacity xs') where
     -- a read gave some bytes more
     pub at_most_read : {n : ℕ} → ReadLaw R now room (Ok n) part new → (n ≡ 0 → ⊥)
         → AtMostSoFar R limit old buf (filled + n) (left - n) xs' new
-    unfolding reads_more bytes_more
-    at_most_read {n} read some =
-        let gave = length-take-le n part read.bound in
-        let inside = into w most in
-        record {
-          so_far = record {
-            within = omega (arith, w.fits, read.bound);
-            capacity = le_trans before.capacity grown;
-            given = before.given ++ take n part;
-            count = omega (arith, before.count, gave, length-append before.given (take n part));
-            shown = w.shown n read.bound ∙ ap (λ l. l ++ take n part) before.shown ∙ append_assoc buf.items before.given (take n part);
-            reads = reads_more before.reads read some inside;
-          };
-          falls = omega (arith, before.falls, gave, length-append before.given (take n part), w.fits, most, read.bound);
-          fits = omega (arith, most, w.fits, read.bound);
-          gives = gives_bytes (take n part) before.gives (omega (arith, inside.1, gave, read.bound))
-              (omega (arith, gave, some_bytes n some));
-          untouched = λ is. absurd (omega (arith, is, inside.0, inside.1));
-        }
+    unfolding to_end_read
+    at_most_read {n} read some = record {
+      so_far = to_end_read before.so_far (into w most) read some w grown;
+      falls =
+          omega (arith, before.falls, length-take-le n part read.bound, length-append before.given (take n part), w.fits, most, read.bound);
+      fits = omega (arith, most, w.fits, read.bound);
+    }
 
     -- a read was interrupted
     pub at_most_interruption : {e : Error} → ReadLaw R now room (Err e) part new → IsInterruption e
         → AtMostSoFar R limit old buf filled left xs' new
-    unfolding reads_again bytes_still
-    at_most_interruption {e} read interrupted =
-        let inside = into w most in
-        record {
-          so_far = record {
-            within = omega (arith, w.fits);
-            capacity = le_trans before.capacity grown;
-            given = before.given;
-            count = before.count;
-            shown = w.kept ∙ before.shown;
-            reads = reads_again before.reads read interrupted inside;
-          };
-          falls = before.falls;
-          fits = most;
-          gives = gives_still e before.gives (omega (arith, inside.0, inside.1)) interrupted;
-          untouched = λ is. absurd (omega (arith, is, inside.0, inside.1));
-        }
+    unfolding to_end_interruption
+    at_most_interruption {e} read again =
+        record { so_far = to_end_interruption before.so_far (into w most) read again w grown; falls = before.falls; fits = most }
 
 -- What a read to the end is by such a read.
 

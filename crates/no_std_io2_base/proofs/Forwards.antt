@@ -331,13 +331,3 @@ boxed_position w y codes = row_back (cursor-row boxed) (λ (c : Cursor (BoxedSli
 -- an array of n bytes
 abbrev pub array : ℕ → RattleType
 array n = Array u8 tt n
-
--- the bytes of a cursor over an array
-pub array_back : (n : ℕ) (w y : Cursor (List ℕ)) → (cursor-row (array n)).coded.code w ≡ (cursor-row (array n)).coded.code y
-    → y.inner ≡ w.inner
-array_back n w y codes = row_back (cursor-row (array n)) (λ (c : Cursor (List ℕ)). c.inner) w y codes
-
--- and its position
-pub array_position : (n : ℕ) (w y : Cursor (List ℕ)) → (cursor-row (array n)).coded.code w ≡ (cursor-row (array n)).coded.code y
-    → y.pos ≡ w.pos
-array_position n w y codes = row_back (cursor-row (array n)) (λ (c : Cursor (List ℕ)). c.pos) w y codes

@@ -4,11 +4,12 @@ use Rattle.no_std_io2_base.proofs.PieceLemmas.{pieces-first, pieces-last, ends_w
 use Rattle.std.proofs.Common.{rules, ◌≡◌, ℕ, ◌+◌, ◌<◌, ◌≤◌, ◌⊎◌, false, cond, if◌then◌else◌, Option, Some, None, List, [], ◌∷◌, ◌++◌}
 use Rattle.std.proofs.Common.{length, filter, refl, sym, ap, ap₂, ◌∙◌, subst, arith, append-nil, append_assoc, Result, Ok, Err, inl, inr}
 use Rattle.std.proofs.Common.{⊎_elim, length-append, IfSome, OnSome, IfErr, Vec, String, vec_len, vec_capacity, IsSomeAnd, true}
+use Rattle.std.proofs.Common.{string_len, string_capacity}
 use Rattle.std.proofs.lemmas.{Grind.{common_steps}, List.{append_cancel_left, nil_from_length, Folds.{concat-append}}}
 use Rattle.no_std_io2_base.specs.{declared.error.Error.{Error}, Errors.{IsFault, IsOutOfMemory}, Events.{Event, byte, fails, events_of}}
 use Rattle.no_std_io2_base.specs.{Events.{event_bytes, HasNoFault}, inner.Events.{EndsInFault, bytes_to_fault, first_fault}}
 use Rattle.no_std_io2_base.specs.{Takes.{ReaderState, Takes, to_come, Reader, tells}, inner.Iterators.{NextPieceLaw, ends_at, items_left}}
-use Rattle.no_std_io2_base.specs.{BufRead.{ReadUntilLaw, ReadLineLaw}, inner.Lines.{line_room}}
+use Rattle.no_std_io2_base.specs.{BufRead.{ReadUntilLaw, ReadLineLaw}}
 use Rattle.no_std_io2_base.specs.inner.Pieces.{Lacks, EndsAt, pieces_of, pieces_before, pieces_given, GivesFirst, ComeFirst}
 use Rattle.no_std_io2_base.specs.{Pieces.{newline, GivesPieces, AreAllPieces}, Moves.{IsFront}, Reads.{StopsAfter}}
 use Rattle.std.specs.{List.{concat}, Io.BufRead.{ends_with_byte}}
@@ -138,7 +139,7 @@ pub line_given : {X A : Type 0} {R : Reader X} {old new : X} {buf buf' : String 
     → (after : List Event) × (to_come (tells R new) ≡ Some after) × (E ≡ law.taken ++ after)
     × GivenRead newline E (event_bytes law.taken) law.read after
 line_given {buf = buf} {E = E} law told =
-    piece_given (λ n. line_room buf < n) _ _ _ E law.taken law.read law.takes law.ends told
+    piece_given (λ n. string_capacity buf < string_len buf + n) _ _ _ E law.taken law.read law.takes law.ends told
 
 -- there are no more bytes than events
 pub few_bytes : (P : List Event) → length (event_bytes P) ≤ length P

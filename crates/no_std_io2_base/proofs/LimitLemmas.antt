@@ -16,8 +16,8 @@ use Rattle.no_std_io2_base.specs.inner.Take.{LimitTakes, LimitAsks, LimitMay, li
 use Rattle.no_std_io2_base.specs.{BufRead.{ReadUntilLaw, ReadLineLaw}, Seek.{Seeker}, inner.Seek.{here}}
 use Rattle.no_std_io2_base.proofs.TakesLemmas.{bytes-append, bytes-events_of, takes_then, cut-none, cut-fitting, cut-error, read_law}
 use Rattle.no_std_io2_base.proofs.{TakesLemmas.{read_by, length-events_of}, ReadsLemmas.{begins_cut}, InMemoryReads.{drawn, fills_by}}
-use Rattle.no_std_io2_base.proofs.{InMemoryReads.{fills_told}, GivenPieces.{few_bytes}, ReadLoops.{ReadsSoFar}, CallsAdd.{EachAdds}}
-use Rattle.no_std_io2_base.proofs.CallsAdd.{gathers_add, exact_adds, to_end_adds, piece_adds, line_appended}
+use Rattle.no_std_io2_base.proofs.{InMemoryReads.{fills_told}, GivenPieces.{few_bytes}, CallsAdd.{EachAdds}}
+use Rattle.no_std_io2_base.proofs.CallsAdd.{exact_adds, to_end_adds, piece_adds, line_appended}
 use lib.Seq.{take-take}
 
 -- a `Take`, as the laws of its calls see it
@@ -260,13 +260,6 @@ limit_each = record {
       let next = consumed_took took.1.call in
       (next.0, next.1 ∙ sym (length-take-le n x within), limit_then first next.2);
 }
-
--- a loop of reads lowers the limit by the bytes that they gave
-pub limit_fell : {T : Type 0} {inner : Reader T} {asks : ℕ → ℕ → Type 0} {old now : Take T} {x : List ℕ}
-    → ReadsSoFar (limit_reader inner) asks old x now
-    → limit_left now + length x ≡ limit_left old
-limit_fell {inner = inner} {old = old} {now} reads =
-    let took = gathers_add (limit_each {inner = inner}) reads.made.are old now reads.made.made in omega (arith, took.1, took.2.limit)
 
 -- what the cut events lost, the inner events lost; or these are not told
 lost_below : (E E' : Option (List Event)) (k k' : ℕ) (P Q : List Event) → AreTaken (cut_to_come k E) P (cut_to_come k' E') → AreTaken E Q E'

@@ -7,13 +7,14 @@ use Rattle.std.proofs.lemmas.List.Elements.{recursion_from_All, All-from_recursi
 use Rattle.std.proofs.{lemmas.Str.{IsUtf8-nil, IsUtf8-string_bytes}, Math.Seq.{take-append_seam, drop-append_seam}}
 use Rattle.no_std_io2_base.specs.inner.Lines.{AnswersLine, IsInvalidText, Follows, lines_of, unfinished_line, lines_len, IsLineState}
 use Rattle.no_std_io2_base.specs.{inner.Pieces.{Lacks, pieces_of, ArePieces, FindsPiece, but_last}, Pieces.{newline}}
-use Rattle.no_std_io2_base.specs.{inner.Lines.{line_room, text_room}, declared.error.Error.{Error}}
+use Rattle.no_std_io2_base.specs.{declared.error.Error.{Error}}
 use Rattle.no_std_io2_base.specs.{declared.error.ErrorKind.TheVariants.{OutOfMemory}, Errors.{error_kind, IsFault}}
 use Rattle.no_std_io2_base.specs.{BufRead.{ReadUntilLaw, ReadLineLaw}, declared.error.ErrorKind.{ErrorKind}}
-use Rattle.no_std_io2_base.specs.{Events.{event_bytes, events_of, fails}, Takes.{Reader, tells}, Read.{ConsumeLaw}, inner.Read.{FilledLaw}}
+use Rattle.no_std_io2_base.specs.{Events.{event_bytes, events_of, fails}, Takes.{Reader}, inner.Read.{FilledLaw}}
+use Rattle.no_std_io2_base.specs.Read.{ConsumeLaw, ReadToEndLaw, ReadToStringLaw}
 use Rattle.no_std_io2_base.proofs.{PieceLemmas.{pieces_are, pieces-other}, TakesLemmas.{bytes-events_of}, PieceLoops.{PieceTaken}}
 use Rattle.no_std_io2_base.proofs.PieceLemmas.{ends_with_byte-append, ends_with_byte-contains, ends_with_byte-lacks}
-use Rattle.no_std_io2_base.proofs.PieceLoops.{part_none, piece_whole, piece_faulted, piece_since}
+use Rattle.no_std_io2_base.proofs.PieceLoops.{part_none, piece_whole, piece_faulted}
 use Rattle.std.specs.{Result.{result_and}, String.{string_vec}, List.{AllByRecursion, concat}, Prelude.{filter, not}}
 use Rattle.std.specs.Io.BufRead.{ends_with_byte}
 
@@ -144,25 +145,7 @@ pub state_rest : (front rest : List ℕ) → IsLineState (front ++ rest) → IsL
 state_rest front rest line has =
     sym (ends_with_byte-append newline front rest (omega (arith, has.1))) ∙ line (Contains-append_right front rest newline has)
 
--- The room for what is read for a text, in a vector that has the memory of an empty text.
-
--- an empty text lends its memory
-pub room_lent : {A : Type 0} (buf taken : String A) (none : Vec ℕ A) → string_len taken ≡ string_len buf
-    → text_room taken none ≡ string_capacity buf → line_room buf ≤ vec_capacity none
-room_lent buf taken none len room = grind (arith, common_steps)
-
--- and that of the vector does not shrink
-pub room_grown : {A : Type 0} {capacity : ℕ} (taken : String A) (none all : Vec ℕ A) → vec_capacity none ≤ vec_capacity all
-    → text_room taken none ≡ capacity → capacity ≤ text_room taken all
-room_grown taken none all grown room = grind (arith, common_steps)
-
--- what became of the bytes of the vector, with such a text that still has its memory
-pub text_answers : {A : Type 0} (buf taken : String A) (none all : Vec ℕ A) (line new : List ℕ) (read reply : Result ℕ Error)
-    → string_bytes taken ≡ string_bytes buf → string_len taken ≡ string_len buf → text_room taken none ≡ string_capacity buf
-    → vec_capacity none ≤ vec_capacity all → all.items ≡ line
-    → AnswersLine all.items read (string_len taken) (text_room taken all) reply (string_bytes taken) new
-    → AnswersLine line read (string_len buf) (string_capacity buf) reply (string_bytes buf) new
-text_answers buf taken none all line new read reply event_bytes len room grown is answers = grind (arith, common_steps)
+-- What a text answers to a read.
 
 -- memory was refused to the read
 pub line_kept : (line : List ℕ) (read reply : Result ℕ Error) (len capacity : ℕ) {old new : List ℕ}
@@ -182,47 +165,66 @@ line_refused line x2 e len capacity bad invalid other same = grind (arith, commo
 
 -- A line that goes to a string: into its memory, behind its bytes, or straight from what a reader lends.
 
--- memory is refused only to a line that has no room in an empty text
-no_room : {A : Type 0} (text : String A) (n : ℕ) → string_capacity text < string_len text + n → line_room text < n
-no_room text n full = grind (arith, common_steps, text.bytes.ok.1)
+-- what `put_back` answers
+module _ {A : Type 0} (text : String A) (line : Vec ℕ A) where
+  abbrev pub PutBack : Result ℕ Error → Result ℕ Error → String A → Type 0
+  PutBack read reply text' = (len capacity : ℕ) → AnswersLine (drop (string_len text) line.items) read len capacity reply
+      (take (string_len text) line.items) (string_bytes text')
 
--- a line that was read into the memory of the text, behind its bytes
-module _ {X A : Type 0} {R : Reader X} {old new : X} (text : String A) (line : Vec ℕ A) {read : Result ℕ Error}
-    (until : ReadUntilLaw R old newline (string_vec text) read line new) where
+-- bytes that were read into the memory of the text, behind its own
+module _ {A : Type 0} (text : String A) (line : Vec ℕ A) (x : List ℕ) (appends : line.items ≡ string_bytes text ++ x) where
   -- the bytes of the text come first,
   front : take (string_len text) line.items ≡ string_bytes text
-  front = ap (λ n. take n line.items) text.bytes.ok.0 ∙ ap (λ l. take (length (string_bytes text)) l) until.appends
-      ∙ take-append_seam (string_bytes text) (event_bytes until.taken)
+  front = ap (λ n. take n line.items) text.bytes.ok.0 ∙ ap (λ l. take (length (string_bytes text)) l) appends
+      ∙ take-append_seam (string_bytes text) x
 
   pub memory_grows : string_len text ≤ vec_len line
-  memory_grows =
-      omega (arith, text.bytes.ok.0, line.ok.0, ap length until.appends, length-append (string_bytes text) (event_bytes until.taken))
+  memory_grows = omega (arith, text.bytes.ok.0, line.ok.0, ap length appends, length-append (string_bytes text) x)
 
   pub memory_text : IsUtf8 (take (string_len text) line.items)
   memory_text = subst IsUtf8 (sym front) (IsUtf8-string_bytes text)
 
-  -- and then the line
-  back : drop (string_len text) line.items ≡ event_bytes until.taken
-  back = ap (λ n. drop n line.items) text.bytes.ok.0 ∙ ap (λ l. drop (length (string_bytes text)) l) until.appends
-      ∙ drop-append_seam (string_bytes text) (event_bytes until.taken)
+  -- and then these
+  back : drop (string_len text) line.items ≡ x
+  back = ap (λ n. drop n line.items) text.bytes.ok.0 ∙ ap (λ l. drop (length (string_bytes text)) l) appends
+      ∙ drop-append_seam (string_bytes text) x
 
-  pub line_law : {reply : Result ℕ Error} {text' : String A}
-      → ((len capacity : ℕ) → AnswersLine (drop (string_len text) line.items) read len capacity reply
-      (take (string_len text) line.items) (string_bytes text'))
-      → string_capacity text' ≡ vec_capacity line → ReadLineLaw R old text reply text' new
-  line_law {reply} {text'} answers room =
+  answers_back : (read reply : Result ℕ Error) (text' : String A) → PutBack text line read reply text'
+      → AnswersLine x read (string_len text) (string_capacity text) reply (string_bytes text) (string_bytes text')
+  answers_back read reply text' answers =
       let len = string_len text in
       let capacity = string_capacity text in
-      record {
-        taken = until.taken;
-        takes = until.takes;
-        read = read;
-        ends = piece_since newline (tells R old) until.taken read (no_room text) until.ends;
-        answers = subst (λ l. AnswersLine l read len capacity reply (string_bytes text) (string_bytes text')) back
-            (subst (λ l. AnswersLine (drop len line.items) read len capacity reply l (string_bytes text')) front (answers len capacity));
-        capacity = subst (λ n. capacity ≤ n) (sym room) until.capacity;
-        calls = until.calls;
-      }
+      subst (λ l. AnswersLine l read len capacity reply (string_bytes text) (string_bytes text')) back
+      (subst (λ l. AnswersLine (drop len line.items) read len capacity reply l (string_bytes text')) front (answers len capacity))
+
+module _ {X A : Type 0} {R : Reader X} {old new : X} (text : String A) (line : Vec ℕ A) {read reply : Result ℕ Error}
+    {text' : String A} where
+  -- a line
+  pub line_law : (until : ReadUntilLaw R old newline (string_vec text) read line new) → PutBack text line read reply text'
+      → string_capacity text' ≡ vec_capacity line → ReadLineLaw R old text reply text' new
+  line_law until answers room = record {
+    taken = until.taken;
+    takes = until.takes;
+    read = read;
+    ends = until.ends;
+    answers = answers_back text line _ until.appends read reply text' answers;
+    capacity = subst (λ n. string_capacity text ≤ n) (sym room) until.capacity;
+    calls = until.calls;
+  }
+
+  -- all that is left
+  pub string_law : (all : ReadToEndLaw R old (string_vec text) read line new) → PutBack text line read reply text'
+      → string_capacity text' ≡ vec_capacity line → ReadToStringLaw R old text reply text' new
+  string_law all answers room = record {
+    taken = all.taken;
+    takes = all.takes;
+    read = read;
+    count = all.appends.1;
+    ends = all.ends;
+    answers = answers_back text line _ all.appends.0 read reply text' answers;
+    capacity = subst (λ n. string_capacity text ≤ n) (sym room) all.capacity;
+    calls = all.calls;
+  }
 
 -- a line that was lent whole went straight to the text
 pub line_at_once : {X A : Type 0} {R : Reader X} {old now new : X} {lent : List ℕ} {n : ℕ} {is_whole : Bool} {buf buf' : String A}
@@ -233,7 +235,7 @@ line_at_once {R = R} {old} {lent = lent} {n} {buf = buf} {buf'} filled found who
     let line = take n lent in
     let same = sym (bytes-events_of line) in
     let long : n ≡ length (event_bytes (events_of line)) = sym (length-take-le n lent found.within) ∙ ap length same in
-    let piece : PieceTaken R (λ n. line_room buf < n) (Unit {0}) newline old (events_of line) (Ok n) _ =
+    let piece : PieceTaken R (λ n. string_capacity buf < string_len buf + n) (Unit {0}) newline old (events_of line) (Ok n) _ =
     piece_whole (part_none R newline old) filled found dropped whole long in
     record {
       taken = events_of line;
@@ -252,7 +254,7 @@ memory_or_other x1 = grind (arith, common_steps)
 pub line_faulted : {X A : Type 0} {R : Reader X} {old new : X} {e : Error} {buf : String A} → FilledLaw R old (Err e) new → IsFault e
     → ReadLineLaw R old buf (Err e) buf new
 line_faulted {R = R} {old} {e = e} {buf} filled fault =
-    let piece : PieceTaken R (λ n. line_room buf < n) (Unit {0}) newline old (fails e ∷ []) (Err e) _ =
+    let piece : PieceTaken R (λ n. string_capacity buf < string_len buf + n) (Unit {0}) newline old (fails e ∷ []) (Err e) _ =
     piece_faulted (part_none R newline old) filled fault in
     record {
       taken = fails e ∷ [];

@@ -5,7 +5,7 @@ use Rattle.std.proofs.Common.{append-nil, le_refl, le_trans, inl, inr, length-ap
 use Rattle.std.specs.Borrow.{Bor}
 use Rattle.no_std_io2_base.specs.{declared.error.Error.{Error}, Errors.{IsInterruption, IsFault, IsOutOfMemory, IsUnexpectedEnd}}
 use Rattle.no_std_io2_base.specs.inner.Pieces.{IsAll, Lacks, EndsPiece, EndsAt, FindsPiece, PartCalls, no_part, and_part, part_interrupted}
-use Rattle.no_std_io2_base.specs.{Events.{Event, fails, events_of, event_bytes, HasNoFault}, Takes.{ReaderState, Takes, Reader, tells}}
+use Rattle.no_std_io2_base.specs.{Events.{Event, fails, events_of, event_bytes, HasNoFault}, Takes.{Takes, Reader, tells}}
 use Rattle.no_std_io2_base.specs.{inner.Pieces.{PieceCalls}, Calls.{Filled, Consumed, ByCalls}, Read.{ConsumeLaw, ReadCallLaw}}
 use Rattle.no_std_io2_base.specs.inner.Read.{FilledLaw, lent_bytes, at_most_max}
 use Rattle.no_std_io2_base.specs.{BufRead.{FillBufLaw, AfterLoan, ReadUntilLaw, SkipUntilLaw}}
@@ -48,11 +48,6 @@ module _ {X : Type 0} {R : Reader X} {now after new : X} {lent : List ℕ} {n : 
     lent_spends some =
         let less = spends lent_taken (omega (arith, some, length-events_of (take n lent), length-take-le n lent within)) in
         omega (arith, less, takes_turns filled.takes)
-
--- why an allocation failed, in weaker words
-pub piece_since : {lacks lacks' : ℕ → Type 0} (d : ℕ) (old : ReaderState) (P : List Event) (read : Result ℕ Error)
-    → ((n : ℕ) → lacks n → lacks' n) → PieceEnds lacks d old P read → PieceEnds lacks' d old P read
-piece_since d old x3 x4 since ends = grind (arith, common_steps)
 
 -- Such a loop took the events P so far, of one piece, and no d.
 pub record PartTaken {X : Type 0} (R : Reader X) (d : ℕ) (old : X) (P : List Event) (now : X) : Type 0 where

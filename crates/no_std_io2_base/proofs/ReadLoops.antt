@@ -1,16 +1,20 @@
 -- Loops of reads: those that fill a buffer, and those for one byte.
 use Rattle.std.proofs.Common.{◌≡◌, ℕ, ◌-◌, ◌<◌, List, length, take, drop, arith, length-take, length-drop, ◌+◌, ◌≤◌, ◌++◌, length-take-le}
 use Rattle.std.proofs.Common.{[], Result, Ok, Err, refl, ◌∷◌, sym, ap, subst, ◌∙◌, le_refl, inl, inr, append_assoc, append-nil}
-use Rattle.std.proofs.{Common.{length-append, take-append-drop, None, Some}, lemmas.{Grind.{common_steps}, Slice.{take-put_mid_below}}}
+use Rattle.std.proofs.{Common.{length-append, take-append-drop, None, Some, Bool, true, false, IsOk}, lemmas.{Grind.{common_steps}}}
+use Rattle.std.proofs.lemmas.{Slice.{take-put_mid_below}}
 use borrow.Rule.Slice.PartMut.{put_mid, same_len_mid, post_of}
 use lib.Seq.{take-append-le, take-append-add, take-take}
-use Rattle.no_std_io2_base.specs.{declared.error.Error.{Error}, Errors.{IsInterruption, IsFault, IsUnexpectedEnd}, Takes.{TakesBytes}}
-use Rattle.no_std_io2_base.specs.inner.Read.{GaveLaw, Gathers, no_read, and_gave, and_again, GathersUntil, FullCalls, IsRest, Gives}
-use Rattle.no_std_io2_base.specs.{Takes.{Reader, tells}, Read.{ReadLaw, ReadCallLaw, ReadFullLaw, ReadExactLaw}, inner.Read.{ExactCalls}}
+use Rattle.no_std_io2_base.specs.{declared.error.Error.{Error}, Errors.{IsInterruption, IsFault, IsUnexpectedEnd}, Takes.{Reader, tells}}
+use Rattle.no_std_io2_base.specs.inner.Read.{GaveLaw, GathersUntil, FullCalls, IsRest}
+use Rattle.no_std_io2_base.specs.{Read.{ReadLaw, ReadCallLaw, ReadFullLaw, ReadExactLaw}, inner.Read.{ExactCalls}}
 use Rattle.no_std_io2_base.specs.{Calls.{Gave, ReadCall, ByCalls}, inner.Iterators.{NextLaw}, Moves.{IsFront}}
 use Rattle.no_std_io2_base.specs.Events.{fails, event_bytes, events_of}
-use Rattle.no_std_io2_base.proofs.{CallsLemmas.{by_more, by_are}, TakesLemmas.{takes_none, bytes_more, bytes_still, read_law, bytes-append}}
-use Rattle.no_std_io2_base.proofs.TakesLemmas.{takes_then, takes_still, nothing_read, gives_none, gives_bytes, gives_still, all_taken}
+use Rattle.no_std_io2_base.specs.{inner.Reads.{Reads}, Reads.{Took}, inner.Read.{FillsOrMeetsEnd}}
+use Rattle.no_std_io2_base.proofs.CallsLemmas.{made_more, by_are}
+use Rattle.no_std_io2_base.proofs.TakesLemmas.{read_law, takes_then, takes_still, nothing_read, all_taken}
+use Rattle.no_std_io2_base.proofs.ReadsLemmas.{Reads-none, Reads-more, Reads-again, Reads-end, Reads-fault, Reads-takes, Reads-took}
+use Rattle.no_std_io2_base.proofs.ReadsLemmas.{Reads-nothing, TookBy}
 
 -- What each exit of a loop that fills a buffer says.
 
@@ -52,72 +56,62 @@ pub take-written : (n len a : ℕ) (s items part : List ℕ) → a + n ≤ len �
 take-written n len a s items part within fits long is =
     grind (arith, common_steps, put_mid, take-take, take-append-le, length-put_mid, take-put_mid)
 
--- What a loop of reads has done so far.
-
--- the bytes x were taken, by these reads
-pub record ReadsSoFar {X : Type 0} (R : Reader X) (asks : ℕ → ℕ → Type 0) (old : X) (x : List ℕ) (now : X) : Type 0 where
-  pub took : TakesBytes (tells R old) x (tells R now)
-  pub open took use *
-  pub made : ByCalls (ReadCallLaw R) old (λ C. Gathers asks C x) now
-
--- no read yet
-unfoldable pub reads_none : {X : Type 0} {R : Reader X} {asks : ℕ → ℕ → Type 0} (old : X) → ReadsSoFar R asks old [] old
-reads_none {R = R} old = record {
-  took = record { taken = []; takes = takes_none (tells R old); no_fault = tt; are = refl };
-  made = record { calls = []; made = refl; are = no_read };
-}
-
-module _ {X : Type 0} {R : Reader X} {asks : ℕ → ℕ → Type 0} {old now new : X} {x : List ℕ} where
-  module _ (before : ReadsSoFar R asks old x now) where
-    -- a read gave some bytes more
-    unfoldable pub reads_more : {part ys : List ℕ} {n : ℕ} → ReadLaw R now part (Ok n) ys new → (n ≡ 0 → ⊥)
-        → asks (length x) (length ys) → ReadsSoFar R asks old (x ++ take n ys) new
-    reads_more {ys = ys} {n = n} read some into = record {
-      took = bytes_more (take n ys) before.took read.takes;
-      made = by_more before.made (Gave (length ys) (Ok (take n ys))) (read_law (Ok n) read) (λ C reads.
-          and_gave C x (take n ys) (length ys) reads into (omega (arith, length-take-le n ys read.bound, some_bytes n some)));
-    }
-
-    -- a read was interrupted
-    unfoldable pub reads_again : {part ys : List ℕ} {e : Error} → ReadLaw R now part (Err e) ys new → IsInterruption e
-        → asks (length x) (length ys) → ReadsSoFar R asks old x new
-    reads_again {ys = ys} {e = e} read interrupted into = record {
-      took = bytes_still before.took read.takes interrupted;
-      made = by_more before.made (Gave (length ys) (Err e)) (read_law (Err e) read) (λ C reads.
-          and_again C x (length ys) e reads into interrupted);
-    }
-
-    -- a read ended the loop
-    pub reads_until : {answer : Result (List ℕ) Error} {room : ℕ} → GaveLaw R now room answer new → asks (length x) room
-        → ByCalls (ReadCallLaw R) old (λ C. GathersUntil asks C x answer) new
-    reads_until {answer} {room} law into = by_more before.made (Gave room answer) law (λ C reads. (C, room, reads, into, refl))
-
 -- What a loop that fills a buffer by reads has done so far, and what it has done at each of its ends.
 
--- behind the first `start` bytes of the buffer stand those that were taken, up to `at`
+-- behind the first `start` bytes of the buffer stand those that were given, up to `at`
 pub record FullSoFar {X : Type 0} (R : Reader X) (old : X) (buf : List ℕ) (start at : ℕ) (buf' : List ℕ) (now : X) : Type 0 where
   pub long : length buf' ≡ length buf
-  pub untouched : length buf ≤ start → now ≡ old
   pub given : List ℕ
   pub filled : take at buf' ≡ take start buf ++ given
   pub counts : at ≡ start + length given
   pub within : length given ≤ length buf - start
-  pub reads : ReadsSoFar R (IsRest (length buf - start)) old given now
-  pub open reads use *
-  pub gives : Gives (length buf - start) taken given
+  pub reads : Reads R (IsRest (length buf - start)) old given (Ok true) now
+
+-- how a `read_full` into this much room answers that gave x, by how its reads ended
+abbrev FullAnswers : ℕ → List ℕ → Result Bool Error → Result (Unit {0}) Error → Type 0
+FullAnswers room x (Ok true) reply = (reply ≡ Ok tt) × (length x ≡ room)
+FullAnswers room x (Ok false) reply = (reply ≡ Ok tt) × (length x < room)
+FullAnswers room x (Err e) reply = (reply ≡ Err e) × (length x < room)
+
+-- a `read_full`, by its reads
+full_law : {X : Type 0} {R : Reader X} {old new : X} {buf buf' x : List ℕ} {start at : ℕ} (how : Result Bool Error)
+    (reply : Result (Unit {0}) Error) → Reads R (IsRest (length buf - start)) old x how new → take at buf' ≡ take start buf ++ x
+    → at ≡ start + length x → FullAnswers (length buf - start) x how reply → ReadFullLaw R old buf start reply buf' at new
+full_law {R = R} {old} {new} {buf} {x = x} {start} how reply reads fills counts says =
+    let t = Reads-took (λ at room rest. rest.1) how reads in
+    record {
+      taken = t.taken;
+      takes = t.takes;
+      fills = rw t.are fills;
+      counts = rw t.are counts;
+      ends = ended how reply t says;
+      full = λ none. nothing how reply says (Reads-nothing (λ at room rest. omega (arith, rest.0, rest.1, none)) how reads);
+      calls = record { calls = reads.calls; made = reads.made; are = rw t.are (made how reply reads says) };
+    }
+  where
+    ended : (how : Result Bool Error) (reply : Result (Unit {0}) Error)
+        (t : TookBy (IsRest (length buf - start)) (tells R old) x how (tells R new))
+        → FullAnswers (length buf - start) x how reply → FillsOrMeetsEnd (length buf - start) t.taken reply (tells R new)
+    ended how reply t says =
+        let within = (t.within (length buf - start) (λ at room rest. omega (arith, rest.0))).0 in grind (arith, common_steps)
+
+    nothing : (how : Result Bool Error) (reply : Result (Unit {0}) Error) → FullAnswers (length buf - start) x how reply
+        → (how ≡ Ok true) × (new ≡ old) → IsOk reply × (new ≡ old)
+    nothing how reply says same = grind (arith, common_steps)
+
+    made : (how : Result Bool Error) (reply : Result (Unit {0}) Error) (r : Reads R (IsRest (length buf - start)) old x how new)
+        → FullAnswers (length buf - start) x how reply → FullCalls r.calls (length buf - start) x reply
+    made how reply r says = let are = r.are in let fault = r.fault in grind (arith, common_steps)
 
 -- before the first read nothing is filled
 pub full_none : {X : Type 0} {R : Reader X} {old : X} {buf : List ℕ} {start : ℕ} → FullSoFar R old buf start start buf old
-unfolding reads_none
-full_none {buf = buf} {start} = record {
+full_none {old = old} {buf} {start} = record {
   long = refl;
-  untouched = λ full. refl;
   given = [];
   filled = sym (append-nil (take start buf));
   counts = omega arith;
   within = omega arith;
-  reads = reads_none _;
-  gives = gives_none _;
+  reads = Reads-none old;
 }
 
 module _ {X : Type 0} {R : Reader X} {old now : X} {buf xs : List ℕ} {start at : ℕ} (before : FullSoFar R old buf start at xs now) where
@@ -126,101 +120,60 @@ module _ {X : Type 0} {R : Reader X} {old now : X} {buf xs : List ℕ} {start at
     pub length_is_kept : length (put_mid at (length xs - at) xs ys) ≡ length buf
     length_is_kept = length_stays at xs ys room ∙ before.long
 
-    size : length ys ≡ length xs - at
-    size = omega (arith, length-take (length xs - at) (drop at xs), length-drop at xs, room)
-
     into : IsRest (length buf - start) (length before.given) (length ys)
-    into = (omega (arith, size, before.long, before.counts, below), some_part at xs ys below room)
-
-    -- a buffer that is not full was not full before
-    not_full : {A : Type 0} → length buf ≤ start → A
-    not_full full = absurd (omega (arith, full, before.long, before.counts, below))
+    into = (
+      omega (arith, length-take (length xs - at) (drop at xs), length-drop at xs, room, before.long, before.counts, below),
+      some_part at xs ys below room,
+    )
 
     -- what stood there stands
-    kept : take at (put_mid at (length xs - at) xs ys) ≡ take start buf ++ event_bytes before.taken
-    kept = grind (arith, common_steps)
+    kept : take at (put_mid at (length xs - at) xs ys) ≡ take start buf ++ before.given
+    kept = take-put_mid_below _ _ _ _ _ (le_refl _) (omega (arith, below)) ∙ before.filled
 
     -- a read gave some bytes more
     pub full_read : {new : X} {part : List ℕ} {n : ℕ} → ReadLaw R now part (Ok n) ys new → (n ≡ 0 → ⊥)
         → FullSoFar R old buf start (at + n) (put_mid at (length xs - at) xs ys) new
-    unfolding reads_more bytes_more
     full_read {n = n} read some =
-        let given = length-take-le n ys read.bound in
+        let long = length-take-le n ys read.bound in
         record {
           long = length_is_kept;
-          untouched = not_full;
           given = before.given ++ take n ys;
           filled = take-put_mid at (length xs - at) n xs ys (omega (arith, below)) read.bound ∙ ap (λ l. l ++ take n ys) before.filled
               ∙ append_assoc (take start buf) before.given (take n ys);
-          counts = omega (arith, before.counts, given, length-append before.given (take n ys));
-          within = omega (arith, into.0, given, read.bound, length-append before.given (take n ys));
-          reads = reads_more before.reads read some into;
-          gives = gives_bytes (take n ys) before.gives (omega (arith, into.0, read.bound, given)) (omega (arith, given, some_bytes n some));
+          counts = omega (arith, before.counts, long, length-append before.given (take n ys));
+          within = omega (arith, into.0, long, read.bound, length-append before.given (take n ys));
+          reads = Reads-more before.reads into (read_law (Ok n) read) (omega (arith, long, some_bytes n some));
         }
 
     -- a read was interrupted
     pub full_interruption : {new : X} {part : List ℕ} {e : Error} → ReadLaw R now part (Err e) ys new → IsInterruption e
         → FullSoFar R old buf start at (put_mid at (length xs - at) xs ys) new
-    unfolding reads_again bytes_still
-    full_interruption {e = e} read interrupted = record {
+    full_interruption {e = e} read again = record {
       long = length_is_kept;
-      untouched = not_full;
       given = before.given;
-      filled = take-put_mid_below _ _ _ _ _ (le_refl _) (omega (arith, below)) ∙ before.filled;
+      filled = kept;
       counts = before.counts;
       within = before.within;
-      reads = reads_again before.reads read interrupted into;
-      gives = gives_still e before.gives (omega (arith, into.0, into.1)) interrupted;
+      reads = Reads-again before.reads into (read_law (Err e) read) again;
     }
 
     -- the end came first
     pub full_end : {new : X} {part : List ℕ} {reply : Result ℕ Error} {n : ℕ} → ReadLaw R now part reply ys new → reply ≡ Ok n → n ≡ 0
         → ReadFullLaw R old buf start (Ok tt) (put_mid at (length xs - at) xs ys) at new
-    full_end {new} read is zero =
-        let end = nothing_read read is zero in
-        record {
-          taken = before.taken;
-          takes = takes_still before.takes end.takes;
-          fills = kept;
-          counts = omega (arith, before.counts, ap length before.are);
-          ends = (before.no_fault, before.gives.within, λ less. end.end refl into.1);
-          full = not_full;
-          calls = by_are (reads_until before.reads end into)
-              (λ C until. inr (subst (λ x. GathersUntil (IsRest (length buf - start)) C x (Ok [])) (sym before.are) until));
-        }
+    full_end read is zero = full_law (Ok false) (Ok tt) (Reads-end before.reads into (nothing_read read is zero)) kept before.counts
+        (refl, omega (arith, into.0, into.1))
 
     -- a fault came first
     pub full_fault : {new : X} {part : List ℕ} {e : Error} → ReadLaw R now part (Err e) ys new → IsFault e
         → ReadFullLaw R old buf start (Err e) (put_mid at (length xs - at) xs ys) at new
-    full_fault {new} {e = e} read fault =
-        let same : event_bytes (before.taken ++ fails e ∷ []) ≡ event_bytes before.taken =
-        bytes-append before.taken (fails e ∷ []) ∙ append-nil (event_bytes before.taken) in
-        record {
-          taken = before.taken ++ fails e ∷ [];
-          takes = takes_then before.takes read.takes;
-          fills = kept ∙ ap (λ l. take start buf ++ l) (sym same);
-          counts = omega (arith, before.counts, ap length before.are, ap length same);
-          ends = ((before.taken, refl, before.no_fault, fault), omega (arith, ap length same, ap length before.are, into.0, into.1));
-          full = not_full;
-          calls = by_are (reads_until before.reads (read_law (Err e) read) into)
-              (λ C until. (fault, subst (λ x. GathersUntil (IsRest (length buf - start)) C x (Err e)) (sym (same ∙ before.are)) until));
-        }
+    full_fault {e = e} read fault = full_law (Err e) (Err e) (Reads-fault before.reads into (read_law (Err e) read) fault) kept
+        before.counts (refl, omega (arith, into.0, into.1))
 
 -- all of it is filled
 pub full_all : {X : Type 0} {R : Reader X} {old now : X} {buf xs : List ℕ} {start at : ℕ} → FullSoFar R old buf start at xs now
     → length xs ≤ at → ReadFullLaw R old buf start (Ok tt) xs at now
-full_all {R = R} {old} {now} {buf} {xs} {start} {at} before past =
-    let whole : length before.given ≡ length buf - start = omega (arith, before.counts, before.long, past, before.within) in
-    record {
-      taken = before.taken;
-      takes = before.takes;
-      fills = before.filled ∙ ap (λ l. take start buf ++ l) (sym before.are);
-      counts = omega (arith, before.counts, ap length before.are);
-      ends = (before.no_fault, before.gives.within, λ less. absurd (omega (arith, less, ap length before.are, whole)));
-      full = λ none. (refl, before.untouched none);
-      calls = subst (λ x. ByCalls (ReadCallLaw R) old (λ C. FullCalls C (length buf - start) x (Ok tt)) now) (sym before.are)
-          (by_are before.reads.made (λ C gathers. inl (gathers, whole)));
-    }
+full_all before past = full_law (Ok true) (Ok tt) before.reads before.filled before.counts
+    (refl, omega (arith, before.counts, before.long, past, before.within))
 
 -- What a `read_exact` did, by what its `read_full` did.
 
@@ -272,33 +225,49 @@ module _ {X : Type 0} {R : Reader X} {old new : X} {buf buf' : List ℕ} {at : �
 
 -- What a `next` of `Bytes` has done at each of its ends, after reads that were interrupted.
 
-module _ {X : Type 0} {R : Reader X} {old now new : X} {part ys : List ℕ} (before : ReadsSoFar R (λ _ room. room ≡ 1) old [] now) where
+-- what was taken before
+pub took_before : {X : Type 0} {R : Reader X} {old now : X} → Reads R (λ _ room. room ≡ 1) old [] (Ok true) now
+    → Took (tells R old) [] (Ok true) (tells R now)
+took_before before = Reads-takes (λ at room one. omega (arith, one)) (Ok true) before
+
+module _ {X : Type 0} {R : Reader X} {old now new : X} (before : Reads R (λ _ room. room ≡ 1) old [] (Ok true) now) where
+  -- one read more ended it
+  ended_by : {room : ℕ} {answer : Result (List ℕ) Error} → GaveLaw R now room answer new → room ≡ 1
+      → ByCalls (ReadCallLaw R) old (λ C. GathersUntil (λ _ room. room ≡ 1) C [] answer) new
+  ended_by {room} {answer} law one = record {
+    calls = before.calls ++ Gave room answer ∷ [];
+    made = made_more (ReadCallLaw R) before.calls old before.made law;
+    are = (before.calls, room, before.are, one, refl);
+  }
+
+module _ {X : Type 0} {R : Reader X} {old now new : X} {part ys : List ℕ} (before : Reads R (λ _ room. room ≡ 1) old [] (Ok true) now) where
   -- at the end
   pub next_end : {reply : Result ℕ Error} {n : ℕ} → ReadLaw R now part reply ys new → reply ≡ Ok n → n ≡ 0 → length ys ≡ 1
       → NextLaw R old None new
   next_end read is zero one =
+      let first = took_before before in
       let end = nothing_read read is zero in
       record {
-        taken = before.taken;
-        takes = takes_still before.takes end.takes;
-        ends = ((before.no_fault, before.are), end.end refl (omega (arith, one)));
-        calls = reads_until before end one;
+        taken = first.taken;
+        takes = takes_still first.takes end.takes;
+        ends = ((first.ends, first.are), end.end refl (omega (arith, one)));
+        calls = ended_by before end one;
       }
 
   -- with a byte
   pub next_byte : {n b : ℕ} → ReadLaw R now part (Ok n) ys new → take n ys ≡ b ∷ [] → length ys ≡ 1 → NextLaw R old (Some (Ok b)) new
-  next_byte {n} {b} read is one = record {
-    taken = before.taken ++ events_of (take n ys);
-    takes = takes_then before.takes read.takes;
-    ends = (before.taken, ap (λ l. before.taken ++ events_of l) is, (before.no_fault, before.are));
-    calls = reads_until before (subst (λ l. GaveLaw R now (length ys) (Ok l) new) is (read_law (Ok n) read)) one;
+  next_byte {n} {b} read is one = let first = took_before before in record {
+    taken = first.taken ++ events_of (take n ys);
+    takes = takes_then first.takes read.takes;
+    ends = (first.taken, ap (λ l. first.taken ++ events_of l) is, (first.ends, first.are));
+    calls = ended_by before (subst (λ l. GaveLaw R now (length ys) (Ok l) new) is (read_law (Ok n) read)) one;
   }
 
   -- with a fault
   pub next_byte_fault : {e : Error} → ReadLaw R now part (Err e) ys new → IsFault e → length ys ≡ 1 → NextLaw R old (Some (Err e)) new
-  next_byte_fault {e} read fault one = record {
-    taken = before.taken ++ fails e ∷ [];
-    takes = takes_then before.takes read.takes;
-    ends = ((before.taken, refl, (before.no_fault, before.are)), fault);
-    calls = reads_until before (read_law (Err e) read) one;
+  next_byte_fault {e} read fault one = let first = took_before before in record {
+    taken = first.taken ++ fails e ∷ [];
+    takes = takes_then first.takes read.takes;
+    ends = ((first.taken, refl, (first.ends, first.are)), fault);
+    calls = ended_by before (read_law (Err e) read) one;
   }

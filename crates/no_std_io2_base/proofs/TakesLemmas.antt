@@ -127,27 +127,6 @@ takes_to_end {a} {b} P takes end = grind (arith, common_steps)
 pub stays_at_end : {a b : ReaderState} → Takes a [] b → IsAtEnd b → IsAtEnd a
 stays_at_end takes end = takes_to_end [] takes end
 
--- some bytes, and then some more
-unfoldable pub bytes_more : {a b c : ReaderState} {x : List ℕ} (y : List ℕ) → TakesBytes a x b → Takes b (events_of y) c
-    → TakesBytes a (x ++ y) c
-bytes_more {x = x} y so_far takes = record {
-  taken = so_far.taken ++ events_of y;
-  takes = takes_then so_far.takes takes;
-  no_fault = HasNoFault-append so_far.taken (events_of y) so_far.no_fault (HasNoFault-events_of y);
-  are =
-      bytes-append so_far.taken (events_of y) ∙ ap (λ l. l ++ event_bytes (events_of y)) so_far.are ∙ ap (λ l. x ++ l) (bytes-events_of y);
-}
-
--- or an interruption
-unfoldable pub bytes_still : {a b c : ReaderState} {x : List ℕ} {e : Error} → TakesBytes a x b → Takes b (fails e ∷ []) c → IsInterruption e
-    → TakesBytes a x c
-bytes_still {e = e} so_far takes again = record {
-  taken = so_far.taken ++ fails e ∷ [];
-  takes = takes_then so_far.takes takes;
-  no_fault = HasNoFault-append so_far.taken (fails e ∷ []) so_far.no_fault (again, tt);
-  are = bytes-append so_far.taken (fails e ∷ []) ∙ append-nil (event_bytes so_far.taken) ∙ so_far.are;
-}
-
 -- what is left of told events
 pub left_of : {a b : ReaderState} {P E : List Event} → Takes a P b → to_come a ≡ Some E → (after : List Event) × (to_come b ≡ Some after)
     × (E ≡ P ++ after)
@@ -272,12 +251,7 @@ met_end law is none some = let zero = nothing_read law is none in (zero.takes, z
 pub all_taken : (P : List Event) (room : ℕ) (left : Option (List Event)) → IfSome left (λ E. E ≡ []) → IfSome left (AllOrNone P room)
 all_taken x1 room x3 end = grind (arith, common_steps)
 
--- how a `read_to_end` ended, with a weaker reason
-pub drains_lacks : {lacks lacks' : Type 0} (P : List Event) (reply : Result ℕ Error) (new : ReaderState) → (lacks → lacks')
-    → DrainsOrStops lacks P reply new → DrainsOrStops lacks' P reply new
-drains_lacks x1 x2 new weaker ends = grind (arith, common_steps)
-
--- and as one call
+-- how a `read_to_end` ended, as one call
 pub drains_ended : (lacks : Type 0) (P : List Event) (reply : Result ℕ Error) (new : ReaderState) → DrainsOrStops lacks P reply new
     → DrainsOrStops (Unit {0}) P (without_number reply) new
 drains_ended lacks x2 x3 new ends = grind (arith, common_steps)
@@ -294,28 +268,6 @@ cut-fitting (suc k) (b ∷ bs) fits = ap (λ l. byte b ∷ l) (cut-fitting k bs 
 -- and an error, if it comes before the last byte
 pub cut-error : (k : ℕ) (e : Error) → 0 < k → cut k (fails e ∷ []) ≡ fails e ∷ []
 cut-error x1 e some = grind (arith, common_steps)
-
--- no events give no bytes
-pub gives_none : (room : ℕ) → Gives room [] []
-gives_none room = record { no_fault = tt; given = refl; within = cut-none room }
-
--- before the room is full, more events give more bytes
-gives_more : {room : ℕ} {P : List Event} {x : List ℕ} (k : ℕ) (Q : List Event) → Gives room P x → room ≡ length x + k → 0 < k
-    → HasNoFault Q → cut k Q ≡ Q → Gives room (P ++ Q) (x ++ event_bytes Q)
-gives_more {P = P} k Q so_far long some no_fault within = grind (arith, common_steps, HasNoFault-append, bytes-append, cut-append)
-
--- some bytes
-pub gives_bytes : {room : ℕ} {P : List Event} {x : List ℕ} (more : List ℕ) → Gives room P x → length x + length more ≤ room
-    → 0 < length more → Gives room (P ++ events_of more) (x ++ more)
-gives_bytes {room} {P} {x} more so_far fits some =
-    let fitting = cut-fitting (room - length x) more in
-    grind (arith, common_steps, gives_more (room - length x) (events_of more) so_far, HasNoFault-events_of, fitting, bytes-events_of)
-
--- an interruption
-pub gives_still : {room : ℕ} {P : List Event} {x : List ℕ} (e : Error) → Gives room P x → length x < room → IsInterruption e
-    → Gives room (P ++ fails e ∷ []) x
-gives_still {room} {P} {x} e so_far short again =
-    grind (arith, common_steps, gives_more (room - length x) (fails e ∷ []) so_far, append-nil, cut-error)
 
 -- bytes that fit fill the room alone
 pub gives_whole : {room : ℕ} (x : List ℕ) → length x ≤ room → Gives room (events_of x) x

@@ -9,14 +9,15 @@ use Rattle.no_std_io2_base.specs.{declared.error.{Error.{Error}, ErrorKind.TheVa
 use Rattle.no_std_io2_base.specs.{Errors.{SaysError, IsNoInterruption, IsTextError}, Calls.{Wrote}}
 use Rattle.no_std_io2_base.specs.inner.Write.{Writes, no_write, write_took, write_again, write_stuck, write_fault}
 use Rattle.no_std_io2_base.specs.{Moves.{WriterState, Sends, Moves, MovesFront, call_mishap}, inner.Moves.{HasSpent, HasSpentTries}}
-use Rattle.no_std_io2_base.specs.{Writers.{Writer, WriteOf, WriteRestOf, WriteAllOf}, inner.Writers.{CallOf, PrintsOf, WriteFmtOf}}
+use Rattle.no_std_io2_base.specs.Writers.{Writer, TakesAll, WriteOf, WriteRestOf, WriteAllOf}
+use Rattle.no_std_io2_base.specs.inner.Writers.{CallOf, PrintsOf, WriteFmtOf}
 use Rattle.no_std_io2_base.specs.{declared.error.ErrorKind.{ErrorKind}, Retries.{HasAtMost, Tries, next_try}}
 use Rattle.no_std_io2_base.specs.inner.Text.{none_printed, printed_piece, silent, FailsText, HasText, PrintsShort, PrintsOrRefuses}
 use Rattle.no_std_io2_base.specs.Text.{MovesText}
 use Rattle.no_std_io2_base.proofs.{CallsLemmas.{CallsSoFar, calls_more, calls_end}, MovesLemmas.{writes_law, Moves-refl, after_ok}}
 use Rattle.no_std_io2_base.proofs.MovesLemmas.{IsFront-refl, MovesFront-join, MovesFront-first, MovesFront-flush}
-use Rattle.std.specs.{Coded.{le_prop, Π_prop, Unit-prop}, List.{concat}, Fmt.{WritesInCalls, WritesText, DisplaysOnOk, IsPlainFormatter}}
-use Rattle.std.specs.{Fmt.{formatter_writer}, declared.fmt.{Formatter.{Formatter}, Error.{Error as FormatError}}}
+use Rattle.std.specs.{Coded.{le_prop, Π_prop, Unit-prop}, List.{concat}, Fmt.{WritesInCalls, WritesText}}
+use Rattle.std.specs.{declared.fmt.{Error.{Error as FormatError}}}
 use mathlib.Core.HLevel.{⊥_prop}
 
 -- What each exit of a loop of writes says.
@@ -144,6 +145,13 @@ module _ {X : Type 0} {I : Writer X} {old : X} where
   prints_fault (printed_piece x so_far wrote) = wrote.never_interrupted
   prints_fault (silent x so_far) = prints_fault so_far
 
+  -- a writer that takes all still takes all
+  prints_all : {text : List ℕ} {reply : Result (Unit {0}) Error} {new : X}
+      → PrintsOf I old text reply new → TakesAll I old → TakesAll I new
+  prints_all none_printed all = all
+  prints_all (printed_piece x so_far wrote) all = wrote.all (prints_all so_far all)
+  prints_all (silent x so_far) all = prints_all so_far all
+
 -- a formatter's calls, one after another, print what they print together
 module _ {W X : Type 0} (prints : X → List ℕ → W → Type 0) where
   abbrev PrintsNext : W → List ℕ → W → Type 0
@@ -162,12 +170,6 @@ module _ {W X : Type 0} (prints : X → List ℕ → W → Type 0) where
   prints_through (Some bs) (Err e) writes start had = ∥∥₁_map had (λ p. (p.0, p.1, p.2, λ ok. absurd (true≢false (sym ok))))
   prints_through {s = s} {t = t} {old = old} (Some bs) (Ok u) writes start had =
       ∣ (old, bs, prints_calls s t old writes start, λ ok. refl) ∣₁
-
-  -- a specified output was printed through a formatter, after `Ok`
-  pub prints_output : (f g : Formatter W) {s t : W} (old : X) (output : Option (List ℕ)) (formatted : Result (Unit {0}) FormatError)
-      → formatter_writer f ≡ s → IsPlainFormatter f → t ≡ formatter_writer g → DisplaysOnOk PrintsNext f formatted output g → IsOk formatted
-      → prints old [] s → IfSome output (λ bs. prints old bs t)
-  prints_output f g old x4 formatted over plain back shows ok start = grind (arith, common_steps, prints_calls)
 
 -- ---- what is known behind any formatter
 
@@ -268,6 +270,7 @@ module _ {X : Type 0} {I : Writer X} {old new : X} {name was : ℕ} {output : Op
       subst (λ r. WriteFmtOf I old output r new) (sym same) (record {
         never_interrupted = ∥∥₁_elim prints (IsNoInterruption-prop met) (λ p. prints_fault p.1);
         moves = moves_text output (∥∥₁_map prints (λ p. (p.0, prints_moves p.1, p.2)));
+        all = λ all. ∥∥₁_map prints (λ p. prints_all p.1 all);
         calls = ∥∥₁_map prints (λ p. (p.0, met, p.1, inl (p.2, refl)));
       })
   law_shown (Err f) reply had same why =
@@ -281,6 +284,7 @@ module _ {X : Type 0} {I : Writer X} {old new : X} {name was : ℕ} {output : Op
           moves = MovesFront-some (∥∥₁_map prints (λ p. (p.0, prints_moves p.1)));
           answers = inr why;
         };
+        all = λ all. ∥∥₁_map prints (λ p. prints_all p.1 all);
         calls = ∥∥₁_map prints (λ p. (p.0, met, p.1, inr why));
       }
 

@@ -1,18 +1,20 @@
 -- Reads to the end, also those of a `Chain`, which goes to the end of one reader and then of another.
-use Rattle.std.proofs.{lemmas.Grind.{common_steps}, Common.{◌≡◌, ℕ, ◌+◌, ◌-◌, ◌<◌, ◌≤◌, List, [], ◌∷◌, ◌++◌, Result, Ok, Err, length, take}}
-use Rattle.std.proofs.Common.{drop, refl, sym, ap, subst, ◌∙◌, arith, le_refl, le_trans, length-take, length-drop, Vec, vec_len}
+use Rattle.std.proofs.{lemmas.Grind.{common_steps}, Common.{◌≡◌, ℕ, ◌+◌, ◌-◌, ◌<◌, ◌≤◌, List, [], ◌++◌, Result, Ok, Err, length, take}}
+use Rattle.std.proofs.Common.{drop, refl, sym, ap, ◌∙◌, arith, le_refl, le_trans, length-take, length-drop, Vec, vec_len}
 use Rattle.std.proofs.Common.{vec_capacity, inl, inr, append_assoc, append-nil, take_all, OnOk, IfOk, length-append, true, false}
-use Rattle.std.proofs.Common.{true≢false, None}
-use Rattle.no_std_io2_base.specs.{declared.error.Error.{Error}, Errors.{IsInterruption, IsFault, IsOutOfMemory}, Events.{Event, fails}}
+use Rattle.std.proofs.Common.{true≢false, None, Bool, IsOk, IsErrAnd, length-take-le}
+use Rattle.no_std_io2_base.specs.{declared.error.Error.{Error}, Errors.{IsInterruption, IsFault, IsOutOfMemory}, Events.{Event}}
 use Rattle.no_std_io2_base.specs.{Events.{event_bytes, HasNoFault}, Takes.{Reader, tells, ReaderState, Takes, IsAtEnd}}
 use Rattle.no_std_io2_base.specs.Read.{ReadLaw, ToEndLaw, ReadToEndLaw}
-use Rattle.no_std_io2_base.specs.{inner.Read.{IsRoom, no_read, GathersUntil, least_room, without_number, FilledLaw}, Calls.{GaveAll}}
+use Rattle.no_std_io2_base.specs.{inner.Read.{IsRoom, no_read, least_room, without_number, FilledLaw}, Calls.{GaveAll}}
 use Rattle.no_std_io2_base.specs.inner.Chain.{chain_first, chain_second, chain_is_done, chain_events, chain_held, by_first, by_both}
 use Rattle.no_std_io2_base.specs.{declared.traits.chain.Chain.{Chain}, inner.Chain.{by_second, ChainMay}, BufRead.{FillBufLaw, AfterLoan}}
-use Rattle.no_std_io2_base.proofs.{CallsLemmas.{by_are, to_end_own}, TakesLemmas.{bytes-append, HasNoFault-append}}
-use Rattle.no_std_io2_base.proofs.TakesLemmas.{takes_none, takes_then, takes_still, nothing_read, read_law, EndsInFault-behind}
-use Rattle.no_std_io2_base.proofs.{TakesLemmas.{drains_ended, stays_at_end}, ReadLoops.{ReadsSoFar, reads_none, reads_more, reads_again}}
-use Rattle.no_std_io2_base.proofs.{ReadLoops.{reads_until, written, take-written, take-written_below}, PieceLoops.{filled_law}}
+use Rattle.no_std_io2_base.proofs.{CallsLemmas.{to_end_own}, TakesLemmas.{bytes-append, HasNoFault-append}}
+use Rattle.no_std_io2_base.proofs.TakesLemmas.{takes_none, nothing_read, read_law, EndsInFault-behind}
+use Rattle.no_std_io2_base.proofs.{TakesLemmas.{drains_ended, stays_at_end}, ReadLoops.{some_bytes}}
+use Rattle.no_std_io2_base.proofs.ReadsLemmas.{Reads-none, Reads-more, Reads-again, Reads-end, Reads-fault, Reads-takes}
+use Rattle.no_std_io2_base.specs.{inner.Reads.{Reads}, Reads.{Took}, inner.Read.{DrainCalls}}
+use Rattle.no_std_io2_base.proofs.{ReadLoops.{written, take-written, take-written_below}, PieceLoops.{filled_law}}
 use Rattle.std.specs.Borrow.{Bor}
 use Rattle.no_std_io2_base.specs.inner.Read.{DrainsOrStops}
 
@@ -26,8 +28,7 @@ pub record ToEndSoFar {X A : Type 0} (asks : ℕ → ℕ → Type 0) (R : Reader
   pub given : List ℕ
   pub count : filled ≡ vec_len buf + length given
   pub shown : take filled buf'.items ≡ buf.items ++ given
-  pub reads : ReadsSoFar R asks old given now
-  pub open reads use *
+  pub reads : Reads R asks old given (Ok true) now
 
 -- Zeros were added after the filled bytes, and a read wrote `part` over them.
 pub record PartWritten (filled len : ℕ) (was now part : List ℕ) : Type 0 where
@@ -44,15 +45,16 @@ part_was_written {filled} {len} {slice} {items} {part} long is room front opened
     grind (arith, common_steps, length-take, length-drop, take-written_below, le_refl, take-written)
 
 -- before the first read nothing is taken
-pub to_end_none : {X A : Type 0} {asks : ℕ → ℕ → Type 0} {R : Reader X} {old : X} {buf mid : Vec ℕ A} {start : ℕ} → start ≡ vec_len buf
-    → mid.items ≡ buf.items → vec_len mid ≡ vec_len buf → vec_capacity buf ≤ vec_capacity mid → ToEndSoFar asks R old buf start mid old
+unfoldable pub to_end_none : {X A : Type 0} {asks : ℕ → ℕ → Type 0} {R : Reader X} {old : X} {buf mid : Vec ℕ A} {start : ℕ}
+    → start ≡ vec_len buf → mid.items ≡ buf.items → vec_len mid ≡ vec_len buf → vec_capacity buf ≤ vec_capacity mid
+    → ToEndSoFar asks R old buf start mid old
 to_end_none {buf = buf} {mid} {start} is same len grown = record {
   within = omega (arith, is, len);
   capacity = grown;
   given = [];
   count = omega (arith, is);
   shown = take_all start mid.items (omega (arith, is, len, mid.ok.0)) ∙ same ∙ sym (append-nil buf.items);
-  reads = reads_none _;
+  reads = Reads-none _;
 }
 
 -- there was no room for the first read, and an allocation failed
@@ -101,32 +103,61 @@ module _ {A : Type 0} (buf mid : Vec ℕ A) (P Q : List Event) (first : mid.item
 
 module _ {X A : Type 0} {asks : ℕ → ℕ → Type 0} {R : Reader X} {old now : X} {buf xs : Vec ℕ A} {filled : ℕ}
     (before : ToEndSoFar asks R old buf filled xs now) where
-  -- what was taken was appended
-  pub given_bytes : {v : List ℕ} → v ≡ take filled xs.items → v ≡ buf.items ++ event_bytes before.taken
-  given_bytes same = same ∙ before.shown ∙ ap (λ l. buf.items ++ l) (sym before.are)
-
   module _ {new : X} {room part : List ℕ} (into : asks (length before.given) (length part)) where
     -- a read gave some bytes more
-    pub to_end_read : {xs' : Vec ℕ A} {n : ℕ} → ReadLaw R now room (Ok n) part new → (n ≡ 0 → ⊥)
+    unfoldable pub to_end_read : {xs' : Vec ℕ A} {n : ℕ} → ReadLaw R now room (Ok n) part new → (n ≡ 0 → ⊥)
         → PartWritten filled (vec_len xs') xs.items xs'.items part
         → vec_capacity xs ≤ vec_capacity xs' → ToEndSoFar asks R old buf (filled + n) xs' new
     to_end_read {n = n} read some w grown =
-        let more = reads_more before.reads read some into in
+        let long = length-take-le n part read.bound in
+        let more = Reads-more before.reads into (read_law (Ok n) read) (omega (arith, long, some_bytes n some)) in
         grind (arith, common_steps)
 
     -- a read was interrupted
-    pub to_end_interruption : {xs' : Vec ℕ A} {e : Error} → ReadLaw R now room (Err e) part new → IsInterruption e
+    unfoldable pub to_end_interruption : {xs' : Vec ℕ A} {e : Error} → ReadLaw R now room (Err e) part new → IsInterruption e
         → PartWritten filled (vec_len xs') xs.items xs'.items part
         → vec_capacity xs ≤ vec_capacity xs' → ToEndSoFar asks R old buf filled xs' new
-    to_end_interruption read interrupted w grown = grind (arith, common_steps, le_trans, reads_again before.reads read interrupted into)
+    to_end_interruption {e = e} read again w grown =
+        grind (arith, common_steps, le_trans, Reads-again before.reads into (read_law (Err e) read) again)
+
+-- how a `read_to_end` answers, by how its reads ended
+abbrev ToEndAnswers : Type 0 → Result Bool Error → Result ℕ Error → Type 0
+ToEndAnswers lacks (Ok true) reply = IsErrAnd reply IsOutOfMemory × lacks
+ToEndAnswers lacks (Ok false) reply = IsOk reply
+ToEndAnswers lacks (Err e) reply = reply ≡ Err e
 
 module _ {X A : Type 0} {R : Reader X} {old now : X} {buf xs : Vec ℕ A} {filled : ℕ}
     (before : ToEndSoFar IsRoom R old buf filled xs now) where
+  -- a `read_to_end`, by its reads
+  to_end_law : {lacks : ℕ → Type 0} {v : Vec ℕ A} {new : X} (how : Result Bool Error) (reply : Result ℕ Error)
+      → Reads R IsRoom old before.given how new → ToEndAnswers (lacks (length before.given)) how reply
+      → IfOk reply (λ n. n ≡ length before.given) → v.items ≡ take filled xs.items → vec_capacity xs ≤ vec_capacity v
+      → ToEndLaw lacks R old buf reply v new
+  to_end_law {lacks} {new = new} how reply reads says count same grown =
+      let t = Reads-takes (λ at room some. some) how reads in
+      record {
+        taken = t.taken;
+        takes = t.takes;
+        appends = (same ∙ before.shown ∙ ap (λ l. buf.items ++ l) (sym t.are), rw t.are count);
+        ends = ended _ how reply t (rw t.are says);
+        capacity = le_trans before.capacity grown;
+        calls = record { calls = reads.calls; made = reads.made; are = rw t.are (inr (drains _ how reply reads says)) };
+      }
+    where
+      ended : (l : Type 0) {x : List ℕ} (how : Result Bool Error) (reply : Result ℕ Error) (t : Took (tells R old) x how (tells R new))
+          → ToEndAnswers l how reply → DrainsOrStops l t.taken reply (tells R new)
+      ended l how reply t says = grind (arith, common_steps)
+
+      drains : (l : Type 0) {x : List ℕ} (how : Result Bool Error) (reply : Result ℕ Error) (r : Reads R IsRoom old x how new)
+          → ToEndAnswers l how reply → DrainCalls r.calls x (without_number reply)
+      drains l how reply r says = let are = r.are in let fault = r.fault in grind (arith, common_steps)
+
   -- the room was full, and an allocation failed
   pub to_end_refused : {lacks : ℕ → Type 0} {v : Vec ℕ A} {e : Error} → IsOutOfMemory e → vec_len v ≡ filled
       → take filled v.items ≡ take filled xs.items → vec_capacity xs ≤ vec_capacity v
       → ((n : ℕ) → filled ≡ vec_len buf + n → lacks n) → ToEndLaw lacks R old buf (Err e) v now
-  to_end_refused {v = v} refused len front grown why = grind (arith, common_steps, given_bytes before)
+  to_end_refused {v = v} {e} refused len front grown why = to_end_law (Ok true) (Err e) before.reads (refused, why _ before.count) tt
+      (sym (take_all filled v.items (omega (arith, len, v.ok.0))) ∙ front) grown
 
   module _ {new : X} {room part : List ℕ} where
     -- a read met the end
@@ -134,32 +165,14 @@ module _ {X A : Type 0} {R : Reader X} {old now : X} {buf xs : Vec ℕ A} {fille
         → reply ≡ Ok n → n ≡ 0 → 0 < length part → v.items ≡ take filled xs.items → vec_capacity xs ≤ vec_capacity v
         → start ≡ vec_len buf → ToEndLaw lacks R old buf (Ok (filled - start)) v new
     to_end_done read is zero some same grown from =
-        let end = nothing_read read is zero in
-        record {
-          taken = before.taken;
-          takes = takes_still before.takes end.takes;
-          appends = (given_bytes before same, omega (arith, from, before.count, ap length before.are));
-          ends = (before.no_fault, end.end refl some);
-          capacity = le_trans before.capacity grown;
-          calls = by_are (reads_until before.reads end some)
-              (λ C until. inr (subst (λ x. GathersUntil IsRoom C x (Ok [])) (sym before.are) until));
-        }
+        to_end_law (Ok false) (Ok _) (Reads-end before.reads some (nothing_read read is zero)) refl (omega (arith, from, before.count))
+        same grown
 
     -- a read met a fault
     pub to_end_fault : {lacks : ℕ → Type 0} {v : Vec ℕ A} {e : Error} → ReadLaw R now room (Err e) part new → IsFault e → 0 < length part
         → v.items ≡ take filled xs.items → vec_capacity xs ≤ vec_capacity v → ToEndLaw lacks R old buf (Err e) v new
     to_end_fault {e = e} read fault some same grown =
-        let bare : event_bytes (before.taken ++ fails e ∷ []) ≡ event_bytes before.taken =
-        bytes-append before.taken (fails e ∷ []) ∙ append-nil (event_bytes before.taken) in
-        record {
-          taken = before.taken ++ fails e ∷ [];
-          takes = takes_then before.takes read.takes;
-          appends = (given_bytes before same ∙ ap (λ l. buf.items ++ l) (sym bare), tt);
-          ends = inl (before.taken, refl, before.no_fault, fault);
-          capacity = le_trans before.capacity grown;
-          calls = by_are (reads_until before.reads (read_law (Err e) read) some)
-              (λ C until. inr (inl (fault, subst (λ x. GathersUntil IsRoom C x (Err e)) (sym (bare ∙ before.are)) until)));
-        }
+        to_end_law (Err e) (Err e) (Reads-fault before.reads some (read_law (Err e) read) fault) refl tt same grown
 
 -- What the two readers of a `Chain` take, the chain takes.
 

@@ -4,7 +4,7 @@ use Rattle.std.specs.{Prelude.{string_len, string_capacity, IfOk, IfSome, IsOkAn
 use Rattle.no_std_io2_base.specs.{declared.error.Error.{Error}, Events.{Event, event_bytes}, inner.Events.{BeginsWith}}
 use Rattle.no_std_io2_base.specs.{Takes.{Takes, to_come, IsAtEnd, Reader, tells}, Calls.{Filled, ByCalls}, Read.{ReadCallLaw}}
 use Rattle.no_std_io2_base.specs.{inner.Read.{bytes_given, fault_of, lent_bytes, at_most_max}, Pieces.{newline}}
-use Rattle.no_std_io2_base.specs.{inner.Lines.{AnswersLine, line_room}, inner.Pieces.{PieceCalls}}
+use Rattle.no_std_io2_base.specs.{inner.Lines.{AnswersLine}, inner.Pieces.{PieceCalls}}
 use Rattle.no_std_io2_base.specs.inner.Pieces.{PieceEnds}
 
 -- `fill_buf()`: its result
@@ -66,7 +66,7 @@ pub record ReadLineLaw {X A : Type 0} (R : Reader X) (old : X) (buf : String A) 
   pub takes : Takes (tells R old) taken (tells R new)
   -- that is a line, as `read_until` takes it with a newline as delimiter, by this result
   pub read : Result ℕ Error
-  pub ends : PieceEnds (λ n. line_room buf < n) newline (tells R old) taken read
+  pub ends : PieceEnds (λ n. string_capacity buf < string_len buf + n) newline (tells R old) taken read
   -- it is appended if it is UTF-8 and there is room for it
   pub answers : AnswersLine (event_bytes taken) read (string_len buf) (string_capacity buf) reply (string_bytes buf) (string_bytes buf')
   -- the capacity never shrinks

@@ -1,20 +1,15 @@
 -- The law of each call of `Read`.
-use Rattle.std.specs.Prelude.{◌≡◌, ℕ, ◌<◌, List, ◌++◌, length, take, Ok, Err, Result, ◌+◌, ◌-◌, ◌≤◌, Vec, vec_len, vec_capacity, IfOk}
+use Rattle.std.specs.Prelude.{◌≡◌, ℕ, ◌<◌, List, ◌++◌, length, take, Result, ◌+◌, ◌-◌, ◌≤◌, Vec, vec_len, vec_capacity, IfOk}
 use Rattle.std.specs.Prelude.{IsOk, drop, min, String, string_len, string_capacity, string_bytes}
 use Rattle.no_std_io2_base.specs.{declared.error.Error.{Error}}
-use Rattle.no_std_io2_base.specs.{Events.{Event, events_of, event_bytes, HasNoFault}, inner.Events.{cut, EndsInFault}}
-use Rattle.no_std_io2_base.specs.Takes.{ReaderState, Takes, IsAtEnd, gave_front, Reader, tells, answered}
+use Rattle.no_std_io2_base.specs.{Events.{Event, events_of, event_bytes}, inner.Events.{cut}}
+use Rattle.no_std_io2_base.specs.Takes.{Takes, IsAtEnd, gave_front, Reader, tells, answered}
 use Rattle.no_std_io2_base.specs.inner.Read.{gave_whole, without_number, ExactCalls, FullCalls, ToEndCalls, AtMostCalls, EndsWithin}
 use Rattle.no_std_io2_base.specs.inner.Read.{GaveLaw, FilledLaw}
 use Rattle.no_std_io2_base.specs.{Calls.{ByCalls, ReadCall, Gave, GaveExactly, GaveAll, Filled, Consumed}, inner.Read.{least_room}}
-use Rattle.no_std_io2_base.specs.inner.Lines.{AnswersLine, line_room}
-use Rattle.no_std_io2_base.specs.inner.Read.{FillsOrEnds}
+use Rattle.no_std_io2_base.specs.inner.Lines.{AnswersLine}
+use Rattle.no_std_io2_base.specs.inner.Read.{FillsOrEnds, FillsOrMeetsEnd}
 use Rattle.no_std_io2_base.specs.inner.Read.{DrainsOrStops}
-
--- how a `read_full` into this much room that took P ended: it gave so many bytes, or met the end; or a fault came first
-abbrev FillsOrMeetsEnd : ℕ → List Event → Result (Unit {0}) Error → ReaderState → Type 0
-FillsOrMeetsEnd room P (Ok u) new = HasNoFault P × (cut room P ≡ P) × (length (event_bytes P) < room → IsAtEnd new)
-FillsOrMeetsEnd room P (Err e) new = EndsInFault P e × (length (event_bytes P) < room)
 
 -- `consume(amount)`
 pub record ConsumeLaw {X : Type 0} (R : Reader X) (old : X) (amount : ℕ) (new : X) : Type 0 where
@@ -121,7 +116,7 @@ pub record ReadToStringLaw {X A : Type 0} (R : Reader X) (old : X) (buf : String
   -- that is all, as `read_to_end` takes it, with this result
   pub read : Result ℕ Error
   pub count : IfOk read (λ n. n ≡ length (event_bytes taken))
-  pub ends : DrainsOrStops (line_room buf < length (event_bytes taken) + least_room) taken read (tells R new)
+  pub ends : DrainsOrStops (string_capacity buf < string_len buf + (length (event_bytes taken) + least_room)) taken read (tells R new)
   -- it is appended if it is UTF-8 and there is room for it
   pub answers : AnswersLine (event_bytes taken) read (string_len buf) (string_capacity buf) reply (string_bytes buf) (string_bytes buf')
   -- the capacity never shrinks

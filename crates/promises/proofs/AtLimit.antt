@@ -6,7 +6,7 @@ use Rattle.no_std_io2.proofs.{Words.{newline, Made}, CallsLemmas.{made_split}, C
 use Rattle.no_std_io2.proofs.{LimitLemmas.{limit_each, limit_exact}, ToEndLemmas.{chain_reader}}
 use Rattle.no_std_io2.specs.{declared.io.Error.{Error}, declared.io.Take.{Take}, Errors.{IsUnexpectedEnd}, inner.Events.{cut}}
 use Rattle.no_std_io2.specs.{Calls.{GaveExactly, ByCalls}, Read.{ReadExactLaw}, inner.Read.{FillCalls, gave_whole}}
-use Rattle.no_std_io2.specs.{BufRead.{ReadUntilLaw, ReadLineLaw}, inner.Lines.{line_room, AnswersLine}, inner.Pieces.{PieceCalls}}
+use Rattle.no_std_io2.specs.{BufRead.{ReadUntilLaw, ReadLineLaw}, inner.Lines.{AnswersLine}, inner.Pieces.{PieceCalls}}
 use Rattle.no_std_io2.specs.{inner.Take.{limit_left, LimitTakes}, inner.Chain.{InTurn}}
 use Rattle.no_std_io2.specs.inner.Pieces.{PieceEnds}
 
@@ -97,7 +97,8 @@ module _ {T : Type 0} (inner : Reader T) where
       let (ok, none) = piece_at_limit _ law.read law.calls low in
       by reply law.read (event_bytes law.taken) none ok (counts law.read law.ends) law.answers
     where
-      counts : (read : Result ℕ Error) → PieceEnds (λ n. line_room buf < n) newline (tells (limit_reader inner) old) law.taken read
+      counts : (read : Result ℕ Error)
+          → PieceEnds (λ n. string_capacity buf < string_len buf + n) newline (tells (limit_reader inner) old) law.taken read
           → IfOk read (λ n. n ≡ length (event_bytes law.taken))
       counts (Ok n) ends = ends.1
       counts (Err e) ends = tt

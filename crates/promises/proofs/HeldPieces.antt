@@ -1,5 +1,5 @@
 -- For `reads`: pieces at the front of the held bytes, and the store after a call.
-use Rattle.std.proofs.{lemmas.Grind.{common_steps}, Common.{IfSome, drop-drop, take_all, String, string_bytes}}
+use Rattle.std.proofs.{lemmas.Grind.{common_steps}, Common.{IfSome, drop-drop, take_all, String, string_bytes, string_len, string_capacity}}
 use Rattle.no_std_io2.proofs.Words.{◌≡◌, ◌+◌, ◌-◌, ◌<◌, ◌++◌, ℕ, List, [], Option, None, Some, Result, Ok, IfOk, length, refl, subst, sym}
 use Rattle.no_std_io2.proofs.Words.{ap, ap₂, ◌∙◌, drop, arith, drop-append_seam, step_back, store_before, store_if, Event, answered}
 use Rattle.no_std_io2.proofs.Words.{KeepsContent, Store, Bool, true, ◌∷◌, take, Err, ⊎_elim, inl, inr, append_assoc, append-nil}
@@ -9,7 +9,7 @@ use Rattle.no_std_io2.proofs.Words.{Filled, Consumed, ReadCallLaw, tells, newlin
 use Rattle.no_std_io2.proofs.{Words.{FillsBelow, lent_held, lent_read}, BufferedReads.{before_decides, buf_reader}}
 use Rattle.no_std_io2.proofs.CallsLemmas.{made_split}
 use Rattle.no_std_io2.specs.{declared.io.Error.{Error}, Takes.{gave_front}, BufRead.{ReadUntilLaw, ReadLineLaw}}
-use Rattle.no_std_io2.specs.inner.Lines.{line_room, AnswersLine}
+use Rattle.no_std_io2.specs.inner.Lines.{AnswersLine}
 use Rattle.no_std_io2.specs.inner.Pieces.{Lacks, EndsPiece, FindsPiece, PartCalls, no_part, and_part, part_interrupted, PieceCalls}
 use Rattle.no_std_io2.specs.{Calls.{ByCalls}, declared.buffered.buf_reader.BufReader.{BufReader}}
 use Rattle.no_std_io2.specs.inner.BufReader.{TakesHeld, TakesHeldLine}
@@ -185,7 +185,8 @@ module _ {R : Type 0} {S : ℕ} (K : Reader R) (old : BufReader R S) (line rest 
       was_answered (event_bytes law.taken) _ _ _ _ _ law.read reply (counts law.read law.ends)
       (piece_held K old newline line rest is ends (event_bytes law.taken) law.read law.calls) law.answers
     where
-      counts : (read : Result ℕ Error) → PieceEnds (λ n. line_room text < n) newline (tells (buf_reader K) old) law.taken read
+      counts : (read : Result ℕ Error)
+          → PieceEnds (λ n. string_capacity text < string_len text + n) newline (tells (buf_reader K) old) law.taken read
           → IfOk read (λ n. n ≡ length (event_bytes law.taken))
       counts (Ok n) ends = ends.1
       counts (Err e) ends = tt

@@ -1,5 +1,5 @@
 -- Lines, which are the pieces that a newline ends, and the text of one.
-use Rattle.std.specs.Prelude.{ℕ, Vec, String, ◌==◌, if◌then◌else◌, vec_capacity, string_len, string_capacity, ◌≡◌, List, Contains, true}
+use Rattle.std.specs.Prelude.{ℕ, if◌then◌else◌, ◌≡◌, List, Contains, true}
 use Rattle.std.specs.{Prelude.{not, length, filter, ◌+◌, ◌<◌, ◌++◌, ◌⊎◌, Some, Result, Ok, Err, codes, IsUtf8}, List.{concat}}
 use Rattle.std.specs.Io.BufRead.{ends_with_byte, strip_last}
 use Rattle.no_std_io2_base.specs.{Pieces.{newline}, inner.Pieces.{pieces_of}, declared.error.Error.{Error}}
@@ -58,11 +58,3 @@ AnswersLine line (Err f) len capacity (Err e) old new =
     ⊎ (((error_kind f ≡ OutOfMemory) → ⊥)
     × ((Follows line old new × (e ≡ f))
     ⊎ (((IsUtf8 line → ⊥) × (e ≡ f) × (new ≡ old)) ⊎ (HasNoRoom line len capacity e × (new ≡ old)))))
-
--- the room for a line that is read for a text: an empty text lends its own memory
-abbrev pub line_room : {A : Type 0} → String A → ℕ
-line_room buf = if string_len buf == 0 then string_capacity buf else 0
-
--- the capacity of a text: while it is empty, and a vector has its memory, that of the vector
-abbrev pub text_room : {A : Type 0} → String A → Vec ℕ A → ℕ
-text_room buf line = if string_len buf == 0 then vec_capacity line else string_capacity buf

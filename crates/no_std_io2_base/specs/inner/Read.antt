@@ -58,7 +58,7 @@ FullCalls C room x (Ok u) = (Gathers (IsRest room) C x × (length x ≡ room)) �
 FullCalls C room x (Err e) = IsFault e × GathersUntil (IsRest room) C x (Err e)
 
 -- C are the reads of a `read_to_end` that gave x: up to the end, a fault, or a failed allocation
-abbrev DrainCalls : List ReadCall → List ℕ → Result (Unit {0}) Error → Type 0
+abbrev pub DrainCalls : List ReadCall → List ℕ → Result (Unit {0}) Error → Type 0
 DrainCalls C x (Ok u) = GathersUntil IsRoom C x (Ok [])
 DrainCalls C x (Err e) = (IsFault e × GathersUntil IsRoom C x (Err e)) ⊎ (IsOutOfMemory e × Gathers IsRoom C x)
 
@@ -98,6 +98,11 @@ abbrev pub FillsOrEnds : ℕ → List Event → Result (List ℕ) Error → Read
 FillsOrEnds room P (Ok x) new = Gives room P x × (length x ≡ room)
 FillsOrEnds room P (Err e) new = (length (event_bytes P) < room)
     × (EndsInFault P e ⊎ (IsUnexpectedEnd e × HasNoFault P × IfSome (to_come new) (AllOrNone P room)))
+
+-- how a `read_full` into this much room that took P ended: it gave so many bytes, or met the end; or a fault came first
+abbrev pub FillsOrMeetsEnd : ℕ → List Event → Result (Unit {0}) Error → ReaderState → Type 0
+FillsOrMeetsEnd room P (Ok u) new = HasNoFault P × (cut room P ≡ P) × (length (event_bytes P) < room → IsAtEnd new)
+FillsOrMeetsEnd room P (Err e) new = EndsInFault P e × (length (event_bytes P) < room)
 
 -- how a `read_to_end` that took P ended: at the end; or after a fault; or since an allocation failed, for which `lacks` is a reason
 abbrev pub DrainsOrStops : {A : Type 0} → Type 0 → List Event → Result A Error → ReaderState → Type 0

@@ -25,7 +25,8 @@ fn write_fitting(content: &mut [u8], pos: &mut u64, buf: &[u8]) -> usize
     n
 }
 
-// `write_all` of a cursor over a slice.
+// `write_all` of a cursor over a slice. It and the calls of it are always inlined: a piece's length is often a
+// constant, and the copy of it is then a few moves.
 #[inline(always)]
 fn write_all_fitting(content: &mut [u8], pos: &mut u64, buf: &[u8]) -> Result<()>
     ensures { PutsAllFitting content.old pos.old buf.now result content.new pos.new }
@@ -64,6 +65,7 @@ impl Write for Cursor<&mut [u8]> {
         Ok(())
     }
 
+    #[inline(always)]
     fn write_all(&mut self, buf: &[u8]) -> Result<()>
         ensures law { WriteAllOf ⟦<Self as Write>⟧ self.old buf.now result self.new }
 
@@ -94,6 +96,7 @@ impl<const N: usize> Write for Cursor<[u8; N]> {
         Ok(())
     }
 
+    #[inline(always)]
     fn write_all(&mut self, buf: &[u8]) -> Result<()>
         ensures law { WriteAllOf ⟦<Self as Write>⟧ self.old buf.now result self.new }
 
@@ -123,6 +126,7 @@ impl<A: Allocator> Write for Cursor<BoxedSlice<u8, A>> {
         Ok(())
     }
 
+    #[inline(always)]
     fn write_all(&mut self, buf: &[u8]) -> Result<()>
         ensures law { WriteAllOf ⟦<Self as Write>⟧ self.old buf.now result self.new }
 

@@ -1,21 +1,18 @@
 // The parts of which the calls that read pieces are made.
-ghost use Rattle.std.specs.Prelude.{◌≡◌, ◌≢◌, ◌<◌, ◌≤◌, ◌+◌, ◌⊎◌, [], true, false, length, IfErr, IfOk, IsErrAnd, IsUtf8};
+ghost use Rattle.std.specs.Prelude.{◌≡◌, ◌≢◌, ◌<◌, ◌≤◌, ◌+◌, ◌⊎◌, true, false, length, IfErr, IfOk, IsErrAnd, IsUtf8};
 ghost use Rattle.std.specs.Prelude.{string_bytes, string_len, string_capacity, vec_len, vec_capacity, ℕ, take, drop};
 ghost use Rattle.std.specs.String.{string_vec};
 ghost use Rattle.std.specs.Bool.{OnTrue, OnFalse};
 ghost use Rattle.std.specs.List.{AllWithin};
 ghost use Rattle.std.specs.Io.BufRead.{ends_with_byte, strip_last};
 ghost use Rattle.no_std_io2_base.specs.inner.Pieces.{FindsPiece};
-ghost use Rattle.no_std_io2_base.specs.inner.Lines.{line_text, IsInvalidText, AnswersLine, Follows, text_room};
+ghost use Rattle.no_std_io2_base.specs.inner.Lines.{line_text, IsInvalidText, AnswersLine, Follows};
 ghost use Rattle.no_std_io2_base.specs.Errors.{error_kind};
 ghost use Rattle.no_std_io2_base.specs.declared.error.ErrorKind.TheVariants.{OutOfMemory};
 
 use crate::error::{Error, ErrorKind, Result};
 use std::alloc::Global;
 use std::mem;
-
-// The room of a vector for a text, which comes by pieces: without it, the first ones would make the vector grow.
-const TEXT_ROOM: usize = 64;
 
 /// The number of bytes that are compared in one step.
 pub const STEP: usize = 16;
@@ -96,23 +93,6 @@ pub(super) fn text_of(bytes: Vec<u8>) -> Result<String>
     }
 }
 
-// Appends a text's bytes to a string if they are UTF-8, and returns the result of their read. The
-// string is unchanged if the bytes are not UTF-8, and after every `OutOfMemory`, also the read's.
-fn append_line(buf: &mut String, line: &[u8], read: Result<usize>) -> Result<usize>
-    ensures answers { AnswersLine line.now read (string_len buf.old) (string_capacity buf.old) result
-        (string_bytes buf.old) (string_bytes buf.new) }
-    ensures capacity { string_capacity buf.old ≤ string_capacity buf.new }
-{
-    if is_out_of_memory(&read) {
-        return read;
-    }
-    let Ok(text) = std::str::from_utf8(line) else {
-        return read.and(Err(invalid_text()));
-    };
-    buf.push_str(text)?;
-    read
-}
-
 // Appends a line to a string if it is UTF-8 and the string has room for it, and returns whether it
 // did. If not, the string is unchanged.
 pub(super) fn append_text(buf: &mut String, line: &[u8]) -> bool
@@ -131,55 +111,6 @@ pub(super) fn append_text(buf: &mut String, line: &[u8]) -> bool
     // There is room, so this does not allocate.
     let _ = buf.push_str(text);
     true
-}
-
-// Returns an empty vector. It has the memory of the string if the string is empty. If not, it has room for a short
-// text, unless the allocation fails.
-#[inline(always)]
-pub(super) fn take_memory(alloc: Global, buf: &mut String) -> Vec<u8>
-    ensures items { result.items ≡ [] }
-    ensures bytes { string_bytes buf.new ≡ string_bytes buf.old }
-    ensures len { string_len buf.new ≡ string_len buf.old }
-    ensures capacity { text_room buf.new result ≡ string_capacity buf.old }
-{
-    if buf.is_empty() {
-        return mem::replace(buf, String::new(alloc)).into_bytes();
-    }
-    match Vec::with_capacity(alloc, TEXT_ROOM) {
-        Ok(line) => line,
-        Err(_refused) => Vec::new(alloc),
-    }
-}
-
-// Appends a line's bytes to a string if they are UTF-8, and returns the result of their read. If the
-// string is empty, the line becomes the string, without a copy and without an allocation; if the
-// bytes are not UTF-8, the string gets only the line's memory.
-//
-// # Errors
-// Returns the read's error if the read failed, `InvalidData` if the bytes are not UTF-8, and
-// `OutOfMemory` if the string could not grow. The string is unchanged if the bytes are not UTF-8,
-// and after every `OutOfMemory`, also the read's.
-pub(super) fn put_line(buf: &mut String, mut line: Vec<u8>, read: Result<usize>) -> Result<usize>
-    ensures answers { AnswersLine line.items read (string_len buf.old) (text_room buf.old line) result
-        (string_bytes buf.old) (string_bytes buf.new) }
-    ensures capacity { text_room buf.old line ≤ string_capacity buf.new }
-{
-    if buf.len() > 0 {
-        return append_line(buf, &line, read);
-    }
-    if is_out_of_memory(&read) {
-        line.clear();
-    }
-    match String::from_utf8(line) {
-        Ok(text) => {
-            *buf = text;
-            read
-        }
-        Err(not_text) => {
-            *buf = empty_text(not_text.into_bytes());
-            read.and(Err(invalid_text()))
-        }
-    }
 }
 
 // Takes the bytes of a string with their memory. The string is then empty.
@@ -235,15 +166,6 @@ pub(super) fn put_back(
     }
     *buf = text_front(bytes, start);
     read.and(Err(invalid_text()))
-}
-
-// Returns an empty string, with the memory of these bytes.
-fn empty_text(mut bytes: Vec<u8>) -> String
-    ensures bytes { string_bytes result ≡ [] }
-    ensures capacity { string_capacity result ≡ vec_capacity bytes }
-{
-    bytes.clear();
-    String::from_utf8(bytes).unwrap()
 }
 
 // Returns whether the read failed because an allocation failed.

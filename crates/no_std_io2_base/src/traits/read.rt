@@ -11,7 +11,7 @@ ghost use Rattle.no_std_io2_base.specs.Takes.{to_come};
 
 use super::bytes::Bytes;
 use super::chain::Chain;
-use super::pieces::{put_line, take_memory};
+use super::pieces::{put_back, take_bytes};
 use super::room::{LEAST_ROOM, open_room, reserve_first};
 use super::stored::Stored;
 use super::take::Take;
@@ -164,8 +164,8 @@ pub trait Read: Stored {
     }
 
     /// Appends all remaining bytes to the string `buf`, and returns their number. It ignores
-    /// interruptions. If `buf` is empty, they are read into its own memory; if not, into a vector from
-    /// `alloc` first. Follows `std::io::Read::read_to_string`.
+    /// interruptions. They are read into the string's own memory; meanwhile `buf` is an empty string
+    /// of `alloc`. Follows `std::io::Read::read_to_string`.
     ///
     /// # Errors
     /// Returns `InvalidData` if the bytes are not UTF-8; `buf` is unchanged, and the bytes are
@@ -184,9 +184,10 @@ pub trait Read: Stored {
         Self: Sized,
         ensures law { ReadToStringLaw ⟦<Self as Read>⟧ self.old buf.old result buf.new self.new }
     {
-        let mut text = take_memory(alloc, buf);
-        let read = self.read_to_end(&mut text);
-        put_line(buf, text, read)
+        let start = buf.len();
+        let mut bytes = take_bytes(alloc, buf);
+        let read = self.read_to_end(&mut bytes);
+        put_back(buf, bytes, start, read)
     }
 
     /// Lends the reader itself, for an adaptor that would take it by value. Follows `std::io::Read::by_ref`.

@@ -65,13 +65,11 @@ returns g c =
 pub put_back-requires-clause-within : goal.put_back-requires-clause-within
 put_back-requires-clause-within g c =
     let read = c.read_until-read in
-    subst (λ n. n ≤ vec_len read.new.buf) (sym c.len-start.ensures) (memory_grows c.match-fill_buf.buf read.new.buf
-    (subst (λ v. ReadUntilLaw (reader g.Self.Stored g.Self.Read) c.match-fill_buf.self newline v read.result read.new.buf read.new.self)
-    c.take_bytes-bytes.ensures read.ensures.law))
+    subst (λ n. n ≤ vec_len read.new.buf) (sym c.len-start.ensures) (memory_grows c.match-fill_buf.buf read.new.buf _
+    (rw c.take_bytes-bytes.ensures at read.ensures.law.appends))
 
 pub put_back-requires-clause-text : goal.put_back-requires-clause-text
 put_back-requires-clause-text g c =
     let read = c.read_until-read in
-    subst (λ n. IsUtf8 (take n read.new.buf.items)) (sym c.len-start.ensures) (memory_text c.match-fill_buf.buf read.new.buf
-    (subst (λ v. ReadUntilLaw (reader g.Self.Stored g.Self.Read) c.match-fill_buf.self newline v read.result read.new.buf read.new.self)
-    c.take_bytes-bytes.ensures read.ensures.law))
+    subst (λ n. IsUtf8 (take n read.new.buf.items)) (sym c.len-start.ensures) (memory_text c.match-fill_buf.buf read.new.buf _
+    (rw c.take_bytes-bytes.ensures at read.ensures.law.appends))

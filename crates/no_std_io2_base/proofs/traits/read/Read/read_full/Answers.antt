@@ -1,6 +1,7 @@
 -- The loop and each of its exits, by the lemmas of loops that fill a buffer.
-use Rattle.std.proofs.Common.{sym, ◌∙◌}
-use Rattle.no_std_io2_base.proofs.{ReadLoops.{full_none, full_read, full_interruption, full_end, full_fault}, TakesLemmas.{read_spends}}
+use Rattle.std.proofs.Common.{sym, ◌∙◌, arith}
+use Rattle.no_std_io2_base.proofs.ReadLoops.{full_none, full_read, full_interruption, full_end, full_fault, full_all}
+use Rattle.no_std_io2_base.proofs.TakesLemmas.{read_spends}
 use Rattle.no_std_io2_base.proofs.traits.read.Read.read_full.Goals as goal
 
 pub reads-init : goal.reads-init
@@ -27,3 +28,6 @@ reads-preserved g c =
 
 pub reads-smaller-in-Ok : goal.reads-smaller-in-Ok
 reads-smaller-in-Ok g c = read_spends c.in-Ok.ensures.law c.in-Ok.n-test.1
+
+pub returns : goal.returns
+returns g c = record { law = full_all c.reads.invariant (omega (arith, c.reads-test.false)) }

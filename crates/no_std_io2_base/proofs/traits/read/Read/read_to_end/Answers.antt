@@ -1,7 +1,7 @@
 -- The loop and each of its exits, by the lemmas of loops that read to the end.
 use Rattle.std.proofs.{Common.{sym, arith, ◌∙◌}, lemmas.Grind.{common_steps}, lemmas.Result.{err_from_is_err_and}}
 use Rattle.no_std_io2_base.proofs.ToEndLemmas.{part_was_written, to_end_none, to_end_no_room, to_end_read, to_end_interruption, to_end_done}
-use Rattle.no_std_io2_base.proofs.{ToEndLemmas.{to_end_fault}, TakesLemmas.{read_spends}}
+use Rattle.no_std_io2_base.proofs.{ToEndLemmas.{to_end_fault, to_end_refused}, TakesLemmas.{read_spends}}
 use Rattle.no_std_io2_base.proofs.traits.read.Read.read_to_end.Goals as goal
 
 pub returns-in_err-reserve_first : goal.returns-in_err-reserve_first
@@ -11,7 +11,13 @@ pub reads-init : goal.reads-init
 reads-init g c = grind (arith, common_steps, to_end_none)
 
 pub returns-in_err-open_room : goal.returns-in_err-open_room
-returns-in_err-open_room g c = grind (arith, common_steps)
+returns-in_err-open_room g c =
+    let p = err_from_is_err_and c.from_residual-in_err-open_room.result c.from_residual-in_err-open_room.ensures.1 in
+    let refused = c.in_err-open_room.ensures in
+    rw (p.1, p.2) (record {
+      law = to_end_refused c.reads.invariant refused.refused refused.full.1 refused.front refused.grows
+          (λ n is. omega (arith, refused.full.0, is, c.reads.invariant.capacity));
+    })
 
 pub returns-in-Ok-eq0 : goal.returns-in-Ok-eq0
 returns-in-Ok-eq0 g c =
