@@ -7,7 +7,8 @@ use Rattle.no_std_io2.proofs.Words.{ReaderState}
 use Rattle.no_std_io2.proofs.Words.{AreTaken, to_come, IsFront, ◌<◌, get_or, IsInterruption, IsFault}
 use Rattle.no_std_io2.proofs.{BufferedReads.{buf_reader, told_behind}, TakesLemmas.{bytes-append, bytes-behind, bytes-events_of}}
 use Rattle.no_std_io2.proofs.{TakesLemmas.{HasNoFault-append, HasNoFault-events_of, events_of-append}, GivenPieces.{first_fault-append}}
-use Rattle.no_std_io2.proofs.{GivenPieces.{bytes_to_fault-append}, ReadsLemmas.{Reads-takes, Took-none, Took-then, Took-again, Took-end}}
+use Rattle.no_std_io2.proofs.{GivenPieces.{bytes_to_fault-append}, ReadsLemmas.{Reads-takes, Took-none, Took-again, Took-end}}
+use Rattle.no_std_io2.proofs.TakesLemmas.{Took-then}
 use Rattle.no_std_io2.proofs.{ReadsLemmas.{Took-fault}, FillToLemmas.{fills_lose}}
 use Rattle.std.proofs.Common.{slice_index_or, IfSome}
 use Rattle.no_std_io2.specs.{declared.{io.Error.{Error}, buffered.buf_reader.BufReader.{BufReader}}, Errors.{IsUnexpectedEnd}}

@@ -4,7 +4,8 @@ ghost use Rattle.std.specs.Int.{w32, to_be_bytes};
 ghost use Rattle.no_std_io2.specs.Errors.{IsOutOfMemory};
 ghost use Rattle.no_std_io2.specs.Events.{Event, events_of};
 ghost use Rattle.no_std_io2.specs.Takes.{tells};
-ghost use Rattle.no_std_io2.specs.Takes.{IsAtEnd, TakesBytes, to_come};
+ghost use Rattle.no_std_io2.specs.Reads.{TakesBytes};
+ghost use Rattle.no_std_io2.specs.Takes.{IsAtEnd, to_come};
 ghost use Rattle.examples.specs.Messages.{IsCutMessage, long_message, message};
 
 use no_std_io2::io::{Error, ErrorKind, Read, Result, read_at_most};

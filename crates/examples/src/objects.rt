@@ -1,6 +1,6 @@
 //! Functions over objects, and their callers.
 ghost use Rattle.std.specs.Prelude.{◌≡◌, ◌++◌, IfOk, OnOk};
-ghost use Rattle.no_std_io2.specs.Takes.{TakesBytes};
+ghost use Rattle.no_std_io2.specs.Reads.{TakesBytes};
 ghost use Rattle.no_std_io2.specs.Moves.{MovesFront};
 
 use crate::narrow::Narrow;

@@ -6,7 +6,8 @@ use Rattle.no_std_io2.proofs.CopyLoop.{Took-last}
 use Rattle.no_std_io2_base.specs.{declared.error.Error.{Error}, inner.Read.{FilledLaw}, Read.{ConsumeLaw}, Reads.{Took}}
 use Rattle.no_std_io2_base.specs.Writers.{WriteAllOf}
 use Rattle.std.proofs.Common.{take_all}
-use Rattle.no_std_io2_base.proofs.{CallsLemmas.{made_then}, MovesLemmas.{Moves-refl, Moves-then}, ReadsLemmas.{Took-none, Took-then}}
+use Rattle.no_std_io2_base.proofs.{CallsLemmas.{made_then}, MovesLemmas.{Moves-refl, Moves-then}, ReadsLemmas.{Took-none}}
+use Rattle.no_std_io2_base.proofs.TakesLemmas.{Took-then}
 use Rattle.no_std_io2_base.proofs.ReadsLemmas.{Took-bytes, Took-again, Took-end, Took-fault}
 use Rattle.no_std_io2.specs.inner.Copy.{counted, HandsLent, lends_none, lends_fault, again_lent, piece_lent, lends_refused}
 use Rattle.no_std_io2.specs.{Copy.{LentCopied}, declared.util.sides.CopyError.{CopyError}}

@@ -10,7 +10,8 @@ use Rattle.no_std_io2_base.specs.{declared.error.Error.{Error}, declared.error.E
 use Rattle.no_std_io2_base.specs.{Writers.{WriteAllOf}, inner.Events.{EndsInFault}, inner.Moves.{HasSpent}}
 use Rattle.no_std_io2_base.proofs.{CallsLemmas.{made_more, made_then}, TakesLemmas.{length-events_of, read_law, nothing_read}}
 use Rattle.no_std_io2_base.proofs.{TakesLemmas.{HasNoFault-front, left_of}, MovesLemmas.{Moves-refl, Moves-then, Moves-steady}}
-use Rattle.no_std_io2_base.proofs.{ReadLoops.{some_bytes}, ReadsLemmas.{Took-none, Took-then, Took-bytes, Took-again, Took-fault}}
+use Rattle.no_std_io2_base.proofs.{ReadLoops.{some_bytes}, ReadsLemmas.{Took-none, Took-bytes, Took-again, Took-fault}}
+use Rattle.no_std_io2_base.proofs.TakesLemmas.{Took-then}
 use Rattle.no_std_io2.specs.{inner.Copy.{Handed, handed_none, handed_piece, HandsOn, counted, CopyEnds, side_error}, Copy.{SidesCopied}}
 use Rattle.no_std_io2.specs.declared.util.sides.CopyError.{TheVariants.{Read, Write}, CopyError}
 

@@ -4,13 +4,14 @@ use Rattle.std.proofs.Common.{take-append-drop, length-take-le, ◌+◌, ◌-◌
 use Rattle.std.proofs.Common.{inl, inr, sym, subst, append-nil, length-append, length-take, refl, rules, length-drop, OnOk}
 use Rattle.std.proofs.{lemmas.{Grind.{common_steps}, List.{append_cancel_left}}, Math.Seq.{take-append_seam}}
 use Rattle.no_std_io2_base.specs.{Events.{Event, event_bytes, events_of, fails, HasNoFault, Store}, inner.Events.{cut, EndsInFault}}
-use Rattle.no_std_io2_base.specs.Takes.{ReaderState, Takes, to_come, TakesBytes, KeepsContent, LosesFirst, Reader, tells, IsAtEnd}
+use Rattle.no_std_io2_base.specs.Reads.{TakesBytes}
+use Rattle.no_std_io2_base.specs.Takes.{ReaderState, Takes, to_come, KeepsContent, LosesFirst, Reader, tells, IsAtEnd}
 use Rattle.no_std_io2_base.specs.{inner.Takes.{AreTaken}, declared.error.Error.{Error}, Read.{ReadExactLaw, ReadAtMostLaw}}
 use Rattle.no_std_io2_base.specs.{inner.Read.{AllOrNone, gave_whole}, Seek.{Seeks, IsTarget}, inner.Reads.{ReadsAt, HasBytesAt}}
 use Rattle.no_std_io2_base.specs.{Read.{ReadFullLaw, ReadToEndLaw}, Errors.{IsOutOfMemory}, declared.traits.seek.SeekFrom.{SeekFrom}}
 use Rattle.no_std_io2_base.proofs.TakesLemmas.{bytes-append, events_of-append, bytes-events_of, bytes-behind, cut-bytes, cut-append}
 use Rattle.no_std_io2_base.proofs.TakesLemmas.{HasNoFault-front, HasNoFault-behind, HasNoFault-events_of, bytes-cut, all_taken, left_of}
-use Rattle.no_std_io2_base.proofs.{TakesLemmas.{front_taken, TakesBytes-then}, LimitLemmas.{cut-within}}
+use Rattle.no_std_io2_base.proofs.{TakesLemmas.{front_taken, Took-then}, LimitLemmas.{cut-within}}
 use Rattle.no_std_io2_base.specs.inner.Read.{FillsOrEnds}
 
 -- Which bytes are gone from those to come, after one call and after two.
@@ -125,7 +126,7 @@ same_front p q r s is long =
 pub in_parts : {a b c : ReaderState} {x y : List ℕ} (ps qs rest : List ℕ) → TakesBytes a x b → TakesBytes b y c
     → to_come a ≡ Some (events_of (ps ++ (qs ++ rest))) → length x ≡ length ps → length y ≡ length qs → (x ≡ ps) × (y ≡ qs)
 in_parts {x = x} {y} ps qs rest first next told long longer =
-    let (more, is) = front_taken (ps ++ (qs ++ rest)) (x ++ y) (TakesBytes-then first next) told in
+    let (more, is) = front_taken (ps ++ (qs ++ rest)) (x ++ y) (Took-then first next) told in
     let same = is ∙ append_assoc x y more in
     let one = same_front ps x _ _ same long in
     (one, same_front qs y rest more (append_cancel_left x _ _ (ap (λ l. l ++ (qs ++ rest)) one ∙ same)) longer)
@@ -179,7 +180,7 @@ module _ {X A : Type 0} {R : Reader X} {limit : ℕ} {old new : X} {buf buf' : V
       × (buf'.items ≡ buf.items ++ x) × (n ≡ length x) × (n ≤ limit)
   at_most_takes law = (
     event_bytes law.taken,
-    record { taken = law.taken; takes = law.takes; no_fault = law.ends.0; are = refl },
+    record { taken = law.taken; takes = law.takes; are = refl; ends = law.ends.0 },
     law.appends.0,
     law.appends.1,
     omega (arith, law.appends.1, bytes_within limit law.taken law.within),

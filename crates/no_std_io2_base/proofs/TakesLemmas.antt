@@ -1,7 +1,8 @@
 -- What calls take of the events and the bytes that a reader tells, and whose fault an error is.
 use Rattle.no_std_io2_base.specs.declared.traits.{read.Read.{Ghosts as Reads}, stored.Stored.{Ghosts as Stores}}
 use Rattle.no_std_io2_base.specs.declared.traits.seek.Seek.{Ghosts as Seeks}
-use Rattle.no_std_io2_base.specs.Takes.{Reader, tells, gave_front, ReaderState, Takes, TakesBytes, to_come, IsAtEnd}
+use Rattle.no_std_io2_base.specs.{Reads.{Took, TakesBytes}, inner.Reads.{GathersTo}}
+use Rattle.no_std_io2_base.specs.Takes.{Reader, tells, gave_front, ReaderState, Takes, to_come, IsAtEnd}
 use Rattle.no_std_io2_base.specs.Calls.{ReadCall, Made}
 use Rattle.no_std_io2_base.specs.inner.Read.{without_number, bytes_given, GaveLaw, Gives, AllOrNone}
 use Rattle.no_std_io2_base.specs.{Read.{ReadCallLaw, ReadLaw, ReadExactLaw}, Seek.{Seeker}}
@@ -10,7 +11,7 @@ use Rattle.no_std_io2_base.specs.{declared.error.Error.{Error}, Errors.{IsInterr
 use Rattle.no_std_io2_base.specs.{Moves.{WriterState, Moves}, inner.Faults.{HasFirstFault, TellsMishap, MayFail}}
 use Rattle.std.proofs.Common.{◌≡◌, ℕ, zero, suc, ◌+◌, ◌-◌, ◌<◌, ◌≤◌, List, [], ◌∷◌, ◌++◌, length, take, refl, sym, ap, ◌∙◌, arith, Result}
 use Rattle.std.proofs.Common.{Ok, Err, Option, Some, subst, append_assoc, append-nil, length-append, drop, length-take-le, IfOk, IfSome}
-use Rattle.std.proofs.{Common.{OnOk, inl, inr, ◌⊎◌}, lemmas.Grind.{common_steps}}
+use Rattle.std.proofs.{Common.{OnOk, inl, inr, ◌⊎◌, Bool, true}, lemmas.Grind.{common_steps}}
 use Rattle.no_std_io2_base.proofs.CallsLemmas.{made_map}
 use Rattle.no_std_io2_base.specs.inner.Read.{DrainsOrStops}
 
@@ -165,27 +166,6 @@ front_gone bs x cs took told left =
     let same : events_of rest ≡ events_of cs = let both = sym still ∙ left in cc in
     whole ∙ ap (λ l. x ++ l) (sym (bytes-events_of rest) ∙ ap event_bytes same ∙ bytes-events_of cs)
 
--- bytes, and then bytes
-pub TakesBytes-then : {a b c : ReaderState} {x y : List ℕ} → TakesBytes a x b → TakesBytes b y c → TakesBytes a (x ++ y) c
-TakesBytes-then {x = x} first next = record {
-  taken = first.taken ++ next.taken;
-  takes = takes_then first.takes next.takes;
-  no_fault = HasNoFault-append first.taken next.taken first.no_fault next.no_fault;
-  are = bytes-append first.taken next.taken ∙ ap (λ l. l ++ event_bytes next.taken) first.are ∙ ap (λ l. x ++ l) next.are;
-}
-
--- a buffer was filled
-pub TakesBytes-fills : {X : Type 0} {R : Reader X} {old new : X} {buf buf' : List ℕ} {u : Unit {0}} → ReadExactLaw R old buf (Ok u) buf' new
-    → TakesBytes (tells R old) buf' (tells R new)
-TakesBytes-fills law = record { taken = law.taken; takes = law.takes; no_fault = law.ends.0.no_fault; are = law.ends.0.given }
-
--- two buffers were filled, one after the other
-pub TakesBytes-pair : {X : Type 0} {R : Reader X} {old mid new : X} {first first' second second' : List ℕ} {u : Unit {0}}
-    (reply : Result (Unit {0}) Error) → ReadExactLaw R old first (Ok u) first' mid → ReadExactLaw R mid second reply second' new
-    → OnOk reply (TakesBytes (tells R old) (first' ++ second') (tells R new))
-TakesBytes-pair (Ok u) one next = TakesBytes-then (TakesBytes-fills one) (TakesBytes-fills next)
-TakesBytes-pair (Err e) one next = tt
-
 -- all that is to come behind P is all, with P in front
 pub IsAll-behind : {a b : ReaderState} (P Q : List Event) → Takes a P b → IsAll b Q → IsAll a (P ++ Q)
 IsAll-behind {a} {b} P Q takes all = grind (arith, common_steps)
@@ -193,6 +173,34 @@ IsAll-behind {a} {b} P Q takes all = grind (arith, common_steps)
 -- a fault behind events without one
 pub EndsInFault-behind : (P Q : List Event) {e : Error} → HasNoFault P → EndsInFault Q e → EndsInFault (P ++ Q) e
 EndsInFault-behind P Q {e} no_fault fault = grind (arith, common_steps, append_assoc, HasNoFault-append)
+
+-- Bytes that are taken, one after another.
+
+-- how it ended behind events without a fault
+pub ends_so : (c : ReaderState) (P Q : List Event) (how : Result Bool Error) → HasNoFault P → GathersTo Q how c → GathersTo (P ++ Q) how c
+ends_so c P Q x4 none ends = grind (arith, common_steps, HasNoFault-append, EndsInFault-behind)
+
+-- bytes and then others
+pub Took-then : {a b c : ReaderState} {x y : List ℕ} {how : Result Bool Error} → Took a x (Ok true) b → Took b y how c
+    → Took a (x ++ y) how c
+Took-then {c = c} {x = x} {how = how} first next = record {
+  taken = first.taken ++ next.taken;
+  takes = takes_then first.takes next.takes;
+  are = bytes-append first.taken next.taken ∙ ap (λ l. l ++ event_bytes next.taken) first.are ∙ ap (λ l. x ++ l) next.are;
+  ends = ends_so c first.taken next.taken how first.ends next.ends;
+}
+
+-- a buffer was filled
+pub TakesBytes-fills : {X : Type 0} {R : Reader X} {old new : X} {buf buf' : List ℕ} {u : Unit {0}} → ReadExactLaw R old buf (Ok u) buf' new
+    → TakesBytes (tells R old) buf' (tells R new)
+TakesBytes-fills law = record { taken = law.taken; takes = law.takes; are = law.ends.0.given; ends = law.ends.0.no_fault }
+
+-- two buffers were filled, one after the other
+pub TakesBytes-pair : {X : Type 0} {R : Reader X} {old mid new : X} {first first' second second' : List ℕ} {u : Unit {0}}
+    (reply : Result (Unit {0}) Error) → ReadExactLaw R old first (Ok u) first' mid → ReadExactLaw R mid second reply second' new
+    → OnOk reply (TakesBytes (tells R old) (first' ++ second') (tells R new))
+TakesBytes-pair (Ok u) one next = Took-then (TakesBytes-fills one) (TakesBytes-fills next)
+TakesBytes-pair (Err e) one next = tt
 
 module _ {X : Type 0} (R : Reader X) where
   -- a call that keeps its law is one that the reader may make

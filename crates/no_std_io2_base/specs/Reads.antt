@@ -14,6 +14,10 @@ pub record Took (old : ReaderState) (x : List ℕ) (how : Result Bool Error) (ne
   pub are : event_bytes taken ≡ x
   pub ends : GathersTo taken how new
 
+-- From old to new a reader took these bytes, and no fault, and may go on.
+abbrev pub TakesBytes : ReaderState → List ℕ → ReaderState → Type 0
+TakesBytes old x new = Took old x (Ok true) new
+
 -- From old to new a reader that lends got calls of `read` and `fill_buf`. It gave x, and may go on; or it met the end or
 -- a fault, after which it got no more calls.
 pub record Fetches {X : Type 0} (R : Reader X) (old : X) (x : List ℕ) (how : Result Bool Error) (new : X) : Type 0 where

@@ -1,7 +1,7 @@
 -- What a reader tells, and what its calls take of that.
 use Rattle.std.specs.Prelude.{◌≡◌, ℕ, List, ◌++◌, IfSome, IsSomeAnd, [], ◌∷◌, take, Ok, Err, Result, Option, ◌≤◌, ◌+◌, min, length, ⊤, None}
 use Rattle.std.specs.Prelude.{Some}
-use Rattle.no_std_io2_base.specs.{Events.{event_bytes, Event, fails, events_of, Store, HasNoFault}, declared.error.Error.{Error}}
+use Rattle.no_std_io2_base.specs.{Events.{event_bytes, Event, fails, events_of, Store}, declared.error.Error.{Error}}
 use Rattle.no_std_io2_base.specs.{Calls.{ReadCall}, inner.Takes.{told_bytes, fits_u64, fits_by, store_by, events_by, AreTaken}}
 
 -- What a reader tells.
@@ -53,13 +53,6 @@ pub record Takes (old : ReaderState) (P : List Event) (new : ReaderState) : Type
   pub store : KeepsContent old.store (λ len was now. now ≡ was + length (event_bytes P)) new.store
   -- turns never rise, and whatever is taken spends one
   pub turns : new.turns + min 1 (length P) ≤ old.turns
-
--- From old to new a reader took these bytes, and no fault.
-pub record TakesBytes (old : ReaderState) (x : List ℕ) (new : ReaderState) : Type 0 where
-  pub taken : List Event
-  pub takes : Takes old taken new
-  pub no_fault : HasNoFault taken
-  pub are : event_bytes taken ≡ x
 
 -- no event is to come, if events are told
 abbrev pub IsAtEnd : ReaderState → Type 0

@@ -2,7 +2,7 @@
 use Rattle.no_std_io2.proofs.Words.{◌≡◌, ℕ, zero, suc, ◌+◌, ◌*◌, ◌/◌, ◌%◌, ◌^◌, ◌<◌, List, [], ◌∷◌, length, Ok, refl}
 use Rattle.no_std_io2.proofs.Words.{sym, ap, ap₂, ◌∙◌, subst, arith, Reader, tells}
 use Rattle.no_std_io2.proofs.TakesLemmas.{TakesBytes-fills}
-use Rattle.no_std_io2.specs.Takes.{TakesBytes}
+use Rattle.no_std_io2.specs.Reads.{TakesBytes}
 use Rattle.std.proofs.{Math.Nat.{pow-suc, pow-succ', div-div-eq-div-mul, div-one, mul_assoc}, lemmas.Nat.{div-mul-add, mod-mul-add}}
 use Rattle.std.specs.Int.{byte_at, bytes_high_first, bytes_low_first}
 use Rattle.byteorder.specs.Endian.{big_number, big_bytes, little_number, little_bytes}

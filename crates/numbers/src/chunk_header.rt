@@ -3,7 +3,8 @@ ghost use Rattle.std.specs.Prelude.{◌≡◌, ◌<◌, ◌^◌, ◌++◌, ℕ, 
 ghost use Rattle.numbers.specs.ChunkHeaders.{chunk_header, ReadsChunkHeader, WritesChunkHeader};
 ghost use Rattle.no_std_io2.specs.Events.{Event, events_of};
 ghost use Rattle.no_std_io2.specs.Moves.{MovesFront};
-ghost use Rattle.no_std_io2.specs.Takes.{TakesBytes, tells, to_come};
+ghost use Rattle.no_std_io2.specs.Reads.{TakesBytes};
+ghost use Rattle.no_std_io2.specs.Takes.{tells, to_come};
 
 use crate::{BigEndian, ReadBytesExt, WriteBytesExt};
 use no_std_io2::io::{Read, Result, Write};

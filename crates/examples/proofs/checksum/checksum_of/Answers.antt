@@ -1,6 +1,6 @@
 -- The law of a call of an object is named whole; the search does not join its turns of the loop.
 use Rattle.no_std_io2.proofs.Words.{common_steps, ◌+◌, ◌%◌, ◌^◌, ◌∙◌, ap, arith, refl, ◌++◌, returned_err, sum, event_bytes}
-use Rattle.no_std_io2.proofs.{GivenPieces.{piece_spends}, ReadsLemmas.{Took-then}}
+use Rattle.no_std_io2.proofs.{GivenPieces.{piece_spends}, TakesLemmas.{Took-then}}
 use Rattle.examples.proofs.SumLemmas.{sums_none, sums_more}
 use Rattle.examples.proofs.checksum.checksum_of.Goals as goal
 

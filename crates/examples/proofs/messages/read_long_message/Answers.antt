@@ -1,8 +1,8 @@
 -- The bytes of the length and those of the payload are joined to one message; a known message comes back, and a cut one is told.
 use Rattle.no_std_io2.proofs.Words.{◌≡◌, ◌<◌, ◌^◌, ◌++◌, length, Some, Ok, Err, sym, ap, ◌∙◌, subst, arith, inr, tells, returned_err}
 use Rattle.std.specs.Int.{w32, to_be_bytes}
-use Rattle.no_std_io2.specs.Takes.{TakesBytes}
-use Rattle.no_std_io2.proofs.TakesLemmas.{reader, TakesBytes-then, events_of-append}
+use Rattle.no_std_io2.specs.Reads.{TakesBytes}
+use Rattle.no_std_io2.proofs.TakesLemmas.{reader, Took-then, events_of-append}
 use Rattle.no_std_io2.proofs.KnownBytes.{at_most_known, at_most_short, at_most_takes}
 use Rattle.numbers.proofs.SpelledLemmas.{takes_big}
 use Rattle.examples.specs.Messages.{long_message}
@@ -59,7 +59,7 @@ returns-clause-takes g c =
     let whole = ap (λ n. to_be_bytes w32 n ++ x) len ∙ ap long_message (sym same) in
     let R = reader g.R.Stored g.R.Read in
     subst (λ l. TakesBytes (tells R c.args.r.now) l (tells R c.read_at_most.new.reader)) whole
-    (TakesBytes-then (takes_big {n = 4} c.in_ok-len.ensures.reads) took)
+    (Took-then (takes_big {n = 4} c.in_ok-len.ensures.reads) took)
 
 pub returns-clause-back : goal.returns-clause-back
 returns-clause-back g c = λ payload rest small told.

@@ -2,8 +2,8 @@
 use Rattle.no_std_io2.proofs.Words.{◌≡◌, ◌<◌, ◌^◌, ◌++◌, length, take, drop, Some, sym, ap, ◌∙◌, subst, arith, true≢false}
 use Rattle.no_std_io2.proofs.Words.{take-append_seam, tells}
 use Rattle.std.specs.Int.{w16, to_be_bytes}
-use Rattle.no_std_io2.specs.Takes.{TakesBytes}
-use Rattle.no_std_io2.proofs.{TakesLemmas.{reader, TakesBytes-then, TakesBytes-fills}, KnownBytes.{exact_known}}
+use Rattle.no_std_io2.specs.Reads.{TakesBytes}
+use Rattle.no_std_io2.proofs.{TakesLemmas.{reader, Took-then, TakesBytes-fills}, KnownBytes.{exact_known}}
 use Rattle.numbers.proofs.SpelledLemmas.{takes_big}
 use Rattle.examples.specs.Messages.{message}
 use Rattle.examples.proofs.RecordLemmas.{message_parts}
@@ -36,7 +36,7 @@ returns-clause-takes g c =
     let whole = ap (λ n. to_be_bytes w16 n ++ buf) (sym len) ∙ ap message (sym items) in
     let R = reader g.R.Stored g.R.Read in
     subst (λ l. TakesBytes (tells R c.args.r.now) l (tells R c.read_exact.new.self)) whole
-    (TakesBytes-then (takes_big {n = 2} c.in_ok-len.ensures.reads) (TakesBytes-fills c.in_ok-read_exact.ensures.law))
+    (Took-then (takes_big {n = 2} c.in_ok-len.ensures.reads) (TakesBytes-fills c.in_ok-read_exact.ensures.law))
 
 pub returns-clause-back : goal.returns-clause-back
 returns-clause-back g c = λ payload rest small told.

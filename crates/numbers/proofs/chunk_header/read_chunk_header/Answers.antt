@@ -1,6 +1,6 @@
 -- Of a header that is known to come both numbers are read, also where an error would be returned.
 use Rattle.no_std_io2.proofs.Words.{Ok, Some, ap, ap₂, ◌∙◌, ◌≡◌, inl, inr, refl, err_from_is_err_and, returned_err}
-use Rattle.no_std_io2.proofs.TakesLemmas.{TakesBytes-then}
+use Rattle.no_std_io2.proofs.TakesLemmas.{Took-then}
 use Rattle.numbers.proofs.{ChunkLemmas.{header_parts}, SpelledLemmas.{takes_big}}
 use Rattle.numbers.proofs.chunk_header.read_chunk_header.Goals as goal
 
@@ -30,7 +30,7 @@ returns-in_err-len g c = record {
 pub returns : goal.returns
 returns g c = record {
   reads = inr (_, _, _, c.in_ok-kind.ensures.reads, c.in_ok-len.ensures.reads, refl);
-  takes = TakesBytes-then (takes_big {n = 2} c.in_ok-kind.ensures.reads) (takes_big {n = 4} c.in_ok-len.ensures.reads);
+  takes = Took-then (takes_big {n = 2} c.in_ok-kind.ensures.reads) (takes_big {n = 4} c.in_ok-len.ensures.reads);
   back = λ kind len rest small few told.
       let first = c.in_ok-kind.ensures.back kind _ small (told ∙ ap Some (header_parts kind len rest)) in
       let next = c.in_ok-len.ensures.back len rest few first.1 in
