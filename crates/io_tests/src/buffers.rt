@@ -2,8 +2,8 @@
 // does. Those of `IntoInnerError` are in `client_tests`.
 use no_std_io2::io::{
     BufRead, BufReader, BufWriter, CopyError, Cursor, LineWriter, Read, Seek, SeekFrom, Write,
-    copy, copy_lent, copy_sided, copy_with, flush_with_retries, read_exact_at, skip,
-    write_with_retries,
+    copy, copy_lent, copy_sided, copy_with, flush_with_retries, read_exact_at, read_to_string,
+    skip, write_with_retries,
 };
 use std::test::Fail;
 
@@ -209,5 +209,12 @@ fn read_at(rt: HostRuntime) -> Result<(), Fail> {
     let mut buf = [0u8; 2];
     read_exact_at(&mut r, SeekFrom::End(-3), &mut buf)?;
     assert!(rt; buf == *b"de");
+    Ok(())
+}
+
+#[test]
+fn whole_string(rt: HostRuntime) -> Result<(), Fail> {
+    let text = read_to_string(rt.alloc(), Cursor::new(*b"abc"))?;
+    assert!(rt; text.as_str() == "abc");
     Ok(())
 }

@@ -30,7 +30,7 @@ pub mod io {
     pub use super::buffered::{BufReader, BufWriter, IntoInnerError, LineWriter, Unsent};
     pub use super::util::{
         CopyError, Empty, Repeat, Sink, copy, copy_lent, copy_sided, copy_with, empty,
-        flush_with_retries, read_exact_at, repeat, sink, skip, write_with_retries,
+        flush_with_retries, read_exact_at, read_to_string, repeat, sink, skip, write_with_retries,
     };
     pub use no_std_io2_base::cursor::{AsSlice, Cursor};
     pub use no_std_io2_base::error::{Error, ErrorKind, Result};

@@ -1,5 +1,6 @@
 //! Functions over streams: [`copy`] and [`copy_lent`] copy a reader to a writer, [`skip`] skips bytes,
-//! [`read_exact_at`] reads at a place, and [`write_with_retries`] and [`flush_with_retries`] try again after a fault.
+//! [`read_exact_at`] reads at a place, [`read_to_string`] reads all into a new string, and [`write_with_retries`] and
+//! [`flush_with_retries`] try again after a fault.
 //! [`empty`], [`repeat`] and [`sink`] make streams without a device.
 ghost use Rattle.std.specs.Prelude.{◌<◌, ◌^◌};
 ghost use Rattle.no_std_io2.specs.Copy.{Copied};
@@ -13,6 +14,7 @@ mod lent;
 mod read_at;
 mod retries;
 mod sides;
+mod strings;
 
 pub use lent::copy_lent;
 pub use no_std_io2_base::empties::Empty;
@@ -22,6 +24,7 @@ pub use no_std_io2_base::sinks::Sink;
 pub use read_at::read_exact_at;
 pub use retries::{flush_with_retries, write_with_retries};
 pub use sides::{CopyError, copy_sided, copy_with};
+pub use strings::read_to_string;
 
 /// Copies all remaining bytes of `reader` to `writer`, through a buffer of `S` bytes on the stack. It returns their
 /// number, or `u64::MAX` if there are more. It ignores the reader's interruptions, passes on what each read gives by

@@ -144,7 +144,7 @@ module _ {a b : ReaderState} (x : List ℕ) (told : to_come a ≡ Some (events_o
       )
 
   -- no fault comes
-  no_fault_known : {e : Error} → EndsInFault P e → ⊥
+  pub no_fault_known : {e : Error} → EndsInFault P e → ⊥
   no_fault_known {e} fault =
       let (after, still, split) = left_of takes told in
       let clean = HasNoFault-front P after (subst HasNoFault split (HasNoFault-events_of x)) in
@@ -152,7 +152,7 @@ module _ {a b : ReaderState} (x : List ℕ) (told : to_come a ≡ Some (events_o
       let no : ⊥ = cc (last.0, fault.3) in no
 
   -- no more bytes were taken than these
-  few_known : length (event_bytes P) ≤ length x
+  pub few_known : length (event_bytes P) ≤ length x
   few_known =
       let (after, still, split) = left_of takes told in
       omega (

@@ -288,6 +288,11 @@ module _ {X : Type 0} {I : Writer X} {old new : X} {name was : ℕ} {output : Op
         calls = ∥∥₁_map prints (λ p. (p.0, met, p.1, inr why));
       }
 
+-- a result that is known behind a `∥ ∥₁` is known, as that of a `write` after a `write!` to a writer that takes all
+pub ok_had : {n : ℕ} (reply : Result ℕ Error) → ∥ reply ≡ Ok n ∥₁ → reply ≡ Ok n
+ok_had (Ok k) had = ap Ok (∥∥₁_elim had (Prim.hlevel props) (λ same. cc))
+ok_had (Err e) had = absurd (∥∥₁_elim had ⊥_prop (λ same. cc))
+
 -- A `write!` of a text whose output is specified: a front of it was accepted, or its own `fmt` failed.
 pub MovesFront-text : {a b : WriterState} {bs : List ℕ} {r : Result (Unit {0}) Error} → MovesText a (Some bs) r b
     → MovesFront a bs r b ⊎ IsErrAnd r IsTextError

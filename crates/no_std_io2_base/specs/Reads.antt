@@ -1,9 +1,10 @@
 -- What calls of a reader gave, one after another: those of a loop, of a `skip`, and of a seek and a read.
 use Rattle.std.specs.Prelude.{◌≡◌, ◌⊎◌, ℕ, ◌+◌, ◌<◌, List, [], length, Result, Ok, Err, Bool, true, IsOk, OnOk, IfSome, IsSomeAnd}
+use Rattle.std.specs.Prelude.{String, string_bytes}
 use Rattle.no_std_io2_base.specs.{declared.error.Error.{Error}, Errors.{IsFault, IsUnexpectedEnd, IsOutOfMemory}}
 use Rattle.no_std_io2_base.specs.{Events.{Event, event_bytes, HasNoFault}, inner.Events.{EndsInFault}}
 use Rattle.no_std_io2_base.specs.{Takes.{ReaderState, Takes, IsAtEnd, Reader, tells}, Calls.{ReadCall, ByCalls}}
-use Rattle.no_std_io2_base.specs.Read.{ReadCallLaw, ReadExactLaw}
+use Rattle.no_std_io2_base.specs.Read.{ReadCallLaw, ReadExactLaw, ReadToStringLaw}
 use Rattle.no_std_io2_base.specs.{inner.Reads.{PortionCalls, PortionsUntil, HasBytesAt, ReadsAt, GathersTo, Asked}, Pieces.{GivesPieces}}
 use Rattle.no_std_io2_base.specs.{Seek.{Seeker, SeekLaw}, declared.traits.seek.SeekFrom.{SeekFrom}}
 
@@ -75,3 +76,20 @@ pub record ReadAtLaw {X : Type 0} (S : Seeker X) (R : Reader X) (old : X) (at : 
   pub enough : IsSomeAnd (S.store old) (HasBytesAt at (length buf)) → IsOk reply
   -- which calls it made
   pub calls : SeeksThenReads S R old at buf reply buf' new
+
+-- the result of `io::read_to_string`, by that of its read: the string that was read into, or the error
+abbrev AnswersString : {A : Type 0} → Result ℕ Error → String A → Result (String A) Error → Type 0
+AnswersString (Ok n) text result = result ≡ Ok text
+AnswersString (Err e) text result = result ≡ Err e
+
+-- `io::read_to_string(alloc, reader)`: a `read_to_string` into an empty string, which is the result after `Ok`
+pub record NewStringLaw {X A : Type 0} (R : Reader X) (old : X) (result : Result (String A) Error) : Type 0 where
+  pub unused : String A
+  pub none : string_bytes unused ≡ []
+  -- the read, and what it leaves
+  pub reply : Result ℕ Error
+  pub string : String A
+  pub new : X
+  pub law : ReadToStringLaw R old unused reply string new
+  -- what is returned of it
+  pub answers : AnswersString reply string result

@@ -1,5 +1,6 @@
 -- For `adaptors`: a `Take` at its limit, and the calls of a `Chain`.
 use Rattle.std.proofs.{lemmas.{Grind.{common_steps}, Str.{IsUtf8-nil}}, Common.{IsUtf8, String, string_bytes, string_len, string_capacity}}
+use Rattle.no_std_io2.proofs.Words.{◌+◌}
 use Rattle.no_std_io2.proofs.Words.{◌≡◌, ℕ, ◌<◌, ◌⊎◌, List, [], ◌∷◌, ◌++◌, Result, Ok, Err, OnOk, IfOk, IfErr, length, refl, sym, ap, subst}
 use Rattle.no_std_io2.proofs.Words.{◌∙◌, arith, inl, inr, append-nil, Vec, Event, event_bytes, Reader, ReadCall, Filled, ReadCallLaw, tells}
 use Rattle.no_std_io2.proofs.{Words.{newline, Made}, CallsLemmas.{made_split}, CallsAdd.{piece_adds, EachAdds}, LimitLemmas.{limit_reader}}

@@ -5,3 +5,4 @@ mod PatientReads
 mod LoopCounts
 mod AtLimit
 mod ExactCounts
+mod RoomLemmas

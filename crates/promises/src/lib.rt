@@ -17,6 +17,7 @@ mod lines;
 mod memory;
 mod objects;
 mod reads;
+mod rooms;
 mod runs;
 mod steady;
 mod system;
