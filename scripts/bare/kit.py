@@ -39,3 +39,13 @@ def words(verb, name, root, libraries):
     for it in libraries:
         made += ["--extern", f"{it}={rlib(it)}", "-L", f"dependency={os.path.dirname(rlib(it))}"]
     return [*made, "--antt-project", f"{kit}/rattle/logic/antt-project.json", "--logic-built", f"{kit}/logic_built"]
+
+def crate_words(name):
+    """The command that checks a crate of crates.txt as `rt` does; it runs in a folder with its sources."""
+    with open(f"{TOP}/crates.txt", encoding="utf-8") as crates:
+        kind = ["--crate-type", "staticlib"] if f"\n{name} staticlib:" in crates.read() else []
+    root = "main" if os.path.exists(f"{TOP}/crates/{name}/src/main.rt") else "lib"
+    of_kit = [it for it in uses()[name] if it not in uses()]
+    externs = [f"{it}={folder()}/rlibs/{it}.rlib" for it in of_kit]
+    made = words("check", name, f"src/{root}.rt", below(uses()[name]))
+    return [*made, *kind, *[word for it in externs for word in ("--extern", it)]]
