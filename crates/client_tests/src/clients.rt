@@ -1,149 +1,12 @@
-// The examples in the comments of `framing`, `line_log`, `system_streams` and `io_bench`, and those of `IntoInnerError`,
-// over a device of `examples`: a test for each, which finds an example that is no longer what its call does.
-use examples::{Narrow, checksum_of, entry_of, entry_of_file, grep, head, save, save_summed};
-use framing::{FrameReader, FrameWriter};
-use io_bench::{Act, Event, Faulty, Feed, Op, Reply, joined};
-use line_log::LineLog;
-use no_std_io2::io::{
-    BufReader, BufWriter, Cursor, ErrorKind, Read, SeekFrom, Write, read_exact_at,
-};
+// The examples of pages, and those of `examples`: a test for each, which finds one that is no longer what its call does.
+use examples::{checksum_of, entry_of, entry_of_file, grep, head, save, save_summed};
+use io_bench::{Act, Event, Faulty, Feed};
+use no_std_io2::io::{BufReader, BufWriter, Cursor, ErrorKind, Write};
 use std::fs::remove_file;
 use std::io;
 use std::rt::Files;
 use std::test::Fail;
-use system_streams::{Patient, copy_through, create, open};
-
-#[test]
-fn framing(rt: HostRuntime) -> Result<(), Fail> {
-    let mut w = FrameWriter::<Vec<u8>, 64>::new(Vec::new(rt.alloc()));
-    w.send(b"ab")?;
-    w.flush()?;
-    assert!(rt; w.get_ref().as_slice() == b"\x02\0\0\0ab".as_slice());
-    w.send(b"c")?;
-    w.flush_with_retries(3)?; // tries again after each of the first three faults
-    assert!(rt; w.get_ref().len() == 11);
-    let device = w.into_inner()?;
-    assert!(rt; device.as_slice() == b"\x02\0\0\0ab\x01\0\0\0c".as_slice());
-    Ok(())
-}
-
-#[test]
-fn frame_writer(rt: HostRuntime) -> Result<(), Fail> {
-    let payloads = [b"hello".as_slice(), b"ab".as_slice()];
-    let mut w = FrameWriter::<Vec<u8>, 64>::new(Vec::new(rt.alloc()));
-    let mut rest = payloads.as_slice();
-    if w.send_all(&mut rest).is_err() {
-        w.send_all(&mut rest)?; // continues where it stopped
-    }
-    assert!(rt; rest.is_empty());
-    w.flush()?;
-    assert!(rt; w.get_ref().as_slice() == b"\x05\0\0\0hello\x02\0\0\0ab".as_slice());
-    Ok(())
-}
-
-#[test]
-fn frame_reader(rt: HostRuntime) -> Result<(), Fail> {
-    let wire = Cursor::new(*b"\x02\0\0\0ab\x01\0\0\0c");
-    let mut r = FrameReader::<_, 64>::new(wire);
-    let mut room = [0u8; 16];
-    assert!(rt; r.next(&mut room)? == Some(2));
-    assert!(rt; &room[..2] == b"ab".as_slice());
-    assert!(rt; r.next(&mut room)? == Some(1));
-    assert!(rt; r.next(&mut room)?.is_none());
-    assert!(rt; r.get_ref().position() == 11);
-    Ok(())
-}
-
-#[test]
-fn log_lines(rt: HostRuntime) -> Result<(), Fail> {
-    let mut log = LineLog::<Vec<u8>, 64>::new(Vec::new(rt.alloc()));
-    log.log("started")?;
-    assert!(rt; log.get_ref().as_slice() == b"started\n".as_slice());
-    let (name, value) = ("volts", 12);
-    log.log_text(format_args!("{name}={value}"))?;
-    assert!(rt; log.get_ref().as_slice() == b"started\nvolts=12\n".as_slice());
-    log.flush()?;
-    log.flush_with_retries(3)?; // tries again after each of the first three faults
-    let device = log.into_inner()?;
-    assert!(rt; device.len() == 17);
-    Ok(())
-}
-
-#[test]
-fn fall_behind(rt: HostRuntime) -> Result<(), Fail> {
-    let mut room = [0u8; 4];
-    let mut log = LineLog::<_, 16>::new(Cursor::new(&mut room[..]));
-    log.log("started")?; // the device has room for `star` alone
-    assert!(rt; log.is_behind());
-    assert!(rt; log.flush().is_err()); // there is still no room, and the end is still held
-    assert!(rt; log.is_behind());
-    Ok(())
-}
-
-#[test]
-fn copy(rt: HostRuntime) -> Result<(), Fail> {
-    let (count, out) = copy_through(&b"abc\nde"[..], Vec::<u8>::new(rt.alloc()), true)?;
-    assert!(rt; count == 6);
-    assert!(rt; out.as_slice() == b"abc\nde".as_slice());
-    Ok(())
-}
-
-#[test]
-fn patient_turns(rt: HostRuntime) -> Result<(), Fail> {
-    let mut p = Patient::new(&b"abcdef"[..], 3);
-    let mut buf = [0u8; 4];
-    assert!(rt; p.read(&mut buf)? == 4);
-    assert!(rt; p.read(&mut buf)? == 2);
-    assert!(rt; p.read(&mut buf).is_err()); // no turns left
-    assert!(rt; p.read(&mut buf)? == 0);
-    Ok(())
-}
-
-#[test]
-fn patient_get_mut(rt: HostRuntime) -> Result<(), Fail> {
-    let mut p = Patient::new(&b"abcdef"[..], 3);
-    p.read(&mut [0u8; 4])?;
-    assert!(rt; *p.get_ref() == b"ef".as_slice());
-    *p.get_mut() = &b"xyz"[..];
-    assert!(rt; p.read(&mut [0u8; 4])? == 3);
-    Ok(())
-}
-
-#[test]
-fn patient_into_inner(rt: HostRuntime) -> Result<(), Fail> {
-    let mut p = Patient::new(&b"abcdef"[..], 3);
-    p.read(&mut [0u8; 4])?;
-    assert!(rt; p.into_inner() == b"ef".as_slice());
-    Ok(())
-}
-
-#[test]
-fn read_a_file(rt: HostRuntime) -> Result<(), Fail> {
-    let rt = &rt;
-    let mut program = open(rt, "/proc/self/exe")?;
-    let mut magic = [0u8; 4];
-    read_exact_at(&mut program, SeekFrom::Start(0), &mut magic)?;
-    assert!(rt; magic == *b"\x7fELF");
-    Ok(())
-}
-
-#[test]
-fn reason_of_a_fault(rt: HostRuntime) -> Result<(), Fail> {
-    let rt = &rt;
-    let mut folder = open(rt, ".")?;
-    let fault = folder.read(&mut [0u8; 4]).err().ok_or("no fault")?; // `device fault`
-    assert!(rt; folder.reason(fault).kind() == io::ErrorKind::IsADirectory);
-    Ok(())
-}
-
-#[test]
-fn accepted(rt: HostRuntime) -> Result<(), Fail> {
-    let ops = [Op::Write(b"abc"), Op::Flush];
-    let replies = [Reply::Took(2), Reply::Done];
-    let accepted = joined(rt.alloc(), &ops, &replies)?;
-    assert!(rt; accepted.is_some_and(|bytes| bytes.as_slice() == b"ab".as_slice()));
-    Ok(())
-}
+use system_streams::create;
 
 // The first example of CALLING.md of `no_std_io2`.
 #[test]
@@ -201,34 +64,6 @@ fn lines_with_a_word(rt: HostRuntime) -> Result<(), Fail> {
     assert!(rt; r.position() == 15);
     assert!(rt; grep(rt.alloc(), &mut r, &mut out, b"key", 2)? == 1);
     assert!(rt; out.as_slice() == b"a key\nkey\nkeys".as_slice());
-    Ok(())
-}
-
-#[test]
-fn failed_into_inner(rt: HostRuntime) -> Result<(), Fail> {
-    let taken = Vec::new(rt.alloc());
-    let mut w = BufWriter::<_, 8>::new(Narrow { taken, most: 0 }); // a device that takes no byte
-    w.write_all(b"abc")?;
-    if let Err(failed) = w.into_inner() {
-        assert!(rt; failed.error().kind() == ErrorKind::WriteZero);
-        let w = failed.into_inner();
-        assert!(rt; w.buffer() == b"abc".as_slice());
-    } else {
-        return Err(Fail::new("sent"));
-    }
-    Ok(())
-}
-
-#[test]
-fn failed_into_parts(rt: HostRuntime) -> Result<(), Fail> {
-    let taken = Vec::new(rt.alloc());
-    let mut w = BufWriter::<_, 8>::new(Narrow { taken, most: 0 }); // a device that takes no byte
-    w.write_all(b"abc")?;
-    if let Err(failed) = w.into_inner() {
-        let (error, w) = failed.into_parts();
-        assert!(rt; error.kind() == ErrorKind::WriteZero);
-        assert!(rt; w.buffer() == b"abc".as_slice());
-    }
     Ok(())
 }
 

@@ -1,7 +1,6 @@
 //! Tests of the clients, of devices and of the system's streams: what no clause and no row of a table can show. The
 //! comment above each names the mistake that it would find.
-//!
-//! And the examples in comments of the clients, a test for each, in `clients`.
+//! `clients` has the examples of pages.
 #![tactic(auto)]
 
 #[cfg(test)]

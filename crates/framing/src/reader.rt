@@ -28,6 +28,7 @@ use parts::{HEADER, ended_inside, no_room, told_len};
 /// assert!(rt; &room[..2] == b"ab".as_slice());
 /// assert!(rt; r.next(&mut room)? == Some(1));
 /// assert!(rt; r.next(&mut room)?.is_none());
+/// assert!(rt; r.get_ref().position() == 11);
 /// ```
 #[derive(Drop)]
 pub struct FrameReader<R, const S: usize> {

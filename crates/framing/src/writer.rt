@@ -65,12 +65,15 @@ impl<W: Write + Drop, const S: usize> FrameWriter<W, S> {
     /// Returns the errors that [`send`](FrameWriter::send) returns for the first payload that is left in `rest`.
     ///
     /// ```rust
+    /// let payloads = [b"hello".as_slice(), b"ab".as_slice()];
     /// let mut w = FrameWriter::<Vec<u8>, 64>::new(Vec::new(rt.alloc()));
     /// let mut rest = payloads.as_slice();
     /// if w.send_all(&mut rest).is_err() {
     ///     w.send_all(&mut rest)?; // continues where it stopped
     /// }
     /// assert!(rt; rest.is_empty());
+    /// w.flush()?;
+    /// assert!(rt; w.get_ref().as_slice() == b"\x05\0\0\0hello\x02\0\0\0ab".as_slice());
     /// ```
     pub fn send_all(&mut self, rest: &mut &[&[u8]]) -> Result<()>
         ensures sends { SendsFrames W.Write self.old (map (λ p. p.now) rest.old.now) result self.new (map (λ p. p.now) rest.new.now) }
@@ -100,9 +103,14 @@ impl<W: Write + Drop, const S: usize> FrameWriter<W, S> {
     /// Returns the fault of the last try if that try fails too.
     ///
     /// ```rust
+    /// let mut w = FrameWriter::<Vec<u8>, 64>::new(Vec::new(rt.alloc()));
+    /// w.send(b"ab")?;
+    /// w.flush()?;
     /// w.send(b"c")?;
     /// w.flush_with_retries(3)?; // tries again after each of the first three faults
     /// assert!(rt; w.get_ref().len() == 11);
+    /// let device = w.into_inner()?;
+    /// assert!(rt; device.as_slice() == b"\x02\0\0\0ab\x01\0\0\0c".as_slice());
     /// ```
     pub fn flush_with_retries(&mut self, retries: u32) -> Result<()>
         ensures { FlushTries ⟦<BufWriter<W, S> as Write>⟧ retries (frame_writer self.old) result (frame_writer self.new) }

@@ -1,14 +1,9 @@
 //! Tests of what no clause and no row of a table can show: printed texts, kinds as keys. The comment above each names
 //! the mistake that it would find. Those of clients, devices and files are in `client_tests`.
-//!
-//! And the examples in comments of the library, a test for each, in `base`, `readers` and `buffers`. Each takes the runtime
-//! itself: a function that is generic over its handle, as `rt: &impl Abort`, takes a third longer to prove.
+//! A test takes the runtime itself: a function that is generic over its handle, as `rt: &impl Abort`, takes a third
+//! longer to prove.
 #![tactic(auto)]
 
-#[cfg(test)]
-mod base;
-#[cfg(test)]
-mod buffers;
 #[cfg(test)]
 mod debug;
 #[cfg(test)]
@@ -17,7 +12,5 @@ mod devices;
 mod kinds;
 #[cfg(test)]
 mod printing;
-#[cfg(test)]
-mod readers;
 #[cfg(test)]
 mod text;

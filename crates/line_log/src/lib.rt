@@ -60,6 +60,8 @@ impl<W: Write + Drop, const S: usize> LineLog<W, S> {
     /// let mut log = LineLog::<_, 16>::new(Cursor::new(&mut room[..]));
     /// log.log("started")?; // the device has room for `star` alone
     /// assert!(rt; log.is_behind());
+    /// assert!(rt; log.flush().is_err()); // there is still no room, and the end is still held
+    /// assert!(rt; log.is_behind());
     /// ```
     pub fn is_behind(&self) -> bool
         ensures { result ≡ nat_lt 0 (length (log_held self.now)) }
@@ -88,8 +90,14 @@ impl<W: Write + Drop, const S: usize> LineLog<W, S> {
     /// the text.
     ///
     /// ```rust
+    /// let mut log = LineLog::<Vec<u8>, 64>::new(Vec::new(rt.alloc()));
+    /// log.log("started")?;
     /// let (name, value) = ("volts", 12);
     /// log.log_text(format_args!("{name}={value}"))?;
+    /// assert!(rt; log.get_ref().as_slice() == b"started\nvolts=12\n".as_slice());
+    /// log.flush_with_retries(3)?; // tries again after each of the first three faults
+    /// let device = log.into_inner()?;
+    /// assert!(rt; device.len() == 17);
     /// ```
     pub fn log_text<D: Display + Drop, E>(&mut self, text: D) -> std::result::Result<(), E>
     where

@@ -181,6 +181,7 @@ impl Error {
     /// ```rust
     /// let e = Error::other("no carrier");
     /// assert!(rt; e.get_ref().is_some());
+    /// assert!(rt; e.into_inner() == Some("no carrier"));
     /// ```
     pub fn get_ref(&self) -> Option<&&'static str>
         ensures { option_map (λ s. s.now.now) result ≡ error_text self.now }

@@ -23,6 +23,9 @@ mod seeks;
 /// let mut two = [0u8; 2];
 /// r.read_exact(&mut two)?; // one inner read, of four bytes
 /// assert!(rt; r.buffer() == b"cd".as_slice());
+/// assert!(rt; r.behind() == b"ab".as_slice());
+/// r.seek_relative(-1)?; // inside the buffer: the inner reader is left alone
+/// assert!(rt; r.buffer() == b"bcd".as_slice());
 /// ```
 #[derive(Drop)]
 pub struct BufReader<R, const S: usize> {
@@ -67,6 +70,8 @@ impl<R, const S: usize> BufReader<R, S> {
     /// assert!(rt; r.capacity() == 4);
     /// r.read_exact(&mut [0u8; 2])?;
     /// assert!(rt; r.get_ref().position() == 4); // ahead by the two bytes held
+    /// r.get_mut().set_position(6);
+    /// assert!(rt; r.buffer() == b"cd".as_slice()); // what is held stays
     /// ```
     pub fn get_ref(&self) -> &R
         ensures { result.now ≡ reader_inner self.now }

@@ -54,6 +54,9 @@ impl<W: Write + Drop, const S: usize> BufWriter<W, S> {
     /// let mut w = BufWriter::<_, 8>::new(Cursor::new(Vec::<u8>::new(rt.alloc())));
     /// w.write_all(b"abc")?;
     /// assert!(rt; w.buffer() == b"abc".as_slice());
+    /// assert!(rt; w.get_ref().position() == 0);
+    /// w.get_mut().set_position(2);
+    /// assert!(rt; w.buffer() == b"abc".as_slice()); // what is held stays
     /// ```
     pub fn new(inner: W) -> BufWriter<W, S>
         ensures inner { writer_inner result ≡ inner }
@@ -93,6 +96,9 @@ impl<W: Write + Drop, const S: usize> BufWriter<W, S> {
     /// ```rust
     /// let mut w = BufWriter::<Vec<u8>, 8>::new(Vec::new(rt.alloc()));
     /// assert!(rt; w.capacity() == 8);
+    /// w.write_all(b"abc")?;
+    /// let device = w.into_inner()?; // sends `abc`
+    /// assert!(rt; device.as_slice() == b"abc".as_slice());
     /// ```
     pub fn capacity(&self) -> usize
         ensures { result ≡ S }

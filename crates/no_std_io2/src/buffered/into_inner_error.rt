@@ -12,14 +12,12 @@ use std::fmt::{Debug, Display, Formatter};
 /// bytes that were not sent. Follows `std::io::IntoInnerError`.
 ///
 /// ```rust
-/// let taken = Vec::new(rt.alloc());
-/// let mut w = BufWriter::<_, 8>::new(Narrow { taken, most: 0 }); // a device that takes no byte
+/// let mut w = BufWriter::<_, 8>::new(Cursor::new([0u8; 0])); // a device that takes no byte
 /// w.write_all(b"abc")?;
-/// if let Err(failed) = w.into_inner() {
-///     assert!(rt; failed.error().kind() == ErrorKind::WriteZero);
-///     let w = failed.into_inner();
-///     assert!(rt; w.buffer() == b"abc".as_slice());
-/// }
+/// let failed = w.into_inner().err().ok_or("sent")?;
+/// assert!(rt; failed.error().kind() == ErrorKind::WriteZero);
+/// let w = failed.into_inner();
+/// assert!(rt; w.buffer() == b"abc".as_slice());
 /// ```
 #[derive(Drop)]
 pub struct IntoInnerError<W> {
@@ -63,14 +61,11 @@ impl<W> IntoInnerError<W> {
     /// Follows `std::io::IntoInnerError::into_parts`.
     ///
     /// ```rust
-    /// let taken = Vec::new(rt.alloc());
-    /// let mut w = BufWriter::<_, 8>::new(Narrow { taken, most: 0 }); // a device that takes no byte
+    /// let mut w = BufWriter::<_, 8>::new(Cursor::new([0u8; 0])); // a device that takes no byte
     /// w.write_all(b"abc")?;
-    /// if let Err(failed) = w.into_inner() {
-    ///     let (error, w) = failed.into_parts();
-    ///     assert!(rt; error.kind() == ErrorKind::WriteZero);
-    ///     assert!(rt; w.buffer() == b"abc".as_slice());
-    /// }
+    /// let (error, w) = w.into_inner().err().ok_or("sent")?.into_parts();
+    /// assert!(rt; error.kind() == ErrorKind::WriteZero);
+    /// assert!(rt; w.buffer() == b"abc".as_slice());
     /// ```
     pub fn into_parts(self) -> (Error, W)
         ensures error { result.0 ≡ into_inner_error_cause self }

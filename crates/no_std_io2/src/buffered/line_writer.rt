@@ -68,6 +68,8 @@ impl<W: Write + Drop, const S: usize> LineWriter<W, S> {
     /// let mut w = LineWriter::<Vec<u8>, 16>::new(Vec::new(rt.alloc()));
     /// w.write_all(b"one\ntw")?;
     /// w.get_mut().clear(); // forgets `one\n`; `tw` is still held
+    /// let device = w.into_inner()?; // sends `tw`
+    /// assert!(rt; device.as_slice() == b"tw".as_slice());
     /// ```
     pub fn get_mut(&mut self) -> &mut W
         ensures value { result.now ≡ line_inner self.old }

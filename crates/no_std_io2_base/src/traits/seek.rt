@@ -14,6 +14,7 @@ use crate::error::{Result, invalid_seek};
 /// assert!(rt; r.seek(SeekFrom::Start(1))? == 1);
 /// assert!(rt; r.seek(SeekFrom::Current(2))? == 3);
 /// assert!(rt; r.seek(SeekFrom::End(-1))? == 4);
+/// assert!(rt; r.seek(SeekFrom::Current(-5)).is_err()); // before the start: it stays at 4
 /// ```
 #[derive(Clone, Copy, Debug, PartialEq, Eq)]
 pub enum SeekFrom {
@@ -88,6 +89,9 @@ pub trait Seek: Stored {
     /// let mut r = Cursor::new(*b"abcde");
     /// r.seek(SeekFrom::Start(3))?;
     /// assert!(rt; r.stream_position()? == 3);
+    /// assert!(rt; r.stream_len()? == 5);
+    /// r.rewind()?;
+    /// assert!(rt; r.stream_position()? == 0);
     /// ```
     fn stream_position(&mut self) -> Result<u64>
         ensures law { StreamPositionLaw ⟦<Self as Seek>⟧ self.old result self.new }
@@ -137,6 +141,7 @@ pub trait Seek: Stored {
     /// r.seek_relative(3)?;
     /// assert!(rt; r.position() == 3);
     /// assert!(rt; r.seek_relative(-4).is_err()); // below 0: it stays
+    /// assert!(rt; r.position() == 3);
     /// ```
     fn seek_relative(&mut self, offset: i64) -> Result<()>
         ensures law { SeekRelativeLaw ⟦<Self as Seek>⟧ self.old offset result self.new }

@@ -53,6 +53,9 @@ impl<T> Take<T> {
     /// let mut two = [0u8; 2];
     /// r.read_exact(&mut two)?;
     /// assert!(rt; r.limit() == 0); // the end
+    /// r.set_limit(2);
+    /// r.read_exact(&mut two)?;
+    /// assert!(rt; two == *b"cd");
     /// ```
     pub fn limit(&self) -> u64
         ensures { result ≡ limit_left self.now }
@@ -78,6 +81,10 @@ impl<T> Take<T> {
     /// let mut two = [0u8; 2];
     /// r.read_exact(&mut two)?;
     /// assert!(rt; r.get_ref().position() == 2);
+    /// r.get_mut().set_position(0);
+    /// assert!(rt; r.limit() == 0); // the limit stays
+    /// let inner = r.into_inner();
+    /// assert!(rt; inner.position() == 0);
     /// ```
     pub fn get_ref(&self) -> &T
         ensures { result.now ≡ limit_inner self.now }

@@ -39,6 +39,10 @@ impl<W: Write + Drop, const S: usize> BufWriter<W, S> {
     /// w.write_whole(b"gh", b"i")?; // does not fit beside them: they are sent first
     /// assert!(rt; w.get_ref().as_slice() == b"abcdef".as_slice());
     /// assert!(rt; w.buffer() == b"ghi".as_slice());
+    /// w.make_room(5)?; // five more fit beside the three
+    /// assert!(rt; w.buffer() == b"ghi".as_slice());
+    /// w.make_room(6)?; // six do not
+    /// assert!(rt; w.get_ref().as_slice() == b"abcdefghi".as_slice());
     /// ```
     #[inline(always)]
     pub fn write_whole(&mut self, head: &[u8], tail: &[u8]) -> Result<()>
