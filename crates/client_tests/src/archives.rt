@@ -3,7 +3,7 @@ use io_bench::{Event, Feed, Tally};
 use no_std_io2::io::{BufReader, ErrorKind, Read};
 use std::alloc::Allocator;
 use std::test::Fail;
-use tar_reader::Archive;
+use tar::Archive;
 
 fn add<A: Allocator>(events: &mut Vec<Event, A>, bytes: &[u8]) -> Result<(), Fail> {
     'bytes: for byte in bytes {

@@ -3,8 +3,8 @@ use Rattle.no_std_io2.proofs.Words.{◌≡◌, ◌⊎◌, List, ℕ, [], ◌∷�
 use Rattle.no_std_io2.proofs.{Words.{Option, Some, None, refl, ⊤, IfOk, Reader, Writer}, MovesLemmas.{Moves-then, MovesFront-whole}}
 use Rattle.std.proofs.{Common.{IsErrAnd, IfSome}, lemmas.{List.{map-append}, List.Folds.{concat-append}}}
 use Rattle.no_std_io2.specs.{declared.io.Error.{Error}, declared.io.Take.{Take}, Errors.{IsTextError}}
-use Rattle.tar_reader.specs.{declared.archive.Archive.{Archive}, declared.header.Header.{Header}, Members.{NextHeaderLaw, FindHeaderLaw}}
-use Rattle.tar_reader.proofs.MemberLemmas.{Skipping, comes_to}
+use Rattle.tar.specs.{declared.read.Archive.{Archive}, declared.header.Header.{Header}, Members.{NextHeaderLaw, FindHeaderLaw}}
+use Rattle.tar.proofs.MemberLemmas.{Skipping, comes_to}
 use Rattle.tar_list.specs.declared.CopyFault.{CopyFault}
 use Rattle.tar_list.specs.Listing.{member_line, member_lines, PrintsMember, ListEnds, Lists, MemberEnds, CopiesMember}
 

@@ -6,13 +6,13 @@ use Rattle.no_std_io2.specs.{Errors.{SaysError}, declared.io.{Error.{Error}, Err
 use Rattle.no_std_io2.specs.declared.io.ErrorKind.TheVariants.{InvalidInput, NotFound, UnexpectedEof}
 use Rattle.no_std_io2.specs.{Takes.{Reader}, Copy.{Copied}, Writers.{Writer, FlushOf}, declared.io.Take.{Take}, Errors.{IsTextError}}
 use Rattle.no_std_io2.specs.Moves.{WriterState, Moves, MovesFront, call_mishap}
-use Rattle.tar_reader.specs.declared.archive.Archive.{Archive}
-use Rattle.tar_reader.specs.declared.header.Header.{Header}
-use Rattle.tar_reader.specs.declared.header.Kind.TheVariants.{Directory}
-use Rattle.tar_reader.specs.Archives.{member_of, with_member, left_of_member}
-use Rattle.tar_reader.specs.Headers.{member_length}
-use Rattle.tar_reader.specs.Members.{ComesTo, FindHeaderLaw}
-use Rattle.tar_reader.specs.Names.{name_bytes}
+use Rattle.tar.specs.declared.read.Archive.{Archive}
+use Rattle.tar.specs.declared.header.Header.{Header}
+use Rattle.tar.specs.declared.header.Kind.TheVariants.{Directory}
+use Rattle.tar.specs.Archives.{member_of, with_member, left_of_member}
+use Rattle.tar.specs.Headers.{member_length}
+use Rattle.tar.specs.Members.{ComesTo, FindHeaderLaw}
+use Rattle.tar.specs.Names.{name_bytes}
 use Rattle.tar_list.specs.declared.CopyFault.{CopyFault, TheVariants.{Member, Stream}}
 
 -- the line of a member: its size and its name

@@ -23,7 +23,7 @@ use std::process::ExitCode;
 use std::rt::Env;
 use std::{env, fmt};
 use system_streams::{Patient, Reason, about, arguments, report, stdin, stdout, usage};
-use tar_reader::{Archive, Header, Kind};
+use tar::{Archive, Header, Kind};
 
 const USAGE: &str = "usage: tar_list [NAME]";
 

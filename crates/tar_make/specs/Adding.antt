@@ -7,9 +7,9 @@ use Rattle.no_std_io2.specs.{BufReader.{reader_inner, reader_held}, Takes.{Reade
 use Rattle.no_std_io2.specs.declared.util.sides.CopyError.{CopyError, TheVariants.{Read, Write}}
 use Rattle.system_streams.specs.declared.{files.FileFault.{FileFault, TheVariants.{File, Output}}, patient.Patient.{Patient}}
 use Rattle.system_streams.specs.{declared.reason.Reason.{Reason}, Patient.{IsFresh, patient_error}, Reasons.{IsReason}}
-use Rattle.tar_reader.specs.declared.header.Kind.{Kind}
-use Rattle.tar_writer.specs.{Builders.{AppendsHeader, Finishes, builder_inner}, Says.{IsHeaderOf}, Sides.{AppendsFilled}}
-use Rattle.tar_writer.specs.declared.{builder.Builder.{Builder}, header.{Header.{Header}, Metadata.{Metadata}}}
+use Rattle.tar.specs.declared.header.Kind.{Kind}
+use Rattle.tar.specs.{Builders.{AppendsHeader, Finishes, builder_inner}, Says.{IsHeaderOf}, Sides.{AppendsFilled}}
+use Rattle.tar.specs.declared.{write.Builder.{Builder}, header_block.{HeaderBlock.{HeaderBlock}, Metadata.{Metadata}}}
 
 -- what a try of a member returned
 abbrev Tried : Type 0
@@ -40,19 +40,20 @@ pub record AddsBody {D E : Type 0} {S T : ℕ} (K : Reader (BufReader (Patient D
   pub blames : BlamesMember filled reply to new
 
 -- a header was appended, or the output failed
-abbrev pub AddsHeader : {E : Type 0} {S : ℕ} → Writer (Patient E) → Header → Builder (Patient E) S → Tried → Builder (Patient E) S → Type 0
+abbrev pub AddsHeader : {E : Type 0} {S : ℕ} → Writer (Patient E) → HeaderBlock → Builder (Patient E) S → Tried → Builder (Patient E) S
+    → Type 0
 AddsHeader I h old reply new = ((reply ≡ Ok tt) × AppendsHeader I h old (Ok tt) new)
     ⊎ ((e : Error) × BlamesOutput e reply new × AppendsHeader I h old (Err e) new)
 
 -- A header was appended, and then the bytes of a file. If the header was not, no byte of the file was read.
-abbrev pub AddsFile : {D E : Type 0} {S T : ℕ} → Reader (BufReader (Patient D) T) → Writer (Patient E) → Header → BufReader (Patient D) T
-    → Builder (Patient E) S → Tried → BufReader (Patient D) T → Builder (Patient E) S → Type 0
+abbrev pub AddsFile : {D E : Type 0} {S T : ℕ} → Reader (BufReader (Patient D) T) → Writer (Patient E) → HeaderBlock
+    → BufReader (Patient D) T → Builder (Patient E) S → Tried → BufReader (Patient D) T → Builder (Patient E) S → Type 0
 AddsFile {E = E} {S = S} K I h from old reply to new =
     ((mid : Builder (Patient E) S) × AppendsHeader I h old (Ok tt) mid × AddsBody K I from mid reply to new)
     ⊎ ((e : Error) × BlamesOutput e reply new × AppendsHeader I h old (Err e) new × (to ≡ from))
 
 -- the header is of a member of this name
-abbrev pub HasName : List ℕ → Header → Type 0
+abbrev pub HasName : List ℕ → HeaderBlock → Type 0
 HasName name h = (kind : Kind) × (target : List ℕ) × (size : ℕ) × (m : Metadata) × IsHeaderOf kind name target size m h
 
 -- a file that was just opened, of which nothing was read
@@ -63,7 +64,7 @@ IsUnread r = IsFresh (reader_inner r) × (reader_held r ≡ [])
 abbrev pub AddsMember : {D E : Type 0} {S T : ℕ} → Reader (BufReader (Patient D) T) → Writer (Patient E) → List ℕ → Builder (Patient E) S
     → Tried → Builder (Patient E) S → Type 0
 AddsMember {D = D} {T = T} K I name old reply new = (((why : Reason) × (reply ≡ Err (File why))) × (new ≡ old))
-    ⊎ ((h : Header) × HasName name h × (AddsHeader I h old reply new
+    ⊎ ((h : HeaderBlock) × HasName name h × (AddsHeader I h old reply new
     ⊎ ((from : BufReader (Patient D) T) × (to : BufReader (Patient D) T) × IsUnread from × AddsFile K I h from old reply to new)))
 
 -- How the archive was ended, after the members were tried with this result: unless the output had failed, `finish` was called. F are the

@@ -22,7 +22,7 @@ use system_streams::{
     FileFault, Patient, PerFile, Reason, SystemMessages, SystemRead, SystemWrite, about, each_file,
     named, open, report, stdout,
 };
-use tar_writer::{Builder, Header, Metadata};
+use tar::{Builder, HeaderBlock, Metadata};
 
 // What `--help` prints.
 const HELP: &str = "\
@@ -46,7 +46,7 @@ fn described(found: &fs::Metadata) -> Metadata {
 }
 
 // Returns the header that was made, or why there is none.
-fn header_or_reason(made: no_std_io2::io::Result<Header>) -> Result<Header, Reason>
+fn header_or_reason(made: no_std_io2::io::Result<HeaderBlock>) -> Result<HeaderBlock, Reason>
     ensures { IfOk result (λ header. made ≡ Ok header) }
 {
     match made {
@@ -56,7 +56,7 @@ fn header_or_reason(made: no_std_io2::io::Result<Header>) -> Result<Header, Reas
 }
 
 // Returns the header of a file, a directory or a symbolic link.
-fn header_of(rt: &HostRuntime, name: &str, found: &fs::Metadata) -> Result<Header, Reason>
+fn header_of(rt: &HostRuntime, name: &str, found: &fs::Metadata) -> Result<HeaderBlock, Reason>
     ensures { IfOk result (HasName name.now) }
 {
     let metadata = described(found);
@@ -64,15 +64,19 @@ fn header_of(rt: &HostRuntime, name: &str, found: &fs::Metadata) -> Result<Heade
     if found.is_symlink() {
         return match rt.read_link(rt.alloc(), name) {
             Ok(target) => {
-                header_or_reason(Header::symlink(bytes, target.as_os_str().as_bytes(), metadata))
+                header_or_reason(HeaderBlock::symlink(
+                    bytes,
+                    target.as_os_str().as_bytes(),
+                    metadata,
+                ))
             }
             Err(e) => Err(Reason::System(e)),
         };
     }
     if found.is_dir() {
-        return header_or_reason(Header::directory(bytes, metadata));
+        return header_or_reason(HeaderBlock::directory(bytes, metadata));
     }
-    header_or_reason(Header::file(bytes, found.len(), metadata))
+    header_or_reason(HeaderBlock::file(bytes, found.len(), metadata))
 }
 
 // Appends the bytes of a file. What it lacks is filled with zeros.
@@ -93,7 +97,7 @@ fn add_body<D: SystemRead + Drop, E: SystemWrite + Drop, const S: usize, const T
 // Appends a header.
 fn add_header<E: SystemWrite + Drop, const S: usize>(
     archive: &mut Builder<Patient<E>, S>,
-    header: &Header,
+    header: &HeaderBlock,
 ) -> Result<(), FileFault<Reason>>
     ensures { AddsHeader ⟦<Patient<E> as Write>⟧ header.now archive.old result archive.new }
 {
@@ -106,7 +110,7 @@ fn add_header<E: SystemWrite + Drop, const S: usize>(
 // Appends a header, and the bytes of its file.
 fn add_file<D: SystemRead + Drop, E: SystemWrite + Drop, const S: usize, const T: usize>(
     archive: &mut Builder<Patient<E>, S>,
-    header: &Header,
+    header: &HeaderBlock,
     body: &mut BufReader<Patient<D>, T>,
 ) -> Result<(), FileFault<Reason>>
     ensures { AddsFile ⟦<BufReader<Patient<D>, T> as Read>⟧ ⟦<Patient<E> as Write>⟧ header.now body.old archive.old result

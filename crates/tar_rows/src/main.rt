@@ -10,7 +10,7 @@ use no_std_io2::io::{CopyError, ErrorKind, repeat};
 use std::alloc::Global;
 use std::process::ExitCode;
 use std::{fs, io};
-use tar_writer::{Builder, Header, Metadata};
+use tar::{Builder, HeaderBlock, Metadata};
 
 // The archive over a device that fails.
 type Archive = Builder<Faulty<Vec<u8>>, 1536>;
@@ -37,7 +37,7 @@ fn acts(alloc: Global, device: usize) -> io::Result<Vec<Act>> {
 }
 
 // Returns the header of a row, and the size of its file.
-fn header_of(row: &str) -> Option<Header> {
+fn header_of(row: &str) -> Option<HeaderBlock> {
     let mut words = row.split(' ');
     let kind = words.next()?;
     let mode = u32::from_str_radix(words.next()?, 8).ok()?;
@@ -46,16 +46,16 @@ fn header_of(row: &str) -> Option<Header> {
     let name = words.next()?.as_bytes();
     let metadata = Metadata { mode, mtime };
     match kind {
-        "file" => Header::file(name, size, metadata).ok(),
-        "directory" => Header::directory(name, metadata).ok(),
-        "link" => Header::link(name, words.next()?.as_bytes(), metadata).ok(),
-        "symlink" => Header::symlink(name, words.next()?.as_bytes(), metadata).ok(),
+        "file" => HeaderBlock::file(name, size, metadata).ok(),
+        "directory" => HeaderBlock::directory(name, metadata).ok(),
+        "link" => HeaderBlock::link(name, words.next()?.as_bytes(), metadata).ok(),
+        "symlink" => HeaderBlock::symlink(name, words.next()?.as_bytes(), metadata).ok(),
         _ => None,
     }
 }
 
 // Appends a header, and tries again after each fault. Returns how many tries failed.
-fn put_header(archive: &mut Archive, header: &Header) -> Option<usize> {
+fn put_header(archive: &mut Archive, header: &HeaderBlock) -> Option<usize> {
     'tries: for failed in 0..TRIES {
         if archive.append_header(header).is_ok() {
             return Some(failed);
@@ -125,7 +125,7 @@ fn fill_up(
         mode: 0o644,
         mtime: 0,
     };
-    if let Ok(header) = Header::file(b"f", SIZE as u64, metadata) {
+    if let Ok(header) = HeaderBlock::file(b"f", SIZE as u64, metadata) {
         let _ = archive.append_header(&header);
     }
     let filled = archive.append_filled(&mut body);

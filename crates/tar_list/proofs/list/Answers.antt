@@ -1,7 +1,7 @@
 -- The prover does not find the members that were passed over: each end is a `comes_to` of the last `next`.
 use Rattle.no_std_io2.proofs.Words.{refl, err_from_is_err_and}
 use Rattle.no_std_io2.proofs.MovesLemmas.{Moves-refl, Moves-ends}
-use Rattle.tar_reader.proofs.MemberLemmas.{skipping_none, skips_member}
+use Rattle.tar.proofs.MemberLemmas.{skipping_none, skips_member}
 use Rattle.tar_list.proofs.ListLemmas.{prints_more, lists}
 use Rattle.tar_list.proofs.list.Goals as goal
 
