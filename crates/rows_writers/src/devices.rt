@@ -4,7 +4,7 @@ use crate::tower::{Device, Object};
 use crate::writing::{Columns, make_any_call, play, play_seeking};
 use examples::Numbered;
 use io_bench::Tally;
-use no_std_io2::io::{BufWriter, Seek, Write};
+use no_std_io2::io::{BufWriter, Seek, Write, print_to_object};
 use rows_play::calls::{Call, make_call, make_seek, new_journal, show_calls};
 use rows_play::journal::Journal;
 use rows_play::line::Line;
@@ -140,9 +140,17 @@ impl Stream for Boxed {
     }
 }
 
+// Makes a call of an object. A text to it is `print_to_object TEXT`.
 fn make_lent_write(object: &mut dyn Write, call: &Call<'_>, line: &mut Line) {
-    let mut lent = object;
-    make_call(&mut lent, call, line);
+    if call.word != "print_to_object" {
+        let mut lent = object;
+        make_call(&mut lent, call, line);
+        return;
+    }
+    match std::str::from_utf8(&call.bytes) {
+        Ok(text) => line.done(&print_to_object::<_, _, 8>(object, text)),
+        Err(_) => line.tell(Unplayed::NoWord),
+    }
 }
 
 fn make_lent_seek(object: &mut dyn Seek, call: &Call<'_>, line: &mut Line) {
