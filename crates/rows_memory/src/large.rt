@@ -28,6 +28,18 @@ pub fn by_read_to_string(alloc: Global, text: &[u8], len: usize) -> Outcome {
     Outcome::of(&r.read_to_string(alloc, &mut all)).if_full(all.len(), len)
 }
 
+/// Makes a `read_to_string` of `len` bytes behind a text, whose string has room for them and 32 more.
+pub fn by_read_behind(alloc: Global, text: &[u8], len: usize) -> Outcome {
+    let Ok(mut all) = String::with_capacity(alloc, len.saturating_add(34)) else {
+        return Outcome::Refused;
+    };
+    if all.push_str("ab").is_err() {
+        return Outcome::OtherBytes;
+    }
+    let mut r = Torn::new(b"", front(text, len));
+    Outcome::of(&r.read_to_string(alloc, &mut all)).if_full(all.len(), len.saturating_add(2))
+}
+
 /// Makes a `read_until` of `len` bytes through a buffer.
 pub fn by_read_until(alloc: Global, text: &[u8], len: usize) -> Outcome {
     let mut piece = Vec::new(alloc);

@@ -29,6 +29,7 @@ fn play_long(alloc: Global, text: &[u8], word: &str, len: usize) -> Outcome {
         "read_to_end" => large::by_known(alloc, text, len),
         "read_to_end_unknown" => large::by_unknown(alloc, text, len),
         "read_to_string" => large::by_read_to_string(alloc, text, len),
+        "read_to_string_behind" => large::by_read_behind(alloc, text, len),
         "read_until" => large::by_read_until(alloc, text, len),
         "read_line" => large::by_read_line(alloc, text, len),
         "split" => large::by_split(alloc, text, len),
