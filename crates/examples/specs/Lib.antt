@@ -5,6 +5,7 @@ pub mod Inbox
 pub mod Indexed
 pub mod Lengths
 pub mod Lines
+pub mod Magic
 pub mod Messages
 pub mod Readings
 pub mod Serial

@@ -1,6 +1,6 @@
 -- For `rooms`: what needs no memory, because a string has the room.
 use Rattle.std.proofs.Common.{String, string_bytes, string_len, string_capacity, IfSome}
-use Rattle.no_std_io2.proofs.Words.{◌≡◌, ◌+◌, ◌<◌, ◌≤◌, ◌++◌, ◌⊎◌, ℕ, List, [], ◌∷◌, Some, Result, Ok, Err, IfErr, length, refl, subst, sym}
+use Rattle.no_std_io2.proofs.Words.{◌≡◌, ◌+◌, ◌<◌, ◌≤◌, ◌++◌, ℕ, List, [], ◌∷◌, Some, Result, Ok, Err, IfErr, length, refl, subst, sym}
 use Rattle.no_std_io2.proofs.Words.{ap, ◌∙◌, arith, inl, inr, append_assoc, length-append, Event, event_bytes, Reader, tells, newline}
 use Rattle.no_std_io2.proofs.{TakesLemmas.{left_of, bytes-append, bytes-behind}, PieceLemmas.{piece_bytes, Lacks-append}}
 use Rattle.no_std_io2.proofs.KnownBytes.{no_fault_before, no_fault_known, few_known}
