@@ -4,9 +4,9 @@ use Rattle.no_std_io2.proofs.Words.{◌∙◌, subst, sym, inl, inr, ◌<◌, �
 use Rattle.no_std_io2.proofs.Words.{concat, common_steps, IsFault, IsOutOfMemory, Event, byte, fails, event_bytes, HasNoFault}
 use Rattle.no_std_io2.proofs.Words.{bytes_to_fault}
 use Rattle.no_std_io2.proofs.Words.{first_fault, to_come, Reader, tells, Made, newline, strip_last, split_reader, split_delim}
-use Rattle.no_std_io2.proofs.{GivenPieces.{GivesNext, GivesNone, next_error, next_fault, next_item, next_none}, CallsLemmas.{made_more}}
+use Rattle.no_std_io2.proofs.{GivenPieces.{next_error, next_fault, next_item, next_none}, CallsLemmas.{made_more}}
 use Rattle.std.proofs.Common.{IfSome}
-use Rattle.no_std_io2.specs.{declared.io.Error.{Error}, inner.Kinds.{is_interruption}, inner.Pieces.{pieces_given}}
+use Rattle.no_std_io2.specs.{declared.io.Error.{Error}, inner.Kinds.{is_interruption}, inner.Pieces.{pieces_given, GivesNext, GivesNone}}
 use Rattle.no_std_io2.specs.inner.Lines.{RefusesLine, line_text}
 use Rattle.no_std_io2.specs.inner.Iterators.{ends_at, split_is_ended, lines_reader, lines_is_ended, NextPieceLaw}
 use Rattle.no_std_io2.specs.declared.io.Split.{Split}

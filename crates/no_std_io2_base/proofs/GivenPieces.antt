@@ -11,6 +11,7 @@ use Rattle.no_std_io2_base.specs.{Events.{event_bytes, HasNoFault}, inner.Events
 use Rattle.no_std_io2_base.specs.{Takes.{ReaderState, Takes, to_come, Reader, tells}, inner.Iterators.{NextPieceLaw, ends_at, items_left}}
 use Rattle.no_std_io2_base.specs.{BufRead.{ReadUntilLaw, ReadLineLaw}}
 use Rattle.no_std_io2_base.specs.inner.Pieces.{Lacks, EndsAt, pieces_of, pieces_before, pieces_given, GivesFirst, ComeFirst}
+use Rattle.no_std_io2_base.specs.inner.Pieces.{GivesNext, GivesNone, GivenRead}
 use Rattle.no_std_io2_base.specs.{Pieces.{newline, GivesPieces, AreAllPieces}, Moves.{IsFront}, Reads.{StopsAfter}}
 use Rattle.std.specs.{List.{concat}, Io.BufRead.{ends_with_byte}}
 use Rattle.no_std_io2_base.specs.inner.Pieces.{PieceEnds}
@@ -43,23 +44,6 @@ given-front d P Q h = ap₂ (pieces_before d) (first_fault-append P Q h) (bytes_
 given-last : (d : ℕ) (bs : List ℕ) → Lacks d bs → 0 < length bs → pieces_of d (bs ++ []) ≡ bs ∷ []
 given-last d [] none some = absurd (omega (arith, some))
 given-last d (b ∷ bs) none some = ap (pieces_of d) (append-nil (b ∷ bs)) ∙ pieces-last d b bs none
-
--- the events E give this piece next, and then what those after it give
-pub record GivesNext (d : ℕ) (E : List Event) (piece : List ℕ) (after : List Event) : Type 0 where
-  pub pieces : pieces_given d E ≡ piece ∷ pieces_given d after
-  pub fault : first_fault E ≡ first_fault after
-  pub bytes : bytes_to_fault E ≡ piece ++ bytes_to_fault after
-
--- they give nothing, and have no fault
-abbrev pub GivesNone : ℕ → List Event → Type 0
-GivesNone d E = (pieces_given d E ≡ []) × (first_fault E ≡ None)
-
--- What a piece that was read with this result says of the events E: it comes next; or none does. After an error, it is the first fault, and
--- no piece comes before it; or a byte was to come, and memory was refused.
-abbrev GivenRead : ℕ → List Event → List ℕ → Result ℕ Error → List Event → Type 0
-GivenRead d E piece (Ok n) after = ((0 < length piece) × GivesNext d E piece after) ⊎ ((length piece ≡ 0) × GivesNone d E)
-GivenRead d E piece (Err e) after = ((pieces_given d E ≡ []) × (first_fault E ≡ Some e))
-    ⊎ (IsOutOfMemory e × (0 < length (bytes_to_fault E)))
 
 -- events that end in d, or all, are the next piece
 given_next : (d : ℕ) (E P after : List Event) → E ≡ P ++ after → HasNoFault P → EndsAt d P ⊎ (Lacks d (event_bytes P) × (after ≡ []))

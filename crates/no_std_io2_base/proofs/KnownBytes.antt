@@ -9,6 +9,7 @@ use Rattle.no_std_io2_base.specs.Takes.{ReaderState, Takes, to_come, KeepsConten
 use Rattle.no_std_io2_base.specs.{inner.Takes.{AreTaken}, declared.error.Error.{Error}, Read.{ReadExactLaw, ReadAtMostLaw}}
 use Rattle.no_std_io2_base.specs.{inner.Read.{AllOrNone, gave_whole}, Seek.{Seeks, IsTarget}, inner.Reads.{ReadsAt, HasBytesAt}}
 use Rattle.no_std_io2_base.specs.{Read.{ReadFullLaw, ReadToEndLaw}, Errors.{IsOutOfMemory}, declared.traits.seek.SeekFrom.{SeekFrom}}
+use Rattle.no_std_io2_base.specs.declared.traits.seek.SeekFrom.TheVariants.{Start}
 use Rattle.no_std_io2_base.proofs.TakesLemmas.{bytes-append, events_of-append, bytes-events_of, bytes-behind, cut-bytes, cut-append}
 use Rattle.no_std_io2_base.proofs.TakesLemmas.{HasNoFault-front, HasNoFault-behind, HasNoFault-events_of, bytes-cut, all_taken, left_of}
 use Rattle.no_std_io2_base.proofs.{TakesLemmas.{front_taken, Took-then}, LimitLemmas.{cut-within}}
@@ -278,3 +279,34 @@ module _ {X : Type 0} {R : Reader X} {mid new : X} {buf buf' : List ℕ} (s : Op
             let fits : length buf' ≤ length bs =
             omega (arith, one, has.2, long, sought.1.1, ap length sought.0, length-drop m.position m.content) in
             (exact_cut bs [] law (told ∙ ap Some (sym (append-nil (events_of bs)))) fits).0
+
+-- the bytes that a read to the end appends are those of a told store from its position on
+module _ {X A : Type 0} {R : Reader X} {mid new : X} {buf buf' : Vec ℕ A} {k : ℕ} (law : ReadToEndLaw R mid buf (Ok k) buf' new) where
+  drained_store : IfSome (R.store mid) (λ s. (buf'.items ≡ buf.items ++ drop s.position s.content)
+      × IsSomeAnd (R.store new) (λ t. t.content ≡ s.content))
+  drained_store = by (R.store mid) refl (store_taken law.takes)
+    where
+      by : (s : Option Store) → R.store mid ≡ s → IfSome s (λ s. IsSomeAnd (R.store new) (StoreTaken s law.taken))
+          → IfSome s (λ s. (buf'.items ≡ buf.items ++ drop s.position s.content) × IsSomeAnd (R.store new) (λ t. t.content ≡ s.content))
+      by None is took = tt
+      by (Some s) is took = grind (arith, common_steps, to_end_known (Ok k) (drop s.position s.content) law)
+
+  -- After a seek to the start, a `read_to_end` appends the whole content of a told store; and after one more seek, the store stands there.
+  pub stands_at : (s t : Option Store) (n m place : ℕ) → KeepsContent s (λ len was now. Seeks len was (Start 0) (Ok n) now) (R.store mid)
+      → KeepsContent (R.store new) (λ len was now. Seeks len was (Start place) (Ok m) now) t
+      → IfSome s (λ s. (buf'.items ≡ buf.items ++ s.content) × IsSomeAnd t (λ t. (t.content ≡ s.content) × (t.position ≡ place)))
+  stands_at s t n m place first then = by s (R.store mid) (R.store new) t first drained_store then
+    where
+      by : (s a b t : Option Store) → KeepsContent s (λ len was now. Seeks len was (Start 0) (Ok n) now) a
+          → IfSome a (λ a. (buf'.items ≡ buf.items ++ drop a.position a.content) × IsSomeAnd b (λ b. b.content ≡ a.content))
+          → KeepsContent b (λ len was now. Seeks len was (Start place) (Ok m) now) t
+          → IfSome s (λ s. (buf'.items ≡ buf.items ++ s.content) × IsSomeAnd t (λ t. (t.content ≡ s.content) × (t.position ≡ place)))
+      by None a b t first all then = tt
+      by (Some s) None b t first all then = absurd first
+      by (Some s) (Some a) None t first all then = absurd all.1
+      by (Some s) (Some a) (Some b) None first all then = absurd then
+      by (Some s) (Some a) (Some b) (Some t) first all then =
+          let start : a.position ≡ 0 = first.1.1 ∙ first.1.0 in
+          let place : t.position ≡ place = then.1.1 ∙ then.1.0 in
+          let bytes : drop a.position a.content ≡ s.content = ap (λ p. drop p a.content) start ∙ first.0 in
+          (all.0 ∙ ap (λ l. buf.items ++ l) bytes, (then.0 ∙ all.1 ∙ first.0, place))

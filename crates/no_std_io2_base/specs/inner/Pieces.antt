@@ -106,6 +106,23 @@ pub record GivesFirst (d : ℕ) (E : List Event) (ps : List (List ℕ)) (after :
   pub fault : first_fault E ≡ first_fault after
   pub bytes : bytes_to_fault E ≡ concat ps ++ bytes_to_fault after
 
+-- the events E give this piece next, and then what those after it give
+pub record GivesNext (d : ℕ) (E : List Event) (piece : List ℕ) (after : List Event) : Type 0 where
+  pub pieces : pieces_given d E ≡ piece ∷ pieces_given d after
+  pub fault : first_fault E ≡ first_fault after
+  pub bytes : bytes_to_fault E ≡ piece ++ bytes_to_fault after
+
+-- they give nothing, and have no fault
+abbrev pub GivesNone : ℕ → List Event → Type 0
+GivesNone d E = (pieces_given d E ≡ []) × (first_fault E ≡ None)
+
+-- What a piece that was read with this result says of the events E: it comes next; or none does. After an error, it is the first fault, and
+-- no piece comes before it; or a byte was to come, and memory was refused.
+abbrev pub GivenRead : ℕ → List Event → List ℕ → Result ℕ Error → List Event → Type 0
+GivenRead d E piece (Ok n) after = ((0 < length piece) × GivesNext d E piece after) ⊎ ((length piece ≡ 0) × GivesNone d E)
+GivenRead d E piece (Err e) after = ((pieces_given d E ≡ []) × (first_fault E ≡ Some e))
+    ⊎ (IsOutOfMemory e × (0 < length (bytes_to_fault E)))
+
 -- these bytes come first, before any fault, if the reader tells its events
 abbrev pub ComeFirst : ReaderState → List ℕ → Type 0
 ComeFirst t x = IfSome (to_come t) (λ E. IsFront x (bytes_to_fault E))
