@@ -1,7 +1,7 @@
 -- Sets of lemmas for `using`: for a caller that lends an object, and for a wrapper that passes calls on.
 use Rattle.no_std_io2.proofs.Words.{append-nil, ℕ}
 use Rattle.no_std_io2_base.proofs.Forwards.{object_given, vec_back, queue_back, cursor_back, position_back, boxed_back, boxed_position}
-use Rattle.no_std_io2_base.proofs.{Forwards.{passes_write_all, passes_read_exact, passes_read_to_end}, CursorLemmas.{told_at}}
+use Rattle.no_std_io2_base.proofs.CursorLemmas.{told_at}
 use Rattle.no_std_io2_base.proofs.TakesLemmas.{front_taken, front_gone}
 use Rattle.no_std_io2.specs.contracts.buffered.{buf_writer.BufWriter.{the_row as writer-row}, line_writer.LineWriter.{the_row as lines-row}}
 use denote.{Param.{param, number}, RattleType.{RattleType}}
@@ -33,7 +33,5 @@ buffered W S = writer-row W (param 0 (number S))
 abbrev pub by_lines : RattleType → ℕ → RattleType
 by_lines W S = lines-row W (param 0 (number S))
 
--- What proves a wrapper that passes calls on.
-
--- `write_all`, `read_exact` and `read_to_end` of a wrapper whose `may` is `PartMay`
-pub ruleset passes_on = (passes_write_all, passes_read_exact, passes_read_to_end)
+-- for a wrapper whose `may` is `PartMay`
+pub use Rattle.no_std_io2_base.proofs.Forwards.{passes_on}

@@ -1,7 +1,7 @@
 -- A stream behind a reference, in a box, or behind an object.
 use Rattle.std.proofs.Common.{rules, arith, ◌≡◌, ℕ, List, Result, refl, sym, subst, Vec, String, Option, ap, Global}
 use Rattle.std.proofs.lemmas.Grind.{common_steps}
-use Rattle.std.specs.{Borrow.{Bor}, declared.dyn_box.DynBox.{DynBox}, contracts.vec.Vec.{the_row as vec-row}}
+use Rattle.std.specs.{Borrow.{Bor, MutBor}, declared.dyn_box.DynBox.{DynBox}, contracts.vec.Vec.{the_row as vec-row}}
 use Rattle.std.specs.contracts.{collections.VecDeque.{the_row as deque-row}, boxed.BoxedSlice.{the_row as boxed-row}}
 use Rattle.std.specs.contracts.{alloc.Global.{the_row as global-row}, impls.GlobalAllocator.TheImpl.{ghosts}}
 use Rattle.std.specs.declared.boxed.BoxedSlice.{BoxedSlice}
@@ -13,7 +13,7 @@ use Rattle.no_std_io2_base.specs.{Read.{ReadCallLaw, ReadLaw, ReadExactLaw, Read
 use Rattle.no_std_io2_base.specs.{Writers.{WriteRestOf}, contracts.cursor.Cursor.{the_row as cursor-row}, declared.cursor.Cursor.{Cursor}}
 use Rattle.no_std_io2_base.proofs.CallsLemmas.{made_map, made_keeps}
 use base.Stored.{Gv}
-use denote.{Builtin.{u8, Array}, RattleType.{RattleType}, Ref.{MutBor}, Param.Table.{Entry}}
+use denote.{Builtin.{u8, Array}, RattleType.{RattleType}, Param.Table.{Entry}}
 use borrow.Pointer.Hide.{carry_nowᵐ, carried_sameᵐ}
 
 -- A reader behind a reference, or in a box: what a call did to the reader, it did to the reference or the box.
@@ -65,11 +65,25 @@ module _ {X Y : Type 0} {R : Reader X} {R' : Reader Y} (put : X → Y) (through 
       → ReadLineLaw R' (put a) buf reply buf' (put b)
   line_through {buf = buf} law = grind (arith, common_steps, between, made_map, call_through)
 
--- what each call of a reader keeps, its `read_to_end` keeps
-pub drained_keeps : {X V A : Type 0} {R : Reader X} (of : X → V) → ((a b : X) (call : ReadCall) → R.may a call b → of b ≡ of a)
-    → {a b : X} {lacks : ℕ → Type 0} {buf buf' : Vec ℕ A} {reply : Result ℕ Error} → ToEndLaw lacks R a buf reply buf' b → of b ≡ of a
-drained_keeps {R = R} of each {a} {b} law =
-    made_keeps (ReadCallLaw R) of (λ x y call did. grind (arith, common_steps, each)) law.calls.calls a b law.calls.made
+-- what each call of a reader keeps, by its `may`: a law of such a call says so,
+pub law_keeps : {X V : Type 0} (R : Reader X) (of : X → V) → ((a b : X) (call : ReadCall) → R.may a call b → of b ≡ of a)
+    → (a b : X) (call : ReadCall) → ReadCallLaw R a call b → of b ≡ of a
+law_keeps R of each a b call law = grind (arith, common_steps, each)
+
+-- and so do the calls of a law
+pub calls_keep : {X V : Type 0} (R : Reader X) (of : X → V) → ((a b : X) (call : ReadCall) → R.may a call b → of b ≡ of a)
+    → {a b : X} {Are : List ReadCall → Type 0} → ByCalls (ReadCallLaw R) a Are b → of b ≡ of a
+calls_keep R of each {a} {b} by = made_keeps (ReadCallLaw R) of (law_keeps R of each) by.calls a b by.made
+
+-- each call of a `&mut T` leaves it a reference to the same value
+pub keeps_name : {X A : Type 0} {may : X → A → X → Type 0} (a b : MutBor X) (call : A)
+    → PartMay may (λ r. r.now) (λ r x. record r { now = x }) a call b → b.ghost_name ≡ a.ghost_name
+keeps_name a b call did = ap (λ r. r.ghost_name) did.rest
+
+-- and is a call of the value behind it
+pub behind_did : {X A : Type 0} {may : X → A → X → Type 0} (a b : MutBor X) (call : A)
+    → PartMay may (λ r. r.now) (λ r x. record r { now = x }) a call b → may a.now call b.now
+behind_did {may = may} a b call did = subst (may a.now call) (sym (ap (λ r. r.now) did.rest)) did.does
 
 -- a writer that a part is put into: what a call did to the part, it did to the whole
 pub wrote_through : {W V : Type 0} (told : V → WriterState) (takes_all : V → Type 0) (may : W → WriteCall → W → Type 0)
@@ -91,86 +105,109 @@ pub write_rest_through : {W V : Type 0} {told : V → WriterState} {takes_all : 
     → WriteRestLaw told takes_all may' (put a) x reply (put b) left
 write_rest_through put each {a} {b} law = search (arith, rules, made_map, wrote_through)
 
--- a wrapper that passes each call on to a part of it, and leaves the rest as it is
+-- A wrapper that passes calls on to a part of it, `get`, which `put` replaces, and leaves the rest as it is: its `may` is `PartMay`.
+
+-- what holds between wholes with the part before and after
+lifted : {W V : Type 0} (get : V → W) (put : V → W → V) {old new : V} (Law : V → V → Type 0) → Law (put old (get old)) (put old (get new))
+    → put old (get old) ≡ old → put old (get new) ≡ new → Law old new
+lifted get put {old} {new} Law holds was is = subst (λ v. Law v new) was (subst (λ v. Law (put old (get old)) v) is holds)
+
 passed_on : {W V A : Type 0} {may : W → A → W → Type 0} {get : V → W} {put : V → W → V} (old : V) → ((w : W) → get (put old w) ≡ w)
     → ((w u : W) → put (put old w) u ≡ put old u) → (a b : W) (call : A) → may a call b → PartMay may get put (put old a) call (put old b)
 passed_on {may = may} old back twice a b call did = grind (arith, common_steps)
 
--- the calls of its `write_all`
+-- as a writer
 module _ {W V : Type 0} {told : V → WriterState} {takes_all : V → Type 0} {may : W → WriteCall → W → Type 0} {get : V → W}
-    {put : V → W → V} where
-  pub passes_write_all : {old new : V} {x : List ℕ} {reply : Result (Unit {0}) Error}
-      → WriteAllLaw (λ w. told (put old w)) (λ w. takes_all (put old w)) may (get old) x reply (get new)
-      → put old (get old) ≡ old → put old (get new) ≡ new → ((w : W) → get (put old w) ≡ w)
-      → ((w u : W) → put (put old w) u ≡ put old u)
+    {put : V → W → V} {old new : V} {x : List ℕ} {reply : Result (Unit {0}) Error} where
+  pub passes_write_all : WriteAllLaw (λ w. told (put old w)) (λ w. takes_all (put old w)) may (get old) x reply (get new)
+      → put old (get old) ≡ old → put old (get new) ≡ new → ((w : W) → get (put old w) ≡ w) → ((w u : W) → put (put old w) u ≡ put old u)
       → ByCalls (CallLaw told takes_all (PartMay may get put)) old (λ C. AllCalls C x reply) new
-  passes_write_all {old} {new} {x} {reply} law was is back twice =
+  passes_write_all law was is back twice =
       let all : WriteAllLaw told takes_all (PartMay may get put) old x reply new =
-      subst (λ v. WriteAllLaw told takes_all (PartMay may get put) v x reply new) was
-      (subst (λ v. WriteAllLaw told takes_all (PartMay may get put) (put old (get old)) x reply v) is
-      (write_all_through (put old) (passed_on old back twice) law)) in
+      lifted get put (λ a b. WriteAllLaw told takes_all (PartMay may get put) a x reply b)
+      (write_all_through (put old) (passed_on old back twice) law) was is in
       all.calls
 
--- its `read_exact` and its `read_to_end`
-module _ {W V : Type 0} {store : V → Option Store} {turns : V → ℕ} {events : V → Option (List Event)} {held : V → List ℕ} where
-  module _ {may : W → ReadCall → W → Type 0} {get : V → W} {put : V → W → V} where
-    pub passes_read_exact : {old new : V} {buf buf' : List ℕ} {reply : Result (Unit {0}) Error}
-        → ReadExactLaw
-        (record {
-          store = λ w. store (put old w);
-          turns = λ w. turns (put old w);
-          events = λ w. events (put old w);
-          may = may;
-          held = λ w. held (put old w);
-        })
-        (get old) buf reply buf' (get new)
-        → put old (get old) ≡ old → put old (get new) ≡ new → ((w : W) → get (put old w) ≡ w)
-        → ((w u : W) → put (put old w) u ≡ put old u)
-        → ReadExactLaw (record { store = store; turns = turns; events = events; may = PartMay may get put; held = held })
-        old buf reply buf' new
-    passes_read_exact {old} {new} {buf} {buf'} {reply} law was is back twice =
-        let whole : Reader V = record { store = store; turns = turns; events = events; may = PartMay may get put; held = held } in
-        let part : Reader W =
-        record {
-          store = λ w. store (put old w);
-          turns = λ w. turns (put old w);
-          events = λ w. events (put old w);
-          may = may;
-          held = λ w. held (put old w);
-        } in
-        let through : PassesReads part whole (put old) = record { told = λ w. refl; may = passed_on old back twice; held = λ w. refl } in
-        subst (λ v. ReadExactLaw whole v buf reply buf' new) was
-        (subst (λ v. ReadExactLaw whole (put old (get old)) buf reply buf' v) is (exact_through {R = part} {R' = whole}
-        (put old) through law))
+  pub passes_write_rest : {left : List ℕ}
+      → WriteRestLaw (λ w. told (put old w)) (λ w. takes_all (put old w)) may (get old) x reply (get new) left
+      → put old (get old) ≡ old → put old (get new) ≡ new → ((w : W) → get (put old w) ≡ w) → ((w u : W) → put (put old w) u ≡ put old u)
+      → WriteRestLaw told takes_all (PartMay may get put) old x reply new left
+  passes_write_rest {left} law was is back twice =
+      lifted get put (λ a b. WriteRestLaw told takes_all (PartMay may get put) a x reply b left)
+      (write_rest_through (put old) (passed_on old back twice) law) was is
 
-    pub passes_read_to_end : {A : Type 0} {lacks : ℕ → Type 0} {old new : V} {buf buf' : Vec ℕ A} {reply : Result ℕ Error}
-        → ToEndLaw lacks
-        (record {
-          store = λ w. store (put old w);
-          turns = λ w. turns (put old w);
-          events = λ w. events (put old w);
-          may = may;
-          held = λ w. held (put old w);
-        })
-        (get old) buf reply buf' (get new)
-        → put old (get old) ≡ old → put old (get new) ≡ new → ((w : W) → get (put old w) ≡ w)
-        → ((w u : W) → put (put old w) u ≡ put old u)
-        → ToEndLaw lacks (record { store = store; turns = turns; events = events; may = PartMay may get put; held = held })
-        old buf reply buf' new
-    passes_read_to_end {lacks = lacks} {old} {new} {buf} {buf'} {reply} law was is back twice =
-        let whole : Reader V = record { store = store; turns = turns; events = events; may = PartMay may get put; held = held } in
-        let part : Reader W =
-        record {
-          store = λ w. store (put old w);
-          turns = λ w. turns (put old w);
-          events = λ w. events (put old w);
-          may = may;
-          held = λ w. held (put old w);
-        } in
-        let through : PassesReads part whole (put old) = record { told = λ w. refl; may = passed_on old back twice; held = λ w. refl } in
-        subst (λ v. ToEndLaw lacks whole v buf reply buf' new) was
-        (subst (λ v. ToEndLaw lacks whole (put old (get old)) buf reply buf' v) is (drained_through {R = part} {R' = whole}
-        (put old) through law))
+-- as a reader: the whole,
+abbrev whole : {W V : Type 0} → (V → Option Store) → (V → ℕ) → (V → Option (List Event)) → (V → List ℕ) → (W → ReadCall → W → Type 0)
+    → (V → W) → (V → W → V) → Reader V
+whole store turns events held may get put = record { store = store; turns = turns; events = events; may = PartMay may get put; held = held }
+
+-- and the part in it
+abbrev part : {W V : Type 0} → (V → Option Store) → (V → ℕ) → (V → Option (List Event)) → (V → List ℕ) → (W → ReadCall → W → Type 0)
+    → (W → V) → Reader W
+part store turns events held may put = record {
+  store = λ w. store (put w);
+  turns = λ w. turns (put w);
+  events = λ w. events (put w);
+  may = may;
+  held = λ w. held (put w);
+}
+
+module _ {W V : Type 0} {store : V → Option Store} {turns : V → ℕ} {events : V → Option (List Event)} {held : V → List ℕ}
+    {may : W → ReadCall → W → Type 0} {get : V → W} {put : V → W → V} where
+  passes : (old : V) → ((w : W) → get (put old w) ≡ w) → ((w u : W) → put (put old w) u ≡ put old u)
+      → PassesReads (part store turns events held may (put old)) (whole store turns events held may get put) (put old)
+  passes old back twice = record { told = λ w. refl; may = passed_on old back twice; held = λ w. refl }
+
+  pub passes_read_exact : {old new : V} {buf buf' : List ℕ} {reply : Result (Unit {0}) Error}
+      → ReadExactLaw (part store turns events held may (put old)) (get old) buf reply buf' (get new)
+      → put old (get old) ≡ old → put old (get new) ≡ new → ((w : W) → get (put old w) ≡ w) → ((w u : W) → put (put old w) u ≡ put old u)
+      → ReadExactLaw (whole store turns events held may get put) old buf reply buf' new
+  passes_read_exact {old = old} {buf = buf} {buf'} {reply} law was is back twice =
+      lifted get put (λ a b. ReadExactLaw (whole store turns events held may get put) a buf reply buf' b)
+      (exact_through (put old) (passes old back twice) law) was is
+
+  pub passes_read_full : {old new : V} {buf buf' : List ℕ} {n n' : ℕ} {reply : Result (Unit {0}) Error}
+      → ReadFullLaw (part store turns events held may (put old)) (get old) buf n reply buf' n' (get new)
+      → put old (get old) ≡ old → put old (get new) ≡ new → ((w : W) → get (put old w) ≡ w) → ((w u : W) → put (put old w) u ≡ put old u)
+      → ReadFullLaw (whole store turns events held may get put) old buf n reply buf' n' new
+  passes_read_full {old = old} {buf = buf} {buf'} {n} {n'} {reply} law was is back twice =
+      lifted get put (λ a b. ReadFullLaw (whole store turns events held may get put) a buf n reply buf' n' b)
+      (read_full_through (put old) (passes old back twice) law) was is
+
+  pub passes_read_to_end : {A : Type 0} {lacks : ℕ → Type 0} {old new : V} {buf buf' : Vec ℕ A} {reply : Result ℕ Error}
+      → ToEndLaw lacks (part store turns events held may (put old)) (get old) buf reply buf' (get new)
+      → put old (get old) ≡ old → put old (get new) ≡ new → ((w : W) → get (put old w) ≡ w) → ((w u : W) → put (put old w) u ≡ put old u)
+      → ToEndLaw lacks (whole store turns events held may get put) old buf reply buf' new
+  passes_read_to_end {lacks = lacks} {old} {buf = buf} {buf'} {reply} law was is back twice =
+      lifted get put (λ a b. ToEndLaw lacks (whole store turns events held may get put) a buf reply buf' b)
+      (drained_through (put old) (passes old back twice) law) was is
+
+  pub passes_read_until : {A : Type 0} {d : ℕ} {old new : V} {buf buf' : Vec ℕ A} {reply : Result ℕ Error}
+      → ReadUntilLaw (part store turns events held may (put old)) (get old) d buf reply buf' (get new)
+      → put old (get old) ≡ old → put old (get new) ≡ new → ((w : W) → get (put old w) ≡ w) → ((w u : W) → put (put old w) u ≡ put old u)
+      → ReadUntilLaw (whole store turns events held may get put) old d buf reply buf' new
+  passes_read_until {d = d} {old} {buf = buf} {buf'} {reply} law was is back twice =
+      lifted get put (λ a b. ReadUntilLaw (whole store turns events held may get put) a d buf reply buf' b)
+      (until_through (put old) (passes old back twice) law) was is
+
+  pub passes_read_line : {A : Type 0} {old new : V} {buf buf' : String A} {reply : Result ℕ Error}
+      → ReadLineLaw (part store turns events held may (put old)) (get old) buf reply buf' (get new)
+      → put old (get old) ≡ old → put old (get new) ≡ new → ((w : W) → get (put old w) ≡ w) → ((w u : W) → put (put old w) u ≡ put old u)
+      → ReadLineLaw (whole store turns events held may get put) old buf reply buf' new
+  passes_read_line {old = old} {buf = buf} {buf'} {reply} law was is back twice =
+      lifted get put (λ a b. ReadLineLaw (whole store turns events held may get put) a buf reply buf' b)
+      (line_through (put old) (passes old back twice) law) was is
+
+-- for `using` on a call that such a wrapper passes on
+pub ruleset passes_on = (
+  passes_write_all,
+  passes_write_rest,
+  passes_read_exact,
+  passes_read_full,
+  passes_read_to_end,
+  passes_read_until,
+  passes_read_line,
+)
 
 -- A boxed object after a call on the value in it.
 

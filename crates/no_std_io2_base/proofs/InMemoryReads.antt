@@ -69,31 +69,32 @@ fills_by {X} {R} now left told gives x is = record { always = λ n. for n x is }
               (subst (λ l. IsOkAnd answer (λ g. length g ≡ min room (length l))) (sym same) one.0, for n after one.1),
         )
 
--- what passes each call on to the reader in it, as a reference and a box do
-abbrev pub passing : {V X : Type 0} → (V → X) → Reader X → Reader V
-passing get R = record {
+-- what passes each call on to the reader in it, as a reference and a box do; a call of it may do this
+abbrev pub passing : {V X : Type 0} → (V → X) → (V → ReadCall → V → Type 0) → Reader X → Reader V
+passing get may R = record {
   store = λ v. R.store (get v);
   turns = λ v. R.turns (get v);
   events = λ v. R.events (get v);
-  may = λ a call b. R.may (get a) call (get b);
+  may = may;
   held = λ v. R.held (get v);
 }
 
--- it fills its room if that reader does
-pub fills_passing : {V X : Type 0} (get : V → X) {R : Reader X} (v : V) → FillsRoom R (get v) → FillsRoom (passing get R) v
-fills_passing get {R} v fills = fills_by {R = passing get R} (λ v. FillsRoom R (get v)) (λ v. bytes_left R (get v))
-    (λ v now. fills_told now)
-    (λ v room answer after now law.
-    let law' : GaveLaw R (get v) room answer (get after) =
-    record { bound = law.bound; takes = law.takes; end = law.end; call = law.call } in
-    let one = drawn answer now law' in
-    (subst (λ a. IsOkAnd a (λ g. length g ≡ min room (length (bytes_left R (get v))))) (sym one.is) one.count, one.fills))
-    v fills
+module _ {V X : Type 0} (get : V → X) {may : V → ReadCall → V → Type 0} (R : Reader X)
+    (each : (a b : V) (call : ReadCall) → may a call b → R.may (get a) call (get b)) where
+  -- it fills its room if that reader does
+  pub fills_passing : (v : V) → FillsRoom R (get v) → FillsRoom (passing get may R) v
+  fills_passing v fills = fills_by {R = passing get may R} (λ v. FillsRoom R (get v)) (λ v. bytes_left R (get v))
+      (λ v now. fills_told now)
+      (λ v room answer after now law.
+      let law' : GaveLaw R (get v) room answer (get after) =
+      record { bound = law.bound; takes = law.takes; end = law.end; call = each v after (Gave room answer) law.call } in
+      let one = drawn answer now law' in
+      (subst (λ a. IsOkAnd a (λ g. length g ≡ min room (length (bytes_left R (get v))))) (sym one.is) one.count, one.fills))
+      v fills
 
--- a number that counts the reads of that reader counts its reads
-pub meters_passing : {V X : Type 0} (get : V → X) (R : Reader X) (cost : X → ℕ) → IsReadMeter R.may cost
-    → IsReadMeter (passing get R).may (λ v. cost (get v))
-meters_passing get R cost meter old new room answer made = meter (get old) (get new) room answer made
+  -- a number that counts the reads of that reader counts its reads
+  pub meters_passing : (cost : X → ℕ) → IsReadMeter R.may cost → IsReadMeter may (λ v. cost (get v))
+  meters_passing cost meter old new room answer made = meter (get old) (get new) room answer (each old new (Gave room answer) made)
 
 -- Bytes that a reader in memory gives, as its laws say it.
 

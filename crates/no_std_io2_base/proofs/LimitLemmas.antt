@@ -14,6 +14,7 @@ use Rattle.no_std_io2_base.specs.inner.Take.{limit_held, limit_inner, limit_left
 use Rattle.no_std_io2_base.specs.{inner.Read.{GaveLaw, bytes_given, fault_of, without_number}, Meter.{FillsRoom}}
 use Rattle.no_std_io2_base.specs.inner.Take.{LimitTakes, LimitAsks, LimitMay, limit_position, LimitGoes, LimitMaySeek, arrived}
 use Rattle.no_std_io2_base.specs.{BufRead.{ReadUntilLaw, ReadLineLaw}, Seek.{Seeker}, inner.Seek.{here}}
+use Rattle.no_std_io2_base.proofs.Forwards.{law_keeps}
 use Rattle.no_std_io2_base.proofs.TakesLemmas.{bytes-append, bytes-events_of, takes_then, cut-none, cut-fitting, cut-error, read_law}
 use Rattle.no_std_io2_base.proofs.{TakesLemmas.{read_by, length-events_of}, ReadsLemmas.{begins_cut}, InMemoryReads.{drawn, fills_by}}
 use Rattle.no_std_io2_base.proofs.{InMemoryReads.{fills_told}, GivenPieces.{few_bytes}, CallsAdd.{EachAdds}}
@@ -333,6 +334,11 @@ limit_line inner {old} {new} {buf} {buf'} {reply} law =
     let took = limit_taken law.taken calls.0 law.takes calls.2 calls.1 in
     let appended = line_appended _ _ (event_bytes law.taken) _ _ reply law.read law.answers in
     (took.0, subst (λ l. OnOk reply (string_bytes buf' ≡ string_bytes buf ++ l)) (sym took.1) appended, took.2)
+
+-- what each call of the inner reader keeps, each call of a `Take` keeps
+pub limit_keeps : {T V : Type 0} (R : Reader T) (of : T → V) → ((a b : T) (call : ReadCall) → R.may a call b → of b ≡ of a)
+    → (a b : Take T) (call : ReadCall) → LimitMay R a call b → of (limit_inner b) ≡ of (limit_inner a)
+limit_keeps R of each a b call did = grind (arith, common_steps, law_keeps R of each)
 
 -- How a `Take` goes to a position, step by step.
 

@@ -11,7 +11,3 @@ BoxMay {I} {A} {C} {V} old may call new = (value : V old.vtable)
 abbrev pub LentMay : {I C : Type 0} {V : I → Type 0} → (old : MutBor ((i : I) × V i)) → (V old.now.0 → C → V old.now.0 → Type 0)
     → C → MutBor ((i : I) × V i) → Type 0
 LentMay {I} {C} {V} old may call new = (value : V old.now.0) × (new ≡ record old { now = (old.now.0, value) }) × may old.now.1 call value
-
--- A call may do to a reference what it may do to the value behind it, by `may`. It stays a reference to that value.
-abbrev pub ReferenceMay : {X C : Type 0} → (X → C → X → Type 0) → MutBor X → C → MutBor X → Type 0
-ReferenceMay may old call new = (new ≡ record old { now = new.now }) × may old.now call new.now

@@ -3,7 +3,7 @@
 // trait that has only the object's `read`. It makes the object a reader with no other call, which
 // runs the trait's own `read_to_end`. A queue calls it too, once it has made room.
 ghost use Rattle.std.specs.Prelude.{◌≡◌};
-ghost use Rattle.no_std_io2_base.specs.inner.Calls.{ReferenceMay};
+ghost use Rattle.no_std_io2_base.specs.Calls.{PartMay};
 ghost use Rattle.no_std_io2_base.specs.Takes.{Reader};
 ghost use Rattle.no_std_io2_base.specs.Read.{ReadLaw, ReadToEndLaw};
 
@@ -35,7 +35,7 @@ impl<O: ReadObject> Read for ByRead<'_, O> {
 
     ghost events = { λ r. O.reader.events r.object.now };
 
-    ghost may = { λ old call new. ReferenceMay O.reader.may old.object call new.object };
+    ghost may = { λ old call new. PartMay O.reader.may (λ r. r.now) (λ r o. record r { now = o }) old.object call new.object };
 
     ghost held = { λ r. O.reader.held r.object.now };
 

@@ -1,4 +1,6 @@
 // A `&mut T` as the stream behind it.
+ghost use Rattle.no_std_io2_base.specs.Calls.{PartMay};
+
 use crate::error::Result;
 use crate::traits::{BufRead, Read, Seek, SeekFrom, Stored, Write};
 use std::alloc::{Allocator, Global};
@@ -9,7 +11,7 @@ impl<W: Write> Write for &mut W {
 
     ghost takes_all = { λ w. W.takes_all w.now };
 
-    ghost may = { λ old call new. W.may old.now call new.now };
+    ghost may = { PartMay W.may (λ r. r.now) (λ r w. record r { now = w }) };
 
     fn write(&mut self, buf: &[u8]) -> Result<usize> {
         Write::write(&mut **self, buf)
@@ -19,10 +21,12 @@ impl<W: Write> Write for &mut W {
         Write::flush(&mut **self)
     }
 
+    #[tactic(auto, using(crate::proofs::Forwards::passes_on))]
     fn write_all(&mut self, buf: &[u8]) -> Result<()> {
         Write::write_all(&mut **self, buf)
     }
 
+    #[tactic(auto, using(crate::proofs::Forwards::passes_on))]
     fn write_rest(&mut self, rest: &mut &[u8]) -> Result<()> {
         Write::write_rest(&mut **self, rest)
     }
@@ -38,7 +42,7 @@ impl<T: Read> Read for &mut T {
 
     ghost events = { λ r. T.events r.now };
 
-    ghost may = { λ old call new. T.may old.now call new.now };
+    ghost may = { PartMay T.may (λ r. r.now) (λ r t. record r { now = t }) };
 
     ghost held = { λ r. T.held r.now };
 
@@ -46,14 +50,17 @@ impl<T: Read> Read for &mut T {
         Read::read(&mut **self, buf)
     }
 
+    #[tactic(auto, using(crate::proofs::Forwards::passes_on))]
     fn read_exact(&mut self, buf: &mut [u8]) -> Result<()> {
         Read::read_exact(&mut **self, buf)
     }
 
+    #[tactic(auto, using(crate::proofs::Forwards::passes_on))]
     fn read_full(&mut self, buf: &mut [u8], filled: &mut usize) -> Result<()> {
         Read::read_full(&mut **self, buf, filled)
     }
 
+    #[tactic(auto, using(crate::proofs::Forwards::passes_on))]
     fn read_to_end<A: Allocator>(&mut self, buf: &mut Vec<u8, A>) -> Result<usize> {
         Read::read_to_end(&mut **self, buf)
     }
@@ -68,10 +75,12 @@ impl<T: BufRead> BufRead for &mut T {
         BufRead::consume(&mut **self, amount)
     }
 
+    #[tactic(auto, using(crate::proofs::Forwards::passes_on))]
     fn read_until<A: Allocator>(&mut self, delim: u8, buf: &mut Vec<u8, A>) -> Result<usize> {
         BufRead::read_until(&mut **self, delim, buf)
     }
 
+    #[tactic(auto, using(crate::proofs::Forwards::passes_on))]
     fn read_line(&mut self, alloc: Global, buf: &mut String) -> Result<usize> {
         BufRead::read_line(&mut **self, alloc, buf)
     }
@@ -99,7 +108,7 @@ impl<T: Seek> Seek for &mut T {
         Seek::stream_len(&mut **self)
     }
 
-    ghost may = { λ old call new. T.may old.now call new.now };
+    ghost may = { PartMay T.may (λ r. r.now) (λ r t. record r { now = t }) };
 
     ghost sound = { λ r. T.sound r.now };
 }

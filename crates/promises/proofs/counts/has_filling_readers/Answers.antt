@@ -6,7 +6,7 @@ pub returns-clause-cursor : goal.returns-clause-cursor
 returns-clause-cursor g c =
     let slice = g.T.AsSlice.slice in
     let t = c.args.t.now in
-    limit_fills t (fills_passing (λ b. b.value) {R = cursor_reader slice} t.inner (cursor_fills slice t.inner.value))
+    limit_fills t (fills_passing (λ b. b.value) (cursor_reader slice) (λ a b call did. did) t.inner (cursor_fills slice t.inner.value))
 
 pub returns-clause-slice : goal.returns-clause-slice
 returns-clause-slice g c = slice_fills c.args.s.now
