@@ -9,6 +9,7 @@ ghost use Rattle.no_std_io2.specs.Moves.{Moves};
 
 mod broken;
 mod checksum;
+mod commands;
 mod counted;
 mod flash;
 mod greps;
@@ -33,6 +34,7 @@ mod uart;
 
 pub use broken::Broken;
 pub use checksum::checksum_of;
+pub use commands::{read_command, read_text, read_whole};
 pub use counted::count_reads;
 pub use flash::{Flash, FlashFile};
 pub use greps::grep;
