@@ -4,7 +4,7 @@ use Rattle.std.proofs.{Common.{Option, Some, Result, Ok, Err, IfOk, IfErr, IfSom
 use Rattle.std.proofs.Common.{IsUtf8, string_len, string_capacity, vec_len, vec_capacity, ◌<◌}
 use Rattle.no_std_io2_base.specs.{declared.error.Error.{Error}, Errors.{IsOutOfMemory}, Events.{Event, byte, fails, events_of, event_bytes}}
 use Rattle.no_std_io2_base.specs.{Takes.{Reader, ReaderState, Takes, tells, to_come}, BufRead.{ReadUntilLaw, ReadLineLaw}, Pieces.{newline}}
-use Rattle.no_std_io2_base.specs.{inner.Pieces.{Lacks, PieceEnds, EndsAt, IsAll}, inner.Events.{EndsInFault}, inner.Lines.{AnswersLine, line_room}}
+use Rattle.no_std_io2_base.specs.{inner.Pieces.{Lacks, PieceEnds, EndsAt, IsAll}, inner.Events.{EndsInFault}, inner.Lines.{AnswersLine}}
 use Rattle.no_std_io2_base.proofs.TakesLemmas.{events_of-append, bytes-behind, bytes-append, bytes-events_of, left_of}
 
 -- up to the first d, two lists of events have the same front and the same rest
@@ -46,17 +46,17 @@ told_piece d (b ∷ x) rest = ap (λ E. byte b ∷ E) (told_piece d x rest)
 module _ (lacks : ℕ → Type 0) (d : ℕ) {t t' : ReaderState} {P : List Event} (takes : Takes t P t') (x : List ℕ) (rest : List Event)
     (none : Lacks d x) (told : to_come t ≡ Some (events_of (x ++ d ∷ []) ++ rest)) where
   -- what is left, behind what was taken
-  split_at : (after : List Event) × (to_come t' ≡ Some after) × (P ++ after ≡ events_of x ++ byte d ∷ rest)
-  split_at = let left = left_of takes told in (left.0, left.1, sym left.2 ∙ told_piece d x rest)
+  parts_there : (after : List Event) × (to_come t' ≡ Some after) × (P ++ after ≡ events_of x ++ byte d ∷ rest)
+  parts_there = let left = left_of takes told in (left.0, left.1, sym left.2 ∙ told_piece d x rest)
 
   -- what ended at its first d is the piece
   ended_there : EndsAt d P → (event_bytes P ≡ x ++ d ∷ []) × (to_come t' ≡ Some rest)
   ended_there at =
-      let parts : at.0 ++ byte d ∷ split_at.0 ≡ events_of x ++ byte d ∷ rest =
-      sym (append_assoc at.0 (byte d ∷ []) split_at.0) ∙ ap (λ Q. Q ++ split_at.0) (sym at.1) ∙ split_at.2 in
-      let same = to_first d at.0 x split_at.0 rest at.2 none parts in
+      let parts : at.0 ++ byte d ∷ parts_there.0 ≡ events_of x ++ byte d ∷ rest =
+      sym (append_assoc at.0 (byte d ∷ []) parts_there.0) ∙ ap (λ Q. Q ++ parts_there.0) (sym at.1) ∙ parts_there.2 in
+      let same = to_first d at.0 x parts_there.0 rest at.2 none parts in
       let is : P ≡ events_of (x ++ d ∷ []) = at.1 ∙ ap (λ Q. Q ++ byte d ∷ []) same.0 ∙ sym (events_of-append x (d ∷ [])) in
-      (ap event_bytes is ∙ bytes-events_of (x ++ d ∷ []), split_at.1 ∙ ap Some same.1)
+      (ap event_bytes is ∙ bytes-events_of (x ++ d ∷ []), parts_there.1 ∙ ap Some same.1)
 
   -- all that is to come does not lack d
   not_all : Lacks d (event_bytes P) × IsAll t P → ⊥
@@ -69,11 +69,11 @@ module _ (lacks : ℕ → Type 0) (d : ℕ) {t t' : ReaderState} {P : List Event
   -- no fault was met
   not_faulty : {e : Error} → Lacks d (event_bytes P) → EndsInFault P e → ⊥
   not_faulty {e} free fault =
-      let parts : fault.0 ++ fails e ∷ split_at.0 ≡ events_of x ++ byte d ∷ rest =
-      sym (append_assoc fault.0 (fails e ∷ []) split_at.0) ∙ ap (λ Q. Q ++ split_at.0) (sym fault.1) ∙ split_at.2 in
+      let parts : fault.0 ++ fails e ∷ parts_there.0 ≡ events_of x ++ byte d ∷ rest =
+      sym (append_assoc fault.0 (fails e ∷ []) parts_there.0) ∙ ap (λ Q. Q ++ parts_there.0) (sym fault.1) ∙ parts_there.2 in
       let bytes : event_bytes P ≡ event_bytes fault.0 =
       ap event_bytes fault.1 ∙ bytes-append fault.0 (fails e ∷ []) ∙ append-nil (event_bytes fault.0) in
-      none_before d fault.0 x e split_at.0 rest (subst (λ y. Lacks d y) bytes free) parts
+      none_before d fault.0 x e parts_there.0 rest (subst (λ y. Lacks d y) bytes free) parts
 
   -- A call that takes a piece x, which is known to come up to its d, takes that and no more; or an allocation failed.
   pub piece_known : (read : Result ℕ Error) → PieceEnds lacks d t P read
@@ -110,7 +110,7 @@ line_known {R = R} {new = new} {buf} {buf'} reply x rest law none text told = by
 
     known : IfOk law.read (λ n. (n ≡ length x + 1) × (event_bytes law.taken ≡ line) × (to_come (tells R new) ≡ Some rest))
         × IfErr law.read IsOutOfMemory
-    known = piece_known (λ n. line_room buf < n) newline law.takes x rest none told law.read law.ends
+    known = piece_known (λ n. string_capacity buf < string_len buf + n) newline law.takes x rest none told law.read law.ends
 
     by : (reply read : Result ℕ Error)
         → AnswersLine (event_bytes law.taken) read (string_len buf) (string_capacity buf) reply (string_bytes buf) (string_bytes buf')
