@@ -6,7 +6,10 @@ use Rattle.no_std_io2.proofs.Words.{None, Some, Result, Ok, Err, IfOk, drop-appe
 use Rattle.no_std_io2.proofs.Words.{Takes}
 use Rattle.no_std_io2.proofs.Words.{AreTaken, KeepsContent, to_come, IsAtEnd, answered, bytes_given, behind_held, step_back, store_if}
 use Rattle.no_std_io2.proofs.Words.{store_before, Reader, tells, ReadCallLaw, ReadLaw, Gave, reader_behind, reader_inner, PassesOn}
-use Rattle.no_std_io2.proofs.Words.{ReadsBelow, of_held, was_filled}
+use Rattle.no_std_io2.proofs.Words.{ReadsBelow, of_held, was_filled, went_past, lent_held, lent_read, ReadCall, GaveAll, Filled}
+use Rattle.no_std_io2.proofs.Words.{inl, inr, Consumed}
+use Rattle.no_std_io2_base.specs.Calls.{GaveExactly}
+use Rattle.no_std_io2_base.proofs.Forwards.{calls_keep}
 use Rattle.std.proofs.{Math.Bridge.{le_prop}, Common.{◌+ℤ◌, IfSome}, lemmas.List.{drop-take, drop-drop, drop-append-le, length-take-le}}
 use Rattle.std.proofs.{Math.{Seq.{take-add, drop-append-add}, Nat.{mul-le-mul_left, mul-suc}}, lemmas.Slice.{take-put_mid}}
 use Rattle.std.proofs.lemmas.Bool.{Decides.{Decides-and}, leb-true, le-leb}
@@ -298,6 +301,19 @@ buf_reader K = record {
   may = ReaderMay K;
   held = reader_held;
 }
+
+-- what each call of the inner reader keeps, each call of a `BufReader` keeps
+pub reader_keeps : {X V : Type 0} {S : ℕ} (K : Reader X) (of : X → V) → ((a b : X) (call : ReadCall) → K.may a call b → of b ≡ of a)
+    → (a b : BufReader X S) (call : ReadCall) → ReaderMay K a call b → of (reader_inner b) ≡ of (reader_inner a)
+reader_keeps K of each a b (Gave room answer) (of_held some gives) = ap of gives.0
+reader_keeps K of each a b (Gave room answer) (went_past none large law past) = each _ _ _ law.call
+reader_keeps K of each a b (Gave room answer) (was_filled none small read law passes) = each _ _ _ law.call
+reader_keeps K of each a b (GaveExactly room answer) did = ap of did.1.0
+reader_keeps K of each a b (GaveAll x answer) (inl refused) = ap of refused.1
+reader_keeps K of each a b (GaveAll x answer) (inr drained) = calls_keep K of each drained.2
+reader_keeps K of each a b (Filled answer) (lent_held some is same) = ap (λ r. of (reader_inner r)) same
+reader_keeps K of each a b (Filled answer) (lent_read none law has) = each _ _ _ law.call
+reader_keeps K of each a b (Consumed n) did = ap of did.0
 
 -- Of the bytes that were held after those behind, as many were given as fit. They lie behind now.
 hands_part_on : {R : Type 0} {S : ℕ} (new : BufReader R S) (n room : ℕ) (behind held shown : List ℕ) → n ≡ min (length held) room

@@ -2,6 +2,7 @@
 use Rattle.no_std_io2.proofs.Words.{append-nil, ℕ}
 use Rattle.no_std_io2_base.proofs.Forwards.{object_given, vec_back, queue_back, cursor_back, position_back, boxed_back, boxed_position}
 use Rattle.no_std_io2_base.proofs.CursorLemmas.{told_at}
+pub use Rattle.no_std_io2_base.proofs.Forwards.{passes_on}
 use Rattle.no_std_io2_base.proofs.TakesLemmas.{front_taken, front_gone}
 use Rattle.no_std_io2.specs.contracts.buffered.{buf_writer.BufWriter.{the_row as writer-row}, line_writer.LineWriter.{the_row as lines-row}}
 use denote.{Param.{param, number}, RattleType.{RattleType}}
@@ -32,6 +33,3 @@ buffered W S = writer-row W (param 0 (number S))
 -- the row of such a `LineWriter`
 abbrev pub by_lines : RattleType → ℕ → RattleType
 by_lines W S = lines-row W (param 0 (number S))
-
--- for a wrapper whose `may` is `PartMay`
-pub use Rattle.no_std_io2_base.proofs.Forwards.{passes_on}
