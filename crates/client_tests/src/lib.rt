@@ -14,6 +14,10 @@ mod ports;
 #[cfg(test)]
 mod programs;
 #[cfg(test)]
+mod samples;
+#[cfg(test)]
 mod tables;
+#[cfg(test)]
+mod texts;
 #[cfg(test)]
 mod whole;

@@ -1,10 +1,10 @@
 // A program's way through its files, over devices of `io_bench` in place of the files and of standard output.
+use cli::{FileFault, PerFile, each_file};
 use io_bench::{Act, Event, Faulty, Feed};
 use no_std_io2::io::{CopyError, Error, ErrorKind, copy_sided};
 use std::alloc::Global;
 use std::io;
 use std::test::Fail;
-use system_streams::{FileFault, PerFile, each_file};
 
 // Inputs whose names are their numbers, where they go, and the names of which was told.
 #[derive(Drop)]

@@ -6,8 +6,8 @@ use Rattle.framing.specs.declared.reader.FrameReader.{FrameReader}
 use Rattle.framing.specs.Taking.{TakesFrame, reads_from}
 use Rattle.line_log.specs.declared.LineLog.{LineLog}
 use Rattle.line_log.specs.Log.{line_of, log_held, log_inner, log_tells}
-use Rattle.system_streams.specs.declared.{patient.Patient.{Patient}, reason.Reason.{Reason}}
-use Rattle.system_streams.specs.{Patient.{patient_error}, Reasons.{IsReasonOfEither}}
+use Rattle.system_streams.specs.{declared.patient.Patient.{Patient}, Patient.{patient_error}}
+use Rattle.cli.specs.{declared.reason.Reason.{Reason}, Reasons.{IsReasonOfEither}}
 
 -- One line was accepted, and the writer below the log has all of it. Its text is the one that the standard library
 -- prints for the payload, of which no contract says more.

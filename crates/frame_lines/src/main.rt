@@ -14,6 +14,7 @@ ghost use Rattle.frame_lines.specs.Asking.{AsksFor};
 ghost use Rattle.frame_lines.specs.Printing.{PrintsPayload, PrintsFrames, PrintsAll};
 ghost use Rattle.frame_lines.specs.Fits.{FramesFit, LogFits};
 
+use cli::{Reason, about, arguments, report, usage};
 use framing::FrameReader;
 use line_log::LineLog;
 use no_std_io2::io::{Read, Result, Write};
@@ -21,9 +22,7 @@ use std::alloc::Global;
 use std::env;
 use std::process::ExitCode;
 use std::rt::Env;
-use system_streams::{
-    Patient, Reason, SystemRead, SystemWrite, about, arguments, report, stdin, stdout, usage,
-};
+use system_streams::{Patient, SystemRead, SystemWrite, stdin, stdout};
 
 const USAGE: &str = "usage: frame_lines";
 

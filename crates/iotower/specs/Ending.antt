@@ -7,7 +7,8 @@ use Rattle.std.specs.declared.process.ExitCode.{ExitCode}
 use Rattle.no_std_io2.specs.{declared.io.Error.{Error}, Errors.{IsOutOfMemory}, Pieces.{newline}, Retries.{IsFaultOf}}
 use Rattle.no_std_io2.specs.{Takes.{Reader, tells, to_come}, Writers.{Writer}}
 use Rattle.io_bench.specs.declared.faulty.Faulty.{Faulty}
-use Rattle.system_streams.specs.{About.{TellsLine, error_line}, Copies.{CopiesAll, HandsThrough}}
+use Rattle.cli.specs.About.{TellsLine, error_line}
+use Rattle.system_streams.specs.Copies.{CopiesAll, HandsThrough}
 use Rattle.tower_play.specs.declared.playing.{PlayError.{PlayError, TheVariants.{Io, Line}}, Shape.{Shape}}
 use Rattle.tower_play.specs.{Play.{IsPlay, WritesText}, PlayErrors.{fault_display}, Reading.{IsBadAt}}
 use Rattle.iotower.specs.{Words.{AsksOf}, declared.Command.{Command, TheVariants.{Copy, Play}}}

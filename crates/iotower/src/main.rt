@@ -11,18 +11,19 @@ ghost use Rattle.std.specs.Vec.Iter.{into_iter_items};
 ghost use Rattle.no_std_io2.specs.BufReader.{BufReaderFits};
 ghost use Rattle.no_std_io2.specs.BufWriter.{BufWriterFits};
 ghost use Rattle.no_std_io2.specs.LineWriter.{LineWriterFits};
-ghost use Rattle.system_streams.specs.About.{TellsLine, error_line};
+ghost use Rattle.cli.specs.About.{TellsLine, error_line};
 ghost use Rattle.tower_play.specs.PlayErrors.{fault_display};
 ghost use Rattle.iotower.specs.declared.Command.{Command as Asked};
 ghost use Rattle.iotower.specs.Words.{verb_of, mode_of, AreWords, NamesCommand, AsksOf};
 ghost use Rattle.iotower.specs.Ending.{Does, Answers};
 
+use cli::{SystemMessages, arguments, report, usage};
 use io_bench::Faulty;
 use no_std_io2::io::{Read, Write};
 use std::alloc::Global;
 use std::process::ExitCode;
 use std::{env, io};
-use system_streams::{SystemMessages, arguments, copy_through, report, stdin, stdout, usage};
+use system_streams::{copy_through, stdin, stdout};
 use tower_play::{PlayError, Shape, play};
 
 const USAGE: &str = "usage: iotower copy buf|line, iotower play buf|line|buf-buf|line-buf";

@@ -3,8 +3,8 @@ use Rattle.std.specs.Prelude.{◌≡◌, ◌≢◌, ◌⊎◌, ℕ, List, codes,
 use Rattle.std.specs.declared.io.Error as Std
 use Rattle.no_std_io2.specs.{Takes.{Reader}, Writers.{Writer}, Copy.{SidesCopied}}
 use Rattle.no_std_io2.specs.declared.util.sides.CopyError.{CopyError, TheVariants.{Read, Write}}
-use Rattle.system_streams.specs.{declared.{files.FileFault.{FileFault, TheVariants.{File, Output}}, patient.Patient.{Patient}}}
-use Rattle.system_streams.specs.{Patient.{IsFresh}, About.{TellsLine}}
+use Rattle.cli.specs.{declared.files.FileFault.{FileFault, TheVariants.{File, Output}}, About.{TellsLine}}
+use Rattle.system_streams.specs.{declared.patient.Patient.{Patient}, Patient.{IsFresh}}
 
 -- whose fault a copy's result was: after the file's own the next one may follow, after one of the output none
 abbrev pub Blames : Result ℕ CopyError → Result (Unit {0}) (FileFault Std.Error) → Type 0

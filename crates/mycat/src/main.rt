@@ -14,16 +14,14 @@ ghost use Rattle.std.specs.Process.{exit_status};
 ghost use Rattle.std.specs.IoError.{error_kind as std_error_kind};
 ghost use Rattle.mycat.specs.Passing.{PassesStream, WritesFile, TellsSome};
 
+use cli::{FileFault, PerFile, SystemMessages, about, each_file, named, report};
 use no_std_io2::io::{CopyError, Read, Write, copy_with};
 use std::alloc::Global;
 use std::io::{ErrorKind, Input};
 use std::process::ExitCode;
 use std::rt::{Env, Files};
 use std::{env, io};
-use system_streams::{
-    FileFault, Patient, PerFile, SystemMessages, SystemRead, SystemWrite, about, each_file, named,
-    open, report, stdin, stdout,
-};
+use system_streams::{Patient, SystemRead, SystemWrite, open, stdin, stdout};
 
 // What `--help` prints.
 const HELP: &str = "\

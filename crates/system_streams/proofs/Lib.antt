@@ -1,4 +1,3 @@
 pub mod CopyLemmas
 pub mod PatientLemmas
 mod KnownLemmas
-pub mod FilesLemmas

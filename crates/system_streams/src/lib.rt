@@ -4,27 +4,18 @@
 //! A real device does not tell what it will give or take, and may be interrupted for ever. [`Patient`] makes a reader,
 //! writer or seeker of Rust's `std::io` one of this library's, with a number of turns that bounds every loop over it.
 //! [`stdin`], [`stdout`], [`open`] and [`create`] return standard input, standard output and files as such streams.
-//! [`Reason`] is why a call failed, with the system's error. [`report`] and [`usage`] print why a program failed, and
-//! return its status; [`about`] answers `--help` and `--version`.
-//! [`each_file`] does a program's work for one file after another.
 //! [`copy_through`] copies one stream to another with a buffer at each. [`ToStd`] makes a stream of this library one of
 //! `std::io`, for crates that need those.
 #![tactic(auto)]
 
 mod copy;
-mod files;
 mod patient;
-mod program;
-mod reason;
 mod streams;
 mod system;
 mod to_std;
 
 pub use copy::copy_through;
-pub use files::{FileFault, PerFile, each_file};
-pub use patient::Patient;
-pub use program::{VERSION, about, arguments, named, report, usage};
-pub use reason::Reason;
+pub use patient::{Patient, is_device_fault};
 pub use streams::{create, open, stdin, stdout};
-pub use system::{SystemMessages, SystemRead, SystemSeek, SystemWrite};
+pub use system::{SystemRead, SystemSeek, SystemWrite};
 pub use to_std::ToStd;

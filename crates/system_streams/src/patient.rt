@@ -177,8 +177,9 @@ fn device_fault() -> Error
     Error::new(ErrorKind::Other, DEVICE_FAULT)
 }
 
-// Returns whether an error is the one that `device_fault` makes.
-pub(crate) fn is_device_fault(fault: &Error) -> bool
+/// Returns whether an error is a `device fault`, for which [`Patient::last_error`] has the device's own error. Rust's std
+/// has no such call.
+pub fn is_device_fault(fault: &Error) -> bool
     ensures yes { result ≡ true → IsDeviceFault fault.now }
     ensures no { result ≡ false → IsDeviceFault fault.now → ⊥ }
 {

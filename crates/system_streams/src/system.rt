@@ -1,4 +1,4 @@
-// The readers, writers and seekers of the system, as a `Patient` calls them, and its standard error.
+// The readers, writers and seekers of the system, as a `Patient` calls them.
 ghost use Rattle.std.specs.Prelude.{ℕ, List, Option, Result};
 ghost use Rattle.std.specs.Io.{ReadsAtMost, WritesAtMost};
 ghost use Rattle.std.specs.Io.KnownBytes.{ReadConsumes, WriteAppends, Keeps};
@@ -6,7 +6,6 @@ ghost use Rattle.std.specs.Io.Seek.{SeekMoves};
 ghost use Rattle.std.specs.declared.io.Error.{Error as StdError};
 ghost use Rattle.std.specs.declared.io.SeekFrom.{SeekFrom as StdPlace};
 
-use std::fmt::Display;
 use std::io;
 
 /// A reader as a [`Patient`](crate::Patient) calls it. Every `std::io::Read` is one. A ghost member says what one call
@@ -95,27 +94,5 @@ impl<D: io::Seek> SystemSeek for D {
 
     fn ask_seek(&mut self, to: io::SeekFrom) -> io::Result<u64> {
         self.seek(to)
-    }
-}
-
-/// Standard error, as [`report`](crate::report) and [`usage`](crate::usage) call it. Every `Eprint` is one. A ghost member
-/// says what one line may be, so that contracts can state which text was handed to it.
-pub trait SystemMessages {
-    // What one line may be, if its text is known, with the result.
-    ghost may_tell: { Self → Option (List ℕ) → Result (Unit {0}) StdError → Type 0 };
-
-    /// Prints a line like `eprintln!`.
-    ///
-    /// # Errors
-    /// Returns the system's error if standard error fails.
-    fn tell<D: Display + Drop>(&self, line: D) -> io::Result<()>
-        ensures { may_tell self.now (D.output line) result };
-}
-
-impl<R: Eprint> SystemMessages for R {
-    ghost may_tell = { λ _ _ _. Unit {0} };
-
-    fn tell<D: Display + Drop>(&self, line: D) -> io::Result<()> {
-        self.eprintln(line)
     }
 }

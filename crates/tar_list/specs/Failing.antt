@@ -3,7 +3,7 @@ use Rattle.std.specs.Prelude.{◌≡◌, ℕ, List, ◌++◌, codes, Option, Som
 use Rattle.std.specs.Global.{Global}
 use Rattle.std.specs.declared.io.Error as Std
 use Rattle.no_std_io2.specs.inner.Errors.{error_display}
-use Rattle.system_streams.specs.{declared.reason.Reason.{Reason}, Reasons.{IsReasonOfEither, reason_text}}
+use Rattle.cli.specs.{declared.reason.Reason.{Reason}, Reasons.{IsReasonOfEither, reason_text}}
 use Rattle.tar_list.specs.declared.{CopyFault.{CopyFault}, Failure.{Failure}}
 use Rattle.tar_list.specs.declared.CopyFault.TheVariants.{Member as MemberFault, Stream as StreamFault}
 use Rattle.tar_list.specs.declared.Failure.TheVariants.{Member, Stream}

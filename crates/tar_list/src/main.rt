@@ -14,6 +14,7 @@ ghost use Rattle.system_streams.specs.Patient.{patient_error};
 ghost use Rattle.tar_list.specs.Failing.{CopyFails, failure_text};
 ghost use Rattle.tar_list.specs.declared.CopyFault.TheVariants.{Stream as StreamFault};
 
+use cli::{Reason, about, arguments, report, usage};
 use no_std_io2::io::{
     BufRead, BufReader, BufWriter, Error, ErrorKind, Read, Result, Take, Write, copy,
 };
@@ -22,7 +23,7 @@ use std::fmt::Display;
 use std::process::ExitCode;
 use std::rt::Env;
 use std::{env, fmt};
-use system_streams::{Patient, Reason, about, arguments, report, stdin, stdout, usage};
+use system_streams::{Patient, stdin, stdout};
 use tar::{Archive, Header, Kind};
 
 const USAGE: &str = "usage: tar_list [NAME]";

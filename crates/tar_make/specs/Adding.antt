@@ -5,8 +5,9 @@ use Rattle.std.specs.Fmt.{◌++?◌}
 use Rattle.no_std_io2.specs.{declared.io.{BufReader.{BufReader}, BufWriter.{BufWriter}, Error.{Error}}}
 use Rattle.no_std_io2.specs.{BufReader.{reader_inner, reader_held}, Takes.{Reader}, Writers.{Writer}}
 use Rattle.no_std_io2.specs.declared.util.sides.CopyError.{CopyError, TheVariants.{Read, Write}}
-use Rattle.system_streams.specs.declared.{files.FileFault.{FileFault, TheVariants.{File, Output}}, patient.Patient.{Patient}}
-use Rattle.system_streams.specs.{declared.reason.Reason.{Reason}, Patient.{IsFresh, patient_error}, Reasons.{IsReason}}
+use Rattle.cli.specs.declared.{files.FileFault.{FileFault, TheVariants.{File, Output}}, reason.Reason.{Reason}}
+use Rattle.cli.specs.Reasons.{IsReason}
+use Rattle.system_streams.specs.{declared.patient.Patient.{Patient}, Patient.{IsFresh, patient_error}}
 use Rattle.tar.specs.declared.header.Kind.{Kind}
 use Rattle.tar.specs.{Builders.{AppendsHeader, Finishes, builder_inner}, Says.{IsHeaderOf}, Sides.{AppendsFilled}}
 use Rattle.tar.specs.declared.{write.Builder.{Builder}, header_block.{HeaderBlock.{HeaderBlock}, Metadata.{Metadata}}}

@@ -8,20 +8,18 @@
 
 ghost use Rattle.std.specs.Prelude.{◌≡◌, ◌≢◌, Ok, Err, true, IfOk, IfErr, codes};
 ghost use Rattle.std.specs.Process.{exit_status};
-ghost use Rattle.system_streams.specs.About.{TellsLine, error_line};
-ghost use Rattle.system_streams.specs.Reasons.{reason_text};
+ghost use Rattle.cli.specs.About.{TellsLine, error_line};
+ghost use Rattle.cli.specs.Reasons.{reason_text};
 ghost use Rattle.tar_make.specs.Adding.{AddsBody, AddsHeader, AddsFile, AddsMember, EndsAll, HasName, member_fault};
 
+use cli::{FileFault, PerFile, Reason, SystemMessages, about, each_file, named, report};
 use no_std_io2::io::{BufReader, BufWriter, CopyError, Read, Write};
 use std::alloc::Global;
 use std::os::unix::fs::{MetadataExt, PermissionsExt};
 use std::process::ExitCode;
 use std::rt::{Env, Files};
 use std::{env, fs, io};
-use system_streams::{
-    FileFault, Patient, PerFile, Reason, SystemMessages, SystemRead, SystemWrite, about, each_file,
-    named, open, report, stdout,
-};
+use system_streams::{Patient, SystemRead, SystemWrite, open, stdout};
 use tar::{Builder, HeaderBlock, Metadata};
 
 // What `--help` prints.

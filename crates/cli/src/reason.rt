@@ -1,13 +1,13 @@
 // [`Reason`], why a call of a stream failed.
 ghost use Rattle.std.specs.Prelude.{◌≡◌, true, false};
 ghost use Rattle.system_streams.specs.Patient.{patient_error};
-ghost use Rattle.system_streams.specs.Reasons.{HasFailed, IsReason, IsReasonOfEither, reason_text};
+ghost use Rattle.cli.specs.Reasons.{HasFailed, IsReason, IsReasonOfEither, reason_text};
 
-use crate::patient::{Patient, is_device_fault};
 use no_std_io2::io::Error;
 use std::fmt::Display;
 use std::io::ErrorKind as SystemKind;
 use std::{fmt, io};
+use system_streams::{Patient, is_device_fault};
 
 /// Why a call failed, to print it. Rust's std has no such type.
 #[derive(Drop)]

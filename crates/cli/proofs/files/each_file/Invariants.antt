@@ -1,8 +1,8 @@
 -- The names so far were tried.
 use Rattle.no_std_io2.proofs.Words.{take}
 use Rattle.std.specs.Prelude.{string_bytes}
-use Rattle.system_streams.specs.Files.{TriesEach}
-use Rattle.system_streams.proofs.files.each_file.Given as goal
+use Rattle.cli.specs.Files.{TriesEach}
+use Rattle.cli.proofs.files.each_file.Given as goal
 
 abbrev pub invariant-names : goal.invariant-names
 invariant-names g l = TriesEach (λ a name. g.P.PerFile.may_try a (string_bytes name))

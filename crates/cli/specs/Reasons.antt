@@ -1,7 +1,8 @@
 -- Why a call of a stream failed.
 use Rattle.std.specs.Prelude.{◌≡◌, ◌≢◌, ◌⊎◌, ℕ, List, Option, Some, None, IsSomeAnd}
 use Rattle.no_std_io2.specs.{declared.io.Error.{Error}, inner.Errors.{error_display}}
-use Rattle.system_streams.specs.{declared.reason.Reason.{Reason, TheVariants.{System, Own}}, Turns.{IsDeviceFault}}
+use Rattle.cli.specs.declared.reason.Reason.{Reason, TheVariants.{System, Own}}
+use Rattle.system_streams.specs.Turns.{IsDeviceFault}
 use Rattle.std.specs.IoError as Io
 use Rattle.std.specs.declared.io.Error as Std
 use Rattle.std.specs.declared.io.ErrorKind.TheVariants as kind

@@ -1,7 +1,7 @@
 -- What became of the files that a program is called with. `Try` is what a try of one may do to the program's state, and `Tell` what
 -- telling of one that failed may do.
 use Rattle.std.specs.Prelude.{◌≡◌, Bool, true, false, List, [], ◌∷◌, ◌++◌, Result, Ok, Err}
-use Rattle.system_streams.specs.declared.files.FileFault.{FileFault, TheVariants.{File, Output}}
+use Rattle.cli.specs.declared.files.FileFault.{FileFault, TheVariants.{File, Output}}
 
 -- Files with these names were tried, one after another, and the output did not fail. Of each that failed it was told why, right after its
 -- try. `whole` says that none failed.

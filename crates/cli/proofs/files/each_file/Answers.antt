@@ -1,10 +1,10 @@
 -- The prover does not find how the tries join: one more follows those before it (`tries_done`, `tries_told`, `stops_at`).
 use Rattle.no_std_io2.proofs.Words.{arith}
-use Rattle.system_streams.specs.Files.{none_tried}
+use Rattle.cli.specs.Files.{none_tried}
 use Rattle.std.proofs.Common.{take_all}
-use Rattle.system_streams.proofs.FilesLemmas.{tries_done, tries_told, stops_at}
-use Rattle.system_streams.proofs.files.each_file.Goals as goal
-use Rattle.system_streams.proofs.files.each_file.Goals.{in-Ok, in-Err-File}
+use Rattle.cli.proofs.FilesLemmas.{tries_done, tries_told, stops_at}
+use Rattle.cli.proofs.files.each_file.Goals as goal
+use Rattle.cli.proofs.files.each_file.Goals.{in-Ok, in-Err-File}
 
 pub names-init : goal.names-init
 names-init g c = none_tried

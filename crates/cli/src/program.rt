@@ -4,9 +4,9 @@ ghost use Rattle.std.specs.IoError.{error_kind as std_error_kind};
 ghost use Rattle.std.specs.Process.{exit_status};
 ghost use Rattle.std.specs.Vec.Iter.{into_iter_items};
 ghost use Rattle.no_std_io2.specs.Errors.{IsOutOfMemory};
-ghost use Rattle.system_streams.specs.About.{AsksAbout, TellsLine, error_line};
+ghost use Rattle.cli.specs.About.{AsksAbout, TellsLine, error_line};
 
-use crate::system::SystemMessages;
+use crate::messages::SystemMessages;
 use no_std_io2::io::{Error, ErrorKind};
 use std::alloc::Global;
 use std::fmt::Display;
@@ -15,7 +15,7 @@ use std::process::ExitCode;
 use std::{env, io};
 
 /// The version of this library, and of the programs that come with it.
-pub const VERSION: &str = "1.0.0";
+pub const VERSION: &str = "1.0.0-dev";
 
 /// Answers the word `--help` by this text, and `--version` by the program's name and [`VERSION`], on standard output.
 /// Returns the status, which is 1 if standard output failed and else 0, or `None` if the word is another one; nothing

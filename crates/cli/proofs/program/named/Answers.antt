@@ -5,7 +5,7 @@ use Rattle.std.proofs.lemmas.{List.{nil_from_length}, Grind.{common_steps}}
 use Rattle.std.specs.Prelude.{is_some}
 use Rattle.std.specs.Option.{option_to_list}
 use Rattle.std.specs.Vec.Iter.{into_iter_items, into_iter_len}
-use Rattle.system_streams.proofs.program.named.Goals as goal
+use Rattle.cli.proofs.program.named.Goals as goal
 
 -- what is left behind the first word
 behind : {X : Type 0} (r : Option X) (old new : List X) (n : ℕ) → length old ≡ n → (0 < n → is_some r ≡ true)

@@ -1,0 +1,3 @@
+pub mod About
+pub mod Files
+pub mod Reasons
