@@ -4,6 +4,7 @@ pub mod Closed
 pub mod Faulty
 pub mod Feed
 pub mod Joined
+pub mod Kinds
 pub mod PieceRuns
 pub mod Runs
 pub mod Tally

@@ -7,7 +7,8 @@
 //! through one `BufWriter`, closes it, and bounds the inner writes.
 //!
 //! [`run_reads`] makes a list of reads through one `BufReader`, with a bound on the inner reads.
-//! [`Feed`] is a reader to put below, which gives the events of a list; `Tally` counts reads too.
+//! [`Feed`] is a reader to put below, which gives the events of a list; `Tally` counts reads too. [`kind_of_name`] is for
+//! scripts of devices.
 #![tactic(auto)]
 
 mod accepted;
@@ -15,6 +16,7 @@ mod asks;
 mod closed;
 mod faulty;
 mod feed;
+mod kinds;
 mod pieces;
 mod runs;
 mod tally;
@@ -24,6 +26,7 @@ pub use asks::{Ask, ReadTotals, run_reads};
 pub use closed::run_closed;
 pub use faulty::{Act, Faulty};
 pub use feed::{Event, Feed};
+pub use kinds::kind_of_name;
 pub use no_std_io2::ghost_bytes;
 pub use no_std_io2::io::Sink;
 pub use pieces::{run_lines, run_split};

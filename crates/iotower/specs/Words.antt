@@ -7,7 +7,7 @@ use Rattle.std.specs.declared.io.ErrorKind.TheVariants as kind
 use Rattle.no_std_io2.specs.{declared.io.Error.{Error}, Errors.{IsOutOfMemory}}
 use Rattle.iotower.specs.declared.Command.{Command}
 use Rattle.iotower.specs.declared.Command.TheVariants.{Copy, Play}
-use Rattle.tower_play.specs.declared.playing.PlayError.{PlayError, TheVariants.{Io as io_fault}}
+use Rattle.tower_play.specs.declared.playing.Fault.{Fault, TheVariants.{Io as io_fault}}
 use Rattle.tower_play.specs.declared.playing.Shape.TheVariants.{Buf, Line, BufBuf, LineBuf}
 
 -- the first word
@@ -35,7 +35,7 @@ NamesCommand command words = (verb : String Global) × (mode : String Global) ×
 
 -- What arguments that were found ask for: a command, if they name one. If they did not fit in memory, that is a fault; if they were not
 -- found for another reason, such as one that is not UTF-8, they name none.
-abbrev pub AsksOf : {T : Type 0} → (T → List (String Global)) → Result T Std.Error → Result (Option Command) PlayError → Type 0
+abbrev pub AsksOf : {T : Type 0} → (T → List (String Global)) → Result T Std.Error → Result (Option Command) Fault → Type 0
 AsksOf words (Ok found) (Ok (Some command)) = NamesCommand command (words found)
 AsksOf words (Ok found) (Ok None) = (command : Command) → NamesCommand command (words found) → ⊥
 AsksOf words (Ok found) (Err fault) = ⊥

@@ -12,7 +12,7 @@ ghost use Rattle.no_std_io2.specs.BufReader.{BufReaderFits};
 ghost use Rattle.no_std_io2.specs.BufWriter.{BufWriterFits};
 ghost use Rattle.no_std_io2.specs.LineWriter.{LineWriterFits};
 ghost use Rattle.cli.specs.About.{TellsLine, error_line};
-ghost use Rattle.tower_play.specs.PlayErrors.{fault_display};
+ghost use Rattle.tower_play.specs.Faults.{fault_display};
 ghost use Rattle.iotower.specs.declared.Command.{Command as Asked};
 ghost use Rattle.iotower.specs.Words.{verb_of, mode_of, AreWords, NamesCommand, AsksOf};
 ghost use Rattle.iotower.specs.Ending.{Does, Answers};
@@ -24,7 +24,7 @@ use std::alloc::Global;
 use std::process::ExitCode;
 use std::{env, io};
 use system_streams::{copy_through, stdin, stdout};
-use tower_play::{PlayError, Shape, play};
+use tower_play::{Fault, Shape, play};
 
 const USAGE: &str = "usage: iotower copy buf|line, iotower play buf|line|buf-buf|line-buf";
 
@@ -77,13 +77,13 @@ fn named_command(words: env::Args) -> Option<Command>
 
 // Returns the command, or `None` if the arguments are no command or not UTF-8. If memory for them was refused, that is
 // a fault.
-fn asked(found: io::Result<env::Args>) -> Result<Option<Command>, PlayError>
+fn asked(found: io::Result<env::Args>) -> Result<Option<Command>, Fault>
     ensures { AsksOf into_iter_items found result }
 {
     match arguments(found) {
         Ok(Some(words)) => Ok(named_command(words)),
         Ok(None) => Ok(None),
-        Err(refused) => Err(PlayError::Io(refused)),
+        Err(refused) => Err(Fault::Io(refused)),
     }
 }
 
@@ -93,7 +93,7 @@ fn run<R: Read + Drop, W: Write + Drop>(
     command: Command,
     input: R,
     output: W,
-) -> Result<W, PlayError>
+) -> Result<W, Fault>
     requires reader_fits { BufReaderFits R.row 64 }
     requires buffer_fits { BufWriterFits W.row 64 }
     requires lines_fit { LineWriterFits W.row 64 }
@@ -102,18 +102,18 @@ fn run<R: Read + Drop, W: Write + Drop>(
     match command {
         Command::Copy { line } => match copy_through(input, output, line) {
             Ok((_count, output)) => Ok(output),
-            Err(fault) => Err(PlayError::Io(fault)),
+            Err(fault) => Err(Fault::Io(fault)),
         },
         Command::Play(shape) => play(alloc, input, output, shape),
     }
 }
 
 // Tells a fault, and returns the status after it.
-fn failed<R: SystemMessages>(rt: &R, fault: PlayError) -> ExitCode
+fn failed<R: SystemMessages>(rt: &R, fault: Fault) -> ExitCode
     ensures status { exit_status result ≡ 1 }
     ensures told { TellsLine R.may_tell rt.now (error_line (codes "iotower") (Some (fault_display fault))) }
 {
-    let ran: Result<(), PlayError> = Err(fault);
+    let ran: Result<(), Fault> = Err(fault);
     report(rt, "iotower", ran)
 }
 

@@ -8,10 +8,10 @@ use Rattle.std.specs.{List.{list_all}, Str.{IsUtf8, IsAscii}, Prelude.{min}, Opt
 use Rattle.std.proofs.lemmas.Str.{IsUtf8-from_ascii}
 use Rattle.no_std_io2.specs.{declared.io.ErrorKind.{ErrorKind}, declared.io.Error.{Error}, declared.io.Split.{Split}}
 use Rattle.no_std_io2.specs.{inner.Iterators.{split_is_ended}, inner.Faults.{HasFirstFault}, inner.Kinds.{is_interruption}}
-use Rattle.tower_play.specs.{Script.{kind_name, IsTextArgument}, declared.script.Line.{Line}, Lines.{Says, IsNoBad, IsGood}}
+use Rattle.tower_play.specs.{Script.{IsTextArgument}, declared.script.Line.{Line}, Lines.{Says, IsNoBad, IsGood}}
 use Rattle.tower_play.specs.{declared.script.Script.{Script}, Reading.{Adds, AddsAll, IsBadAt, IsBadLine, IsFirstBad, IsFreshScript}}
 use Rattle.tower_play.specs.Reading.{IsRead}
-use Rattle.io_bench.specs.PieceRuns.{AllPieces, GathersPieces, RunsNexts}
+use Rattle.io_bench.specs.{PieceRuns.{AllPieces, GathersPieces, RunsNexts}, Kinds.{kind_name}}
 use Rattle.io_bench.proofs.PieceRunLemmas.{run_gathers, split_next, split_takes}
 
 -- For `parse_kind`: the name of each kind is a text.

@@ -3,5 +3,5 @@ pub mod Lines
 pub mod Calls
 pub mod Reading
 pub mod Report
-pub mod PlayErrors
+pub mod Faults
 pub mod Play

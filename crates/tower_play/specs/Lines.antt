@@ -1,8 +1,8 @@
 -- What the lines of a script say.
 use Rattle.std.specs.Prelude.{◌≡◌, ℕ, Bool, true, false, List, [], ◌++◌, codes, ⊤}
-use Rattle.io_bench.specs.declared.faulty.Act.TheVariants.{Take, Zero, Fail}
+use Rattle.io_bench.specs.{declared.faulty.Act.TheVariants.{Take, Zero, Fail}, Kinds.{kind_name}}
 use Rattle.tower_play.specs.declared.script.{Line.{Line, TheVariants.{Empty, Act, Write, WriteAll, Flush, Bad}}, Step.{Step}}
-use Rattle.tower_play.specs.{declared.script.Step.TheVariants.{Write as write_step, WriteAll as write_all_step}, Script.{kind_name}}
+use Rattle.tower_play.specs.{declared.script.Step.TheVariants.{Write as write_step, WriteAll as write_all_step}}
 use Rattle.tower_play.specs.Script.{IsCount, IsTextArgument}
 
 -- what a line says; a bad line says nothing

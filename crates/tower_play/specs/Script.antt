@@ -1,7 +1,6 @@
 -- The lines of a script.
 use Rattle.std.specs.Prelude.{◌≡◌, ℕ, ◌==◌, ◌≤◌, ◌<◌, ◌^◌, if◌then◌else◌, codes, List, [], ◌∷◌, ◌++◌, length, ◌⊎◌, Option, Some, None, Bool}
 use Rattle.std.specs.{Prelude.{true, false}, List.{flat_map}, Str.Parse.{IsNumeral, digits_value}}
-use Rattle.no_std_io2.specs.declared.io.ErrorKind.{ErrorKind}
 
 -- the escape of a byte: a newline is a backslash and `n`, a backslash is two backslashes, any other byte is itself
 abbrev pub escaped_byte : ℕ → List ℕ
@@ -29,30 +28,6 @@ unescaped (b ∷ c ∷ text) =
 abbrev pub IsAppended : Option (List ℕ) → Bool → List ℕ → List ℕ → Type 0
 IsAppended (Some bytes) good old new = (good ≡ true) × (new ≡ old ++ bytes)
 IsAppended None good old new = good ≡ false
-
--- the name of a kind
-abbrev pub kind_name : ErrorKind → List ℕ
-kind_name ErrorKind.NotFound = codes "NotFound"
-kind_name ErrorKind.PermissionDenied = codes "PermissionDenied"
-kind_name ErrorKind.ConnectionRefused = codes "ConnectionRefused"
-kind_name ErrorKind.ConnectionReset = codes "ConnectionReset"
-kind_name ErrorKind.ConnectionAborted = codes "ConnectionAborted"
-kind_name ErrorKind.NotConnected = codes "NotConnected"
-kind_name ErrorKind.AddrInUse = codes "AddrInUse"
-kind_name ErrorKind.AddrNotAvailable = codes "AddrNotAvailable"
-kind_name ErrorKind.BrokenPipe = codes "BrokenPipe"
-kind_name ErrorKind.AlreadyExists = codes "AlreadyExists"
-kind_name ErrorKind.WouldBlock = codes "WouldBlock"
-kind_name ErrorKind.InvalidInput = codes "InvalidInput"
-kind_name ErrorKind.InvalidData = codes "InvalidData"
-kind_name ErrorKind.TimedOut = codes "TimedOut"
-kind_name ErrorKind.WriteZero = codes "WriteZero"
-kind_name ErrorKind.Interrupted = codes "Interrupted"
-kind_name ErrorKind.Other = codes "Other"
-kind_name ErrorKind.UnexpectedEof = codes "UnexpectedEof"
-kind_name ErrorKind.Unsupported = codes "Unsupported"
-kind_name ErrorKind.OutOfMemory = codes "OutOfMemory"
-kind_name ErrorKind.Uncategorized = codes "Uncategorized"
 
 -- these are one to five digits, their number is n, and n is below 2 ^ 16
 pub record IsCount (digits : List ℕ) (n : ℕ) : Type 0 where

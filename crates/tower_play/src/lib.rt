@@ -9,4 +9,4 @@ mod playing;
 mod report;
 mod script;
 
-pub use playing::{PlayError, Shape, play};
+pub use playing::{Fault, Shape, play};

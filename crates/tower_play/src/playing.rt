@@ -2,10 +2,10 @@
 ghost use Rattle.no_std_io2.specs.BufReader.{BufReaderFits};
 ghost use Rattle.std.specs.Prelude.{◌≡◌, ◌++◌, ◌⊎◌, Some, IfSome, IfOk, IfErr};
 ghost use Rattle.no_std_io2.specs.Errors.{IsOutOfMemory};
-ghost use Rattle.tower_play.specs.declared.playing.PlayError.TheVariants.{Io};
+ghost use Rattle.tower_play.specs.declared.playing.Fault.TheVariants.{Io};
 ghost use Rattle.no_std_io2.specs.Retries.{IsFaultOf};
 ghost use Rattle.no_std_io2.specs.Takes.{tells};
-ghost use Rattle.tower_play.specs.PlayErrors.{fault_display, IfIo, IfLine};
+ghost use Rattle.tower_play.specs.Faults.{fault_display, IfIo, IfLine};
 ghost use Rattle.no_std_io2.specs.Takes.{to_come};
 ghost use Rattle.no_std_io2.specs.Pieces.{newline};
 ghost use Rattle.tower_play.specs.Reading.{IsBadAt};
@@ -34,36 +34,36 @@ pub enum Shape {
 
 /// The reason why a script was not played.
 #[derive(Debug, Drop)]
-pub enum PlayError {
+pub enum Fault {
     /// A fault of the input or output, or a failed allocation.
     Io(Error),
     /// The script has bad lines; this is the number of the first, from 1.
     Line(u64),
 }
 
-impl From<Error> for PlayError {
+impl From<Error> for Fault {
     ghost from_gives = { λ e fault. fault ≡ Io e };
 
-    fn from(error: Error) -> PlayError {
+    fn from(error: Error) -> Fault {
         Self::Io(error)
     }
 }
 
-impl From<Refused> for PlayError {
+impl From<Refused> for Fault {
     ghost from_gives = { λ _ fault. IfIo IsOutOfMemory fault × IfLine (λ _. ⊥) fault };
 
-    fn from(_refused: Refused) -> PlayError {
-        PlayError::Io(Error::from(ErrorKind::OutOfMemory))
+    fn from(_refused: Refused) -> Fault {
+        Fault::Io(Error::from(ErrorKind::OutOfMemory))
     }
 }
 
-impl fmt::Display for PlayError {
+impl fmt::Display for Fault {
     ghost output = { λ fault. Some (fault_display fault) };
 
     fn fmt<W: fmt::Write>(&self, f: &mut fmt::Formatter<W>) -> fmt::Result {
         match self {
-            PlayError::Io(error) => write!(f, "{error}"),
-            PlayError::Line(number) => write!(f, "bad line {number}"),
+            Fault::Io(error) => write!(f, "{error}"),
+            Fault::Line(number) => write!(f, "bad line {number}"),
         }
     }
 }
@@ -139,7 +139,7 @@ pub fn play<R: Read + Drop, W: Write + Drop>(
     input: R,
     mut output: W,
     shape: Shape,
-) -> Result<W, PlayError>
+) -> Result<W, Fault>
     requires reader_fits { BufReaderFits R.row 64 }
     // The tower has this shape: the device got the calls that such a tower makes.
     // The script is the text that the input tells.

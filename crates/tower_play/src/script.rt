@@ -5,19 +5,20 @@ ghost use Rattle.no_std_io2.specs.Errors.{IsOutOfMemory};
 ghost use Rattle.no_std_io2.specs.inner.Faults.{HasFirstFault};
 ghost use Rattle.no_std_io2.specs.Takes.{tells};
 ghost use Rattle.no_std_io2.specs.inner.Iterators.{split_reader, split_delim, split_is_ended};
-ghost use Rattle.tower_play.specs.PlayErrors.{IsNumbered, IfIo, IfLine};
-ghost use Rattle.tower_play.specs.Script.{kind_name, IsCount, IsTextArgument, unescaped, IsAppended};
+ghost use Rattle.tower_play.specs.Faults.{IsNumbered, IfIo, IfLine};
+ghost use Rattle.no_std_io2.specs.declared.io.ErrorKind.{ErrorKind as Kind};
+ghost use Rattle.io_bench.specs.Kinds.{kind_name};
+ghost use Rattle.tower_play.specs.Script.{IsCount, IsTextArgument, unescaped, IsAppended};
 ghost use Rattle.tower_play.specs.Calls.{IsNext, AreCalls, AddsText, IsFull};
 ghost use Rattle.no_std_io2.specs.Takes.{to_come};
 ghost use Rattle.tower_play.specs.Reading.{Adds, IsBadLine, IsRead, IsBadAt, LineLacksRoom};
 ghost use Rattle.tower_play.specs.declared.script.Line.{Line as Said};
 ghost use Rattle.tower_play.specs.declared.script.Line.TheVariants.{Bad};
 ghost use Rattle.tower_play.specs.Lines.{Says, IsGood, text_step};
-ghost use Rattle.no_std_io2.specs.declared.io.ErrorKind.{ErrorKind as Kind};
 
 use crate::memory::{Refused, reserve};
-use crate::playing::PlayError;
-use io_bench::{Act, Op};
+use crate::playing::Fault;
+use io_bench::{Act, Op, kind_of_name};
 use no_std_io2::io::{BufRead, ErrorKind, Split};
 use std::alloc::Global;
 
@@ -63,7 +64,7 @@ impl Script {
     /// # Errors
     /// Returns a fault of the reader, `OutOfMemory` if an allocation failed, or the number of the
     /// first bad line, from 1.
-    pub fn read<R: BufRead + Drop>(alloc: Global, lines: Split<R>) -> Result<Script, PlayError>
+    pub fn read<R: BufRead + Drop>(alloc: Global, lines: Split<R>) -> Result<Script, Fault>
         ensures numbered { IfErr result IsNumbered }
         // It reads every line, and the script has what each line says.
         ensures read { split_is_ended lines ≡ false → IfOk result (λ script. IfSome (to_come (tells R.Read (split_reader lines)))
@@ -92,7 +93,7 @@ impl Script {
             }
         }
         match bad {
-            Some(number) => Err(PlayError::Line(number)),
+            Some(number) => Err(Fault::Line(number)),
             None => Ok(script),
         }
     }
@@ -297,50 +298,14 @@ fn parse_kind(name: &[u8]) -> Option<ErrorKind>
     kind_of_name(std::str::from_utf8(name).ok()?)
 }
 
-fn kind_of_name(name: &str) -> Option<ErrorKind>
-    ensures kind { IfSome result (λ kind. name.now ≡ kind_name kind) }
-    ensures none { IfNone result ((kind : Kind) → name.now ≡ kind_name kind → ⊥) }
-{
-    match name {
-        "NotFound" => Some(ErrorKind::NotFound),
-        "PermissionDenied" => Some(ErrorKind::PermissionDenied),
-        "ConnectionRefused" => Some(ErrorKind::ConnectionRefused),
-        "ConnectionReset" => Some(ErrorKind::ConnectionReset),
-        "ConnectionAborted" => Some(ErrorKind::ConnectionAborted),
-        "NotConnected" => Some(ErrorKind::NotConnected),
-        "AddrInUse" => Some(ErrorKind::AddrInUse),
-        "AddrNotAvailable" => Some(ErrorKind::AddrNotAvailable),
-        "BrokenPipe" => Some(ErrorKind::BrokenPipe),
-        "AlreadyExists" => Some(ErrorKind::AlreadyExists),
-        "WouldBlock" => Some(ErrorKind::WouldBlock),
-        "InvalidInput" => Some(ErrorKind::InvalidInput),
-        "InvalidData" => Some(ErrorKind::InvalidData),
-        "TimedOut" => Some(ErrorKind::TimedOut),
-        "WriteZero" => Some(ErrorKind::WriteZero),
-        "Interrupted" => Some(ErrorKind::Interrupted),
-        "Other" => Some(ErrorKind::Other),
-        "UnexpectedEof" => Some(ErrorKind::UnexpectedEof),
-        "Unsupported" => Some(ErrorKind::Unsupported),
-        "OutOfMemory" => Some(ErrorKind::OutOfMemory),
-        "Uncategorized" => Some(ErrorKind::Uncategorized),
-        _ => None,
-    }
-}
-
 // Returns the number of one to five digits, if it is below 2^16.
 fn parse_count(digits: &[u8]) -> Option<usize>
     ensures count { IfSome result (IsCount digits.now) }
     ensures none { IfNone result ((n : ℕ) → IsCount digits.now n → ⊥) }
 {
-    if digits.is_empty() || digits.len() > 5 {
+    if digits.len() > 5 || digits.starts_with(b"+") {
         return None;
     }
-    let mut count = 0u32;
-    'digits: for digit in digits {
-        if !digit.is_ascii_digit() {
-            return None;
-        }
-        count = count * 10 + u32::from(*digit - b'0');
-    }
-    u16::try_from(count).ok().map(usize::from)
+    let count = std::str::from_utf8(digits).ok()?.parse::<u16>().ok()?;
+    Some(usize::from(count))
 }

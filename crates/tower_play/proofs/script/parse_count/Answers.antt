@@ -1,14 +1,10 @@
--- The prover does not find the value of one digit more (`digits_value_more`).
-use Rattle.std.proofs.{lemmas.{Grind.{common_steps}, Int.Digits.{digits_more, digits_value_more, digits_value-lt}}, Common.{take_all}}
-use Rattle.std.proofs.lemmas.Str.Parse.{digit_at}
-use Rattle.no_std_io2.proofs.Words.{get_or, arith, nat_tests}
+-- The prover does not find that digits are UTF-8 (`IsAscii-from_digits`).
+use Rattle.no_std_io2.proofs.Words.{rules}
+use Rattle.std.specs.Str.{IsUtf8}
+use Rattle.std.proofs.lemmas.{Fmt.{IsAscii-from_digits}, Str.{IsUtf8-from_ascii}}
 use Rattle.tower_play.proofs.script.parse_count.Goals as goal
 
-pub returns-then-not-is_ascii_digit-clause-none : goal.returns-then-not-is_ascii_digit-clause-none
-returns-then-not-is_ascii_digit-clause-none c = grind (arith, common_steps, nat_tests, digit_at)
-
-pub digits-preserved : goal.digits-preserved
-digits-preserved c = grind (arith, common_steps, nat_tests, digits_more, digits_value-lt, digits_value_more, get_or)
-
-pub returns-clause-count : goal.returns-clause-count
-returns-clause-count c = grind (arith, common_steps, take_all)
+pub returns-in_err-ok-clause-none : goal.returns-in_err-ok-clause-none
+returns-in_err-ok-clause-none c =
+    let no_text : IsUtf8 c.args.digits.now → ⊥ = search rules in
+    rw c.from_residual.ensures (λ n count. no_text (IsUtf8-from_ascii _ (IsAscii-from_digits _ count.numeral.1)))
