@@ -1,9 +1,12 @@
-"""The sources of the crates, as check_pages looks at them: files, contracts, clauses, words and lines."""
+"""The sources of the crates, as check_pages, check_promises and check_rules look at them."""
 import glob
+import os
 import re
 import textwrap
 
 LIBRARIES = ("no_std_io2_base", "no_std_io2")
+# The pages with the numbers, the last of which has the promises.
+PROMISES = [path for path in ("README.md", "docs/PROMISES.md") if os.path.exists(path)]
 
 
 def read(path):
@@ -16,6 +19,15 @@ def texts(ending):
     """The files of crates/ with this ending, by their paths."""
     paths = sorted(glob.glob(f"crates/*/*/**/*{ending}", recursive=True))
     return {path: read(path) for path in paths if "/out/" not in path}
+
+
+def told(results):
+    """Prints each thing that is not so, and the last line 'N passed, M failed'; returns the status."""
+    results = list(results)
+    failed = [what for what, is_so in results if not is_so]
+    print(*[f"FAILED: {what}" for what in failed], sep="\n", end="\n" * bool(failed))
+    print(f"{len(results) - len(failed)} passed, {len(failed)} failed")
+    return 1 if failed or not results else 0
 
 
 def flat(text):
@@ -107,6 +119,13 @@ def words(logic):
                 yield word, path, " ".join(above.replace("-- ", "").split())
 
 
+def above(text, name):
+    """The comment above a public lemma, as one line, or None if the module has no such lemma."""
+    marks = r"(?:abbrev |unfoldable |opaque )*"
+    found = re.search(rf"((?:^ *-- .*\n)*)^ *{marks}pub {re.escape(name)}(?=\s)", text, re.M)
+    return " ".join(found[1].replace("-- ", " ").split()) if found else None
+
+
 def blocks(text):
     """What the `module _ .. where` blocks of a module have."""
     return [textwrap.dedent(block) for block in
@@ -186,23 +205,6 @@ def unused(text):
 
 
 # ---- lines
-
-COMMENT = re.compile(r"^ *(//[/!]?|--)(?: |$)(.*)$")
-
-
-def orphans(text):
-    """The numbers of comment lines that are a single word, wrapped from the line above. Examples are left out."""
-    before, is_example = None, False
-    for number, line in enumerate(text.split("\n"), 1):
-        comment = COMMENT.match(line)
-        said = comment[2].strip() if comment else ""
-        is_example = comment is not None and is_example != said.startswith("```")
-        if comment and before and before[0] == comment[1] and not is_example:
-            is_word = len(said.split()) == 1 and not said.startswith(("`", "#", "[", "|", "-"))
-            if is_word and len(before[1].split()) > 3 and not before[1].rstrip().endswith((".", ":")):
-                yield number
-        before = (comment[1], comment[2]) if comment else None
-
 
 def too_long(text, most):
     """The numbers of the lines that have more columns than this."""

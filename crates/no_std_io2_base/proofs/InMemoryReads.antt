@@ -203,6 +203,7 @@ slice_reader = record {
   held = λ s. s.now;
 }
 
+-- a slice is filling
 pub slice_fills : (s : Bor (List ℕ)) → FillsRoom slice_reader s
 slice_fills s = fills_left {R = slice_reader} (λ s. s.now) (λ s. refl) (λ old new call given. given) s
 
@@ -216,6 +217,7 @@ cursor_reader slice = record {
   held = cursor_left slice;
 }
 
+-- a cursor is filling
 pub cursor_fills : {T : Type 0} (slice : T → List ℕ) (c : Cursor T) → FillsRoom (cursor_reader slice) c
 cursor_fills slice c = fills_left {R = cursor_reader slice} (cursor_left slice) (λ c. told_at (slice c.inner) c.pos)
     (λ old new call given. given) c

@@ -26,7 +26,7 @@ takes_loses {a} {b} {P} x takes are = by (to_come a) (to_come b) takes.events
     by (Some E) None taken = absurd taken
     by (Some E) (Some E') taken = rw taken (bytes-append P E' ∙ ap (λ l. l ++ event_bytes E') are)
 
--- one after the other
+-- one call after the other lost these bytes
 pub loses_then : (a b c : ReaderState) (x y : List ℕ) → LosesFirst a x b → LosesFirst b y c → LosesFirst a (x ++ y) c
 loses_then a b c x y first next = by (to_come a) (to_come b) (to_come c) first next
   where
@@ -59,7 +59,7 @@ module _ {a b : ReaderState} (x : List ℕ) (rest : List Event) (told : to_come 
       let left : rest ≡ after = append_cancel_left P rest after (ap (λ l. l ++ rest) (sym same) ∙ split) in
       (ap event_bytes (sym same) ∙ bytes-events_of x, still ∙ ap Some (sym left))
 
-  -- no fault comes before the last of them
+  -- no fault comes before the last of the bytes that are known to come
   pub no_fault_before : (P : List Event) {e : Error} → Takes a P b → EndsInFault P e → length (event_bytes P) < length x → ⊥
   no_fault_before P {e} takes (Q, is, free, fault) few =
       let (after, still, split) = left_of takes told in

@@ -299,7 +299,7 @@ limit_taken {inner = inner} {old} {new} P Q above below same = elim (lost_below 
           )
     ]
 
--- what each loop took
+-- what a `read_exact` of a `Take` took
 pub limit_exact : {T : Type 0} {inner : Reader T} {old new : Take T} {buf buf' : List ℕ} (reply : Result (Unit {0}) Error)
     → ReadExactLaw (limit_reader inner) old buf reply buf' new
     → (P : List Event) × OnOk reply (event_bytes P ≡ buf') × LimitTakes inner old P new
@@ -310,6 +310,7 @@ limit_exact {old = old} {new} (Ok u) law =
     (took.0, took.1 ∙ given, took.2)
 limit_exact {old = old} {new} (Err e) law = let calls = exact_adds limit_each _ (Err e) old new law.calls in (calls.2.0, tt, calls.2.2)
 
+-- what a `read_to_end` of a `Take` appended, its inner reader took, within the limit
 pub limit_to_end : {T A : Type 0} {lacks : ℕ → Type 0} {inner : Reader T} {old new : Take T} {buf buf' : Vec ℕ A} {reply : Result ℕ Error}
     → ToEndLaw lacks (limit_reader inner) old buf reply buf' new
     → (P : List Event) × (buf'.items ≡ buf.items ++ event_bytes P) × LimitTakes inner old P new

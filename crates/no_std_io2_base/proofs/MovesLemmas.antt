@@ -77,7 +77,7 @@ zero_write-whole xs = grind (arith, nat_tests)
 pub MovesFront-whole : {a b : WriterState} (x : List ℕ) (u : Unit {0}) → MovesFront a x (Ok u) b → Moves a x [] b
 MovesFront-whole {a} {b} x u f = subst (λ l. Moves a l [] b) f.whole f.moves
 
--- and the other way round: what was accepted whole is a `write_all` of it that returned `Ok`
+-- what was accepted whole, without a mishap, is a `write_all` of it that returned `Ok`
 pub MovesFront-all : {a b : WriterState} {x : List ℕ} → Moves a x [] b → MovesFront a x (Ok tt) b
 MovesFront-all {x = x} moves = record { accepted = x; front = IsFront-refl x; whole = refl; moves = moves }
 
