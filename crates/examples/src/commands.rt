@@ -3,7 +3,8 @@ ghost use Rattle.std.specs.Prelude.{◌≡◌, ◌++◌, ◌∷◌, [], ℕ, Lis
 ghost use Rattle.no_std_io2.specs.Errors.{IsOutOfMemory};
 ghost use Rattle.no_std_io2.specs.Events.{Event, events_of};
 ghost use Rattle.no_std_io2.specs.Pieces.{newline};
-ghost use Rattle.no_std_io2.specs.Takes.{TakesBytes, tells, to_come};
+ghost use Rattle.no_std_io2.specs.Reads.{TakesBytes};
+ghost use Rattle.no_std_io2.specs.Takes.{tells, to_come};
 ghost use Rattle.no_std_io2.specs.inner.Pieces.{Lacks};
 
 use no_std_io2::io::{BufRead, Read, Result, Seek, SeekFrom};

@@ -136,7 +136,7 @@ in_parts {x = x} {y} ps qs rest first next told long longer =
 
 module _ {a b : ReaderState} (x : List ℕ) (told : to_come a ≡ Some (events_of x)) {P : List Event} (takes : Takes a P b) where
   -- at the end these bytes were taken, and nothing is left
-  all_known : IsAtEnd b → (event_bytes P ≡ x) × (to_come b ≡ Some [])
+  pub all_known : IsAtEnd b → (event_bytes P ≡ x) × (to_come b ≡ Some [])
   all_known end =
       let (after, still, split) = left_of takes told in
       let none : after ≡ [] = subst (λ o. IfSome o (λ l. l ≡ [])) still end in (

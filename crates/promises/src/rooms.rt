@@ -1,32 +1,33 @@
 // What needs no memory, because a string has the room; and what is still known of a writer after a `write!`.
-ghost use Rattle.std.specs.Prelude.{◌≡◌, ◌+◌, ◌≤◌, ◌++◌, [], ◌∷◌, ℕ, List, IfErr, IfOk, Some, length, string_capacity, string_len};
+ghost use Rattle.std.specs.Prelude.{◌≡◌, ◌+◌, ◌≤◌, ◌++◌, [], ◌∷◌, ℕ, List, IfOk, IsOk, IsUtf8, Some, length, string_capacity, string_len};
 ghost use Rattle.no_std_io2.specs.Events.{Event, events_of};
 ghost use Rattle.no_std_io2.specs.Pieces.{newline};
 ghost use Rattle.no_std_io2.specs.Takes.{tells, to_come};
 ghost use Rattle.no_std_io2.specs.Writers.{TakesAll};
-ghost use Rattle.no_std_io2.specs.inner.Lines.{IsInvalidText};
+ghost use Rattle.no_std_io2.specs.inner.Pieces.{Lacks};
 ghost use Rattle.no_std_io2.specs.inner.Read.{least_room};
 
 use no_std_io2::io::{BufRead, Read, Result, Write};
 use std::alloc::Global;
 
-// If a line is known to come, a `read_line` into a string that has room for it never wants memory: it refuses only a
-// line that is not UTF-8. The text that is in the string, and what follows the line, may be anything.
+// If a line is known to come, and is UTF-8, a `read_line` into a string that has room for it does not fail: no memory
+// is wanted. The text that is in the string, and what follows the line, may be anything.
 fn reads_a_line_into_its_room<R: BufRead>(
     r: &mut R,
     alloc: Global,
     text: &mut String,
 ) -> Result<usize>
-    ensures { (x : List ℕ) (rest : List Event) → to_come (tells R.Read r.old) ≡ Some (events_of (x ++ newline ∷ []) ++ rest)
-        → string_len text.old + (length x + 1) ≤ string_capacity text.old → IfErr result IsInvalidText }
+    ensures { (x : List ℕ) (rest : List Event) → Lacks newline x → IsUtf8 (x ++ newline ∷ [])
+        → to_come (tells R.Read r.old) ≡ Some (events_of (x ++ newline ∷ []) ++ rest)
+        → string_len text.old + (length x + 1) ≤ string_capacity text.old → IsOk result }
 {
     r.read_line(alloc, text)
 }
 
-// So it is for a `read_to_string`, if the string has room for all bytes and for 32 more.
+// So it is for a `read_to_string`, if the string has room for all bytes to come and for 32 more.
 fn reads_all_into_its_room<R: Read>(r: &mut R, alloc: Global, text: &mut String) -> Result<usize>
-    ensures { (x : List ℕ) → to_come (tells R.Read r.old) ≡ Some (events_of x)
-        → string_len text.old + (length x + least_room) ≤ string_capacity text.old → IfErr result IsInvalidText }
+    ensures { (x : List ℕ) → IsUtf8 x → to_come (tells R.Read r.old) ≡ Some (events_of x)
+        → string_len text.old + (length x + least_room) ≤ string_capacity text.old → IsOk result }
 {
     r.read_to_string(alloc, text)
 }

@@ -5,8 +5,8 @@ use Rattle.examples.proofs.commands.read_command.Goals as goal
 
 pub returns-in_err-read_until-clause-back : goal.returns-in_err-read_until-clause-back
 returns-in_err-read_until-clause-back g c = λ command rest lacks told.
-    rw (returned_err c.from_residual.ensures)
-    (until_known (Err c.in_err-read_until.field-0.0) command rest c.in_err-read_until.ensures.law lacks told)
+    let (fine, refused) = until_known (Err c.in_err-read_until.field-0.0) command rest c.in_err-read_until.ensures.law lacks told in
+    rw (returned_err c.from_residual.ensures) (fine, refused.0)
 
 pub returns-clause-back : goal.returns-clause-back
 returns-clause-back g c = λ command rest lacks told.

@@ -5,8 +5,9 @@ use Rattle.examples.proofs.commands.read_text.Goals as goal
 
 pub returns-in_err-read_line : goal.returns-in_err-read_line
 returns-in_err-read_line g c = record {
-  back = λ line rest lacks text told. rw (returned_err c.from_residual.ensures)
-      (line_known (Err c.in_err-read_line.field-0.0) line rest c.in_err-read_line.ensures.law lacks text told);
+  back = λ line rest lacks text told.
+      let (fine, refused) = line_known (Err c.in_err-read_line.field-0.0) line rest c.in_err-read_line.ensures.law lacks text told in
+      rw (returned_err c.from_residual.ensures) (fine, refused.0);
 }
 
 pub returns : goal.returns
