@@ -74,6 +74,8 @@ def law_fields(logic):
     for text in logic.values():
         for law, body in re.findall(r"^pub record (\w+)(.*?)(?=^\S|\Z)", text, re.M | re.S):
             fields[law] = set(re.findall(r"^  pub (\w+) :", body, re.M))
+        for law, body in re.findall(r"^(\w+)(?: \w+)+ = record \{\n(.*?)^\}", text, re.M | re.S):
+            fields[law] = set(re.findall(r"^  (\w+) :", body, re.M))
     for text in logic.values():
         for word, law in re.findall(r"^(\w+)(?: \w+)+ = (\w+)", text, re.M):
             if law in fields:

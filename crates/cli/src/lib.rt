@@ -11,6 +11,6 @@ mod program;
 mod reason;
 
 pub use files::{FileFault, PerFile, each_file};
-pub use messages::SystemMessages;
+pub use messages::{SystemMessages, SystemOutput};
 pub use program::{VERSION, about, arguments, named, report, usage};
 pub use reason::Reason;

@@ -1,12 +1,13 @@
 // What a program says of itself, what it is called with, and how it ends.
-ghost use Rattle.std.specs.Prelude.{◌≡◌, ◌≢◌, Ok, None, Some, drop, IfErr, IfNone, IfOk, IfSome, IsErrAnd, OnErr, OnOk};
+ghost use Rattle.std.specs.Prelude.{◌≡◌, ◌≢◌, ℕ, List, [], Ok, None, Some, codes, drop, IfErr, IfNone, IfOk, IfSome, IsErrAnd, IsOk};
+ghost use Rattle.std.specs.Prelude.{OnErr, OnOk};
 ghost use Rattle.std.specs.IoError.{error_kind as std_error_kind};
 ghost use Rattle.std.specs.Process.{exit_status};
 ghost use Rattle.std.specs.Vec.Iter.{into_iter_items};
 ghost use Rattle.no_std_io2.specs.Errors.{IsOutOfMemory};
-ghost use Rattle.cli.specs.About.{AsksAbout, TellsLine, error_line};
+ghost use Rattle.cli.specs.About.{AsksAbout, EndsPrinted, TellsLine, error_line, version_line};
 
-use crate::messages::SystemMessages;
+use crate::messages::{SystemMessages, SystemOutput};
 use no_std_io2::io::{Error, ErrorKind};
 use std::alloc::Global;
 use std::fmt::Display;
@@ -20,17 +21,33 @@ pub const VERSION: &str = "1.0.0-dev";
 /// Answers the word `--help` by this text, and `--version` by the program's name and [`VERSION`], on standard output.
 /// Returns the status, which is 1 if standard output failed and else 0, or `None` if the word is another one; nothing
 /// is printed then. Rust's std has no such call.
-pub fn about<R: Print + Eprint>(rt: &R, program: &str, help: &str, word: &str) -> Option<ExitCode>
+pub fn about<R: SystemOutput + SystemMessages>(
+    rt: &R,
+    program: &str,
+    help: &str,
+    word: &str,
+) -> Option<ExitCode>
     ensures asked { IfSome result (λ _. AsksAbout word.now) }
     ensures other { IfNone result (AsksAbout word.now → ⊥) }
+    // The text was printed, and an error of the printing was told.
+    ensures help { word.now ≡ codes "--help" → IfSome result (EndsPrinted R.may_print R.may_tell rt.now program.now help.now) }
+    ensures version { word.now ≡ codes "--version" → IfSome result (λ status. (number : List ℕ)
+        × EndsPrinted R.may_print R.may_tell rt.now program.now (version_line program.now number) status) }
 {
     if word == "--help" {
-        Some(report(rt, program, print!(rt; "{help}")))
+        Some(report(rt, program, rt.print_text(help)))
     } else if word == "--version" {
-        Some(report(rt, program, println!(rt; "{program} {VERSION}")))
+        Some(report(rt, program, print_version(rt, program, VERSION)))
     } else {
         None
     }
+}
+
+// Prints a program's name and a version.
+fn print_version<R: SystemOutput>(rt: &R, program: &str, number: &str) -> io::Result<()>
+    ensures { R.may_print rt.now (Some (version_line program.now number.now)) result }
+{
+    rt.print_text(format_args!("{program} {number}\n"))
 }
 
 /// Returns the arguments that `std::env::args` found, or `None` if one of them is not UTF-8. Rust's std has no such call.
@@ -56,7 +73,10 @@ pub fn arguments(found: io::Result<env::Args>) -> no_std_io2::io::Result<Option<
 /// # Errors
 /// Returns `OutOfMemory` if they do not fit in memory once more.
 pub fn named(alloc: Global, mut words: env::Args) -> io::Result<Vec<String>>
-    ensures { IfOk result (λ names. names.items ≡ drop 1 (into_iter_items words)) }
+    ensures names { IfOk result (λ names. names.items ≡ drop 1 (into_iter_items words)) }
+    ensures memory { IfErr result (λ e. std_error_kind e ≡ SystemKind.OutOfMemory) }
+    // It does not fail if there are none.
+    ensures none { drop 1 (into_iter_items words) ≡ [] → IsOk result }
 {
     let _program = words.next();
     let mut names = Vec::new(alloc);

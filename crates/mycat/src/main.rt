@@ -14,7 +14,7 @@ ghost use Rattle.std.specs.Process.{exit_status};
 ghost use Rattle.std.specs.IoError.{error_kind as std_error_kind};
 ghost use Rattle.mycat.specs.Passing.{PassesStream, WritesFile, TellsSome};
 
-use cli::{FileFault, PerFile, SystemMessages, about, each_file, named, report};
+use cli::{FileFault, PerFile, SystemMessages, SystemOutput, about, each_file, named, report};
 use no_std_io2::io::{CopyError, Read, Write, copy_with};
 use std::alloc::Global;
 use std::io::{ErrorKind, Input};
@@ -118,7 +118,7 @@ fn write_files(rt: &HostRuntime, names: &[String]) -> io::Result<bool> {
 }
 
 // Answers the first argument, if it asks for the help or the version.
-fn told<R: Print + Eprint>(rt: &R, names: &[String]) -> Option<ExitCode> {
+fn told<R: SystemOutput + SystemMessages>(rt: &R, names: &[String]) -> Option<ExitCode> {
     about(rt, "mycat", HELP, names.first()?.as_str())
 }
 

@@ -12,7 +12,9 @@ ghost use Rattle.cli.specs.About.{TellsLine, error_line};
 ghost use Rattle.cli.specs.Reasons.{reason_text};
 ghost use Rattle.tar_make.specs.Adding.{AddsBody, AddsHeader, AddsFile, AddsMember, EndsAll, HasName, member_fault};
 
-use cli::{FileFault, PerFile, Reason, SystemMessages, about, each_file, named, report};
+use cli::{
+    FileFault, PerFile, Reason, SystemMessages, SystemOutput, about, each_file, named, report,
+};
 use no_std_io2::io::{BufReader, BufWriter, CopyError, Read, Write};
 use std::alloc::Global;
 use std::os::unix::fs::{MetadataExt, PermissionsExt};
@@ -199,7 +201,7 @@ fn names<R: Env + Alloc<A = Global>>(rt: &R) -> io::Result<Vec<String>> {
 }
 
 // Answers the first argument, if it asks for the help or the version.
-fn told<R: Print + Eprint>(rt: &R, names: &[String]) -> Option<ExitCode> {
+fn told<R: SystemOutput + SystemMessages>(rt: &R, names: &[String]) -> Option<ExitCode> {
     about(rt, "tar_make", HELP, names.first()?.as_str())
 }
 
