@@ -1,8 +1,9 @@
 -- What a `BufWriter` holds and tells, and what its own calls do. I are the ghost members of the inner writer.
-use Rattle.std.specs.{Prelude.{◌≡◌, ℕ, List, [], ◌∷◌, Some, Result, Ok, Err, IsOk, IsOkAnd, IfOk, IfErr}, Mem.{FitsInMemory}}
+use Rattle.std.specs.{Prelude.{◌≡◌, ℕ, List, [], ◌∷◌, ◌++◌, Some, Result, Ok, Err, IsOk, IsOkAnd, IfOk, IfErr}, Mem.{FitsInMemory}}
 use denote.{Param.{param, number}, RattleType.{RattleType}}
 use Rattle.no_std_io2_base.specs.{declared.error.Error.{Error}, Moves.{WriterState, Moves, call_mishap}, Writers.{Writer, TakesAll}}
-use Rattle.no_std_io2_base.specs.Errors.{error_kind, IsFault, IsNoInterruption}
+use Rattle.no_std_io2_base.specs.{Errors.{error_kind, IsFault, IsNoInterruption}, Calls.{ByCalls}, Takes.{Reader}, Read.{ReadCallLaw}}
+use Rattle.no_std_io2_base.specs.inner.Read.{FullCalls}
 use Rattle.no_std_io2.specs.declared.buffered.buf_writer.BufWriter.{BufWriter}
 use Rattle.no_std_io2.specs.declared.buffered.into_inner_error.IntoInnerError.{IntoInnerError}
 use Rattle.no_std_io2.specs.inner.BufWriter.{sender_inner, sender_buffer, into_inner_error_writer, into_inner_error_cause, with_buffer}
@@ -36,6 +37,12 @@ pub record Puts {W B : Type 0} (I : Writer W) (inner : B → W) (buffer : B → 
   pub fault : IsNoInterruption reply
   -- the inner calls are those of a `write_all` of x
   pub calls : TakesStep I inner buffer (WriteAllCalls S x) old reply new
+
+-- `fill_from(from, n)`: reads gave x, which is held after the bytes that were held. Each asked for all that was missing of n bytes, until
+-- these were there, or the end or a fault came first.
+abbrev pub FillsFrom : {X : Type 0} → Reader X → ℕ → X → List ℕ → Result (Unit {0}) Error → List ℕ → X → Type 0
+FillsFrom R n old held reply held' new =
+    (x : List ℕ) × (held' ≡ held ++ x) × ByCalls (ReadCallLaw R) old (λ C. FullCalls C n x reply) new
 
 -- `into_inner()` of a writer B with a buffer: all held bytes were sent, and the result is the inner writer; or a fault came, and the result
 -- is the fault with the writer, which holds the rest.

@@ -69,6 +69,7 @@ fn move_down<const S: usize>(bytes: &mut [u8; S], start: usize, end: usize)
 
 impl<const S: usize> Buffer<S> {
     ghost use Rattle.no_std_io2.specs.inner.Buffer.{buffer_held, buffer_behind, IsInBuffer, IsCutOn, ReadsOn};
+    ghost use Rattle.no_std_io2.specs.BufWriter.{FillsFrom};
 
     #[inline]
     pub(crate) fn new() -> Self
@@ -244,6 +245,27 @@ impl<const S: usize> Buffer<S> {
         let n = from.read(&mut all[self.end..])?;
         self.end += n;
         Ok(n)
+    }
+
+    // Reads bytes of `from` into `bytes` after the first `filled`, until `n` more are there or the end comes first.
+    fn read_behind<R: Read>(from: &mut R, bytes: &mut [u8], filled: &mut usize, n: usize) -> Result<()>
+        requires { filled.old + n ≤ length bytes.old }
+        ensures len { length bytes.new ≡ length bytes.old }
+        ensures within { (filled.old ≤ filled.new) × (filled.new ≤ length bytes.new) }
+        ensures fills { FillsFrom R.Read n from.old (take filled.old bytes.old) result (take filled.new bytes.new) from.new }
+    {
+        let end = *filled + n;
+        from.read_full(&mut bytes[..end], filled)
+    }
+
+    /// Reads into the room after the held bytes, which are first moved to the front, until `n` more are held or the
+    /// end comes first.
+    pub(crate) fn read_full_on<R: Read>(&mut self, from: &mut R, n: usize) -> Result<()>
+        requires { length (buffer_held self.old) + n ≤ S }
+        ensures { FillsFrom R.Read n from.old (buffer_held self.old) result (buffer_held self.new) from.new }
+    {
+        self.move_to_front();
+        Self::read_behind(from, &mut self.bytes[..], &mut self.end, n)
     }
 
     /// Drops the first held bytes. No byte moves. If none are left, start and end go back to 0.

@@ -8,14 +8,14 @@ ghost use Rattle.std.specs.Borrow.{Lends, sem};
 ghost use Rattle.no_std_io2.specs.contracts.buffered.sender.Sender.{the_row as sender-row};
 ghost use Rattle.no_std_io2.specs.inner.BufWriter.{sender_inner, sender_buffer, TakesStep, SendCalls, RoomCalls, WriteCalls, WriteAllCalls};
 ghost use Rattle.no_std_io2.specs.inner.BufWriter.{FlushCalls};
-ghost use Rattle.no_std_io2.specs.BufWriter.{Unwraps};
+ghost use Rattle.no_std_io2.specs.BufWriter.{FillsFrom, Unwraps};
 ghost use Rattle.no_std_io2.specs.inner.Buffer.{unsent_bytes};
 
 use super::buffer::{Buffer, SMALL};
 use super::into_inner_error::IntoInnerError;
 use super::unsent::Unsent;
 use no_std_io2_base::error::{Error, ErrorKind, Result};
-use no_std_io2_base::traits::Write;
+use no_std_io2_base::traits::{Read, Write};
 
 /// An inner writer and the bytes that are held for it. It has no bound, so that a struct with a
 /// ghost field may hold it.
@@ -114,6 +114,15 @@ impl<W: Write + Drop, const S: usize> Sender<W, S> {
         ensures buffer { sender_buffer self.new ≡ sender_buffer self.old ++ more.now }
     {
         self.buffer.push(more);
+    }
+
+    /// Reads `from` into the room beside the held bytes, until `n` more are held or the end comes first.
+    pub(crate) fn fill_from<R: Read>(&mut self, from: &mut R, n: usize) -> Result<()>
+        requires { length (sender_buffer self.old) + n ≤ S }
+        ensures same { sender_inner self.new ≡ sender_inner self.old }
+        ensures fills { FillsFrom R.Read n from.old (sender_buffer self.old) result (sender_buffer self.new) from.new }
+    {
+        self.buffer.read_full_on(from, n)
     }
 
     /// Sends the held bytes if `more` bytes do not fit beside them.
