@@ -2,8 +2,7 @@
 -- and I those of the output.
 use Rattle.std.specs.Prelude.{◌≡◌, ◌⊎◌, ℕ, Bool, List, [], codes, Option, Some, Result, Ok, Err}
 use Rattle.std.specs.Fmt.{◌++?◌}
-use Rattle.no_std_io2.specs.{declared.io.{BufReader.{BufReader}, BufWriter.{BufWriter}, Error.{Error}}}
-use Rattle.no_std_io2.specs.{BufReader.{reader_inner, reader_held}, Takes.{Reader}, Writers.{Writer}}
+use Rattle.no_std_io2.specs.{declared.io.{BufWriter.{BufWriter}, Error.{Error}}, Takes.{Reader}, Writers.{Writer}}
 use Rattle.no_std_io2.specs.declared.util.sides.CopyError.{CopyError, TheVariants.{Read, Write}}
 use Rattle.cli.specs.declared.{files.FileFault.{FileFault, TheVariants.{File, Output}}, reason.Reason.{Reason}}
 use Rattle.cli.specs.Reasons.{IsReason}
@@ -25,16 +24,16 @@ abbrev pub BlamesOutput : {D : Type 0} {S : ℕ} → Error → Tried → Builder
 BlamesOutput e reply archive = (why : Reason) × (reply ≡ Err (Output why)) × IsReason (patient_error (builder_inner archive)) e why
 
 -- After a fault of the output no member may follow. After any other fault, for the reason of the file, the next one may.
-abbrev pub BlamesMember : {D E : Type 0} {S T : ℕ} → Result (Unit {0}) CopyError → Tried → BufReader (Patient D) T → Builder (Patient E) S
+abbrev pub BlamesMember : {D E : Type 0} {S : ℕ} → Result (Unit {0}) CopyError → Tried → Patient D → Builder (Patient E) S
     → Type 0
 BlamesMember (Ok u) reply body archive = reply ≡ Ok tt
 BlamesMember (Err (Read e)) reply body archive =
-    (why : Reason) × (reply ≡ Err (File why)) × IsReason (patient_error (reader_inner body)) e why
+    (why : Reason) × (reply ≡ Err (File why)) × IsReason (patient_error body) e why
 BlamesMember (Err (Write e)) reply body archive = BlamesOutput e reply archive
 
 -- The bytes of a file were appended, and zeros for those that it lacks.
-pub record AddsBody {D E : Type 0} {S T : ℕ} (K : Reader (BufReader (Patient D) T)) (I : Writer (Patient E))
-    (from : BufReader (Patient D) T) (old : Builder (Patient E) S) (reply : Tried) (to : BufReader (Patient D) T)
+pub record AddsBody {D E : Type 0} {S : ℕ} (K : Reader (Patient D)) (I : Writer (Patient E))
+    (from : Patient D) (old : Builder (Patient E) S) (reply : Tried) (to : Patient D)
     (new : Builder (Patient E) S) : Type 0 where
   pub filled : Result (Unit {0}) CopyError
   pub appends : AppendsFilled K I from old filled to new
@@ -47,8 +46,8 @@ AddsHeader I h old reply new = ((reply ≡ Ok tt) × AppendsHeader I h old (Ok t
     ⊎ ((e : Error) × BlamesOutput e reply new × AppendsHeader I h old (Err e) new)
 
 -- A header was appended, and then the bytes of a file. If the header was not, no byte of the file was read.
-abbrev pub AddsFile : {D E : Type 0} {S T : ℕ} → Reader (BufReader (Patient D) T) → Writer (Patient E) → HeaderBlock
-    → BufReader (Patient D) T → Builder (Patient E) S → Tried → BufReader (Patient D) T → Builder (Patient E) S → Type 0
+abbrev pub AddsFile : {D E : Type 0} {S : ℕ} → Reader (Patient D) → Writer (Patient E) → HeaderBlock
+    → Patient D → Builder (Patient E) S → Tried → Patient D → Builder (Patient E) S → Type 0
 AddsFile {E = E} {S = S} K I h from old reply to new =
     ((mid : Builder (Patient E) S) × AppendsHeader I h old (Ok tt) mid × AddsBody K I from mid reply to new)
     ⊎ ((e : Error) × BlamesOutput e reply new × AppendsHeader I h old (Err e) new × (to ≡ from))
@@ -57,16 +56,12 @@ AddsFile {E = E} {S = S} K I h from old reply to new =
 abbrev pub HasName : List ℕ → HeaderBlock → Type 0
 HasName name h = (kind : Kind) × (target : List ℕ) × (size : ℕ) × (m : Metadata) × IsHeaderOf kind name target size m h
 
--- a file that was just opened, of which nothing was read
-abbrev pub IsUnread : {D : Type 0} {S : ℕ} → BufReader (Patient D) S → Type 0
-IsUnread r = IsFresh (reader_inner r) × (reader_held r ≡ [])
-
 -- A member of this name was added: a header alone, or a file. Or it was left out, and the archive is as it was.
-abbrev pub AddsMember : {D E : Type 0} {S T : ℕ} → Reader (BufReader (Patient D) T) → Writer (Patient E) → List ℕ → Builder (Patient E) S
+abbrev pub AddsMember : {D E : Type 0} {S : ℕ} → Reader (Patient D) → Writer (Patient E) → List ℕ → Builder (Patient E) S
     → Tried → Builder (Patient E) S → Type 0
-AddsMember {D = D} {T = T} K I name old reply new = (((why : Reason) × (reply ≡ Err (File why))) × (new ≡ old))
+AddsMember {D = D} K I name old reply new = (((why : Reason) × (reply ≡ Err (File why))) × (new ≡ old))
     ⊎ ((h : HeaderBlock) × HasName name h × (AddsHeader I h old reply new
-    ⊎ ((from : BufReader (Patient D) T) × (to : BufReader (Patient D) T) × IsUnread from × AddsFile K I h from old reply to new)))
+    ⊎ ((from : Patient D) × (to : Patient D) × IsFresh from × AddsFile K I h from old reply to new)))
 
 -- How the archive was ended, after the members were tried with this result: unless the output had failed, `finish` was called. F are the
 -- ghost members of the buffer in front of the output.

@@ -15,7 +15,7 @@ ghost use Rattle.tar_make.specs.Adding.{AddsBody, AddsHeader, AddsFile, AddsMemb
 use cli::{
     FileFault, PerFile, Reason, SystemMessages, SystemOutput, about, each_file, named, report,
 };
-use no_std_io2::io::{BufReader, BufWriter, CopyError, Read, Write};
+use no_std_io2::io::{BufWriter, CopyError, Read, Write};
 use std::alloc::Global;
 use std::os::unix::fs::{MetadataExt, PermissionsExt};
 use std::process::ExitCode;
@@ -34,7 +34,7 @@ output. Of a directory it has the name, and not what is in it.
   --version  prints the version, if it is the first argument
 ";
 
-// The size in bytes of each buffer: of a file, and of the archive.
+// The size in bytes of the archive's buffer.
 const BUFFER: usize = 65536;
 
 // Returns the permissions and the time of a file. A time before 1970 is 1970.
@@ -80,16 +80,15 @@ fn header_of(rt: &HostRuntime, name: &str, found: &fs::Metadata) -> Result<Heade
 }
 
 // Appends the bytes of a file. What it lacks is filled with zeros.
-fn add_body<D: SystemRead + Drop, E: SystemWrite + Drop, const S: usize, const T: usize>(
+fn add_body<D: SystemRead + Drop, E: SystemWrite + Drop, const S: usize>(
     archive: &mut Builder<Patient<E>, S>,
-    body: &mut BufReader<Patient<D>, T>,
+    body: &mut Patient<D>,
 ) -> Result<(), FileFault<Reason>>
-    ensures { AddsBody ⟦<BufReader<Patient<D>, T> as Read>⟧ ⟦<Patient<E> as Write>⟧ body.old archive.old result body.new
-        archive.new }
+    ensures { AddsBody ⟦<Patient<D> as Read>⟧ ⟦<Patient<E> as Write>⟧ body.old archive.old result body.new archive.new }
 {
     match archive.append_filled(body) {
         Ok(()) => Ok(()),
-        Err(CopyError::Read(e)) => Err(FileFault::File(Reason::of(body.get_ref(), e))),
+        Err(CopyError::Read(e)) => Err(FileFault::File(Reason::of(body, e))),
         Err(CopyError::Write(e)) => Err(FileFault::Output(Reason::of(archive.get_ref(), e))),
     }
 }
@@ -108,13 +107,13 @@ fn add_header<E: SystemWrite + Drop, const S: usize>(
 }
 
 // Appends a header, and the bytes of its file.
-fn add_file<D: SystemRead + Drop, E: SystemWrite + Drop, const S: usize, const T: usize>(
+fn add_file<D: SystemRead + Drop, E: SystemWrite + Drop, const S: usize>(
     archive: &mut Builder<Patient<E>, S>,
     header: &HeaderBlock,
-    body: &mut BufReader<Patient<D>, T>,
+    body: &mut Patient<D>,
 ) -> Result<(), FileFault<Reason>>
-    ensures { AddsFile ⟦<BufReader<Patient<D>, T> as Read>⟧ ⟦<Patient<E> as Write>⟧ header.now body.old archive.old result
-        body.new archive.new }
+    ensures { AddsFile ⟦<Patient<D> as Read>⟧ ⟦<Patient<E> as Write>⟧ header.now body.old archive.old result body.new
+        archive.new }
 {
     match archive.append_header(header) {
         Ok(()) => add_body(archive, body),
@@ -134,8 +133,8 @@ impl<M: SystemMessages, E: SystemWrite + Drop, const S: usize> PerFile for Makin
     type Reason = Reason;
 
     // The member is added, or left out.
-    ghost may_try = { λ old name reply new. AddsMember ⟦<BufReader<Patient<fs::File>, BUFFER> as Read>⟧
-        ⟦<Patient<E> as Write>⟧ name old.archive reply new.archive };
+    ghost may_try = { λ old name reply new. AddsMember ⟦<Patient<fs::File> as Read>⟧ ⟦<Patient<E> as Write>⟧ name old.archive
+        reply new.archive };
 
     // A line with its name goes to standard error, and nothing to the archive.
     ghost may_tell_of = { λ old name why new. (new ≡ old)
@@ -154,10 +153,7 @@ impl<M: SystemMessages, E: SystemWrite + Drop, const S: usize> PerFile for Makin
             return add_header(&mut self.archive, &header);
         }
         match open(self.files, name) {
-            Ok(file) => {
-                let mut body = BufReader::<_, BUFFER>::new(file);
-                add_file(&mut self.archive, &header, &mut body)
-            }
+            Ok(mut file) => add_file(&mut self.archive, &header, &mut file),
             Err(e) => Err(FileFault::File(Reason::System(e))),
         }
     }

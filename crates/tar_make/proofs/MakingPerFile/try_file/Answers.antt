@@ -13,7 +13,7 @@ returns-in-Ok-open g c =
       inr (
         _,
         _,
-        (rw c.new-body.ensures.inner c.in-Ok-open.ensures, c.new-body.ensures.empty.1),
+        c.in-Ok-open.ensures,
         c.add_file.ensures,
       ),
     )
