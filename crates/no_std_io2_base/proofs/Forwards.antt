@@ -1,5 +1,5 @@
 -- A stream behind a reference, in a box, or behind an object.
-use Rattle.std.proofs.Common.{rules, arith, ◌≡◌, ℕ, List, Result, refl, sym, subst, Vec, String, Option, ap, Global}
+use Rattle.std.proofs.Common.{rules, arith, ◌≡◌, ℕ, List, Result, refl, sym, subst, Vec, String, Option, ap, Global, ◌∙◌}
 use Rattle.std.proofs.lemmas.Grind.{common_steps}
 use Rattle.std.specs.{Borrow.{Bor, MutBor}, declared.dyn_box.DynBox.{DynBox}, contracts.vec.Vec.{the_row as vec-row}}
 use Rattle.std.specs.contracts.{collections.VecDeque.{the_row as deque-row}, boxed.BoxedSlice.{the_row as boxed-row}}
@@ -80,10 +80,15 @@ pub keeps_name : {X A : Type 0} {may : X → A → X → Type 0} (a b : MutBor X
     → PartMay may (λ r. r.now) (λ r x. record r { now = x }) a call b → b.ghost_name ≡ a.ghost_name
 keeps_name a b call did = ap (λ r. r.ghost_name) did.rest
 
--- and is a call of the value behind it
+-- what a call did to a whole, it did to its part
+pub part_did : {W V A : Type 0} {may : W → A → W → Type 0} (get : V → W) (put : V → W → V) → ((v : V) (w : W) → get (put v w) ≡ w)
+    → (a b : V) (call : A) → PartMay may get put a call b → may (get a) call (get b)
+part_did {may = may} get put back a b call did = subst (may (get a) call) (sym (ap get did.rest ∙ back a did.part)) did.does
+
+-- and so to the value behind a reference
 pub behind_did : {X A : Type 0} {may : X → A → X → Type 0} (a b : MutBor X) (call : A)
     → PartMay may (λ r. r.now) (λ r x. record r { now = x }) a call b → may a.now call b.now
-behind_did {may = may} a b call did = subst (may a.now call) (sym (ap (λ r. r.now) did.rest)) did.does
+behind_did = part_did (λ r. r.now) (λ r x. record r { now = x }) (λ v w. refl)
 
 -- a writer that a part is put into: what a call did to the part, it did to the whole
 pub wrote_through : {W V : Type 0} (told : V → WriterState) (takes_all : V → Type 0) (may : W → WriteCall → W → Type 0)

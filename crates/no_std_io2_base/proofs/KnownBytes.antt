@@ -12,7 +12,9 @@ use Rattle.no_std_io2_base.specs.{Read.{ReadFullLaw, ReadToEndLaw}, Errors.{IsOu
 use Rattle.no_std_io2_base.specs.declared.traits.seek.SeekFrom.TheVariants.{Start}
 use Rattle.no_std_io2_base.proofs.TakesLemmas.{bytes-append, events_of-append, bytes-events_of, bytes-behind, cut-bytes, cut-append}
 use Rattle.no_std_io2_base.proofs.TakesLemmas.{HasNoFault-front, HasNoFault-behind, HasNoFault-events_of, bytes-cut, all_taken, left_of}
-use Rattle.no_std_io2_base.proofs.{TakesLemmas.{front_taken, Took-then}, LimitLemmas.{cut-within}}
+use Rattle.no_std_io2_base.proofs.{TakesLemmas.{front_taken, Took-then}, LimitLemmas.{cut-within, limit_reader, limit_to_end}}
+use Rattle.no_std_io2_base.specs.{Read.{ToEndLaw}, Events.{byte}, inner.Take.{limit_left, limit_inner, cut_to_come}}
+use Rattle.no_std_io2_base.specs.declared.traits.take.Take.{Take}
 use Rattle.no_std_io2_base.specs.inner.Read.{FillsOrEnds}
 
 -- Which bytes are gone from those to come, after one call and after two.
@@ -163,8 +165,8 @@ module _ {a b : ReaderState} (x : List ℕ) (told : to_come a ≡ Some (events_o
       )
 
 -- A `read_to_end` of bytes that are all that is known to come appends them, and nothing is left; or an allocation failed.
-pub to_end_known : {X A : Type 0} {R : Reader X} {old new : X} {buf buf' : Vec ℕ A} (reply : Result ℕ Error) (x : List ℕ)
-    → ReadToEndLaw R old buf reply buf' new → to_come (tells R old) ≡ Some (events_of x)
+pub to_end_known : {X A : Type 0} {lacks : ℕ → Type 0} {R : Reader X} {old new : X} {buf buf' : Vec ℕ A} (reply : Result ℕ Error)
+    (x : List ℕ) → ToEndLaw lacks R old buf reply buf' new → to_come (tells R old) ≡ Some (events_of x)
     → IfOk reply (λ n. (n ≡ length x) × (buf'.items ≡ buf.items ++ x) × (to_come (tells R new) ≡ Some []))
     × IfErr reply IsOutOfMemory
 to_end_known {buf = buf} (Ok n) x law told =
@@ -174,6 +176,29 @@ to_end_known (Err e) x law told = elim law.ends [
   | inl fault ↦ absurd (no_fault_known x told law.takes fault)
   | inr refused ↦ (tt, refused.1)
 ]
+
+-- A `read_to_end` of a `Take` whose limit is the length of x appends x, and the rest is to come from the inner reader; or an allocation
+-- failed.
+pub limit_known : {T A : Type 0} {lacks : ℕ → Type 0} (inner : Reader T) {old new : Take T} {buf buf' : Vec ℕ A} (reply : Result ℕ Error)
+    (x : List ℕ) (rest : List Event) → ToEndLaw lacks (limit_reader inner) old buf reply buf' new → limit_left old ≡ length x
+    → to_come (tells inner (limit_inner old)) ≡ Some (events_of x ++ rest)
+    → IfOk reply (λ n. (n ≡ length x) × (buf'.items ≡ buf.items ++ x) × (to_come (tells inner (limit_inner new)) ≡ Some rest))
+    × IfErr reply IsOutOfMemory
+limit_known {lacks = lacks} inner {old} {new} {buf} {buf'} reply x rest law long told = by reply law
+  where
+    first : to_come (tells (limit_reader inner) old) ≡ Some (events_of x)
+    first = ap (cut_to_come (limit_left old)) told ∙ ap (λ k. Some (cut k (events_of x ++ rest))) long ∙ ap Some (cut_behind x rest)
+
+    by : (reply : Result ℕ Error) → ToEndLaw lacks (limit_reader inner) old buf reply buf' new
+        → IfOk reply (λ n. (n ≡ length x) × (buf'.items ≡ buf.items ++ x) × (to_come (tells inner (limit_inner new)) ≡ Some rest))
+        × IfErr reply IsOutOfMemory
+    by (Err e) law = (tt, (to_end_known (Err e) x law first).1)
+    by (Ok n) law =
+        let (known, fine) = to_end_known (Ok n) x law first in
+        let (P, items, took) = limit_to_end law in
+        let bytes : event_bytes P ≡ x = append_cancel_left buf.items _ _ (sym items ∙ known.1) in
+        let (same, behind) = whole_back x rest told P took.takes (subst (λ k. cut k P ≡ P) long took.within) (ap length bytes) in
+        ((known.0, known.1, behind), tt)
 
 module _ {X A : Type 0} {R : Reader X} {limit : ℕ} {old new : X} {buf buf' : Vec ℕ A} where
   -- A `read_at_most` that returned `Ok` took the bytes that it appended, and no fault, and they are within its limit.
