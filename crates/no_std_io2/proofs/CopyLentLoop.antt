@@ -77,7 +77,7 @@ module _ {R W : Type 0} {K : Reader R} {I : Writer W} {from : R} {old : W} where
         record {
           taken = took.taken;
           takes = took.takes;
-          ends = (took.ends, rw took.are before.moves);
+          ends = record { fault = took.ends; moves = rw took.are before.moves };
           all = before.all;
           calls = calls_end before.calls (Filled (Err e) ∷ []) [] (after, filled, refl) refl lends_fault;
         }
@@ -89,7 +89,12 @@ module _ {R W : Type 0} {K : Reader R} {I : Writer W} {from : R} {old : W} where
         record {
           taken = took.taken;
           takes = took.takes;
-          ends = (took.ends.0, took.ends.1, rw took.are before.count, rw took.are before.moves);
+          ends = record {
+            no_fault = took.ends.0;
+            at_end = λ some. took.ends.1;
+            count = rw took.are before.count;
+            moves = rw took.are before.moves;
+          };
           all = before.all;
           calls = calls_end before.calls (Filled (Ok []) ∷ []) [] (after, filled, refl) refl lends_none;
         }
@@ -106,15 +111,13 @@ module _ {R W : Type 0} {K : Reader R} {I : Writer W} {from : R} {old : W} where
           record {
             taken = lent.taken;
             takes = lent.takes;
-            ends = (
-              lent.ends,
-              wrote.never_interrupted,
-              (
-                wrote.moves.accepted,
-                (wrote.moves.front.0, filled.lends ∙ wrote.moves.front.1),
-                rw lent.are (Moves-then before.moves wrote.moves.moves),
-              ),
-            );
+            ends = record {
+              no_fault = lent.ends;
+              fault = wrote.never_interrupted;
+              accepted = wrote.moves.accepted;
+              front = (wrote.moves.front.0, filled.lends ∙ wrote.moves.front.1);
+              moves = rw lent.are (Moves-then before.moves wrote.moves.moves);
+            };
             all = λ t. wrote.all (before.all t);
             calls = calls_end before.calls (Filled (Ok x) ∷ []) calls (after, filled, refl) made (lends_refused some are);
           }

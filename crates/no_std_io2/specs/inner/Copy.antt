@@ -88,10 +88,17 @@ pub data HandsLent : List ReadCall → List WriteCall → Result ℕ CopyError �
   lends_refused : {B : List WriteCall} {x : List ℕ} {e : Error} → 0 < length x → AllCalls B x (Err e)
       → HandsLent (Filled (Ok x) ∷ []) B (Err (Write e))
 
--- A copy that took P from the reader ended: at the reader's end; or at the reader's fault; or at the writer's fault, when the reader
--- had none. The writer accepted all that was taken, and after its own fault also a front of the piece that the reader still holds.
+-- It ended at the writer's fault, when the reader had none. The writer accepted all that was taken, and these first bytes of the piece that
+-- the reader still holds.
+pub record RefusesLent (e : Error) (P : List Event) (held : List ℕ) (old new : WriterState) : Type 0 where
+  pub no_fault : HasNoFault P
+  pub fault : IsFault e
+  pub accepted : List ℕ
+  pub front : IsFront accepted held
+  pub moves : Moves old (event_bytes P ++ accepted) (error_kind e ∷ []) new
+
+-- how a copy of lent pieces that took P from the reader ended: at the reader's end, at its fault, or at the writer's fault
 abbrev pub LentEnds : Result ℕ CopyError → List Event → List ℕ → ReaderState → WriterState → WriterState → Type 0
-LentEnds (Ok n) P held end old new = HasNoFault P × IsAtEnd end × (n ≡ counted (event_bytes P)) × Moves old (event_bytes P) [] new
-LentEnds (Err (Read e)) P held end old new = EndsInFault P e × Moves old (event_bytes P) [] new
-LentEnds (Err (Write e)) P held end old new = HasNoFault P × IsFault e
-    × ((b : List ℕ) × IsFront b held × Moves old (event_bytes P ++ b) (error_kind e ∷ []) new)
+LentEnds (Ok n) P held end old new = CopiedWhole 1 n P end old new
+LentEnds (Err (Read e)) P held end old new = ReaderStops e P old new
+LentEnds (Err (Write e)) P held end old new = RefusesLent e P held old new
