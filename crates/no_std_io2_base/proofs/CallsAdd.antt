@@ -69,9 +69,9 @@ pub record EachAdds {R : Type 0} (may : R → ReadCall → R → Type 0) (Adds :
   pub took : (a b c : R) (x : List ℕ) (n : ℕ) → may a (Filled (Ok x)) b → may b (Consumed n) c → n ≤ length x → Adds a (take n x) c
 
 -- after `Ok` a line was appended
-pub line_appended : (old old' line : List ℕ) (len capacity : ℕ) (reply read : Result ℕ Error)
-    → AnswersLine line read len capacity reply old old' → OnOk reply (old' ≡ old ++ line)
-line_appended old old' line len capacity x6 read answers = grind (arith, common_steps)
+pub line_appended : (old old' line : List ℕ) (reply read : Result ℕ Error)
+    → AnswersLine line read reply old old' → OnOk reply (old' ≡ old ++ line)
+line_appended old old' line reply read answers = grind (arith, common_steps)
 
 module _ {R : Type 0} {may : R → ReadCall → R → Type 0} {Adds : R → List ℕ → R → Type 0} (each : EachAdds may Adds) where
   -- calls, and one more
@@ -154,12 +154,12 @@ module _ {R : Type 0} {may : R → ReadCall → R → Type 0} {Adds : R → List
       (subst (λ K. Made may a K b) last.1 m.made))
 
   -- what the calls of a `read_line` add, which appends the line after `Ok`
-  pub line_adds : {old old' : List ℕ} {len capacity : ℕ} (reply : Result ℕ Error) (a b : R)
+  pub line_adds : {old old' : List ℕ} (reply : Result ℕ Error) (a b : R)
       → (made : (line : List ℕ) × (read : Result ℕ Error)
-      × ByCalls may a (λ C. PieceCalls (Unit {0}) 10 C line read) b × AnswersLine line read len capacity reply old old')
+      × ByCalls may a (λ C. PieceCalls (Unit {0}) 10 C line read) b × AnswersLine line read reply old old')
       → (line : List ℕ) × OnOk reply (old' ≡ old ++ line) × Adds a line b
   line_adds reply a b (line, read, made, answers) =
-      (line, line_appended _ _ line _ _ reply read answers, piece_adds (Unit {0}) 10 read a b made)
+      (line, line_appended _ _ line reply read answers, piece_adds (Unit {0}) 10 read a b made)
 
 -- The laws of `write` and `flush` of a wrapper with a state of its own: from what was accepted, the turns that are left, and what
 -- was added.

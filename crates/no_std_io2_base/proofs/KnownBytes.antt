@@ -13,7 +13,7 @@ use Rattle.no_std_io2_base.specs.declared.traits.seek.SeekFrom.TheVariants.{Star
 use Rattle.no_std_io2_base.proofs.TakesLemmas.{bytes-append, events_of-append, bytes-events_of, bytes-behind, cut-bytes, cut-append}
 use Rattle.no_std_io2_base.proofs.TakesLemmas.{HasNoFault-front, HasNoFault-behind, HasNoFault-events_of, bytes-cut, all_taken, left_of}
 use Rattle.no_std_io2_base.proofs.{TakesLemmas.{front_taken, Took-then}, LimitLemmas.{cut-within, limit_reader, limit_to_end}}
-use Rattle.no_std_io2_base.specs.{Read.{ToEndLaw}, Events.{byte}, inner.Take.{limit_left, limit_inner, cut_to_come}}
+use Rattle.no_std_io2_base.specs.{Read.{ToEndLaw}, inner.Take.{limit_left, limit_inner, cut_to_come}}
 use Rattle.no_std_io2_base.specs.declared.traits.take.Take.{Take}
 use Rattle.no_std_io2_base.specs.inner.Read.{FillsOrEnds}
 

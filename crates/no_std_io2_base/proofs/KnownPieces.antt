@@ -162,7 +162,7 @@ line_known {R = R} {new = new} {buf} {buf'} reply x rest law none text told = by
     known = piece_known lacks newline law.takes x rest none told law.read law.ends
 
     by : (reply read : Result ℕ Error)
-        → AnswersLine (event_bytes law.taken) read (string_len buf) (string_capacity buf) reply (string_bytes buf) (string_bytes buf')
+        → AnswersLine (event_bytes law.taken) read reply (string_bytes buf) (string_bytes buf')
         → IfOk read (λ n. (n ≡ length x + 1) × (event_bytes law.taken ≡ line) × (to_come (tells R new) ≡ Some rest))
         × IfErr read (λ e. IsOutOfMemory e × ((n : ℕ) × (n ≤ length x + 1) × lacks n))
         → IfOk reply (λ n. (n ≡ length x + 1) × (string_bytes buf' ≡ string_bytes buf ++ line) × (to_come (tells R new) ≡ Some rest))
@@ -188,7 +188,7 @@ string_known {R = R} {new = new} {buf} {buf'} reply x law text told = by reply l
 
     by : (reply read : Result ℕ Error) → IfOk read (λ n. n ≡ length (event_bytes law.taken))
         → DrainsOrStops (lacks (length (event_bytes law.taken))) law.taken read (tells R new)
-        → AnswersLine (event_bytes law.taken) read (string_len buf) (string_capacity buf) reply (string_bytes buf) (string_bytes buf')
+        → AnswersLine (event_bytes law.taken) read reply (string_bytes buf) (string_bytes buf')
         → IfOk reply (λ n. (n ≡ length x) × (string_bytes buf' ≡ string_bytes buf ++ x) × (to_come (tells R new) ≡ Some []))
         × IfErr reply (λ e. IsOutOfMemory e × lacks (length x))
     by (Ok k) (Ok m) count ends answers = let (all, left) = all_known x told law.takes ends.1 in grind (arith, common_steps)

@@ -333,7 +333,7 @@ pub limit_line : {T A : Type 0} (inner : Reader T) {old new : Take T} {buf buf' 
 limit_line inner {old} {new} {buf} {buf'} {reply} law =
     let calls = piece_adds limit_each _ _ law.read old new law.calls in
     let took = limit_taken law.taken calls.0 law.takes calls.2 calls.1 in
-    let appended = line_appended _ _ (event_bytes law.taken) _ _ reply law.read law.answers in
+    let appended = line_appended _ _ (event_bytes law.taken) reply law.read law.answers in
     (took.0, subst (λ l. OnOk reply (string_bytes buf' ≡ string_bytes buf ++ l)) (sym took.1) appended, took.2)
 
 -- what each call of the inner reader keeps, each call of a `Take` keeps

@@ -2,10 +2,10 @@
 use Rattle.std.proofs.{lemmas.Grind.{common_steps}, Common.{◌≡◌, ◌≢◌, ℕ, ◌<◌, ◌≤◌, ◌==◌, ◌⊎◌, Bool, true, false, List, [], ◌∷◌, ◌++◌}}
 use Rattle.std.proofs.Common.{length, refl, sym, ap, ◌∙◌, subst, arith, true≢false, eq-eqb, Contains, take, drop, Result}
 use Rattle.std.proofs.Common.{Err, String, string_bytes, string_len, string_capacity, Vec, vec_capacity, IfErr, IsErrAnd, IsUtf8, ◌+◌, Ok}
-use Rattle.std.proofs.{Common.{vec_len, le_refl, length-take-le, length-append, append-nil, ⊎_elim, inl, inr}, lemmas.List.{get_or_default}}
+use Rattle.std.proofs.{Common.{vec_len, le_refl, length-take-le, length-append, append-nil, ⊎_elim}, lemmas.List.{get_or_default}}
 use Rattle.std.proofs.lemmas.List.Elements.{recursion_from_All, All-from_recursion, Contains-append_left, Contains-append_right}
 use Rattle.std.proofs.{lemmas.Str.{IsUtf8-nil, IsUtf8-string_bytes}, Math.Seq.{take-append_seam, drop-append_seam}}
-use Rattle.no_std_io2_base.specs.inner.Lines.{AnswersLine, IsInvalidText, Follows, lines_of, unfinished_line, lines_len, IsLineState}
+use Rattle.no_std_io2_base.specs.inner.Lines.{AnswersLine, out_of_memory, part_follows, part_invalid, IsInvalidText, Follows, lines_of, unfinished_line, lines_len, IsLineState}
 use Rattle.no_std_io2_base.specs.{inner.Pieces.{Lacks, pieces_of, ArePieces, FindsPiece, but_last}, Pieces.{newline}}
 use Rattle.no_std_io2_base.specs.{declared.error.Error.{Error}}
 use Rattle.no_std_io2_base.specs.{declared.error.ErrorKind.TheVariants.{OutOfMemory}, Errors.{error_kind, IsFault}}
@@ -148,28 +148,30 @@ state_rest front rest line has =
 -- What a text answers to a read.
 
 -- memory was refused to the read
-pub line_kept : (line : List ℕ) (read reply : Result ℕ Error) (len capacity : ℕ) {old new : List ℕ}
-    → IsErrAnd read (λ e. error_kind e ≡ OutOfMemory) → reply ≡ read → new ≡ old → AnswersLine line read len capacity reply old new
-line_kept line x2 reply len capacity memory is same = grind (arith, common_steps)
+pub line_kept : (line : List ℕ) (read reply : Result ℕ Error) {old new : List ℕ} → IsErrAnd read (λ e. error_kind e ≡ OutOfMemory)
+    → reply ≡ read → new ≡ old → AnswersLine line read reply old new
+line_kept line (Ok n) reply memory is same = absurd memory
+line_kept line (Err f) reply memory is same = rw is (refl, out_of_memory memory same)
 
 -- the line is UTF-8
-pub became : (line : List ℕ) (read : Result ℕ Error) (len capacity : ℕ) (old : List ℕ) {new : List ℕ} → IsUtf8 line → new ≡ old ++ line
-    → IfErr read (λ e. error_kind e ≡ OutOfMemory → ⊥) → AnswersLine line read len capacity read old new
-became line x2 len capacity old text is other = grind (arith, common_steps)
+pub became : (line : List ℕ) (read : Result ℕ Error) (old : List ℕ) {new : List ℕ} → IsUtf8 line → new ≡ old ++ line
+    → IfErr read (λ e. error_kind e ≡ OutOfMemory → ⊥) → AnswersLine line read read old new
+became line (Ok n) old text is other = ((text, is), refl)
+became line (Err f) old text is other = (refl, part_follows other (text, is))
 
 -- it is not
-pub line_refused : (line : List ℕ) (read : Result ℕ Error) (e : Error) (len capacity : ℕ) {old new : List ℕ}
-    → (IsUtf8 line → ⊥) → IsInvalidText e → IfErr read (λ f. error_kind f ≡ OutOfMemory → ⊥) → new ≡ old
-    → AnswersLine line read len capacity (result_and read (Err e)) old new
-line_refused line x2 e len capacity bad invalid other same = grind (arith, common_steps)
+pub line_refused : (line : List ℕ) (read : Result ℕ Error) (e : Error) {old new : List ℕ} → (IsUtf8 line → ⊥) → IsInvalidText e
+    → IfErr read (λ f. error_kind f ≡ OutOfMemory → ⊥) → new ≡ old → AnswersLine line read (result_and read (Err e)) old new
+line_refused line (Ok n) e bad invalid other same = (bad, invalid, same)
+line_refused line (Err f) e bad invalid other same = (refl, part_invalid other bad same)
 
 -- A line that goes to a string: into its memory, behind its bytes, or straight from what a reader lends.
 
 -- what `put_back` answers
 module _ {A : Type 0} (text : String A) (line : Vec ℕ A) where
   abbrev pub PutBack : Result ℕ Error → Result ℕ Error → String A → Type 0
-  PutBack read reply text' = (len capacity : ℕ) → AnswersLine (drop (string_len text) line.items) read len capacity reply
-      (take (string_len text) line.items) (string_bytes text')
+  PutBack read reply text' = AnswersLine (drop (string_len text) line.items) read reply (take (string_len text) line.items)
+      (string_bytes text')
 
 -- bytes that were read into the memory of the text, behind its own
 module _ {A : Type 0} (text : String A) (line : Vec ℕ A) (x : List ℕ) (appends : line.items ≡ string_bytes text ++ x) where
@@ -190,12 +192,10 @@ module _ {A : Type 0} (text : String A) (line : Vec ℕ A) (x : List ℕ) (appen
       ∙ drop-append_seam (string_bytes text) x
 
   answers_back : (read reply : Result ℕ Error) (text' : String A) → PutBack text line read reply text'
-      → AnswersLine x read (string_len text) (string_capacity text) reply (string_bytes text) (string_bytes text')
+      → AnswersLine x read reply (string_bytes text) (string_bytes text')
   answers_back read reply text' answers =
-      let len = string_len text in
-      let capacity = string_capacity text in
-      subst (λ l. AnswersLine l read len capacity reply (string_bytes text) (string_bytes text')) back
-      (subst (λ l. AnswersLine (drop len line.items) read len capacity reply l (string_bytes text')) front (answers len capacity))
+      subst (λ l. AnswersLine l read reply (string_bytes text) (string_bytes text')) back
+      (subst (λ l. AnswersLine (drop (string_len text) line.items) read reply l (string_bytes text')) front answers)
 
 module _ {X A : Type 0} {R : Reader X} {old new : X} (text : String A) (line : Vec ℕ A) {read reply : Result ℕ Error}
     {text' : String A} where
@@ -261,9 +261,12 @@ line_faulted {R = R} {old} {e = e} {buf} filled fault =
       takes = piece.takes;
       read = Err e;
       ends = piece.ends;
-      answers = ⊎_elim (λ memory. inl (memory, refl, refl))
-          (λ other. inr (other, inl ((IsUtf8-nil, sym (append-nil (string_bytes buf))), refl)))
-          (memory_or_other (error_kind e));
+      answers = (
+        refl,
+        ⊎_elim (λ memory. out_of_memory memory refl)
+            (λ other. part_follows other (IsUtf8-nil, sym (append-nil (string_bytes buf))))
+            (memory_or_other (error_kind e)),
+      );
       capacity = le_refl _;
       calls = piece.calls;
     }

@@ -68,7 +68,7 @@ pub record ReadLineLaw {X A : Type 0} (R : Reader X) (old : X) (buf : String A) 
   pub read : Result ℕ Error
   pub ends : PieceEnds (λ n. string_capacity buf < string_len buf + n) newline (tells R old) taken read
   -- it is appended if it is UTF-8 and there is room for it
-  pub answers : AnswersLine (event_bytes taken) read (string_len buf) (string_capacity buf) reply (string_bytes buf) (string_bytes buf')
+  pub answers : AnswersLine (event_bytes taken) read reply (string_bytes buf) (string_bytes buf')
   -- the capacity never shrinks
   pub capacity : string_capacity buf ≤ string_capacity buf'
   -- which calls it made

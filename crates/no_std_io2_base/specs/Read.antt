@@ -118,7 +118,7 @@ pub record ReadToStringLaw {X A : Type 0} (R : Reader X) (old : X) (buf : String
   pub count : IfOk read (λ n. n ≡ length (event_bytes taken))
   pub ends : DrainsOrStops (string_capacity buf < string_len buf + (length (event_bytes taken) + least_room)) taken read (tells R new)
   -- it is appended if it is UTF-8 and there is room for it
-  pub answers : AnswersLine (event_bytes taken) read (string_len buf) (string_capacity buf) reply (string_bytes buf) (string_bytes buf')
+  pub answers : AnswersLine (event_bytes taken) read reply (string_bytes buf) (string_bytes buf')
   -- the capacity never shrinks
   pub capacity : string_capacity buf ≤ string_capacity buf'
   -- which calls it made

@@ -105,14 +105,13 @@ module _ {T : Type 0} (inner : Reader T) where
       counts (Err e) ends = tt
 
       by : (reply read : Result ℕ Error) (line : List ℕ) → line ≡ [] → IfErr read (λ _. ⊥) → IfOk read (λ n. n ≡ length line)
-          → AnswersLine line read (string_len buf) (string_capacity buf) reply (string_bytes buf) (string_bytes buf')
+          → AnswersLine line read reply (string_bytes buf) (string_bytes buf')
           → (reply ≡ Ok 0) × (string_bytes buf' ≡ string_bytes buf)
       by (Ok m) (Ok n) line none ok count answers = (
         ap Ok (answers.1 ∙ count ∙ ap length none),
         answers.0.1 ∙ ap (λ l. string_bytes buf ++ l) none ∙ append-nil (string_bytes buf),
       )
-      by (Err e) (Ok n) line none ok count (same, inl invalid) = absurd (invalid.0 (subst IsUtf8 (sym none) IsUtf8-nil))
-      by (Err e) (Ok n) line none ok count (same, inr room) = absurd (omega (arith, room.1, ap length none, buf.bytes.ok.1))
+      by (Err e) (Ok n) line none ok count answers = absurd (answers.0 (subst IsUtf8 (sym none) IsUtf8-nil))
       by reply (Err f) line none ok count answers = absurd ok
 
 -- For `adaptors`: the calls of a `Chain` use one reader after the other.

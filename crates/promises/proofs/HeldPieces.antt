@@ -9,7 +9,7 @@ use Rattle.no_std_io2.proofs.Words.{Filled, Consumed, ReadCallLaw, tells, newlin
 use Rattle.no_std_io2.proofs.{Words.{FillsBelow, lent_held, lent_read}, BufferedReads.{before_decides, buf_reader}}
 use Rattle.no_std_io2.proofs.CallsLemmas.{made_split}
 use Rattle.no_std_io2.specs.{declared.io.Error.{Error}, Takes.{gave_front}, BufRead.{ReadUntilLaw, ReadLineLaw}}
-use Rattle.no_std_io2.specs.inner.Lines.{AnswersLine}
+use Rattle.no_std_io2.specs.inner.Lines.{AnswersLine, out_of_memory, part_follows, part_invalid}
 use Rattle.no_std_io2.specs.inner.Pieces.{Lacks, EndsPiece, FindsPiece, PartCalls, no_part, and_part, part_interrupted, PieceCalls}
 use Rattle.no_std_io2.specs.{Calls.{ByCalls}, declared.buffered.buf_reader.BufReader.{BufReader}}
 use Rattle.no_std_io2.specs.inner.BufReader.{TakesHeld, TakesHeldLine}
@@ -164,25 +164,26 @@ module _ {R : Type 0} {S : ℕ} (K : Reader R) (old : BufReader R S) (d : ℕ) w
 -- by `read_line`
 module _ {R : Type 0} {S : ℕ} (K : Reader R) (old : BufReader R S) (line rest : List ℕ) (is : reader_held old ≡ line ++ rest)
     (ends : EndsPiece newline line) where
-  was_answered : (x : List ℕ) (new : BufReader R S) (len capacity : ℕ) (text text' : List ℕ) (read reply : Result ℕ Error)
+  was_answered : (x : List ℕ) (new : BufReader R S) (text text' : List ℕ) (read reply : Result ℕ Error)
       → IfOk read (λ n. n ≡ length x) → Took K old newline line rest is ends x read new
-      → AnswersLine x read len capacity reply text text' → TakesHeldLine line rest old text reply text' new
-  was_answered x new len capacity text text' (Ok n) (Ok m) count taken answers =
+      → AnswersLine x read reply text text' → TakesHeldLine line rest old text reply text' new
+  was_answered x new text text' (Ok n) (Ok m) count taken answers =
       (answers.1 ∙ count ∙ ap length taken.0, answers.0.1 ∙ ap (λ l. text ++ l) taken.0, taken.1, taken.2)
-  was_answered x new len capacity text text' (Ok n) (Err e) count taken answers = (answers.0, taken.2, inl taken.1)
-  was_answered x new len capacity text text' (Err f) (Ok m) count taken answers = absurd answers
-  was_answered x new len capacity text text' (Err f) (Err e) count taken (inl memory) = (
-    memory.2,
+  was_answered x new text text' (Ok n) (Err e) count taken answers = (answers.2, taken.2, inl taken.1)
+  was_answered x new text text' (Err f) (Ok m) count taken answers = absurd answers
+  was_answered x new text text' (Err f) (Err e) count taken (same, out_of_memory memory stays) = (
+    stays,
     ap reader_inner taken.2,
-    inr (subst IsOutOfMemory (sym memory.1) taken.0, (ap reader_behind taken.2, ap reader_held taken.2)),
+    inr (subst IsOutOfMemory (sym same) taken.0, (ap reader_behind taken.2, ap reader_held taken.2)),
   )
-  was_answered x new len capacity text text' (Err f) (Err e) count taken (inr other) = absurd (other.0 taken.0.0)
+  was_answered x new text text' (Err f) (Err e) count taken (same, part_follows other follows) = absurd (other taken.0.0)
+  was_answered x new text text' (Err f) (Err e) count taken (same, part_invalid other bad stays) = absurd (other taken.0.0)
 
   pub line_held : {A : Type 0} {text text' : String A} {new : BufReader R S} (reply : Result ℕ Error)
       → ReadLineLaw (buf_reader K) old text reply text' new
       → TakesHeldLine line rest old (string_bytes text) reply (string_bytes text') new
   line_held {text = text} reply law =
-      was_answered (event_bytes law.taken) _ _ _ _ _ law.read reply (counts law.read law.ends)
+      was_answered (event_bytes law.taken) _ _ _ law.read reply (counts law.read law.ends)
       (piece_held K old newline line rest is ends (event_bytes law.taken) law.read law.calls) law.answers
     where
       counts : (read : Result ℕ Error)

@@ -1,9 +1,9 @@
 -- Lines, which are the pieces that a newline ends, and the text of one.
 use Rattle.std.specs.Prelude.{ℕ, if◌then◌else◌, ◌≡◌, List, Contains, true}
-use Rattle.std.specs.{Prelude.{not, length, filter, ◌+◌, ◌<◌, ◌++◌, ◌⊎◌, Some, Result, Ok, Err, codes, IsUtf8}, List.{concat}}
+use Rattle.std.specs.{Prelude.{not, length, filter, ◌++◌, Some, Result, Ok, Err, codes, IsUtf8}, List.{concat}}
 use Rattle.std.specs.Io.BufRead.{ends_with_byte, strip_last}
 use Rattle.no_std_io2_base.specs.{Pieces.{newline}, inner.Pieces.{pieces_of}, declared.error.Error.{Error}}
-use Rattle.no_std_io2_base.specs.{Errors.{error_kind, IsOutOfMemory}, inner.Kinds.{error_text}}
+use Rattle.no_std_io2_base.specs.{Errors.{error_kind}, inner.Kinds.{error_text}}
 use Rattle.no_std_io2_base.specs.declared.error.ErrorKind.TheVariants.{InvalidData, OutOfMemory}
 
 abbrev carriage_return : ℕ
@@ -41,20 +41,17 @@ RefusesLine piece e = (IsUtf8 (line_text piece) → ⊥) × IsInvalidText e
 abbrev pub Follows : List ℕ → List ℕ → List ℕ → Type 0
 Follows line old new = IsUtf8 line × (new ≡ old ++ line)
 
--- a line is UTF-8, and a text of this length and capacity has no room for it
-abbrev HasNoRoom : List ℕ → ℕ → ℕ → Error → Type 0
-HasNoRoom line len capacity e = IsUtf8 line × (capacity < len + length line) × IsOutOfMemory e
+-- What became of the bytes before the fault f, in a text. If it is `OutOfMemory`, they are lost. If not, they were appended, unless they
+-- are not UTF-8.
+pub data PartStays (f : Error) (part old new : List ℕ) : Type 0 where
+  out_of_memory : error_kind f ≡ OutOfMemory → new ≡ old → PartStays f part old new
+  part_follows : (error_kind f ≡ OutOfMemory → ⊥) → Follows part old new → PartStays f part old new
+  part_invalid : (error_kind f ≡ OutOfMemory → ⊥) → (IsUtf8 part → ⊥) → new ≡ old → PartStays f part old new
 
--- `read_line` read a line with the result `read`, and returned `reply`, with a text of this length and capacity. The text does not change
--- if the line is not UTF-8, if the text could not grow for it, or if the reader's own error is `OutOfMemory`. After any other fault, the
--- bytes before it are appended if they are UTF-8, and the fault is the result, unless the text could not grow.
-abbrev pub AnswersLine : List ℕ → Result ℕ Error → ℕ → ℕ → Result ℕ Error → List ℕ → List ℕ → Type 0
-AnswersLine line (Ok n) len capacity (Ok m) old new = Follows line old new × (m ≡ n)
-AnswersLine line (Ok n) len capacity (Err e) old new =
-    (new ≡ old) × (((IsUtf8 line → ⊥) × IsInvalidText e) ⊎ HasNoRoom line len capacity e)
-AnswersLine line (Err f) len capacity (Ok m) old new = ⊥
-AnswersLine line (Err f) len capacity (Err e) old new =
-    ((error_kind f ≡ OutOfMemory) × (e ≡ f) × (new ≡ old))
-    ⊎ (((error_kind f ≡ OutOfMemory) → ⊥)
-    × ((Follows line old new × (e ≡ f))
-    ⊎ (((IsUtf8 line → ⊥) × (e ≡ f) × (new ≡ old)) ⊎ (HasNoRoom line len capacity e × (new ≡ old)))))
+-- A line was read with the result `read`, and `reply` was returned. After `Ok` the line follows the text; or it is not UTF-8, and the text
+-- does not change. A fault is the result.
+abbrev pub AnswersLine : List ℕ → Result ℕ Error → Result ℕ Error → List ℕ → List ℕ → Type 0
+AnswersLine line (Ok n) (Ok m) old new = Follows line old new × (m ≡ n)
+AnswersLine line (Ok n) (Err e) old new = (IsUtf8 line → ⊥) × IsInvalidText e × (new ≡ old)
+AnswersLine line (Err f) (Ok m) old new = ⊥
+AnswersLine line (Err f) (Err e) old new = (e ≡ f) × PartStays f line old new

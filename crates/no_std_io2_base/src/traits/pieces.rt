@@ -152,8 +152,7 @@ pub(super) fn put_back(
 ) -> Result<usize>
     requires within { start ≤ vec_len bytes }
     requires text { IsUtf8 (take start bytes.items) }
-    ensures answers { (len capacity : ℕ) → AnswersLine (drop start bytes.items) read len capacity result
-        (take start bytes.items) (string_bytes buf.new) }
+    ensures answers { AnswersLine (drop start bytes.items) read result (take start bytes.items) (string_bytes buf.new) }
     ensures capacity { string_capacity buf.new ≡ vec_capacity bytes }
 {
     if is_out_of_memory(&read) {

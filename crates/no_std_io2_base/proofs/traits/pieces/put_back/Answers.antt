@@ -16,14 +16,14 @@ from_utf8_unchecked-requires c =
     (subst IsUtf8 (behind c.args.start c.args.bytes.items _ same) (c.is_text.ensures.yes c.if-is_text.true)))
 
 pub returns-then-is_out_of_memory-clause-answers : goal.returns-then-is_out_of_memory-clause-answers
-returns-then-is_out_of_memory-clause-answers c = λ len capacity. line_kept _ c.args.read _ len capacity
+returns-then-is_out_of_memory-clause-answers c = line_kept _ c.args.read _
     (c.is_out_of_memory.ensures.memory c.if-is_out_of_memory.true) refl c.text_front.ensures.bytes
 
 pub returns-then-is_text-clause-answers : goal.returns-then-is_text-clause-answers
 returns-then-is_text-clause-answers c =
     let same : c.deref.result.now ≡ c.args.bytes.items = grind (arith, common_steps) in
     let text = subst IsUtf8 (behind c.args.start c.args.bytes.items _ same) (c.is_text.ensures.yes c.if-is_text.true) in
-    λ len capacity. became (drop c.args.start c.args.bytes.items) c.args.read len capacity (take c.args.start c.args.bytes.items) text
+    became (drop c.args.start c.args.bytes.items) c.args.read (take c.args.start c.args.bytes.items) text
     (ap (λ v. v.items) c.from_utf8_unchecked.ensures.value ∙ sym (take-append-drop c.args.start c.args.bytes.items))
     (c.is_out_of_memory.ensures.other c.if-is_out_of_memory.false)
 
@@ -31,8 +31,8 @@ pub returns-clause-answers : goal.returns-clause-answers
 returns-clause-answers c =
     let same : c.deref.result.now ≡ c.args.bytes.items = grind (arith, common_steps) in
     let line = drop c.args.start c.args.bytes.items in
-    λ len capacity. subst (λ r. AnswersLine line c.args.read len capacity r (take c.args.start c.args.bytes.items)
+    subst (λ r. AnswersLine line c.args.read r (take c.args.start c.args.bytes.items)
     (string_bytes c.text_front-2.result))
-    (sym c.and.ensures) (line_refused line c.args.read _ len capacity
+    (sym c.and.ensures) (line_refused line c.args.read _
     (λ text. c.is_text.ensures.no c.if-is_text.false (subst IsUtf8 (sym (behind c.args.start c.args.bytes.items _ same)) text))
     c.invalid_text.ensures (c.is_out_of_memory.ensures.other c.if-is_out_of_memory.false) c.text_front-2.ensures.bytes)

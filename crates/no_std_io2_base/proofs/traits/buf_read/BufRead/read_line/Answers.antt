@@ -1,6 +1,6 @@
 -- A line that is lent whole goes straight to the text. Any other is read into its memory: what was lent is lent once more.
 use Rattle.std.proofs.lemmas.Grind.{common_steps}
-use Rattle.std.proofs.Common.{◌≡◌, ◌≤◌, ℕ, ◌∙◌, sym, ap, subst, arith, take, drop, length-take-le, string_len, string_bytes, vec_len}
+use Rattle.std.proofs.Common.{◌≡◌, ◌≤◌, ◌∙◌, sym, ap, subst, arith, take, drop, length-take-le, string_len, string_bytes, vec_len}
 use Rattle.std.proofs.Common.{IsUtf8}
 use Rattle.std.specs.String.{string_vec}
 use Rattle.no_std_io2_base.specs.{BufRead.{ReadUntilLaw}, Pieces.{newline}, inner.Lines.{AnswersLine}}
@@ -57,7 +57,7 @@ returns g c =
     (c.take_bytes-bytes.ensures ∙ ap string_vec both.0) both.1 in
     record {
       law = line_law text read.new.buf until
-          (subst (λ n. (len capacity : ℕ) → AnswersLine (drop n read.new.buf.items) read.result len capacity c.put_back.result
+          (subst (λ n. AnswersLine (drop n read.new.buf.items) read.result c.put_back.result
           (take n read.new.buf.items) (string_bytes c.put_back.new.buf)) start c.put_back.ensures.answers)
           c.put_back.ensures.capacity;
     }

@@ -1,5 +1,5 @@
 -- All that is left was read into the memory of the text.
-use Rattle.std.proofs.Common.{◌≤◌, ℕ, sym, subst, take, drop, string_bytes, vec_len, IsUtf8}
+use Rattle.std.proofs.Common.{◌≤◌, sym, subst, take, drop, string_bytes, vec_len, IsUtf8}
 use Rattle.no_std_io2_base.specs.{Read.{ReadToEndLaw}, inner.Lines.{AnswersLine}}
 use Rattle.no_std_io2_base.proofs.{LineLemmas.{string_law, memory_grows, memory_text}, TakesLemmas.{reader}}
 use Rattle.no_std_io2_base.proofs.traits.read.Read.read_to_string.Goals as goal
@@ -11,7 +11,7 @@ returns g c =
     c.take_bytes-bytes.ensures read.ensures.law in
     record {
       law = string_law c.args.buf.now read.new.buf all
-          (subst (λ n. (len capacity : ℕ) → AnswersLine (drop n read.new.buf.items) read.result len capacity c.put_back.result
+          (subst (λ n. AnswersLine (drop n read.new.buf.items) read.result c.put_back.result
           (take n read.new.buf.items) (string_bytes c.put_back.new.buf)) c.len-start.ensures c.put_back.ensures.answers)
           c.put_back.ensures.capacity;
     }
