@@ -1,32 +1,34 @@
 -- What a decoder gives, one step after another, and the law of its `read`.
-use Rattle.no_std_io2.proofs.Words.{◌≡◌, ℕ, ◌+◌, ◌<◌, ◌≤◌, min, false, List, [], ◌∷◌, ◌++◌, length, take, Option}
-use Rattle.no_std_io2.proofs.Words.{Some, None}
-use Rattle.no_std_io2.proofs.Words.{Ok, Err, refl, sym, ap, ap₂, subst, ◌∙◌, arith, inl, inr, append_assoc}
-use Rattle.no_std_io2.proofs.Words.{append-nil}
-use Rattle.no_std_io2.proofs.Words.{length-append, length-take, nil_from_length, common_steps, Event, byte, fails, events_of, event_bytes}
-use Rattle.no_std_io2.proofs.Words.{HasNoFault}
-use Rattle.no_std_io2.proofs.Words.{Reader, ReadLaw, tells, Takes, to_come, IsAtEnd, AreTaken}
-use Rattle.no_std_io2.proofs.Words.{nat_lt, cases_lt}
+use Rattle.no_std_io2.proofs.Words.{◌≡◌, ℕ, ◌+◌, ◌-◌, ◌*◌, ◌/◌, ◌%◌, ◌<◌, ◌≤◌, min, Bool, true, false, List, [], ◌∷◌, ◌++◌, length, take, drop}
+use Rattle.no_std_io2.proofs.Words.{Option, Some, None, Result, Ok, Err, refl, sym, ap, ap₂, subst, ◌∙◌, arith, inl, inr, append_assoc}
+use Rattle.no_std_io2.proofs.Words.{append-nil, length-append, length-take, length-drop, take-append-drop, nil_from_length, common_steps}
+use Rattle.no_std_io2.proofs.Words.{Event, byte, fails, events_of, event_bytes, HasNoFault, Reader, ReadLaw, tells, Takes, to_come}
+use Rattle.no_std_io2.proofs.Words.{IsAtEnd, AreTaken, nat_lt, cases_lt, length-take-le, Vec}
 use Rattle.no_std_io2.specs.declared.io.{Error.{Error}, ErrorKind.{ErrorKind, TheVariants.{InvalidData}}}
-use Rattle.no_std_io2.specs.{Errors.{error_kind}, inner.Kinds.{error_of, error_text}, inner.Read.{FullCalls}}
-use Rattle.no_std_io2.specs.{Read.{ReadCallLaw, ReadFullLaw, ReadToEndLaw}, Calls.{ByCalls}}
-use Rattle.no_std_io2.proofs.{CallsLemmas.{by_are}, Words.{Result, ◌-◌}}
-use Rattle.base64.specs.declared.engine.general_purpose.GeneralPurpose.{GeneralPurpose}
+use Rattle.no_std_io2.specs.{Errors.{error_kind}, inner.Kinds.{error_of, error_text}, inner.Events.{EndsInFault}}
+use Rattle.no_std_io2.specs.{Read.{ReadToEndLaw}, Reads.{Took}, inner.Buffer.{AsksOn, HasTo}, inner.Reads.{GathersTo, Reads}}
+use Rattle.base64.specs.{declared.engine.general_purpose.GeneralPurpose.{GeneralPurpose}}
 use Rattle.std.specs.Option.{IfSome, option_map}
-use Rattle.no_std_io2.proofs.{TakesLemmas.{bytes-append, bytes-cut, events_of-append, length-events_of, takes_none, left_of}, Words.{Vec}}
+use Rattle.no_std_io2.proofs.{TakesLemmas.{bytes-append, bytes-behind, events_of-append, length-events_of, takes_none, left_of}}
+use Rattle.no_std_io2.proofs.{TakesLemmas.{HasNoFault-append, HasNoFault-events_of}, ReadsLemmas.{Reads-none, Reads-takes}}
 use Rattle.base64_stream.specs.declared.decoder.DecoderReader.{DecoderReader}
 use Rattle.base64_stream.specs.Decoding.{closed_after, decoded_events, decoded_group, group_events}
-use Rattle.base64_stream.specs.FewBytes.{few_items}
-use Rattle.base64_stream.specs.Decoder.{Decodes, goes_on, cut_off, DecoderMay, FillsWaiting, GathersGroup, KeepsState, TakesText}
+use Rattle.base64_stream.specs.Waiting.{text_items}
+use Rattle.base64_stream.specs.Decoder.{Decodes, goes_on, cut_off, DecoderMay, DecodesFront, FillsWaiting, GathersText, TakesText, said}
 use Rattle.base64_stream.specs.Decoder.{decoder_closed, decoder_engine}
 use Rattle.base64_stream.specs.Decoder.{decoder_events, decoder_gives, decoder_inner, decoder_text, decoder_turns, decoder_waiting}
-use Rattle.base64_stream.proofs.DecodingLemmas.{collects, completes, passes_fault, last_group_given, group_given, closed_by}
+use Rattle.base64_stream.proofs.DecodingLemmas.{passes_fault, last_group_given, group_given, group_in_front, groups_in_front, text_first}
+use Rattle.base64_stream.proofs.{DecodingLemmas.{without_interruptions}, GroupsLemmas.{decodes_some}}
 
 -- no more bytes than events
-pub bytes_fewer : (P : List Event) → length (event_bytes P) ≤ length P
+bytes_fewer : (P : List Event) → length (event_bytes P) ≤ length P
 bytes_fewer [] = omega arith
 bytes_fewer (byte b ∷ P) = omega (arith, bytes_fewer P)
 bytes_fewer (fails e ∷ P) = omega (arith, bytes_fewer P)
+
+-- a whole number of groups, or the last characters
+abbrev pub AreGroups : ℕ → List ℕ → Type 0
+AreGroups n text = (0 < n) × (n ≤ length text) × (4 ≤ length text → n % 4 ≡ 0) × (length text < 4 → n ≡ length text)
 
 module _ {R : Type 0} (I : Reader R) where
   -- a decoder, as the laws of its calls see it
@@ -41,7 +43,12 @@ module _ {R : Type 0} (I : Reader R) where
 
   -- nothing
   pub decodes_nothing : (r : DecoderReader R) → Decodes I r [] r
-  decodes_nothing r = goes_on [] (record { takes = takes_none (tells I r.inner); reads = inl (refl, refl) }) (λ E. refl)
+  decodes_nothing r = goes_on [] (record {
+    takes = takes_none (tells I (decoder_inner r));
+    how = Ok true;
+    ends = tt;
+    reads = Reads-none (decoder_inner r);
+  }) (λ E. refl)
 
   -- what is told is what is given, and then the rest
   gives_told : (old new : Option (List Event)) (P given : List Event) (f g : List Event → List Event) → AreTaken old P new
@@ -63,26 +70,42 @@ module _ {R : Type 0} (I : Reader R) where
       → decoder_turns I.turns new + min 1 (length given) ≤ decoder_turns I.turns old
       → Takes (tells decoder_reader old) given (tells decoder_reader new)
   decodes_takes {old} {new} {given} (goes_on P takes gives) turns = record {
-    events = gives_told (to_come (tells I old.inner)) (to_come (tells I new.inner)) P given (decoder_gives old)
+    events = gives_told (to_come (tells I (decoder_inner old))) (to_come (tells I (decoder_inner new))) P given (decoder_gives old)
         (decoder_gives new) takes.takes.events gives;
     store = tt;
     turns = turns;
   }
   decodes_takes {old} {new} {given} (cut_off P takes end gives) turns = record {
-    events = gives_last (to_come (tells I old.inner)) (to_come (tells I new.inner)) P given (decoder_gives old)
+    events = gives_last (to_come (tells I (decoder_inner old))) (to_come (tells I (decoder_inner new))) P given (decoder_gives old)
         (decoder_gives new) takes.takes.events end gives;
     store = tt;
     turns = turns;
   }
 
-  -- and then gives some of the bytes that wait
-  pub decodes_given : {a b c : DecoderReader R} (x : List ℕ) → Decodes I a [] b → decoder_inner c ≡ decoder_inner b
-      → ((E : List Event) → decoder_gives b E ≡ events_of x ++ decoder_gives c E) → Decodes I a (events_of x) c
-  decodes_given {a} {b} {c} x (goes_on P takes gives) same is =
-      goes_on P (subst (λ i. TakesText I a P i) (sym same) takes) (λ E. gives E ∙ is E)
-  decodes_given {a} {b} {c} x (cut_off P takes end gives) same is =
-      cut_off P (subst (λ i. TakesText I a P i) (sym same) takes) (subst (λ i. IsAtEnd (tells I i)) (sym same) end)
-      (gives ∙ is [])
+  -- at most 192 bytes wait
+  waiting_most : (r : DecoderReader R) → length (decoder_waiting r) ≤ 192
+  waiting_most r = omega (
+    arith,
+    length-take (r.waiting.end - r.waiting.start) (drop r.waiting.start r.waiting.bytes),
+    r.waiting.within,
+  )
+
+  -- and then gives something that does not depend on what comes,
+  pub decodes_more : {a b c : DecoderReader R} (P : List Event) → Decodes I a [] b → decoder_inner c ≡ decoder_inner b
+      → ((E : List Event) → decoder_gives b E ≡ P ++ decoder_gives c E) → Decodes I a P c
+  decodes_more {a} {b} {c} P (goes_on T takes gives) same is =
+      goes_on T (subst (λ i. TakesText I a T i) (sym same) takes) (λ E. gives E ∙ is E)
+  decodes_more {a} {b} {c} P (cut_off T takes end gives) same is =
+      cut_off T (subst (λ i. TakesText I a T i) (sym same) takes) (subst (λ i. IsAtEnd (tells I i)) (sym same) end) (gives ∙ is [])
+
+  -- or what it gives at the end
+  decodes_last : {a b c : DecoderReader R} (P : List Event) → Decodes I a [] b → decoder_inner c ≡ decoder_inner b
+      → IsAtEnd (tells I (decoder_inner b)) → decoder_gives b [] ≡ P ++ decoder_gives c [] → Decodes I a P c
+  decodes_last {a} {b} {c} P (goes_on T takes gives) same end is =
+      cut_off T (subst (λ i. TakesText I a T i) (sym same) takes) (subst (λ i. IsAtEnd (tells I i)) (sym same) end)
+      (ap (decoder_gives a) (sym (append-nil T)) ∙ gives [] ∙ is)
+  decodes_last {a} {b} {c} P (cut_off T takes end gives) same _ is =
+      cut_off T (subst (λ i. TakesText I a T i) (sym same) takes) (subst (λ i. IsAtEnd (tells I i)) (sym same) end) (gives ∙ is)
 
   -- bytes that wait come first
   pub waiting_first : (b c : DecoderReader R) (x : List ℕ) → decoder_waiting b ≡ x ++ decoder_waiting c
@@ -90,205 +113,226 @@ module _ {R : Type 0} (I : Reader R) where
       → decoder_closed c ≡ decoder_closed b → decoder_text c ≡ decoder_text b → (E : List Event)
       → decoder_gives b E ≡ events_of x ++ decoder_gives c E
   waiting_first b c x split engine closed text E =
+      let rest = decoded_events b.engine b.closed [] (events_of (decoder_text b) ++ E) in
       rw (engine, closed, text)
-      (ap (λ l. events_of l ++ decoded_events b.engine b.closed (decoder_text b) E) split
-      ∙ ap (λ l. l ++ decoded_events b.engine b.closed (decoder_text b) E) (events_of-append x (decoder_waiting c))
-      ∙ append_assoc (events_of x) (events_of (decoder_waiting c)) (decoded_events b.engine b.closed (decoder_text b) E))
-
-  -- less than a group is kept
-  pub decoder_short : (r : DecoderReader R) → length (decoder_text r) ≤ 3
-  decoder_short r = omega (arith, length-take r.text.len r.text.bytes, r.text.within)
-
-  waiting_short : (r : DecoderReader R) → length (decoder_waiting r) ≤ 3
-  waiting_short r = omega (arith, length-take r.waiting.len r.waiting.bytes, r.waiting.within)
-
-  -- no more bytes come than there was room for
-  full_within : {old new : R} {buf buf' : List ℕ} {k n : ℕ} {u : Unit {0}} (law : ReadFullLaw I old buf k (Ok u) buf' n new)
-      → length (event_bytes law.taken) ≤ length buf - k
-  full_within {buf = buf} {k = k} law =
-      let room = length buf - k in
-      omega (
-        arith,
-        ap (λ l. length (event_bytes l)) law.ends.1,
-        ap length (bytes-cut room law.taken),
-        length-take room (event_bytes law.taken),
-      )
-
-  -- the reads that a `read_full` of what is missing makes
-  missing : {old new : R} {buf buf' : List ℕ} {k n m : ℕ} {reply : Result (Unit {0}) Error}
-      (law : ReadFullLaw I old buf k reply buf' n new) → length buf ≡ 4 → k ≡ m
-      → ByCalls (ReadCallLaw I) old (λ C. FullCalls C (4 - m) (event_bytes law.taken) reply) new
-  missing {reply = reply} law long count =
-      by_are law.calls (λ C are. subst (λ room. FullCalls C room (event_bytes law.taken) reply) (ap₂ (λ a b. a - b) long count) are)
-
-  -- the rest of a group was read, or the text has ended
-  pub gathers_all : {old new : DecoderReader R} {buf buf' : List ℕ} {k n : ℕ} {u : Unit {0}}
-      → ReadFullLaw I (decoder_inner old) buf k (Ok u) buf' n (decoder_inner new) → k ≡ length (decoder_text old)
-      → take k buf ≡ decoder_text old → length buf ≡ 4 → decoder_text new ≡ [] → KeepsState old new → GathersGroup I old buf' (Ok n) new
-  gathers_all {old} {new} {buf} {buf'} {k} {n} {u} law count front long empty keeps =
-      let more = full_within law in
-      record {
-        taken = law.taken;
-        text = record { takes = law.takes; reads = inr (Ok u, law.ends.0, missing law long count) };
-        ends = (
-          law.ends.0,
-          law.fills ∙ ap (λ l. l ++ event_bytes law.taken) front,
-          law.counts ∙ ap (λ m. m + length (event_bytes law.taken)) count,
-          omega (arith, law.counts, more, long, count, decoder_short old),
-          λ few. law.ends.2 (omega (arith, law.counts, long, few)),
-          empty,
-        );
-        keeps = keeps;
-      }
-
-  -- a fault came before
-  pub gathers_some : {old new : DecoderReader R} {buf buf' : List ℕ} {k n : ℕ} {e : Error}
-      → ReadFullLaw I (decoder_inner old) buf k (Err e) buf' n (decoder_inner new) → k ≡ length (decoder_text old)
-      → take k buf ≡ decoder_text old → length buf ≡ 4 → decoder_text new ≡ take n buf' → KeepsState old new
-      → GathersGroup I old buf' (Err e) new
-  gathers_some {e = e} law count front long kept keeps = record {
-    taken = law.taken;
-    text = record { takes = law.takes; reads = inr (Err e, law.ends.0, missing law long count) };
-    ends = (law.ends.0, kept ∙ law.fills ∙ ap (λ l. l ++ event_bytes law.taken) front);
-    keeps = keeps;
-  }
+      (ap (λ l. events_of l ++ rest) split ∙ ap (λ l. l ++ rest) (events_of-append x (decoder_waiting c))
+      ∙ append_assoc (events_of x) (events_of (decoder_waiting c)) rest)
 
   -- if no bytes wait, the text is next
   pub text_next : (r : DecoderReader R) (E : List Event) → decoder_waiting r ≡ []
-      → decoder_gives r E ≡ decoded_events r.engine r.closed (decoder_text r) E
-  text_next r E none = ap (λ l. events_of l ++ decoded_events r.engine r.closed (decoder_text r) E) none
+      → decoder_gives r E ≡ decoded_events r.engine r.closed [] (events_of (decoder_text r) ++ E)
+  text_next r E none = ap (λ l. events_of l ++ decoded_events r.engine r.closed [] (events_of (decoder_text r) ++ E)) none
 
-  -- between two groups, a group is next
-  group_next : (r : DecoderReader R) (E : List Event) → decoder_text r ≡ []
-      → decoder_gives r E ≡ events_of (decoder_waiting r) ++ decoded_events r.engine r.closed [] E
-  group_next r E none = ap (λ l. events_of (decoder_waiting r) ++ decoded_events r.engine r.closed l E) none
+  -- at most 256 characters are there
+  text_most : (r : DecoderReader R) → length (decoder_text r) ≤ 256
+  text_most r = omega (arith, length-take (r.text.end - r.text.start) (drop r.text.start r.text.bytes), r.text.ordered, r.text.in_range)
+
+  -- the events that the reads of a group took
+  text_took : (old mid : DecoderReader R) {reply : Result (Unit {0}) Error} (gathers : GathersText I old reply mid)
+      → Took (tells I (decoder_inner old)) gathers.given gathers.how (tells I (decoder_inner mid))
+  text_took old mid gathers = Reads-takes (λ at room asks. omega (arith, asks.0, asks.1)) gathers.how gathers.reads
+
+  -- the reader below gave them
+  text_taken : (old mid : DecoderReader R) {reply : Result (Unit {0}) Error} (gathers : GathersText I old reply mid)
+      → TakesText I old (text_took old mid gathers).taken (decoder_inner mid)
+  text_taken old mid gathers = record {
+    takes = (text_took old mid gathers).takes;
+    how = gathers.how;
+    ends = (text_took old mid gathers).ends;
+    reads = subst (λ x. Reads I (AsksOn 256 4 (decoder_text old)) (decoder_inner old) x gathers.how (decoder_inner mid))
+        (sym (text_took old mid gathers).are) gathers.reads;
+  }
+
+  -- and the text grew by their bytes
+  text_grows : (old mid : DecoderReader R) {reply : Result (Unit {0}) Error} (gathers : GathersText I old reply mid)
+      → decoder_text old ++ event_bytes (text_took old mid gathers).taken ≡ decoder_text mid
+  text_grows old mid gathers = ap (λ l. decoder_text old ++ l) (text_took old mid gathers).are ∙ sym gathers.holds
+
+  -- the turns did not rise
+  text_turns : (old mid : DecoderReader R) {reply : Result (Unit {0}) Error} → GathersText I old reply mid
+      → 257 * I.turns mid.inner + length (decoder_text mid) ≤ 257 * I.turns old.inner + length (decoder_text old)
+  text_turns old mid gathers =
+      let took = text_took old mid gathers in
+      let grows = text_grows old mid gathers in
+      let long = length-append (decoder_text old) (event_bytes took.taken) in
+      omega (arith, took.takes.turns, ap length grows, long, text_most mid, bytes_fewer took.taken)
+
+  -- without a fault it is one of these
+  gathered : (old mid : DecoderReader R) (gathers : GathersText I old (Ok tt) mid) → (full : Bool) × (gathers.how ≡ Ok full)
+  gathered old mid gathers = go gathers.how gathers.is
+    where
+      go : (how : Result Bool Error) → Ok tt ≡ said how → (full : Bool) × (how ≡ Ok full)
+      go (Ok full) is = (full, refl)
+      go (Err e) is = cc is
+
+  -- and the end came if there is no group
+  ended : (old mid : DecoderReader R) (how : Result Bool Error) (P : List Event) → Ok tt ≡ said how → HasTo 4 how (length (decoder_text mid))
+      → GathersTo P how (tells I (decoder_inner mid))
+      → HasNoFault P × (length (decoder_text mid) < 4 → IsAtEnd (tells I (decoder_inner mid)))
+  ended old mid (Ok true) P is enough ends = (ends, λ short. absurd (omega (arith, short, enough)))
+  ended old mid (Ok false) P is enough ends = (ends.0, λ short. ends.1)
+  ended old mid (Err e) P is enough ends = cc is
+
+  -- characters were read, and nothing is given yet
+  text_read : (old mid : DecoderReader R) → GathersText I old (Ok tt) mid → Decodes I old [] mid
+  text_read old mid gathers =
+      let took = text_took old mid gathers in
+      let P = took.taken in
+      let held = events_of (decoder_text old) in
+      let (free, end) = ended old mid gathers.how P gathers.is gathers.enough took.ends in
+      let (engine, closed, waiting) = gathers.keeps in
+      goes_on P (text_taken old mid gathers) (λ E. ap₂ (λ w l. events_of w ++ l) (sym waiting)
+      (ap (decoded_events old.engine old.closed []) (sym (append_assoc held P E))
+      ∙ without_interruptions old.engine old.closed [] (held ++ P) E
+      (HasNoFault-append held P (HasNoFault-events_of (decoder_text old)) free)
+      ∙ ap (λ l. decoded_events old.engine old.closed [] (events_of l ++ E)) (bytes-behind (decoder_text old) P ∙ text_grows old mid gathers)
+      ∙ ap₂ (λ e c. decoded_events e c [] (events_of (decoder_text mid) ++ E)) (sym engine) (sym closed)))
+
+  -- the end came before a group was whole
+  text_ends : (old mid : DecoderReader R) → GathersText I old (Ok tt) mid → length (decoder_text mid) < 4
+      → IsAtEnd (tells I (decoder_inner mid))
+  text_ends old mid gathers short =
+      (ended old mid gathers.how (text_took old mid gathers).taken gathers.is gathers.enough (text_took old mid gathers).ends).1 short
+
+  -- how a gathering failed
+  failed : (old mid : DecoderReader R) (how : Result Bool Error) (P : List Event) {e : Error} → Err e ≡ said how
+      → HasTo 4 how (length (decoder_text mid))
+      → GathersTo P how (tells I (decoder_inner mid)) → EndsInFault P e × (length (decoder_text mid) < 4)
+  failed old mid (Ok full) P is enough ends = cc is
+  failed old mid (Err f) P {e} is enough ends = let same : f ≡ e = cc is in (subst (λ x. EndsInFault P x) same ends, enough)
+
+  -- a fault came before
+  pub refill_fails : (old mid : DecoderReader R) {e : Error} → GathersText I old (Err e) mid → decoder_waiting old ≡ []
+      → FillsWaiting I old (Err e) mid
+  refill_fails old mid {e} gathers none =
+      let took = text_took old mid gathers in
+      let P = took.taken in
+      let ((Q, split, free, fault), short) = failed old mid gathers.how P gathers.is gathers.enough took.ends in
+      let (engine_kept, closed_kept, waiting_kept) = gathers.keeps in
+      let idle : decoder_waiting mid ≡ [] = waiting_kept ∙ none in
+      let held = events_of (decoder_text old) in
+      let chars : event_bytes (held ++ Q) ≡ decoder_text mid =
+      bytes-behind (decoder_text old) Q
+      ∙ ap (λ l. decoder_text old ++ l) (sym (append-nil (event_bytes Q)) ∙ sym (bytes-append Q (fails e ∷ [])) ∙ ap event_bytes (sym split))
+      ∙ text_grows old mid gathers in
+      let engine = old.engine in
+      let closed = old.closed in
+      let some : 0 < length P = omega (arith, ap length split, length-append Q (fails e ∷ [])) in (
+        goes_on P (text_taken old mid gathers) (λ E. text_next old (P ++ E) none
+            ∙ ap (λ l. decoded_events engine closed [] (held ++ (l ++ E))) split
+            ∙ ap (decoded_events engine closed []) (sym (append_assoc held (Q ++ fails e ∷ []) E)
+            ∙ ap (λ l. l ++ E) (sym (append_assoc held Q (fails e ∷ []))))
+            ∙ passes_fault engine closed [] (held ++ Q) E (HasNoFault-append held Q (HasNoFault-events_of (decoder_text old)) free) fault
+            (omega (arith, ap length chars, short))
+            ∙ ap (λ l. fails e ∷ decoded_events engine closed l E) chars
+            ∙ ap (λ l. fails e ∷ l) (sym (text_first engine closed (decoder_text mid) E short))
+            ∙ ap₂ (λ g c. fails e ∷ decoded_events g c [] (events_of (decoder_text mid) ++ E)) (sym engine_kept) (sym closed_kept)
+            ∙ ap (λ l. fails e ∷ l) (sym (text_next mid E idle))),
+        omega (arith, took.takes.turns, some, short, ap length idle),
+      )
 
   -- the end came before a group
-  pub refill_ends : {old mid : DecoderReader R} {buf : List ℕ} {n : ℕ} → GathersGroup I old buf (Ok n) mid → n ≡ 0
-      → decoder_waiting old ≡ []
+  pub refill_ends : (old mid : DecoderReader R) → GathersText I old (Ok tt) mid → decoder_waiting old ≡ [] → length (decoder_text mid) ≡ 0
       → FillsWaiting I old (Ok tt) mid
-  refill_ends {old} {mid} {buf} {n} gathers zero none =
-      let P = gathers.taken in
-      let (free, text, long, most, end, empty) = gathers.ends in
-      let (engine, closed, waiting) = gathers.keeps in
-      let idle : decoder_waiting mid ≡ [] = ap few_items waiting ∙ none in
-      let no_text : decoder_text old ≡ [] = nil_from_length (decoder_text old) (omega (arith, long, zero)) in
-      let no_bytes : event_bytes P ≡ [] = nil_from_length (event_bytes P) (omega (arith, long, zero)) in
-      let gives = λ (E : List Event).
-      text_next old (P ++ E) none ∙ collects old.engine old.closed (decoder_text old) P E free (omega (arith, long, zero))
-      ∙ ap₂ (λ s t. decoded_events old.engine old.closed (s ++ t) E) no_text no_bytes
-      ∙ ap₂ (λ e c. decoded_events e c [] E) (sym engine) (sym closed)
-      ∙ sym (group_next mid E empty ∙ ap (λ l. events_of l ++ decoded_events mid.engine mid.closed [] E) idle) in (
-        goes_on P gathers.text gives,
-        omega (arith, gathers.text.takes.turns, ap length empty, ap length idle),
-        λ w. (end (omega (arith, zero)), empty),
-      )
+  refill_ends old mid gathers none zero = (
+    text_read old mid gathers,
+    omega (arith, text_turns old mid gathers, ap length gathers.keeps.2),
+    λ idle. (text_ends old mid gathers (omega (arith, zero)), nil_from_length (decoder_text mid) zero),
+  )
 
-  -- what the text of a group gives, if it is whole or the last
-  group_text : {old mid : DecoderReader R} {buf : List ℕ} {n : ℕ} (gathers : GathersGroup I old buf (Ok n) mid) → decoder_waiting old ≡ []
-      → (n ≡ 4 → (E : List Event) → decoder_gives old (gathers.taken ++ E)
-      ≡ group_events (decoded_group old.engine old.closed (take n buf))
-      ++ decoded_events old.engine (closed_after old.closed (decoded_group old.engine old.closed (take n buf))) [] E)
-      × (0 < n → n < 4 → decoder_gives old gathers.taken ≡ group_events (decoded_group old.engine old.closed (take n buf)))
-  group_text {old} {mid} {buf} {n} gathers none =
-      let P = gathers.taken in
-      let (free, text, long, most, end, empty) = gathers.ends in
-      let e = old.engine in
-      let c = old.closed in (
-        λ whole E. text_next old (P ++ E) none
-            ∙ completes e c (decoder_text old) P E free (omega (arith, decoder_short old)) (omega (arith, long, whole))
-            ∙ ap (λ g. group_events (decoded_group e c g) ++ decoded_events e (closed_after c (decoded_group e c g)) [] E) (sym text),
-        λ some few. text_next old P none ∙ ap (decoded_events e c (decoder_text old)) (sym (append-nil P))
-            ∙ collects e c (decoder_text old) P [] free (omega (arith, long, few))
-            ∙ last_group_given e c (decoder_text old ++ event_bytes P)
-            (omega (arith, some, long, length-append (decoder_text old) (event_bytes P)))
-            ∙ ap (λ g. group_events (decoded_group e c g)) (sym text),
-      )
+  -- the text in two parts
+  in_two : (engine : GeneralPurpose) (closed : Bool) (n : ℕ) (text : List ℕ) (E : List Event)
+      → decoded_events engine closed [] (events_of text ++ E)
+      ≡ decoded_events engine closed [] (events_of (take n text) ++ (events_of (drop n text) ++ E))
+  in_two engine closed n text E =
+      ap (λ l. decoded_events engine closed [] (l ++ E)) (ap events_of (sym (take-append-drop n text))
+      ∙ events_of-append (take n text) (drop n text))
+      ∙ ap (decoded_events engine closed []) (append_assoc (events_of (take n text)) (events_of (drop n text)) E)
 
-  -- a group gave its bytes
-  pub refill_gives : {old mid new : DecoderReader R} {buf : List ℕ} {n : ℕ} → GathersGroup I old buf (Ok n) mid → (n ≡ 0 → ⊥)
-      → decoder_waiting old ≡ [] → decoder_waiting new ≡ decoded_group mid.engine mid.closed (take n buf) → 0 < length (decoder_waiting new)
-      → decoder_inner new ≡ decoder_inner mid → decoder_engine new ≡ decoder_engine mid → decoder_text new ≡ decoder_text mid
-      → decoder_closed new ≡ nat_lt (length (decoder_waiting new)) 3 → FillsWaiting I old (Ok tt) new
-  refill_gives {old} {mid} {new} {buf} {n} gathers not_zero none is some inner engine text closed =
-      let P = gathers.taken in
-      let (free, chars, long, most, end, empty) = gathers.ends in
-      let (engine_kept, closed_kept, waiting_kept) = gathers.keeps in
+  -- a refusal changes nothing
+  pub still_gathered : (old mid new : DecoderReader R) (n : ℕ) → GathersText I old (Ok tt) mid → DecodesFront n mid false new
+      → decoder_waiting old ≡ [] → GathersText I old (Ok tt) new
+  still_gathered old mid new n gathers (refused, idle, engine, closed, inner, text) none = record {
+    how = gathers.how;
+    is = gathers.is;
+    given = gathers.given;
+    reads = subst (λ i. Reads I (AsksOn 256 4 (decoder_text old)) (decoder_inner old) gathers.given gathers.how i) (sym inner)
+        gathers.reads;
+    holds = ap text_items text ∙ gathers.holds;
+    enough = subst (λ t. HasTo 4 gathers.how (length (text_items t))) (sym text) gathers.enough;
+    keeps = (engine ∙ gathers.keeps.0, closed ∙ gathers.keeps.1, idle ∙ sym none);
+  }
+
+  -- the groups were decoded at once
+  pub refill_gives : (old mid new : DecoderReader R) (n : ℕ) → GathersText I old (Ok tt) mid → decoder_waiting mid ≡ []
+      → AreGroups n (decoder_text mid) → DecodesFront n mid true new → FillsWaiting I old (Ok tt) new
+  refill_gives old mid new n gathers none (some, within, whole, last) (opened, decodes, engine, closed, inner, text) =
+      let e = mid.engine in
+      let s = take n (decoder_text mid) in
+      let rest = drop n (decoder_text mid) in
       let x = decoder_waiting new in
-      let same : decoded_group old.engine old.closed (take n buf) ≡ x =
-      ap₂ (λ e c. decoded_group e c (take n buf)) (sym engine_kept) (sym closed_kept) ∙ sym is in
-      let open_text : decoder_text new ≡ [] = text ∙ empty in
-      let given : group_events
-      (decoded_group old.engine old.closed (take n buf)) ≡ events_of x = ap group_events same ∙ group_given x some in
-      let after : closed_after old.closed (decoded_group old.engine old.closed (take n buf)) ≡ new.closed =
-      ap (closed_after old.closed) same ∙ closed_by old.closed x some ∙ sym closed in
-      let texts = group_text gathers none in
-      let takes = subst (λ i. TakesText I old P i) (sym inner) gathers.text in
-      let turns : decoder_turns I.turns new ≤ decoder_turns I.turns old =
-      omega (arith, takes.takes.turns, not_zero, long, bytes_fewer P, ap length open_text, ap length none, waiting_short new) in (
-        elim (cases_lt n 4) [
-          | inl few ↦ cut_off P takes (subst (λ i. IsAtEnd (tells I i)) (sym inner) (end few))
-              (texts.1 (omega (arith, not_zero)) few ∙ given ∙ sym (group_next new [] open_text ∙ append-nil (events_of x)))
-          | inr full ↦ goes_on P takes (λ E. texts.0 (omega (arith, full, most)) E
-              ∙ ap₂ (λ l c. l ++ decoded_events old.engine c [] E) given after
-              ∙ ap (λ e. events_of x ++ decoded_events e new.closed [] E) (sym (engine ∙ engine_kept))
-              ∙ sym (group_next new E open_text))
+      let long : length s ≡ n = length-take-le n (decoder_text mid) within in
+      let given : 0 < length x = decodes_some e s x (omega (arith, some, long)) decodes in
+      let read = text_read old mid gathers in
+      let left : length (decoder_text new) + n ≡ length (decoder_text mid) =
+      omega (arith, within, ap length text, length-drop n (decoder_text mid)) in
+      let after = λ (E : List Event). ap (λ l. events_of x ++ decoded_events e new.closed [] (events_of l ++ E)) (sym text)
+      ∙ ap (λ g. events_of x ++ decoded_events g new.closed [] (events_of (decoder_text new) ++ E)) (sym engine) in (
+        elim (cases_lt (length (decoder_text mid)) 4) [
+          | inr many ↦
+              let groups : length s / 4 ≡ (n + 3) / 4 = omega (arith, whole many, long) in
+              decodes_more [] read inner (λ E. text_next mid E none ∙ in_two e mid.closed n (decoder_text mid) E
+              ∙ ap (λ c. decoded_events e c [] (events_of s ++ (events_of rest ++ E))) opened
+              ∙ groups_in_front e s x (events_of rest ++ E) (omega (arith, some, long)) (omega (arith, whole many, long)) decodes
+              ∙ ap (λ c. events_of x ++ decoded_events e c [] (events_of rest ++ E))
+              (ap (λ k. nat_lt (length x) (k * 3)) groups ∙ sym closed) ∙ after E)
+          | inl few ↦
+              let all : rest ≡ [] = nil_from_length rest (omega (arith, last few, length-drop n (decoder_text mid))) in
+              decodes_last [] read inner (text_ends old mid gathers few) (text_next mid [] none ∙ in_two e mid.closed n (decoder_text mid) []
+              ∙ ap (λ c. decoded_events e c [] (events_of s ++ (events_of rest ++ []))) opened
+              ∙ ap (λ l. decoded_events e false [] (events_of s ++ (events_of l ++ []))) all
+              ∙ text_first e false s [] (omega (arith, few, last few, long))
+              ∙ last_group_given e false s (omega (arith, some, long)) ∙ rw decodes (group_given x given)
+              ∙ sym (append-nil (events_of x))
+              ∙ ap (λ l. events_of x ++ decoded_events e new.closed [] (events_of l ++ [])) (sym all) ∙ after [])
         ],
-        turns,
-        λ empty_again. absurd (omega (arith, some, ap length empty_again)),
+        omega (arith, text_turns old mid gathers, some, left, waiting_most new, ap I.turns inner),
+        λ idle. absurd (omega (arith, given, ap length idle)),
       )
 
-  -- a group was refused
-  pub refill_refuses : {old mid : DecoderReader R} {buf : List ℕ} {n : ℕ} {e : Error} → GathersGroup I old buf (Ok n) mid → (n ≡ 0 → ⊥)
-      → decoder_waiting old ≡ [] → decoded_group mid.engine mid.closed (take n buf) ≡ [] → e ≡ error_of InvalidData
-      → FillsWaiting I old (Err e) mid
-  refill_refuses {old} {mid} {buf} {n} {e} gathers not_zero none refused is =
-      let P = gathers.taken in
-      let (free, chars, long, most, end, empty) = gathers.ends in
-      let (engine_kept, closed_kept, waiting_kept) = gathers.keeps in
-      let idle : decoder_waiting mid ≡ [] = ap few_items waiting_kept ∙ none in
-      let same : decoded_group old.engine old.closed (take n buf) ≡ [] =
-      ap₂ (λ e c. decoded_group e c (take n buf)) (sym engine_kept) (sym closed_kept) ∙ refused in
-      let given : group_events (decoded_group old.engine old.closed (take n buf)) ≡ fails e ∷ [] =
-      ap group_events same ∙ ap (λ e. fails e ∷ []) (sym is) in
-      let after : closed_after old.closed (decoded_group old.engine old.closed (take n buf)) ≡ mid.closed =
-      ap (closed_after old.closed) same ∙ sym closed_kept in
-      let rest = λ (E : List Event). group_next mid E empty ∙ ap (λ l. events_of l ++ decoded_events mid.engine mid.closed [] E) idle in
-      let texts = group_text gathers none in
-      let turns : decoder_turns I.turns mid < decoder_turns I.turns old =
-      omega (arith, gathers.text.takes.turns, not_zero, long, bytes_fewer P, ap length empty, ap length none, ap length idle) in (
-        elim (cases_lt n 4) [
-          | inl few ↦ cut_off P gathers.text (end few)
-              (texts.1 (omega (arith, not_zero)) few ∙ given ∙ ap (λ l. fails e ∷ l) (sym (rest [])))
-          | inr full ↦ goes_on P gathers.text (λ E. texts.0 (omega (arith, full, most)) E
-              ∙ ap₂ (λ l c. l ++ decoded_events old.engine c [] E) given after
-              ∙ ap (λ g. fails e ∷ decoded_events g mid.closed [] E) (sym engine_kept)
-              ∙ ap (λ l. fails e ∷ l) (sym (rest E)))
+  -- a group that is refused gives an error
+  pub refill_refuses : (old mid new : DecoderReader R) (n : ℕ) {e : Error} → GathersText I old (Ok tt) mid → decoder_waiting mid ≡ []
+      → 0 < length (decoder_text mid) → n ≡ min (length (decoder_text mid)) 4
+      → decoded_group mid.engine mid.closed (take n (decoder_text mid)) ≡ [] → decoder_waiting new ≡ []
+      → new.engine ≡ mid.engine → new.closed ≡ mid.closed → new.inner ≡ mid.inner
+      → decoder_text new ≡ drop n (decoder_text mid) → e ≡ error_of InvalidData → FillsWaiting I old (Err e) new
+  refill_refuses old mid new n {e} gathers none some first refused idle engine closed inner text error =
+      let g = mid.engine in
+      let c = mid.closed in
+      let s = take n (decoder_text mid) in
+      let rest = drop n (decoder_text mid) in
+      let long : length s ≡ n = length-take-le n (decoder_text mid) (omega (arith, first)) in
+      let read = text_read old mid gathers in
+      let given : group_events (decoded_group g c s) ≡ fails e ∷ [] = ap group_events refused ∙ ap (λ e. fails e ∷ []) (sym error) in
+      let left : length (decoder_text new) + n ≡ length (decoder_text mid) =
+      omega (arith, first, ap length text, length-drop n (decoder_text mid)) in
+      let after = λ (E : List Event). ap₂ (λ e c. decoded_events e c [] (events_of rest ++ E)) (sym engine) (sym closed)
+      ∙ ap (λ l. decoded_events new.engine new.closed [] (events_of l ++ E)) (sym text) ∙ sym (text_next new E idle) in (
+        elim (cases_lt (length (decoder_text mid)) 4) [
+          | inr many ↦ decodes_more (fails e ∷ []) read inner (λ E. text_next mid E none ∙ in_two g c n (decoder_text mid) E
+              ∙ group_in_front g c s (events_of rest ++ E) (omega (arith, first, many, long))
+              ∙ ap₂ (λ l d. l ++ decoded_events g d [] (events_of rest ++ E)) given (ap (closed_after c) refused)
+              ∙ ap (λ l. fails e ∷ l) (after E))
+          | inl few ↦
+              let all : rest ≡ [] = nil_from_length rest (omega (arith, first, few, length-drop n (decoder_text mid))) in
+              decodes_last (fails e ∷ []) read inner (text_ends old mid gathers few) (text_next mid [] none
+              ∙ in_two g c n (decoder_text mid) []
+              ∙ ap (λ l. decoded_events g c [] (events_of s ++ (events_of l ++ []))) all
+              ∙ text_first g c s [] (omega (arith, few, first, long))
+              ∙ last_group_given g c s (omega (arith, some, first, long)) ∙ given
+              ∙ ap (λ l. fails e ∷ l) (ap (λ l. decoded_events g c [] (events_of l ++ [])) (sym all) ∙ after []))
         ],
-        turns,
-      )
-
-  -- a fault came
-  pub refill_fails : {old mid : DecoderReader R} {buf : List ℕ} {e : Error} → GathersGroup I old buf (Err e) mid → decoder_waiting old ≡ []
-      → FillsWaiting I old (Err e) mid
-  refill_fails {old} {mid} {buf} {e} gathers none =
-      let P = gathers.taken in
-      let (fault_last, chars) = gathers.ends in
-      let (Q, split, free, fault) = fault_last in
-      let (engine_kept, closed_kept, waiting_kept) = gathers.keeps in
-      let idle : decoder_waiting mid ≡ [] = ap few_items waiting_kept ∙ none in
-      let before : event_bytes P ≡ event_bytes Q = ap event_bytes split ∙ bytes-append Q (fails e ∷ []) ∙ append-nil (event_bytes Q) in
-      let kept : decoder_text mid ≡ decoder_text old ++ event_bytes Q = chars ∙ ap (λ l. decoder_text old ++ l) before in
-      let few : length (decoder_text old) + length (event_bytes Q) < 4 =
-      omega (arith, ap length kept, length-append (decoder_text old) (event_bytes Q), decoder_short mid) in
-      let some : 0 < length P = omega (arith, ap length split, length-append Q (fails e ∷ [])) in (
-        goes_on P gathers.text (λ E. text_next old (P ++ E) none
-            ∙ ap (λ l. decoded_events old.engine old.closed (decoder_text old) (l ++ E)) split
-            ∙ passes_fault old.engine old.closed (decoder_text old) Q E free fault few
-            ∙ ap₂ (λ g c. fails e ∷ decoded_events g c (decoder_text old ++ event_bytes Q) E) (sym engine_kept) (sym closed_kept)
-            ∙ ap (λ t. fails e ∷ decoded_events mid.engine mid.closed t E) (sym kept)
-            ∙ ap (λ l. fails e ∷ l) (sym (text_next mid E idle))),
-        omega (arith, gathers.text.takes.turns, some, ap length none, ap length idle),
+        omega (arith, text_turns old mid gathers, some, first, left, ap length idle, ap I.turns inner),
       )
 
   -- bytes wait
@@ -323,11 +367,11 @@ module _ {R : Type 0} (I : Reader R) where
   -- some bytes were given, or the end has come
   pub gave_waiting : {old mid new : DecoderReader R} (buf buf' : List ℕ) (n : ℕ) → FillsWaiting I old (Ok tt) mid
       → n ≡ min (length buf') (length (decoder_waiting mid)) → decoder_waiting mid ≡ take n buf' ++ decoder_waiting new
-      → decoder_inner new ≡ decoder_inner mid → decoder_engine new ≡ decoder_engine mid → decoder_closed new ≡ decoder_closed mid
+      → new.inner ≡ mid.inner → decoder_engine new ≡ decoder_engine mid → decoder_closed new ≡ decoder_closed mid
       → decoder_text new ≡ decoder_text mid → ReadLaw decoder_reader old buf (Ok n) buf' new
   gave_waiting {old} {mid} {new} buf buf' n (decodes, turns, end) count split inner engine closed text =
       let x = take n buf' in
-      let given : Decodes I old (events_of x) new = decodes_given x decodes inner (waiting_first mid new x split engine closed text) in
+      let given : Decodes I old (events_of x) new = decodes_more (events_of x) decodes inner (waiting_first mid new x split engine closed text) in
       let fewer : length (decoder_waiting mid) ≡ length x + length (decoder_waiting new) =
       ap length split ∙ length-append x (decoder_waiting new) in
       let falls : decoder_turns I.turns new + min 1 (length (events_of x)) ≤ decoder_turns I.turns old =
@@ -336,8 +380,8 @@ module _ {R : Type 0} (I : Reader R) where
       let none : decoder_waiting mid ≡ [] = nil_from_length (decoder_waiting mid) (omega (arith, zero, room, count)) in
       let none_left : decoder_waiting new ≡ [] = nil_from_length (decoder_waiting new) (omega (arith, fewer, ap length none)) in
       let ended = end none in
-      end_told (to_come (tells I new.inner)) (decoder_gives new) (subst (λ i. IsAtEnd (tells I i)) (sym inner) ended.0)
-      (text_next new [] none_left ∙ ap (λ t. decoded_events new.engine new.closed t []) (text ∙ ended.1)) in
+      end_told (to_come (tells I (decoder_inner new))) (decoder_gives new) (subst (λ i. IsAtEnd (tells I i)) (sym inner) ended.0)
+      (text_next new [] none_left ∙ ap (λ t. decoded_events new.engine new.closed [] (events_of t ++ [])) (text ∙ ended.1)) in
       record { bound = omega (arith, count); takes = decodes_takes given falls; end = at_end; call = given }
 
 module _ {R : Type 0} (I : Reader R) where
@@ -346,7 +390,7 @@ module _ {R : Type 0} (I : Reader R) where
       → decoder_closed r ≡ false → decoder_text r ≡ [] → decoder_waiting r ≡ [] → to_come (tells I (decoder_inner r)) ≡ Some E
       → decoder_events (tells I) r ≡ Some (decoded_events engine false [] E)
   starts_decoding r engine E is opened no_text idle told =
-      ap (option_map (decoder_gives r)) told ∙ ap Some (text_next I r E idle ∙ ap (λ t. decoded_events r.engine r.closed t E) no_text
+      ap (option_map (decoder_gives r)) told ∙ ap Some (text_next I r E idle ∙ ap (λ t. decoded_events r.engine r.closed [] (events_of t ++ E)) no_text
       ∙ ap₂ (λ e c. decoded_events e c [] E) is opened)
 
 -- all that was told was read, without a fault

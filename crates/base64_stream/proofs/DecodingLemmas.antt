@@ -1,5 +1,5 @@
 -- What is decoded of events that are characters of a group, then others.
-use Rattle.no_std_io2.proofs.Words.{◌≡◌, ℕ, suc, ◌+◌, ◌<◌, ◌≤◌, Bool, true, false, List, [], ◌∷◌, ◌++◌, length, Ok}
+use Rattle.no_std_io2.proofs.Words.{◌≡◌, ℕ, suc, ◌+◌, ◌*◌, ◌/◌, ◌%◌, ◌<◌, ◌≤◌, Bool, true, false, List, [], ◌∷◌, ◌++◌, length, Ok}
 use Rattle.no_std_io2.proofs.Words.{nat_lt}
 use Rattle.no_std_io2.proofs.Words.{refl, sym, ap, ◌∙◌, arith, inl, inr, append_assoc, append-nil, length-append, cases_lt}
 use Rattle.no_std_io2.proofs.Words.{nat_tests}
@@ -11,6 +11,7 @@ use Rattle.base64.specs.GeneralPurpose.{IsBytes, IsConsistent, decode_of, encode
 use Rattle.base64.specs.Rfc4648.{encode, encode_symbols}
 use Rattle.base64.proofs.EngineFacts.{decode_of-encode_of, encode_of-append, encode_of-nil, front_bytes}
 use Rattle.base64_stream.specs.Decoding.{closed_after, decoded_events, decoded_group, group_events}
+use Rattle.base64_stream.proofs.GroupsLemmas.{decodes_some, first_decoded}
 
 -- a number is below another, as a test
 pub below_is_true : (a b : ℕ) → a < b → nat_lt a b ≡ true
@@ -18,6 +19,18 @@ below_is_true a b less = grind (arith, nat_tests)
 
 pub above_is_false : (a b : ℕ) → b ≤ a → nat_lt a b ≡ false
 above_is_false a b more = grind (arith, nat_tests)
+
+-- both numbers are larger by three
+same_test : (a b c d : ℕ) → c ≡ 3 + a → d ≡ 3 + b → nat_lt a b ≡ nat_lt c d
+same_test a b c d first second = elim (cases_lt a b) [
+  | inl less ↦ below_is_true a b less ∙ sym (below_is_true c d (omega (arith, less, first, second)))
+  | inr more ↦ above_is_false a b more ∙ sym (above_is_false c d (omega (arith, more, first, second)))
+]
+
+-- the bytes of the first group, and the others
+in_one : (first rest x : List ℕ) (E : List Event) → x ≡ first ++ rest → events_of first ++ (events_of rest ++ E) ≡ events_of x ++ E
+in_one first rest x E split =
+    sym (append_assoc (events_of first) (events_of rest) E) ∙ ap (λ l. l ++ E) (sym (events_of-append first rest) ∙ ap events_of (sym split))
 
 -- some bytes give themselves
 pub group_given : (x : List ℕ) → 0 < length x → group_events x ≡ events_of x
@@ -96,6 +109,58 @@ module _ (engine : GeneralPurpose) where
       let open_still : closed_after false x ≡ false = closed_by false x (omega (arith, three)) ∙ ap (λ n. nat_lt n 3) three in
       completes false [] (events_of text) E (HasNoFault-events_of text) (omega arith) (omega (arith, whole, ap length chars))
       ∙ rw (chars, decodes, is, open_still) refl
+
+  -- interruptions go
+  pub without_interruptions : (closed : Bool) (text : List ℕ) (P E : List Event) → HasNoFault P
+      → decoded_events engine closed text (P ++ E) ≡ decoded_events engine closed text (events_of (event_bytes P) ++ E)
+  without_interruptions closed text [] E no_fault = refl
+  without_interruptions closed text (byte b ∷ P) E no_fault = elim (cases_lt (length text) 3) [
+    | inl less ↦ rw (below_is_true (length text) 3 less) (without_interruptions closed (text ++ b ∷ []) P E no_fault)
+    | inr full ↦
+        let x = decoded_group engine closed (text ++ b ∷ []) in
+        rw (above_is_false (length text) 3 full)
+        (ap (λ l. group_events x ++ l) (without_interruptions (closed_after closed x) [] P E no_fault))
+  ]
+  without_interruptions closed text (fails e ∷ P) E (again, no_fault) = rw again (without_interruptions closed text P E no_fault)
+
+  -- less than a group in front
+  pub text_first : (closed : Bool) (text : List ℕ) (E : List Event) → length text < 4
+      → decoded_events engine closed [] (events_of text ++ E) ≡ decoded_events engine closed text E
+  text_first closed text E short =
+      let chars = bytes-events_of text in
+      collects closed [] (events_of text) E (HasNoFault-events_of text) (omega (arith, short, ap length chars))
+      ∙ ap (λ l. decoded_events engine closed l E) chars
+
+  -- a whole group in front
+  pub group_in_front : (closed : Bool) (text : List ℕ) (E : List Event) → length text ≡ 4
+      → decoded_events engine closed [] (events_of text ++ E) ≡ group_events (decoded_group engine closed text)
+      ++ decoded_events engine (closed_after closed (decoded_group engine closed text)) [] E
+  group_in_front closed text E whole =
+      let chars = bytes-events_of text in
+      completes closed [] (events_of text) E (HasNoFault-events_of text) (omega arith) (omega (arith, whole, ap length chars))
+      ∙ ap (λ g. group_events (decoded_group engine closed g) ++ decoded_events engine (closed_after closed (decoded_group engine closed g)) [] E)
+      chars
+
+  -- Several groups in front that are decoded at once.
+  pub groups_in_front : (s x : List ℕ) (E : List Event) → 0 < length s → length s % 4 ≡ 0 → decode_of engine s ≡ Ok x
+      → decoded_events engine false [] (events_of s ++ E)
+      ≡ events_of x ++ decoded_events engine (nat_lt (length x) (length s / 4 * 3)) [] E
+  groups_in_front [] x E some whole is = absurd (omega (arith, some))
+  groups_in_front (a ∷ []) x E some whole is = absurd (omega (arith, whole))
+  groups_in_front (a ∷ b ∷ []) x E some whole is = absurd (omega (arith, whole))
+  groups_in_front (a ∷ b ∷ c ∷ []) x E some whole is = absurd (omega (arith, whole))
+  groups_in_front (a ∷ b ∷ c ∷ d ∷ []) x E some whole is =
+      let given = decodes_some engine (a ∷ b ∷ c ∷ d ∷ []) x some is in
+      group_in_front false (a ∷ b ∷ c ∷ d ∷ []) E refl ∙ rw (is, group_given x given, closed_by false x given) refl
+  groups_in_front (a ∷ b ∷ c ∷ d ∷ f ∷ r) x E some whole is =
+      let (first, rest, three, split, one, others) =
+      first_decoded engine a b c d (f ∷ r) x (omega arith) (omega (arith, whole)) is in
+      let here = group_first (a ∷ b ∷ c ∷ d ∷ []) first (events_of (f ∷ r) ++ E) refl one three in
+      let there = groups_in_front (f ∷ r) rest E (omega arith) (omega (arith, whole)) others in
+      let same : nat_lt (length rest) (length (f ∷ r) / 4 * 3) ≡ nat_lt (length x) (length (a ∷ b ∷ c ∷ d ∷ f ∷ r) / 4 * 3) =
+      same_test _ _ _ _ (omega (arith, three, ap length split, length-append first rest)) (omega arith) in
+      here ∙ ap (λ l. events_of first ++ l) (there ∙ ap (λ t. events_of rest ++ decoded_events engine t [] E) same)
+      ∙ in_one first rest x (decoded_events engine (nat_lt (length x) (length (a ∷ b ∷ c ∷ d ∷ f ∷ r) / 4 * 3)) [] E) split
 
 -- how long the encoding of a last group is
 one_long : (t : List ℕ) (pad : ℕ) (padding : Bool) (a : ℕ) → (0 < length (encode t pad padding (a ∷ [])))

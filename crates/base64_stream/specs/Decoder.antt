@@ -1,17 +1,18 @@
 -- What a decoder holds, tells and gives. I are the ghost members of the reader below.
-use Rattle.std.specs.Prelude.{◌≡◌, ◌⊎◌, ℕ, ◌+◌, ◌-◌, ◌*◌, ◌<◌, ◌≤◌, min, Bool, List, [], ◌∷◌, ◌++◌, length, take, Option, Result, Ok, Err}
-use Rattle.std.specs.Option.{option_map}
-use Rattle.base64.specs.declared.engine.general_purpose.GeneralPurpose.{GeneralPurpose}
-use Rattle.no_std_io2.specs.{declared.io.Error.{Error}, Events.{Event, fails, events_of, event_bytes, HasNoFault}}
-use Rattle.no_std_io2.specs.inner.Events.{EndsInFault}
-use Rattle.no_std_io2.specs.{Takes.{ReaderState, Takes, to_come, IsAtEnd, Reader, tells, answered}, Calls.{ReadCall, Gave, ByCalls}}
-use Rattle.no_std_io2.specs.{Read.{ReadCallLaw}, inner.Read.{FullCalls}}
-use Rattle.base64_stream.specs.{declared.decoder.DecoderReader.{DecoderReader}, FewBytes.{few_items}, Decoding.{decoded_events}}
+use Rattle.std.specs.Prelude.{◌≡◌, ℕ, ◌+◌, ◌*◌, ◌/◌, ◌<◌, ◌≤◌, nat_lt, Bool, true, false, List, [], ◌∷◌, ◌++◌, length, take, drop}
+use Rattle.std.specs.{Option.{option_map}, Prelude.{Option, Result, Ok, Err}}
+use Rattle.base64.specs.{declared.engine.general_purpose.GeneralPurpose.{GeneralPurpose}, GeneralPurpose.{decode_of}}
+use Rattle.no_std_io2.specs.{declared.io.Error.{Error}, Events.{Event, fails, events_of, event_bytes}}
+use Rattle.no_std_io2.specs.{Takes.{ReaderState, Takes, to_come, IsAtEnd, Reader, tells, answered}, Calls.{ReadCall, Gave}}
+use Rattle.no_std_io2.specs.inner.Buffer.{AsksOn, HasTo}
+use Rattle.no_std_io2.specs.inner.Reads.{GathersTo, Reads}
+use Rattle.base64_stream.specs.{declared.decoder.DecoderReader.{DecoderReader}, Waiting.{text_items, waiting_items}}
+use Rattle.base64_stream.specs.Decoding.{decoded_events, decoded_group}
 
--- the events that a `read_full` took, by how it ended: a fault is the last one
-abbrev FullEnds : Result (Unit {0}) Error → List Event → Type 0
-FullEnds (Ok u) taken = HasNoFault taken
-FullEnds (Err e) taken = EndsInFault taken e
+-- the result of reads that ended like this
+abbrev pub said : Result Bool Error → Result (Unit {0}) Error
+said (Ok full) = Ok tt
+said (Err e) = Err e
 
 module _ {R : Type 0} where
   -- the reader below
@@ -22,13 +23,13 @@ module _ {R : Type 0} where
   abbrev pub decoder_engine : DecoderReader R → GeneralPurpose
   decoder_engine r = r.engine
 
-  -- the first characters of a group that is not whole yet
+  -- the characters that were read and not decoded yet
   abbrev pub decoder_text : DecoderReader R → List ℕ
-  decoder_text r = few_items r.text
+  decoder_text r = text_items r.text
 
   -- the decoded bytes that wait
   abbrev pub decoder_waiting : DecoderReader R → List ℕ
-  decoder_waiting r = few_items r.waiting
+  decoder_waiting r = waiting_items r.waiting
 
   -- a group with padding has come
   abbrev pub decoder_closed : DecoderReader R → Bool
@@ -36,26 +37,23 @@ module _ {R : Type 0} where
 
   -- what it gives if the reader below gives these events, and no more
   abbrev pub decoder_gives : DecoderReader R → List Event → List Event
-  decoder_gives r E = events_of (decoder_waiting r) ++ decoded_events r.engine r.closed (decoder_text r) E
+  decoder_gives r E = events_of (decoder_waiting r) ++ decoded_events r.engine r.closed [] (events_of (decoder_text r) ++ E)
 
   -- what it tells: the decoding of what the reader below tells
   abbrev pub decoder_events : (R → ReaderState) → DecoderReader R → Option (List Event)
-  decoder_events tells r = option_map (decoder_gives r) (to_come (tells r.inner))
+  decoder_events tells r = option_map (decoder_gives r) (to_come (tells (decoder_inner r)))
 
-  -- its turns: a turn below gives up to three bytes, or a fault after which some text is kept
+  -- its turns: at most 192 bytes wait, and each decoding takes some characters
   abbrev pub decoder_turns : (R → ℕ) → DecoderReader R → ℕ
-  decoder_turns turns r = 4 * turns r.inner + 3 * min 1 (length (decoder_text r)) + length (decoder_waiting r)
-
-  -- no call was made, or these events came from the reads of one `read_full` of what is missing of the group
-  abbrev ReadsRest : Reader R → DecoderReader R → List Event → R → Type 0
-  ReadsRest I old taken below = ((taken ≡ []) × (below ≡ decoder_inner old))
-      ⊎ ((reply : Result (Unit {0}) Error) × FullEnds reply taken × ByCalls (ReadCallLaw I) (decoder_inner old)
-      (λ C. FullCalls C (4 - length (decoder_text old)) (event_bytes taken) reply) below)
+  decoder_turns turns r = 193 * (257 * turns r.inner + length (decoder_text r)) + length (decoder_waiting r)
 
   -- the reader below gave these events, and is now this
   pub record TakesText (I : Reader R) (old : DecoderReader R) (taken : List Event) (below : R) : Type 0 where
     pub takes : Takes (tells I (decoder_inner old)) taken (tells I below)
-    pub reads : ReadsRest I old taken below
+    pub how : Result Bool Error
+    pub ends : GathersTo taken how (tells I below)
+    -- by reads into all the room behind the text, of 256 characters, while it had fewer than four
+    pub reads : Reads I (AsksOn 256 4 (decoder_text old)) (decoder_inner old) (event_bytes taken) how below
 
   -- From old to new it gave these events. The reader below gave `taken`, of which they are the decoding.
   pub data Decodes (I : Reader R) (old : DecoderReader R) (given : List Event) (new : DecoderReader R) : Type 0 where
@@ -71,24 +69,30 @@ module _ {R : Type 0} where
   DecoderMay I old (Gave room answer) new = Decodes I old (answered answer) new
   DecoderMay I old _ new = ⊥
 
-  -- the state has not changed, but for the reader below and the text
+  -- the engine, what waits, and whether the text is closed have not changed
   abbrev pub KeepsState : DecoderReader R → DecoderReader R → Type 0
-  KeepsState old new = (new.engine ≡ old.engine) × (new.closed ≡ old.closed) × (new.waiting ≡ old.waiting)
+  KeepsState old new = (new.engine ≡ old.engine) × (new.closed ≡ old.closed) × (decoder_waiting new ≡ decoder_waiting old)
 
-  -- how the gathering of a group ended, of which this text was taken: it is whole, or the last; or a fault came, and the text is kept
-  abbrev pub GroupEnds : Reader R → DecoderReader R → List Event → List ℕ → Result ℕ Error → DecoderReader R → Type 0
-  GroupEnds I old taken buf (Ok n) new = HasNoFault taken × (take n buf ≡ decoder_text old ++ event_bytes taken)
-      × (n ≡ length (decoder_text old) + length (event_bytes taken)) × (n ≤ 4)
-      × (n < 4 → IsAtEnd (tells I (decoder_inner new))) × (decoder_text new ≡ [])
-  GroupEnds I old taken buf (Err e) new = EndsInFault taken e × (decoder_text new ≡ decoder_text old ++ event_bytes taken)
-
-  -- a group was gathered in this buffer
-  pub record GathersGroup (I : Reader R) (old : DecoderReader R) (buf : List ℕ) (reply : Result ℕ Error)
-      (new : DecoderReader R) : Type 0 where
-    pub taken : List Event
-    pub text : TakesText I old taken (decoder_inner new)
-    pub ends : GroupEnds I old taken buf reply new
+  -- Reads went on until the text had four characters, or up to the end or a fault.
+  pub record GathersText (I : Reader R) (old : DecoderReader R) (reply : Result (Unit {0}) Error) (new : DecoderReader R) : Type 0 where
+    pub how : Result Bool Error
+    pub is : reply ≡ said how
+    pub given : List ℕ
+    pub reads : Reads I (AsksOn 256 4 (decoder_text old)) (decoder_inner old) given how (decoder_inner new)
+    pub holds : decoder_text new ≡ decoder_text old ++ given
+    pub enough : HasTo 4 how (length (decoder_text new))
     pub keeps : KeepsState old new
+
+  -- the first n characters of the text are a group that is refused, and nothing has changed; or all of them were decoded at once, and their
+  -- bytes wait
+  abbrev pub DecodesFront : ℕ → DecoderReader R → Bool → DecoderReader R → Type 0
+  DecodesFront n old false new = (decoded_group old.engine old.closed (take n (decoder_text old)) ≡ [])
+      × (decoder_waiting new ≡ []) × (new.engine ≡ old.engine) × (new.closed ≡ old.closed) × (new.inner ≡ old.inner)
+      × (new.text ≡ old.text)
+  DecodesFront n old true new = (old.closed ≡ false)
+      × (decode_of old.engine (take n (decoder_text old)) ≡ Ok (decoder_waiting new)) × (new.engine ≡ old.engine)
+      × (new.closed ≡ nat_lt (length (decoder_waiting new)) ((n + 3) / 4 * 3)) × (new.inner ≡ old.inner)
+      × (decoder_text new ≡ drop n (decoder_text old))
 
   -- some bytes wait, or the end has come; or an error was given
   abbrev pub FillsWaiting : Reader R → DecoderReader R → Result (Unit {0}) Error → DecoderReader R → Type 0

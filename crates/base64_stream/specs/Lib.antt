@@ -1,5 +1,5 @@
 pub mod Group
-pub mod FewBytes
+pub mod Waiting
 pub mod Encoder
 pub mod Finish
 pub mod Decoding

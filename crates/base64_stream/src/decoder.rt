@@ -8,21 +8,21 @@ ghost use Rattle.no_std_io2.specs.Read.{ReadLaw};
 ghost use Rattle.no_std_io2.specs.Takes.{tells};
 ghost use Rattle.no_std_io2.specs.Events.{events_of};
 ghost use Rattle.no_std_io2.specs.Takes.{to_come};
-ghost use Rattle.base64_stream.specs.Decoding.{decoded_group};
-ghost use Rattle.base64_stream.specs.Decoder.{DecoderMay, FillsWaiting, GathersGroup, decoder_closed, decoder_engine, decoder_events};
+ghost use Rattle.base64_stream.specs.Decoder.{DecoderMay, DecodesFront, FillsWaiting, GathersText, decoder_closed, decoder_engine, decoder_events};
 ghost use Rattle.base64_stream.specs.Decoder.{decoder_inner, decoder_text, decoder_turns, decoder_waiting};
-ghost use Rattle.base64_stream.specs.FewBytes.{few_items};
 
-use crate::few_bytes::FewBytes;
+use crate::text::Text;
+use crate::waiting::Waiting;
 use base64::engine::general_purpose::{GeneralPurpose, STANDARD};
 use no_std_io2::io::{Error, ErrorKind, Read, Result, Stored};
 use std::alloc::Global;
 
 /// A reader that gives the bytes whose base64 encoding the reader below gives, four characters for up to three bytes.
 ///
-/// It reads one group of four characters at a time, so put a `BufReader` below it. A fault of the reader below comes at its
-/// place among the bytes, and loses nothing: the characters before it are kept, and the next read continues the group.
-/// Interruptions are ignored.
+/// It reads up to 256 characters at once, so no `BufReader` is needed below it: it reads only while it has fewer than four
+/// characters, and then decodes all groups that are there. So the reader below may be up to 255 characters ahead of the
+/// bytes that were given and that wait. A fault of the reader below comes at its place among the bytes, and loses nothing:
+/// the characters before it are kept, and the next read continues the group. Interruptions are ignored.
 ///
 /// Each group gives its bytes, or the error `InvalidData`: if it is no base64, if a group with padding came before it, or if
 /// the text ends in its middle, and the engine does not take that. After this error the next read goes on behind the group.
@@ -32,10 +32,8 @@ use std::alloc::Global;
 pub struct DecoderReader<R> {
     engine: GeneralPurpose,
     inner: R,
-    // The first characters of a group that is not whole yet.
-    text: FewBytes,
-    // The decoded bytes that wait.
-    waiting: FewBytes,
+    text: Text,
+    waiting: Waiting,
     closed: bool,
 }
 
@@ -47,26 +45,11 @@ impl<R> DecoderReader<R> {
         &self.inner
     }
 
-    /// Returns the reader below. The characters of an unfinished group and the decoded bytes that wait are lost.
+    /// Returns the reader below. The characters that were read ahead and the decoded bytes that wait are lost.
     pub fn into_inner(self) -> R
         ensures { result ≡ decoder_inner self }
     {
         self.inner
-    }
-
-    // Returns the bytes of a group, or none if it is refused.
-    fn decode(&self, group: &[u8]) -> FewBytes
-        requires { length group.now ≤ 4 }
-        ensures { few_items result ≡ decoded_group (decoder_engine self.now) (decoder_closed self.now) group.now }
-    {
-        if self.closed {
-            return FewBytes::new();
-        }
-        let mut bytes = [0u8; 3];
-        match self.engine.decode_slice_unchecked(group, &mut bytes) {
-            Ok(n) => FewBytes::of(&bytes[..n]),
-            Err(_) => FewBytes::new(),
-        }
     }
 }
 
@@ -87,50 +70,69 @@ impl<R: Read> DecoderReader<R> {
         DecoderReader {
             engine,
             inner,
-            text: FewBytes::new(),
-            waiting: FewBytes::new(),
+            text: Text::new(),
+            waiting: Waiting::new(),
             closed: false,
         }
     }
 
-    // Reads the rest of a group, and returns how many characters it has: four, or fewer if the text ends in it. After an error
-    // the characters are kept.
-    fn gather(&mut self, group: &mut [u8; 4]) -> Result<usize>
-        ensures { GathersGroup R.Read self.old group.new result self.new }
+    // Reads until there are four characters, or up to the end.
+    fn gather(&mut self) -> Result<()>
+        ensures { GathersText R.Read self.old result self.new }
     {
-        let mut len = self.text.put_into(group);
-        match self.inner.read_full(group, &mut len) {
-            Ok(()) => {
-                self.text = FewBytes::new();
-                Ok(len)
-            }
-            Err(e) => {
-                self.text = FewBytes::of(&group[..len]);
-                Err(e)
+        'reads: while self.text.len() < 4 {
+            match self.text.read_on(&mut self.inner) {
+                Ok(0) => return Ok(()),
+                Ok(_) => {}
+                Err(e) if e.is_interrupted() => {}
+                Err(e) => return Err(e),
             }
         }
+        Ok(())
     }
 
-    // Decodes the next group.
+    // Decodes the first `n` characters at once. If the engine does not take them, it returns `false`, and they are kept.
+    fn decode(&mut self, n: usize) -> bool
+        requires within { n ≤ length (decoder_text self.old) }
+        requires idle { decoder_waiting self.old ≡ [] }
+        ensures { DecodesFront n self.old result self.new }
+    {
+        if self.closed {
+            return false;
+        }
+        if !self
+            .waiting
+            .decode(&self.engine, &self.text.as_slice()[..n])
+        {
+            return false;
+        }
+        self.closed = self.waiting.len() < (n + 3) / 4 * 3;
+        self.text.consume(n);
+        true
+    }
+
+    // Decodes all groups that are there, or only the next one if they are not decoded at once. If none is there, it first reads.
     fn refill(&mut self) -> Result<()>
         requires { decoder_waiting self.old ≡ [] }
         ensures { FillsWaiting R.Read self.old result self.new }
     {
-        let mut group = [0u8; 4];
-        let len = self.gather(&mut group)?;
-        if len == 0 {
+        self.gather()?;
+        let held = self.text.len();
+        if held == 0 {
             return Ok(());
         }
-        let bytes = self.decode(&group[..len]);
-        if bytes.is_empty() {
-            return Err(Error::from(ErrorKind::InvalidData));
+        let first = held.min(4);
+        if self.decode((held / 4 * 4).max(first)) {
+            return Ok(());
         }
-        self.closed = bytes.len() < 3;
-        self.waiting = bytes;
-        Ok(())
+        if self.decode(first) {
+            return Ok(());
+        }
+        self.text.consume(first);
+        Err(Error::from(ErrorKind::InvalidData))
     }
 
-    // Decodes the next group if no bytes wait.
+    // Decodes the next groups if no bytes wait.
     fn fill(&mut self) -> Result<()>
         ensures fills { FillsWaiting R.Read self.old result self.new }
         ensures ready { 0 < length (decoder_waiting self.old) → self.new ≡ self.old }
@@ -154,8 +156,8 @@ impl<R: Read> Read for DecoderReader<R> {
     // The given bytes are the decoding of what was read below.
     ghost may = { DecoderMay R.Read };
 
-    /// Gives up to three bytes: those of one group, or those of it that did not fit before. If bytes wait, or `buf` is empty,
-    /// it makes no call.
+    /// Gives bytes that wait, as many as fit. If none wait, it first decodes the groups that were read, and if there is none it
+    /// first reads until there is one. If bytes wait, or `buf` is empty, it makes no call.
     ///
     /// # Errors
     /// Returns the fault of the reader below, and `InvalidData` for a group that is refused; the next read continues behind

@@ -42,6 +42,19 @@ fn encode(engine: &GeneralPurpose, group: &[u8], more: &[u8], text: &mut [u8; 25
     ensures fits { result ≤ 256 }
     ensures short { result ≤ (length group.now + length more.now + 2) / 3 * 4 }
 {
+    if group.is_empty() {
+        return encode_bytes(engine, more, text);
+    }
+    encode_joined(engine, group, more, text)
+}
+
+// The same, by way of a copy of both.
+fn encode_joined(engine: &GeneralPurpose, group: &[u8], more: &[u8], text: &mut [u8; 256]) -> usize
+    requires { length group.now + length more.now ≤ 192 }
+    ensures text { take result text.new ≡ encode_of engine.now (group.now ++ more.now) }
+    ensures fits { result ≤ 256 }
+    ensures short { result ≤ (length group.now + length more.now + 2) / 3 * 4 }
+{
     let mut bytes = [0u8; 192];
     put_at(&mut bytes, 0, group);
     put_at(&mut bytes, group.len(), more);

@@ -6,8 +6,9 @@
 
 mod decoder;
 mod encoder;
-mod few_bytes;
 mod group;
+mod text;
+mod waiting;
 
 pub use decoder::{DecoderReader, decoded};
 pub use encoder::{EncoderWriter, encoded};

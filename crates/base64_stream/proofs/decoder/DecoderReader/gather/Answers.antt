@@ -1,17 +1,35 @@
--- The search does not find which reads a `read_full` made.
-use Rattle.no_std_io2.proofs.Words.{refl, arith}
-use Rattle.no_std_io2.proofs.TakesLemmas.{reader}
-use Rattle.base64_stream.proofs.DecoderLemmas.{gathers_all, gathers_some}
+-- Reads that go on until a group is whole: after each read, and at the three ends.
+use Rattle.no_std_io2.proofs.Words.{refl, sym, ◌∙◌, arith}
+use Rattle.no_std_io2.proofs.FillToLemmas.{spends_more, spends_again}
+use Rattle.base64_stream.proofs.GatherLemmas.{gathered_none, gathered_more, gathered_again, gathers_fault, gathers_end, gathers_enough}
 use Rattle.base64_stream.proofs.decoder.DecoderReader.gather.Goals as goal
 
-pub returns-in-Ok : goal.returns-in-Ok
-returns-in-Ok g c =
-    gathers_all (reader g.R.Stored g.R.Read) c.in-Ok.ensures.law c.put_into-len.ensures.count c.put_into-len.ensures.front
-    (omega (arith, c.put_into-len.array_long)) c.new-self.ensures
-    (refl, refl, refl)
+pub reads-init : goal.reads-init
+reads-init g c = gathered_none c.args.self.now
 
-pub returns-in-Err : goal.returns-in-Err
-returns-in-Err g c =
-    gathers_some (reader g.R.Stored g.R.Read) c.in-Err.ensures.law c.put_into-len.ensures.count c.put_into-len.ensures.front
-    (omega (arith, c.put_into-len.array_long)) c.of-self.ensures
-    (refl, refl, refl)
+pub reads-preserved-in-Ok : goal.reads-preserved-in-Ok
+reads-preserved-in-Ok g c =
+    gathered_more c.reads.invariant (omega arith) (refl, refl, refl) c.in-Ok.ensures c.in-Ok.field-0-test.1
+
+pub reads-preserved : goal.reads-preserved
+reads-preserved g c =
+    gathered_again c.reads.invariant (omega arith) (refl, refl, refl) c.in-Err.ensures
+    (sym c.is_interrupted.ensures ∙ c.if-is_interrupted.true)
+
+pub reads-smaller-in-Ok : goal.reads-smaller-in-Ok
+reads-smaller-in-Ok g c = spends_more c.in-Ok.ensures c.in-Ok.field-0-test.1
+
+pub reads-smaller : goal.reads-smaller
+reads-smaller g c = spends_again c.in-Err.ensures
+
+pub returns-in-Err-2 : goal.returns-in-Err-2
+returns-in-Err-2 g c =
+    gathers_fault c.reads.invariant (omega arith) (refl, refl, refl) c.in-Err.ensures
+    (sym c.is_interrupted.ensures ∙ c.if-is_interrupted.false)
+
+pub returns-in-Ok-eq0 : goal.returns-in-Ok-eq0
+returns-in-Ok-eq0 g c =
+    gathers_end c.reads.invariant (omega arith) (refl, refl, refl) (rw c.in-Ok-eq0.is at c.read_on.ensures) (omega arith)
+
+pub returns : goal.returns
+returns g c = gathers_enough c.reads.invariant (omega (arith, c.reads-test.false))

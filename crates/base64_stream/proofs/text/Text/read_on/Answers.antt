@@ -1,0 +1,61 @@
+-- The characters that were read lie behind the others, which are at the front.
+use Rattle.no_std_io2.proofs.Words.{common_steps, ◌≡◌, ℕ, ◌+◌, ◌-◌, ◌≤◌, List, ◌++◌, Ok, length, take, drop, sym, ap, subst, ◌∙◌, arith}
+use Rattle.no_std_io2.proofs.Words.{length-take, length-drop, length-take-le, append-nil, refl, Err, GaveLaw}
+use Rattle.std.proofs.Common.{slice_range}
+use borrow.Rule.Slice.PartMut.{put_mid}
+use Rattle.no_std_io2.proofs.{ReadLoops.{take-put_mid}, TakesLemmas.{reader, read_law}}
+use Rattle.base64_stream.proofs.text.Text.read_on.Goals as goal
+
+-- the bytes from the front to the end, after n bytes were put behind it
+held_on : (xs ys : List ℕ) (start end n k : ℕ) → start ≡ 0 → end ≤ length xs → n ≤ length ys
+    → slice_range (put_mid end k xs ys) start (end + n) ≡ slice_range xs start end ++ take n ys
+held_on xs ys start end n k zero within fits = grind (arith, common_steps, slice_range, put_mid, take-put_mid)
+
+-- the room behind them
+room_on : (xs ys : List ℕ) (start end size : ℕ) → start ≡ 0 → end ≤ size → length xs ≡ size
+    → length ys ≡ length (take (length xs - end) (drop end xs)) → length ys ≡ size - length (slice_range xs start end)
+room_on xs ys start end size zero within long room = grind (arith, common_steps, length-take, length-drop)
+
+-- after a read that gave none, they are as they were
+held_same : (xs ys : List ℕ) (start end k : ℕ) → start ≡ 0 → end ≤ length xs
+    → slice_range (put_mid end k xs ys) start end ≡ slice_range xs start end
+held_same xs ys start end k zero within =
+    let none : end + 0 ≡ end = omega arith in
+    rw (none, append-nil (slice_range xs start end)) at (held_on xs ys start end 0 k zero within (omega arith))
+
+pub returns-in-Ok : goal.returns-in-Ok
+returns-in-Ok g c =
+    let was = c.move_down.new.self in
+    let first = c.move_down.ensures in
+    let law = c.in-Ok.ensures.law in
+    let n = c.in-Ok.n in
+    let long : length was.bytes ≡ 256 = omega arith in
+    let on = held_on was.bytes c.read.new.buf was.start was.end n (length was.bytes - was.end) first.start
+    (omega (arith, long, was.in_range)) law.bound in
+    record {
+      answer = Ok (take n c.read.new.buf);
+      read = subst (λ k. GaveLaw (reader g.R.Stored g.R.Read) c.args.from.now k (Ok (take n c.read.new.buf)) c.read.new.self)
+          (room_on was.bytes c.read.new.buf was.start was.end 256 first.start was.in_range long c.read.auto.buf
+          ∙ ap (λ l. 256 - length l) first.same)
+          (read_law (Ok n) law);
+      number = ap Ok (sym (length-take-le n c.read.new.buf law.bound));
+      holds = on ∙ ap (λ l. l ++ take n c.read.new.buf) first.same;
+    }
+
+pub returns-in-Err : goal.returns-in-Err
+returns-in-Err g c =
+    let was = c.move_down.new.self in
+    let first = c.move_down.ensures in
+    let law = c.in-Err.ensures.law in
+    let e = c.in-Err.e in
+    let long : length was.bytes ≡ 256 = omega arith in
+    record {
+      answer = Err e;
+      read = subst (λ k. GaveLaw (reader g.R.Stored g.R.Read) c.args.from.now k (Err e) c.read.new.self)
+          (room_on was.bytes c.read.new.buf was.start was.end 256 first.start was.in_range long c.read.auto.buf
+          ∙ ap (λ l. 256 - length l) first.same)
+          (read_law (Err e) law);
+      number = refl;
+      holds = held_same was.bytes c.read.new.buf was.start was.end (length was.bytes - was.end) first.start
+          (omega (arith, long, was.in_range)) ∙ first.same ∙ sym (append-nil _);
+    }
