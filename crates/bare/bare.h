@@ -76,7 +76,8 @@ uint32_t bare_copy(struct bare_queue *kept, struct bare_queue *port, const uint8
 /* Takes a message off the bytes that a port received: a byte with its length, and then so many bytes.
    BARE_DONE: it is gone from `port`; its bytes are the first `*len` of `room`, and the rest of `room` is as it was.
    Else nothing is gone from `port`, and `room` is as it was.
-   BARE_PARTIAL: the message has not come whole. `*len` is as it was.
+   BARE_PARTIAL: the message has not come whole. If its length has come, the message fits a queue and `room`. `*len` is
+   as it was.
    BARE_FULL: the message is longer than `room`: it has `*len` bytes.
    BARE_REFUSED: the message has 64 bytes or more, which no queue can hold. `*len` is as it was. To go on, take off the
    first byte and so many bytes as it says, by `bare_take`. */

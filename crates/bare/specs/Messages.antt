@@ -7,9 +7,10 @@ use Rattle.bare.specs.Queue.{queue_capacity}
 abbrev Begins : ℕ → List ℕ → Type 0
 Begins len bytes = (rest : List ℕ) × (bytes ≡ len ∷ rest)
 
--- not all of a message is there, and a queue can hold it
-abbrev IsPartial : List ℕ → Type 0
-IsPartial bytes = (bytes ≡ []) ⊎ ((len : ℕ) × (rest : List ℕ) × (bytes ≡ len ∷ rest) × (length rest < len) × (len < queue_capacity))
+-- not all of a message is there, and it fits a queue and the room
+abbrev IsPartial : List ℕ → List ℕ → Type 0
+IsPartial bytes room = (bytes ≡ [])
+    ⊎ ((len : ℕ) × (rest : List ℕ) × (bytes ≡ len ∷ rest) × (length rest < len) × (len < queue_capacity) × (len ≤ length room))
 
 -- the message is gone from the bytes, and at the front of the room
 pub record IsReceived (bytes room bytes' room' : List ℕ) (len : ℕ) : Type 0 where
@@ -19,7 +20,7 @@ pub record IsReceived (bytes room bytes' room' : List ℕ) (len : ℕ) : Type 0 
 
 -- why a message is not given
 abbrev IsWithheld : List ℕ → List ℕ → ℕ → ℕ → ℕ → Type 0
-IsWithheld bytes room status len len' = ((status ≡ status_partial) × IsPartial bytes × (len' ≡ len))
+IsWithheld bytes room status len len' = ((status ≡ status_partial) × IsPartial bytes room × (len' ≡ len))
     ⊎ ((status ≡ status_full) × Begins len' bytes × (length room < len') × (len' < queue_capacity))
     ⊎ ((status ≡ status_refused) × ((big : ℕ) × Begins big bytes × (queue_capacity ≤ big)) × (len' ≡ len))
 

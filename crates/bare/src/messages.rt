@@ -9,8 +9,9 @@ use no_std_io2::io::Read;
 /// Gives the next message of a port: a byte with its length, and so many bytes, which are moved into `room`. `len` is
 /// then their number.
 ///
-/// Returns [`PARTIAL`] if the message has not come whole, [`FULL`] if it is longer than `room`, with its length in
-/// `len`, and [`REFUSED`] if no queue can hold it. All its bytes still wait then, and `room` is as it was.
+/// Returns [`REFUSED`] if no queue can hold the message, and [`FULL`] if a queue can and it is longer than `room`, with
+/// its length in `len`. Returns [`PARTIAL`] if neither is so and it has not come whole, or if its length has not come. All
+/// its bytes still wait then, and `room` is as it was.
 #[unsafe(no_mangle)]
 pub extern "C" fn bare_message(port: &mut Queue, room: &mut [u8], len: &mut usize) -> u32
     ensures { Receives (waiting port.old) room.old len.old result (waiting port.new) room.new len.new }
