@@ -1,6 +1,6 @@
 -- What a call that takes one piece gives if the piece is known to come, and a `read_to_string` if all is.
-use Rattle.std.proofs.Common.{◌≡◌, ◌≢◌, ℕ, ◌+◌, List, [], ◌∷◌, ◌++◌, length, refl, ap, sym, ◌∙◌, arith, append_assoc, append-nil, inl, inr, subst}
-use Rattle.std.proofs.{Common.{Option, Some, Result, Ok, Err, IfOk, IfErr, IfSome, Vec, String, string_bytes, length-append}, lemmas.Grind.{common_steps}}
+use Rattle.std.proofs.Common.{◌≡◌, ℕ, ◌+◌, List, [], ◌∷◌, ◌++◌, length, refl, ap, sym, ◌∙◌, arith, append_assoc, append-nil, inl, inr, subst}
+use Rattle.std.proofs.{Common.{Some, Result, Ok, Err, IfOk, IfErr, IfSome, Vec, String, string_bytes, length-append}, lemmas.Grind.{common_steps}}
 use Rattle.std.proofs.Common.{IsUtf8, string_len, string_capacity, vec_len, vec_capacity, ◌<◌, ◌≤◌}
 use Rattle.no_std_io2_base.specs.{declared.error.Error.{Error}, Errors.{IsOutOfMemory}, Events.{Event, byte, fails, events_of, event_bytes}}
 use Rattle.no_std_io2_base.specs.{Takes.{Reader, ReaderState, Takes, tells, to_come}, BufRead.{ReadUntilLaw, ReadLineLaw}, Pieces.{newline}}

@@ -4,7 +4,7 @@ ghost use Rattle.std.specs.Prelude.{vec_len, vec_capacity, slice_range};
 ghost use Rattle.std.specs.Bool.{OnTrue, OnFalse};
 ghost use Rattle.no_std_io2.specs.declared.buffered.buffer.TheConstants.{SMALL};
 ghost use Rattle.no_std_io2_base.specs.Errors.{IsOutOfMemory};
-ghost use Rattle.no_std_io2_base.specs.inner.Cursor.{HasMoved};
+ghost use Rattle.no_std_io2_base.specs.inner.InMemory.{AppendsPart};
 ghost use Rattle.no_std_io2_base.specs.inner.Read.{GaveLaw, gave_whole, least_room};
 
 use no_std_io2_base::error::Result;
@@ -190,13 +190,10 @@ impl<const S: usize> Buffer<S> {
     /// Appends the held bytes to a vector, and clears the array. If an allocation fails, it appends as
     /// many as there is room for, and keeps the rest.
     pub(crate) fn append_to<A: Allocator>(&mut self, buf: &mut Vec<u8, A>) -> Result<()>
-        ensures moved { HasMoved (buffer_held self.old) (buffer_held self.new) buf.old.items buf.new.items }
+        ensures part { AppendsPart (buffer_held self.old) (buffer_held self.new) buf.old result buf.new }
         ensures done { OnOk result ((buffer_held self.new ≡ []) × (buffer_behind self.new ≡ [])) }
         ensures kept { OnErr result
             (buffer_behind self.new ++ buffer_held self.new ≡ buffer_behind self.old ++ buffer_held self.old) }
-        ensures grows { vec_capacity buf.old ≤ vec_capacity buf.new }
-        ensures refused { IfErr result IsOutOfMemory }
-        ensures full { OnErr result (vec_capacity buf.old < vec_len buf.new + least_room) }
     {
         let mut rest = self.as_slice();
         let appended = append_rest(&mut rest, buf);

@@ -1,6 +1,7 @@
 -- What calls may do to streams in memory, to a `Sink`, an `Empty` and a `Repeat`.
 use Rattle.std.specs.Prelude.{◌≡◌, ℕ, ◌+◌, ◌<◌, ◌≤◌, List, ◌++◌, length, Result, Ok, Err, IsOk, IfOk, [], take, drop, OnOk, IsErrAnd}
-use Rattle.std.specs.Prelude.{IsOkAnd, replicate, Some}
+use Rattle.std.specs.Prelude.{IsOkAnd, replicate, Some, Vec, vec_len, vec_capacity, IfErr, OnErr}
+use Rattle.no_std_io2_base.specs.inner.{Cursor.{HasMoved}, Read.{least_room}}
 use Rattle.no_std_io2_base.specs.Calls.{WriteCall, Wrote, WroteAll, Flushed, ReadCall, Gave, GaveExactly, GaveAll, Filled, Consumed}
 use Rattle.no_std_io2_base.specs.{declared.error.Error.{Error}, Errors.{IsOutOfMemory, IsUnexpectedEnd}, Calls.{SeekCall, Sought}}
 use Rattle.no_std_io2_base.specs.{declared.repeats.Repeat.{Repeat}, Moves.{WriterState}, declared.sinks.Sink.{Sink}}
@@ -60,3 +61,21 @@ SinkMay old (WroteAll x reply) new = ⊥
 abbrev pub StaysAtStart : {X : Type 0} → X → SeekCall → X → Type 0
 StaysAtStart old (Sought from reply) new = (reply ≡ Ok 0) × (new ≡ old)
 StaysAtStart old _ new = ⊥
+
+-- a vector has room for this many more bytes; or it had not, and an allocation failed. Nothing else changed.
+pub record Reserves {A : Type 0} (wanted : ℕ) (old : Vec ℕ A) (reply : Result (Unit {0}) Error) (new : Vec ℕ A) : Type 0 where
+  pub items : new.items ≡ old.items
+  pub len : vec_len new ≡ vec_len old
+  pub room : OnOk reply (vec_len new + wanted ≤ vec_capacity new)
+  pub grows : vec_capacity old ≤ vec_capacity new
+  pub refused : IfErr reply IsOutOfMemory
+  pub full : OnErr reply (vec_capacity old < vec_len old + wanted)
+
+-- some bytes are gone from the front of a slice, and are at the end of a vector. An allocation can fail only if that had no room for them
+-- and 32 more.
+pub record AppendsPart {A : Type 0} (rest rest' : List ℕ) (old : Vec ℕ A) (reply : Result (Unit {0}) Error) (new : Vec ℕ A)
+    : Type 0 where
+  pub moved : HasMoved rest rest' old.items new.items
+  pub grows : vec_capacity old ≤ vec_capacity new
+  pub refused : IfErr reply IsOutOfMemory
+  pub full : OnErr reply (vec_capacity old < vec_len new + least_room)

@@ -2,10 +2,9 @@
 ghost use Rattle.std.specs.Prelude.{◌≡◌, ◌≤◌, ◌<◌, ◌+◌, ◌++◌, length, [], Some, IfErr, OnOk, OnErr, vec_len, vec_capacity};
 ghost use Rattle.no_std_io2_base.specs.Errors.{IsOutOfMemory};
 ghost use Rattle.no_std_io2_base.specs.Events.{events_of};
-ghost use Rattle.no_std_io2_base.specs.inner.InMemory.{GivesLeft};
+ghost use Rattle.no_std_io2_base.specs.inner.InMemory.{GivesLeft, AppendsPart};
 ghost use Rattle.no_std_io2_base.specs.inner.Read.{least_room};
 ghost use Rattle.no_std_io2_base.specs.Read.{ReadExactLaw};
-ghost use Rattle.no_std_io2_base.specs.inner.Cursor.{HasMoved};
 
 use super::copying::copy_prefix;
 use crate::error::{Result, failed_to_fill};
@@ -28,11 +27,8 @@ pub(super) fn reserve_ahead<A: Allocator>(buf: &mut Vec<u8, A>, coming: usize)
 #[cold]
 #[inline(never)]
 fn append_parts<A: Allocator>(rest: &mut &[u8], buf: &mut Vec<u8, A>) -> Result<()>
-    ensures moved { HasMoved rest.old.now rest.new.now buf.old.items buf.new.items }
+    ensures part { AppendsPart rest.old.now rest.new.now buf.old result buf.new }
     ensures done { OnOk result (rest.new.now ≡ []) }
-    ensures grows { vec_capacity buf.old ≤ vec_capacity buf.new }
-    ensures refused { IfErr result IsOutOfMemory }
-    ensures full { OnErr result (vec_capacity buf.old < vec_len buf.new + least_room) }
 {
     let all: &[u8] = *rest;
     let own = buf.capacity();
@@ -59,11 +55,8 @@ fn append_parts<A: Allocator>(rest: &mut &[u8], buf: &mut Vec<u8, A>) -> Result<
 /// Returns `OutOfMemory` if the vector could not grow; bytes that were not appended are still in the slice.
 #[inline(always)]
 pub fn append_rest<A: Allocator>(rest: &mut &[u8], buf: &mut Vec<u8, A>) -> Result<()>
-    ensures moved { HasMoved rest.old.now rest.new.now buf.old.items buf.new.items }
+    ensures part { AppendsPart rest.old.now rest.new.now buf.old result buf.new }
     ensures done { OnOk result (rest.new.now ≡ []) }
-    ensures grows { vec_capacity buf.old ≤ vec_capacity buf.new }
-    ensures refused { IfErr result IsOutOfMemory }
-    ensures full { OnErr result (vec_capacity buf.old < vec_len buf.new + least_room) }
 {
     reserve_ahead(buf, rest.len());
     let all: &[u8] = *rest;

@@ -1,6 +1,7 @@
 // The room that `read_to_end` makes in a vector for its reads.
 ghost use Rattle.std.specs.Prelude.{◌≡◌, take, ◌+◌, ◌≤◌, ◌<◌, IfErr, OnOk, OnErr, vec_len, vec_capacity};
 ghost use Rattle.no_std_io2_base.specs.Errors.{IsOutOfMemory};
+ghost use Rattle.no_std_io2_base.specs.inner.InMemory.{Reserves};
 
 use crate::error::Result;
 use std::alloc::Allocator;
@@ -31,12 +32,7 @@ pub(crate) fn reserve_room<A: Allocator>(
     own: usize,
     read: usize,
 ) -> Result<()>
-    ensures items { buf.new.items ≡ buf.old.items }
-    ensures len { vec_len buf.new ≡ vec_len buf.old }
-    ensures room { OnOk result (vec_len buf.new + wanted ≤ vec_capacity buf.new) }
-    ensures grows { vec_capacity buf.old ≤ vec_capacity buf.new }
-    ensures refused { IfErr result IsOutOfMemory }
-    ensures full { OnErr result (vec_capacity buf.old < vec_len buf.old + wanted) }
+    ensures { Reserves wanted buf.old result buf.new }
 {
     if buf.capacity() == own && buf.len() / MOST_MOVED <= read.saturating_add(LEAST_ROOM) {
         buf.reserve_exact(wanted)?;
@@ -56,12 +52,7 @@ pub(crate) fn reserve_first<A: Allocator>(
     wanted: usize,
     coming: usize,
 ) -> Result<()>
-    ensures items { buf.new.items ≡ buf.old.items }
-    ensures len { vec_len buf.new ≡ vec_len buf.old }
-    ensures room { OnOk result (vec_len buf.new + wanted ≤ vec_capacity buf.new) }
-    ensures grows { vec_capacity buf.old ≤ vec_capacity buf.new }
-    ensures refused { IfErr result IsOutOfMemory }
-    ensures full { OnErr result (vec_capacity buf.old < vec_len buf.old + wanted) }
+    ensures { Reserves wanted buf.old result buf.new }
 {
     let own = buf.capacity();
     let read = if buf.len() == own { own } else { coming };

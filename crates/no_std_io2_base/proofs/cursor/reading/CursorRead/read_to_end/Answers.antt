@@ -11,11 +11,11 @@ returns-in_err-answer g c =
     let here = c.args.self.now in
     let content = g.T.AsSlice.slice here.inner in
     let said = c.in_err-answer.ensures in
-    let part = said.moved.0 in
-    let left = sym c.left-rest.ensures.left ∙ said.moved.1 in
+    let part = said.part.moved.0 in
+    let left = sym c.left-rest.ensures.left ∙ said.part.moved.1 in
     let rest = c.append_rest-answer.new.rest.now in
     let now = here.pos + (length c.left-rest.result.now - length rest) in
-    let moved : now ≡ here.pos + length part = omega (arith, ap length said.moved.1, length-append part rest) in
+    let moved : now ≡ here.pos + length part = omega (arith, ap length said.part.moved.1, length-append part rest) in
     let behind = behind_at content here.pos now part rest left moved in
     let split : drop here.pos content ≡ part ++ drop now content = left ∙ ap (λ l. part ++ l) (sym behind) in
     rw (p.1, p.2) (record {
@@ -23,7 +23,7 @@ returns-in_err-answer g c =
         split = split;
         takes = takes_at content here.pos now part split moved;
         told = told_at content now;
-      }) (Err _) said.moved.2 tt (said.refused, said.full) said.grows (split, tt);
+      }) (Err _) said.part.moved.2 tt (said.part.refused, said.part.full) said.part.grows (split, tt);
     })
 
 pub returns : goal.returns
@@ -31,11 +31,11 @@ returns g c =
     let here = c.args.self.now in
     let content = g.T.AsSlice.slice here.inner in
     let said = c.in_ok-answer.ensures in
-    let part = said.moved.0 in
-    let left = sym c.left-rest.ensures.left ∙ said.moved.1 in
+    let part = said.part.moved.0 in
+    let left = sym c.left-rest.ensures.left ∙ said.part.moved.1 in
     let rest = c.append_rest-answer.new.rest.now in
     let now = here.pos + (length c.left-rest.result.now - length rest) in
-    let whole = ap length said.moved.1 ∙ length-append part rest in
+    let whole = ap length said.part.moved.1 ∙ length-append part rest in
     let moved : now ≡ here.pos + length part = omega (arith, whole) in
     let behind = behind_at content here.pos now part rest left moved in
     let split : drop here.pos content ≡ part ++ drop now content = left ∙ ap (λ l. part ++ l) (sym behind) in
@@ -45,5 +45,5 @@ returns g c =
         split = split;
         takes = takes_at content here.pos now part split moved;
         told = told_at content now;
-      }) (Ok _) said.moved.2 (omega (arith, whole, ap length said.done), none) tt said.grows (split, none);
+      }) (Ok _) said.part.moved.2 (omega (arith, whole, ap length said.done), none) tt said.part.grows (split, none);
     }
