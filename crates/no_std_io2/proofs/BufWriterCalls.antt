@@ -9,6 +9,9 @@ use Rattle.no_std_io2.proofs.BufWriterLemmas.{Moves-kept, Moves-emptied, MovesFr
 use Rattle.no_std_io2.proofs.BufWriterLemmas.{effect_of, StepEffect, Effect, Always, Exactly, Emptied, Sending, StepsJoin}
 use Rattle.no_std_io2_base.specs.{declared.error.Error.{Error}, Errors.{IsNoInterruption}, Write.{accepted_of, write_mishap}}
 use Rattle.no_std_io2_base.specs.{declared.traits.seek.SeekFrom.{SeekFrom}, inner.Seek.{IsPosition}, Seek.{Seeker}}
+use Rattle.no_std_io2.proofs.Words.{append_assoc, length-append, error_kind, IsFault, writer_inner, writer_buffer, writer_told}
+use Rattle.no_std_io2.specs.{declared.buffered.buf_writer.BufWriter.{BufWriter}, BufWriter.{Puts}}
+use Rattle.no_std_io2.proofs.BufWriterLemmas.{then_stops}
 use Rattle.std.proofs.{Common.{take_all, nat_le, eq-zero-or-pos}, lemmas.Result.{on_ok_weaker}}
 use Rattle.no_std_io2_base.proofs.MovesLemmas.{IsFront-refl, Moves-then, zero_write-whole, writes_fault, writes_sends, all_calls}
 use Rattle.no_std_io2_base.proofs.MovesLemmas.{call_steady, writes_count, all_count, Moves-steady, after_ok, writes_left, writes_idle}
@@ -47,6 +50,33 @@ module _ {W : Type 0} {I : Writer W} {S : ℕ} where
     pub put_past : {held left : List ℕ} {reply : Result A Error} {a b : W} → S ≤ length x → held ≡ [] → left ≡ []
         → ByCalls (CallOf I) a (λ C. past C reply) b → Stepped I (PutCalls S x v past) a held reply left b
     put_past long none empty calls = by_are calls (λ C is. inr (long, (none, empty, is)))
+
+-- A record of two parts that is written whole, or not at all.
+module _ {W : Type 0} {S : ℕ} (I : Writer W) {old : BufWriter W S} {n : ℕ} (head tail : List ℕ) (is : n ≡ length head + length tail) where
+  -- no room could be made for a record
+  pub whole_refused : {new : BufWriter W S} (e : Error) → TakesStep I writer_inner writer_buffer (RoomCalls S n) old (Err e) new
+      → Moves (writer_told I.told old) [] (error_kind e ∷ []) (writer_told I.told new) → IsFault e
+      → Puts I writer_inner writer_buffer S (head ++ tail) old (Err e) new
+  whole_refused {new} e way moves fault = grind (arith, common_steps, length-append, then_stops)
+
+  -- there is room, and both parts of the record are held
+  pub whole_held : (mid new : BufWriter W S) → n < S → TakesStep I writer_inner writer_buffer (RoomCalls S n) old (Ok tt) mid
+      → Moves (writer_told I.told old) [] [] (writer_told I.told mid)
+      → writer_inner new ≡ writer_inner mid → writer_buffer new ≡ (writer_buffer mid ++ head) ++ tail
+      → Puts I writer_inner writer_buffer S (head ++ tail) old (Ok tt) new
+  whole_held mid new short way moves same put =
+      grind (
+        arith,
+        common_steps,
+        append_assoc,
+        writer_buffer,
+        Moves-then,
+        Moves-kept,
+        writer_inner,
+        then_goes_on,
+        length-append,
+        put_beside,
+      )
 
 -- a `write_all` of nothing, if nothing is held, makes no call
 pub nothing_put : {W : Type 0} {I : Writer W} (S : ℕ) (a : W) → Stepped I (WriteAllCalls S []) a [] (Ok tt) [] a

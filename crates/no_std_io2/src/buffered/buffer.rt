@@ -245,7 +245,12 @@ impl<const S: usize> Buffer<S> {
     }
 
     // Reads bytes of `from` into `bytes` after the first `filled`, until `n` more are there or the end comes first.
-    fn read_behind<R: Read>(from: &mut R, bytes: &mut [u8], filled: &mut usize, n: usize) -> Result<()>
+    fn read_behind<R: Read>(
+        from: &mut R,
+        bytes: &mut [u8],
+        filled: &mut usize,
+        n: usize,
+    ) -> Result<()>
         requires { filled.old + n ≤ length bytes.old }
         ensures len { length bytes.new ≡ length bytes.old }
         ensures within { (filled.old ≤ filled.new) × (filled.new ≤ length bytes.new) }
@@ -298,6 +303,7 @@ impl<const S: usize> Buffer<S> {
         requires { length more.now ≤ S - self.old.end }
         ensures held { buffer_held self.new ≡ buffer_held self.old ++ more.now }
         ensures unmoved { self.new.start ≡ self.old.start }
+        ensures end { self.new.end ≡ self.old.end + length more.now }
     {
         let end = self.end + more.len();
         let all = &mut self.bytes[..];
@@ -329,6 +335,22 @@ impl<const S: usize> Buffer<S> {
             return false;
         }
         self.append(more);
+        true
+    }
+
+    /// Appends both if they fit after the end, with one test for both.
+    #[inline(always)]
+    pub(crate) fn append_both_if_room(&mut self, head: &[u8], tail: &[u8]) -> bool
+        requires { length head.now + length tail.now < S }
+        ensures held { OnTrue result ((length (buffer_held self.old) + (length head.now + length tail.now) ≤ S)
+            × (buffer_held self.new ≡ (buffer_held self.old ++ head.now) ++ tail.now)) }
+        ensures same { OnFalse result (self.new ≡ self.old) }
+    {
+        if head.len() + tail.len() > S - self.end {
+            return false;
+        }
+        self.append(head);
+        self.append(tail);
         true
     }
 }

@@ -3,7 +3,8 @@
 //! A write that is held is a hot path, which its callers inline. All else is in a cold function, `.._cold`. Through a
 //! small buffer all writes are calls of the cold functions, and all sendings calls of `send`, so that their code is
 //! there once.
-ghost use Rattle.std.specs.Prelude.{◌≡◌, ◌+◌, ◌≤◌, [], ◌++◌, length};
+ghost use Rattle.std.specs.Prelude.{◌≡◌, ◌+◌, ◌<◌, ◌≤◌, [], ◌++◌, length};
+ghost use Rattle.std.specs.Bool.{OnTrue, OnFalse};
 ghost use Rattle.std.specs.Borrow.{Lends, sem};
 ghost use Rattle.no_std_io2.specs.contracts.buffered.sender.Sender.{the_row as sender-row};
 ghost use Rattle.no_std_io2.specs.inner.BufWriter.{sender_inner, sender_buffer, TakesStep, SendCalls, RoomCalls, WriteCalls, WriteAllCalls};
@@ -114,6 +115,18 @@ impl<W: Write + Drop, const S: usize> Sender<W, S> {
         ensures buffer { sender_buffer self.new ≡ sender_buffer self.old ++ more.now }
     {
         self.buffer.push(more);
+    }
+
+    /// Holds both after the held bytes, if they fit after the end.
+    #[inline(always)]
+    pub(crate) fn hold_both_if_room(&mut self, head: &[u8], tail: &[u8]) -> bool
+        requires { length head.now + length tail.now < S }
+        ensures held { OnTrue result ((length (sender_buffer self.old) + (length head.now + length tail.now) ≤ S)
+            × (sender_inner self.new ≡ sender_inner self.old)
+            × (sender_buffer self.new ≡ (sender_buffer self.old ++ head.now) ++ tail.now)) }
+        ensures same { OnFalse result (self.new ≡ self.old) }
+    {
+        self.buffer.append_both_if_room(head, tail)
     }
 
     /// Reads `from` into the room beside the held bytes, until `n` more are held or the end comes first.

@@ -1,5 +1,5 @@
 -- The prover does not find that the bytes that were read lie behind the first ones.
-use Rattle.no_std_io2.proofs.Words.{◌≡◌, ℕ, ◌+◌, ◌-◌, ◌≤◌, List, ◌++◌, length, take, drop, sym, ap, ◌∙◌, arith, event_bytes}
+use Rattle.no_std_io2.proofs.Words.{◌≡◌, ℕ, ◌+◌, ◌-◌, ◌≤◌, List, ◌++◌, length, take, drop, ap, ◌∙◌, arith, event_bytes}
 use Rattle.no_std_io2.proofs.Words.{length-append, length-take, length-take-le, take-append-le, take-take}
 use Rattle.no_std_io2_base.proofs.CallsLemmas.{by_are}
 use Rattle.no_std_io2.proofs.buffered.buffer.Buffer.read_behind.Goals as goal
@@ -25,8 +25,7 @@ module _ (xs ys x : List ℕ) (end more to : ℕ) (fits : end + more ≤ length 
 
 pub returns-clause-within : goal.returns-clause-within
 returns-clause-within g c =
-    let law = c.read_full.ensures.law in
-    (
+    let law = c.read_full.ensures.law in (
       omega (arith, law.counts),
       omega (
         arith,

@@ -1,5 +1,5 @@
 -- The held bytes are at the front.
-use Rattle.no_std_io2.proofs.Words.{common_steps, ◌≡◌, ℕ, ◌≤◌, List, ◌++◌, length, take, sym, ap, ◌∙◌, arith, length-take-le}
+use Rattle.no_std_io2.proofs.Words.{common_steps, ◌≡◌, ℕ, List, ◌++◌, length, take, sym, ap, ◌∙◌, arith, length-take-le}
 use Rattle.std.proofs.Common.{slice_range}
 use Rattle.no_std_io2.proofs.buffered.buffer.Buffer.read_full_on.Goals as goal
 
@@ -23,6 +23,6 @@ returns g c =
     let (x, is, calls) = c.read_behind.ensures.fills in (
       x,
       from_front _ _ _ first.start ∙ is
-      ∙ ap (λ l. l ++ x) (sym (from_front was.bytes was.start was.end first.start) ∙ first.same),
+          ∙ ap (λ l. l ++ x) (sym (from_front was.bytes was.start was.end first.start) ∙ first.same),
       calls,
     )
