@@ -1,7 +1,8 @@
-//! `tar_make FILES..` writes a tar archive of these files, directories and symbolic links to standard output. Of a
-//! directory it has the name alone, and not what is in it.
+//! `tar_make FILES..` writes a tar archive of these files, directories, symbolic links and named pipes to standard
+//! output. Of a directory or a pipe it has the name alone, and not what is in it.
 //!
-//! A file that cannot be read, or that no header can hold, is left out; its name and the reason go to standard error.
+//! Devices and sockets are left out, and so is a file that cannot be read, or that no header can hold; its name and the
+//! reason go to standard error.
 //! If a file ends earlier than it was found to, or cannot be read to its end, the rest is filled with zeros; if it is
 //! longer, it is cut. The status is 0 if nothing failed, and else 1.
 #![tactic(auto)]
@@ -15,9 +16,9 @@ ghost use Rattle.tar_make.specs.Adding.{AddsBody, AddsHeader, AddsFile, AddsMemb
 use cli::{
     FileFault, PerFile, Reason, SystemMessages, SystemOutput, about, each_file, named, report,
 };
-use no_std_io2::io::{BufWriter, CopyError, Read, Write};
+use no_std_io2::io::{BufWriter, CopyError, Error, ErrorKind, Read, Write};
 use std::alloc::Global;
-use std::os::unix::fs::{MetadataExt, PermissionsExt};
+use std::os::unix::fs::{FileTypeExt, MetadataExt, PermissionsExt};
 use std::process::ExitCode;
 use std::rt::{Env, Files};
 use std::{env, fs, io};
@@ -27,8 +28,8 @@ use tar::{Builder, HeaderBlock, Metadata};
 // What `--help` prints.
 const HELP: &str = "\
 Usage: tar_make [FILE]...
-Writes a tar archive of files, directories and symbolic links to standard
-output. Of a directory it has the name, and not what is in it.
+Writes a tar archive of files, directories, symbolic links and named pipes to
+standard output. Of a directory it has the name, and not what is in it.
 
   --help     prints this text, if it is the first argument
   --version  prints the version, if it is the first argument
@@ -55,7 +56,7 @@ fn header_or_reason(made: no_std_io2::io::Result<HeaderBlock>) -> Result<HeaderB
     }
 }
 
-// Returns the header of a file, a directory or a symbolic link.
+// Returns the header of a file, a directory, a symbolic link or a named pipe.
 fn header_of(rt: &HostRuntime, name: &str, found: &fs::Metadata) -> Result<HeaderBlock, Reason>
     ensures { IfOk result (HasName name.now) }
 {
@@ -75,6 +76,13 @@ fn header_of(rt: &HostRuntime, name: &str, found: &fs::Metadata) -> Result<Heade
     }
     if found.is_dir() {
         return header_or_reason(HeaderBlock::directory(bytes, metadata));
+    }
+    if found.file_type().is_fifo() {
+        return header_or_reason(HeaderBlock::fifo(bytes, metadata));
+    }
+    if !found.is_file() {
+        let text = "devices and sockets are left out";
+        return Err(Reason::Own(Error::new(ErrorKind::InvalidInput, text)));
     }
     header_or_reason(HeaderBlock::file(bytes, found.len(), metadata))
 }

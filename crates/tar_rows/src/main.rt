@@ -65,7 +65,7 @@ fn put_header(archive: &mut Archive, header: &HeaderBlock) -> Option<usize> {
 }
 
 // Appends the bytes of a file, and tries again after each fault. Returns how many tries failed, and how many reads were
-// made of the bytes: one for each block, and one at the end.
+// made of the bytes: one for each time that the buffer was filled, and one at the end.
 fn put_body(archive: &mut Archive) -> Option<(usize, u64)> {
     let mut body = Tally::new(repeat(b'x', archive.body_left()));
     'tries: for failed in 0..TRIES {
