@@ -1,0 +1,115 @@
+-- Cursors and disks put their bytes at their position.
+use Rattle.no_std_io2.proofs.Words.{◌≡◌, ℕ, ◌+◌, ◌-◌, ◌≤◌, List, [], ◌++◌, length, take, drop, refl, sym, ap, ◌∙◌, arith, inl, inr}
+use Rattle.no_std_io2.proofs.Words.{append-nil, length-append, cases_lt, nil_from_length, take-append_seam, Ok, Err}
+use Rattle.no_std_io2.proofs.Words.{Wrote, WroteAll, Flushed, WriteCall, common_steps, length-take-le, length-take, subst, append_assoc}
+use Rattle.std.specs.Prelude.{replicate, count_by}
+use Rattle.no_std_io2.proofs.Words.{nat_tests, Moves, told_out}
+use Rattle.no_std_io2.specs.{inner.Kinds.{is_interruption}, inner.Write.{zero_write}}
+use Rattle.std.proofs.Common.{take_all, take-append-drop}
+use Rattle.no_std_io2.specs.{declared.io.{Cursor.{Cursor}}, inner.Cursor.{put_at, PutsMay, FitsMay, PutsFitting, fitting}}
+use Rattle.no_std_io2.specs.Cursor.{cursor_inner, cursor_position}
+use Rattle.record_log.specs.Placed.{IsPut, PutsCall}
+
+module _ {T : Type 0} (items : T → List ℕ) (capacity : T → ℕ) where
+  -- a call of a cursor over a vector
+  pub vector_puts : (old new : Cursor T) (call : WriteCall) → PutsMay items capacity old call new
+      → PutsCall (items (cursor_inner old)) (cursor_position old) call (items (cursor_inner new)) (cursor_position new)
+  vector_puts old new (Wrote x (Ok n)) did =
+      let whole : take n x ≡ x = take_all n x (omega (arith, did.0.1)) in (
+        inl (did.0.2 ∙ ap (λ y. put_at (cursor_position old) y (items (cursor_inner old))) (sym whole)),
+        omega (arith, did.0.3, did.0.1),
+      )
+  vector_puts old new (Wrote x (Err e)) did = ((0, inr (refl, did.0.2)), did.0.3)
+  vector_puts old new (WroteAll x (Ok u)) did = (
+    elim (cases_lt 0 (length x)) [
+      | inl some ↦ inl ((did.0.0 some).1)
+      | inr none ↦ let nil = nil_from_length x (omega (arith, none)) in inr (nil, did.0.1 (ap length nil))
+    ],
+    did.0.2,
+  )
+  vector_puts old new (WroteAll x (Err e)) did = (0, 0, omega arith, inr (refl, did.0.2), omega (arith, did.0.3))
+  vector_puts old new (Flushed reply) did = (ap (λ c. items (cursor_inner c)) did.1, ap cursor_position did.1)
+
+-- bytes that fit are put
+fits_put : (bs : List ℕ) (place : ℕ) (x new : List ℕ) (place' : ℕ) → PutsFitting bs place x new place'
+    → IsPut place (fitting place x bs) bs new
+fits_put bs place x new place' did = elim (cases_lt (length bs) place) [
+  | inl past ↦
+      let none : length bs - place ≡ 0 = omega (arith, past) in
+      let nil : fitting place x bs ≡ [] = ap (λ n. take n x) none in
+      let same : place + 0 ≡ place = omega arith in
+      inr (
+        nil,
+        did.0 ∙ ap (λ l. take place bs ++ (l ++ drop (place + length l) bs)) nil
+            ∙ ap (λ n. take place bs ++ drop n bs) same ∙ take-append-drop place bs,
+      )
+  | inr within ↦
+      let gap : place - length bs ≡ 0 = omega (arith, within) in
+      let same : bs ++ replicate (place - length bs) 0 ≡ bs = ap (λ n. bs ++ replicate n 0) gap ∙ append-nil bs in
+      inl (did.0 ∙ ap (λ l. take place l ++ (fitting place x bs ++ drop (place + length (fitting place x bs)) l)) (sym same))
+]
+
+module _ {T : Type 0} (items : T → List ℕ) where
+  -- a call of a cursor over a slice
+  pub slice_puts : (old new : Cursor T) (call : WriteCall) → FitsMay items old call new
+      → PutsCall (items (cursor_inner old)) (cursor_position old) call (items (cursor_inner new)) (cursor_position new)
+  slice_puts old new (Wrote x (Ok n)) did =
+      let bs = items (cursor_inner old) in
+      let place = cursor_position old in
+      let part : take n x ≡ fitting place x bs = grind (arith, common_steps, did.0) in (
+        subst (λ l. IsPut place l bs (items (cursor_inner new))) (sym part) (fits_put bs place x _ _ did.1),
+        omega (arith, did.1.1, did.0, length-take (length bs - place) x),
+      )
+  slice_puts old new (Wrote x (Err e)) did = absurd did.0
+  slice_puts old new (WroteAll x (Ok u)) did =
+      let bs = items (cursor_inner old) in
+      let place = cursor_position old in
+      let whole : fitting place x bs ≡ x = take_all (length bs - place) x (did.variant.0 refl) in (
+        subst (λ l. IsPut place l bs (items (cursor_inner new))) whole (fits_put bs place x _ _ did.puts),
+        did.puts.1 ∙ ap (λ l. place + length l) whole,
+      )
+  slice_puts old new (WroteAll x (Err e)) did =
+      let bs = items (cursor_inner old) in
+      let place = cursor_position old in (
+        length (fitting place x bs),
+        length bs - place,
+        omega (arith, length-take (length bs - place) x),
+        fits_put bs place x _ _ did.puts,
+        did.puts.1,
+      )
+  slice_puts old new (Flushed reply) did = (ap (λ c. items (cursor_inner c)) did.1, ap cursor_position did.1)
+
+-- a place within a content
+pub put_there : (place : ℕ) (x old new : List ℕ) → place + length x ≤ length old
+    → new ≡ take place old ++ (x ++ drop (place + length x) old) → new ≡ put_at place x old
+put_there place x old new fits is =
+    let gap : place - length old ≡ 0 = omega (arith, fits) in
+    let same : old ++ replicate (place - length old) 0 ≡ old = ap (λ n. old ++ replicate n 0) gap ∙ append-nil old in
+    is ∙ ap (λ l. take place l ++ (x ++ drop (place + length x) l)) (sym same)
+
+-- what is before the place stays, and what was put goes out
+pub put_before : (place : ℕ) (x old new : List ℕ) → place ≤ length old → new ≡ take place old ++ (x ++ drop (place + length x) old)
+    → (take place new ≡ take place old) × (take (place + length x) new ≡ take place old ++ x)
+put_before place x old new le is =
+    let long : length (take place old) ≡ place = length-take-le place old le in
+    let behind = x ++ drop (place + length x) old in (
+      ap (take place) is ∙ ap (λ n. take n (take place old ++ behind)) (sym long) ∙ take-append_seam (take place old) behind,
+      ap (take (place + length x)) (is ∙ sym (append_assoc (take place old) x _))
+          ∙ ap (λ n. take n ((take place old ++ x) ++ drop (place + length x) old))
+          (let n : place + length x ≡ length (take place old ++ x) = omega (arith, long, length-append (take place old) x) in n)
+          ∙ take-append_seam (take place old ++ x) _,
+    )
+
+-- no `Ok` is an interruption
+no_wait : (n : ℕ) (x : List ℕ) → count_by is_interruption (zero_write n x) ≡ 0
+no_wait n x = grind (arith, nat_tests)
+
+-- what a write accepted is out
+pub writes_out : (n : ℕ) (x old new : List ℕ) → new ≡ old ++ take n x → Moves (told_out old) (take n x) (zero_write n x) (told_out new)
+writes_out n x old new is =
+    let none = no_wait n x in record {
+      front = (take n x, is);
+      bytes = append-nil new ∙ is ∙ ap (λ l. l ++ take n x) (sym (append-nil old));
+      mishaps = tt;
+      turns = omega (arith, none);
+    }

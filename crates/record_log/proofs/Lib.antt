@@ -1,0 +1,5 @@
+pub mod RecordLemmas
+pub mod PlacedLemmas
+pub mod CutLemmas
+pub mod PieceLemmas
+pub mod DeviceLemmas

@@ -1,0 +1,171 @@
+-- What the reads of `open` give of known bytes.
+use Rattle.no_std_io2.proofs.Words.{◌≡◌, ℕ, ◌+◌, ◌<◌, ◌≤◌, ◌^◌, List, [], ◌∷◌, ◌++◌, length, take, drop, refl, sym, ap, subst, ◌∙◌}
+use Rattle.no_std_io2.proofs.Words.{arith, append_assoc, append-nil, length-append, length-drop, length-take-le, take-append-drop, Some, ap₂}
+use Rattle.no_std_io2.proofs.Words.{cases_lt, inl, inr, Result, Err, Event, event_bytes, events_of, HasNoFault, fails, to_come}
+use Rattle.no_std_io2.proofs.Words.{Reader, tells, ReaderState, Takes, Option, take-append_seam}
+use Rattle.std.proofs.Math.Seq.{take-length, take-add}
+use Rattle.std.specs.{Prelude.{true}, List.{fold}}
+use Rattle.std.proofs.lemmas.{List.{drop-drop}, List.Sums.{fold-append}}
+use Rattle.no_std_io2.specs.{declared.io.Error.{Error}, inner.Events.{EndsInFault}, Read.{ReadFullLaw}}
+use Rattle.no_std_io2.proofs.{KnownBytes.{full_known}, TakesLemmas.{left_of, HasNoFault-front, HasNoFault-behind, HasNoFault-events_of}}
+use Rattle.no_std_io2.proofs.TakesLemmas.{bytes-append, bytes-events_of, events_of-append}
+use Rattle.std.specs.Int.{w32, from_le_bytes}
+use Rattle.no_std_io2.proofs.TakesLemmas.{takes_then}
+use Rattle.record_log.specs.Records.{add_number, start, header, check_of, record_of, log_of, AreShort, HasNoRecord}
+use Rattle.record_log.specs.Opening.{GivesPiece, AddsPiece, PassesRecord, PassesRecords, TakesSome}
+use Rattle.record_log.proofs.RecordLemmas.{told_record, log-append, AreShort-append}
+
+module _ {a b : ReaderState} (x : List ℕ) (told : to_come a ≡ Some (events_of x)) {P : List Event} (takes : Takes a P b) where
+  -- no fault comes
+  no_fault_in : {e : Error} → EndsInFault P e → ⊥
+  no_fault_in {e} fault =
+      let (after, still, split) = left_of takes told in
+      let clean = HasNoFault-front P after (subst HasNoFault split (HasNoFault-events_of x)) in
+      let last = HasNoFault-behind fault.0 (fails e ∷ []) (subst HasNoFault fault.1 clean) in
+      let no : ⊥ = cc (last.0, fault.3) in no
+
+  -- no more bytes were taken than these
+  few_in : length (event_bytes P) ≤ length x
+  few_in =
+      let (after, still, split) = left_of takes told in
+      omega (
+        arith,
+        ap length (sym (bytes-events_of x) ∙ ap event_bytes split ∙ bytes-append P after),
+        length-append (event_bytes P) (event_bytes after),
+      )
+
+module _ {X : Type 0} {R : Reader X} {old new : X} {buf buf' : List ℕ} {filled : ℕ} (bytes : List ℕ)
+    (told : to_come (tells R old) ≡ Some (events_of bytes)) where
+  -- a `read_full` of known bytes does not fail
+  pub piece_comes : (e : Error) → ReadFullLaw R old buf 0 (Err e) buf' filled new → ⊥
+  piece_comes e law = no_fault_in bytes told law.takes law.ends.0
+
+  -- of enough bytes it fills the piece
+  enough : (reply : Result (Unit {0}) Error) → ReadFullLaw R old buf 0 reply buf' filled new → length buf' ≡ length buf
+      → length buf' ≤ length bytes → (filled ≡ length buf') × GivesPiece bytes true buf' (to_come (tells R new))
+  enough reply law same le =
+      let n = length buf' in
+      let long : length (take n bytes) ≡ n = length-take-le n bytes le in
+      let split : events_of bytes ≡ events_of (take n bytes) ++ events_of (drop n bytes) =
+      ap events_of (sym (take-append-drop n bytes)) ∙ events_of-append (take n bytes) (drop n bytes) in
+      let known = full_known reply (take n bytes) (events_of (drop n bytes)) law (omega (arith, long, same)) (told ∙ ap Some split) in
+      let all : filled ≡ n = omega (arith, known.1, long) in
+      (all, (le, sym (take-length buf') ∙ ap (λ m. take m buf') (sym all) ∙ known.2, known.3))
+
+  pub piece_full : (reply : Result (Unit {0}) Error) → ReadFullLaw R old buf 0 reply buf' filled new → length buf' ≡ length buf
+      → length buf' ≤ filled → GivesPiece bytes true buf' (to_come (tells R new))
+  piece_full reply law same le =
+      (enough reply law same (omega (arith, le, law.counts, few_in bytes told law.takes))).1
+
+  -- it is not full if they were too few
+  pub piece_short : (reply : Result (Unit {0}) Error) → ReadFullLaw R old buf 0 reply buf' filled new → length buf' ≡ length buf
+      → filled < length buf' → length bytes < length buf'
+  piece_short reply law same less = elim (cases_lt (length bytes) (length buf')) [
+    | inl few ↦ few
+    | inr le ↦ absurd (omega (arith, less, (enough reply law same le).0))
+  ]
+
+-- one call after another took some events
+pub some_then : {a b c : ReaderState} → TakesSome a b → TakesSome b c → TakesSome a c
+some_then first next = (first.0 ++ next.0, takes_then first.1 next.1)
+
+-- one piece, and then the next
+pub adds_more : (bytes : List ℕ) (k n m check sum next : ℕ) {o p : Option (List Event)} → AddsPiece bytes k check (Some sum) o
+    → AddsPiece (drop k bytes) n sum (Some next) p → m ≡ k + n → AddsPiece bytes m check (Some next) p
+adds_more bytes k n m check sum next {p = p} first more is = subst (λ l. AddsPiece bytes l check (Some next) p) (sym is) (
+  omega (arith, first.0, more.0, length-drop k bytes),
+  more.1 ∙ ap (λ s. fold add_number s (take n (drop k bytes))) first.1
+      ∙ sym (fold-append add_number check (take k bytes) (take n (drop k bytes)))
+      ∙ ap (λ l. fold add_number check l) (sym (take-add k n bytes)),
+  more.2 ∙ ap (λ l. Some (events_of l)) (drop-drop n k bytes),
+)
+
+module _ (bytes head p rest : List ℕ) (is : head ≡ take 8 bytes) (begins : bytes ≡ record_of p ++ rest) where
+  -- what is at the front of a record
+  head_is : head ≡ header (length p) (check_of p)
+  head_is = is ∙ ap (take 8) begins
+
+  head_len : length p < 2 ^ 32 → from_le_bytes w32 (take 4 head) ≡ length p
+  head_len small = ap (λ l. from_le_bytes w32 (take 4 l)) head_is ∙ told_record p [] small
+
+  behind_head : drop 8 bytes ≡ p ++ rest
+  behind_head = ap (drop 8) begins
+
+-- fewer bytes than a header are no record
+pub none_short : (bytes : List ℕ) → length bytes < 8 → HasNoRecord bytes
+none_short bytes few = λ p rest small is. omega (arith, few, ap length is, length-append (record_of p) rest)
+
+module _ (bytes head : List ℕ) (len : ℕ) (is : head ≡ take 8 bytes) (says : len ≡ from_le_bytes w32 (take 4 head)) where
+  -- nor is a header with fewer bytes behind it than it says
+  pub none_behind : length (drop 8 bytes) < len → HasNoRecord bytes
+  none_behind few = λ p rest small begins. omega (
+    arith,
+    few,
+    says,
+    head_len bytes head p rest is begins small,
+    ap length (behind_head bytes head p rest is begins),
+    length-append p rest,
+  )
+
+  module _ (check : ℕ) (sum : check ≡ fold add_number (start len) (take len (drop 8 bytes))) where
+    -- nor one whose check is another
+    pub none_checked : (head ≡ header len check → ⊥) → HasNoRecord bytes
+    none_checked other = λ p rest small begins.
+        let long : len ≡ length p = says ∙ head_len bytes head p rest is begins small in
+        let same : take len (drop 8 bytes) ≡ p =
+        ap₂ take long (behind_head bytes head p rest is begins) ∙ take-append_seam p rest in
+        let checks : check ≡ check_of p = sum ∙ ap₂ (λ n l. fold add_number (start n) l) long same in
+        other (head_is bytes head p rest is begins ∙ sym (ap₂ header long checks))
+
+    -- and else it is one
+    pub one_checked : {o : Option (List Event)} (n : ℕ) → len < 2 ^ 32 → len ≤ length (drop 8 bytes) → head ≡ header len check → n ≡ 8 + len
+        → o ≡ Some (events_of (drop len (drop 8 bytes))) → PassesRecord bytes (Some n) o
+    one_checked n small le same counts left =
+        let p = take len (drop 8 bytes) in
+        let long : length p ≡ len = length-take-le len (drop 8 bytes) le in
+        let checks : check ≡ check_of p = sum ∙ ap (λ m. fold add_number (start m) p) (sym long) in
+        let front : take 8 bytes ≡ header (length p) (check_of p) = sym is ∙ same ∙ ap₂ header (sym long) checks in (
+          p,
+          drop len (drop 8 bytes),
+          omega (arith, small, long),
+          sym (take-append-drop 8 bytes) ∙ ap₂ (λ h l. h ++ l) front (sym (take-append-drop len (drop 8 bytes)))
+              ∙ sym (append_assoc (header (length p) (check_of p)) p (drop len (drop 8 bytes))),
+          omega (arith, counts, long),
+          left,
+        )
+
+-- Whole records were passed, and these bytes are to come.
+pub record Passed (bytes : List ℕ) (end : ℕ) (left : Option (List Event)) : Type 0 where
+  pub payloads : List (List ℕ)
+  pub rest : List ℕ
+  pub short : AreShort payloads
+  pub split : bytes ≡ log_of payloads ++ rest
+  pub counts : end ≡ length (log_of payloads)
+  pub still : left ≡ Some (events_of rest)
+
+-- none yet
+pub passed_none : (bytes : List ℕ) {o : Option (List Event)} → o ≡ Some (events_of bytes) → Passed bytes 0 o
+passed_none bytes told = record { payloads = []; rest = bytes; short = tt; split = refl; counts = refl; still = told }
+
+-- one more
+pub passed_more : (bytes : List ℕ) (end n sum : ℕ) {o p : Option (List Event)} (s : Passed bytes end o) → length bytes < 2 ^ 64
+    → PassesRecord s.rest (Some n) p → (end + n < 2 ^ 64 → sum ≡ end + n) → Passed bytes sum p
+passed_more bytes end n sum s fits (payload, rest, small, is, long, left) adds =
+    let log : log_of (s.payloads ++ payload ∷ []) ≡ log_of s.payloads ++ record_of payload =
+    log-append s.payloads (payload ∷ []) ∙ ap (λ l. log_of s.payloads ++ l) (append-nil (record_of payload)) in
+    let size : length (log_of (s.payloads ++ payload ∷ [])) ≡ end + n =
+    omega (arith, ap length log, length-append (log_of s.payloads) (record_of payload), s.counts, long) in
+    let split : bytes ≡ log_of (s.payloads ++ payload ∷ []) ++ rest =
+    s.split ∙ ap (λ l. log_of s.payloads ++ l) is ∙ sym (append_assoc (log_of s.payloads) (record_of payload) rest)
+    ∙ ap (λ l. l ++ rest) (sym log) in record {
+      payloads = s.payloads ++ payload ∷ [];
+      rest = rest;
+      short = AreShort-append s.payloads (payload ∷ []) s.short (small, tt);
+      split = split;
+      counts = adds (omega (arith, fits, size, ap length split, length-append (log_of (s.payloads ++ payload ∷ [])) rest)) ∙ sym size;
+      still = left;
+    }
+
+-- and these were all
+pub passed_all : (bytes : List ℕ) (end : ℕ) {o : Option (List Event)} (s : Passed bytes end o) → HasNoRecord s.rest → PassesRecords bytes end
+passed_all bytes end s none = (s.payloads, s.rest, record { short = s.short; bytes = s.split; none = none }, s.counts)

@@ -1,0 +1,33 @@
+-- The prover does not join one piece to those before it.
+use Rattle.no_std_io2.proofs.Words.{arith, length, length-append, length-take, ◌-◌, take, drop}
+use Rattle.record_log.proofs.PieceLemmas.{some_then, adds_more}
+use Rattle.record_log.proofs.opening.pass_payload.Goals as goal
+
+pub returns-in_err-next-clause-takes : goal.returns-in_err-next-clause-takes
+returns-in_err-next-clause-takes g c = some_then c.pieces.invariant.takes c.add_piece.ensures.takes
+
+pub returns-in_default-clause-takes : goal.returns-in_default-clause-takes
+returns-in_default-clause-takes g c = some_then c.pieces.invariant.takes c.add_piece.ensures.takes
+
+pub pieces-preserved : goal.pieces-preserved
+pieces-preserved g c =
+    let n = c.min-n.result in
+    let room = c.pieces.room in
+    let k = c.args.len - c.pieces.left in record {
+      some_room = omega (
+        arith,
+        c.add_piece.auto.piece,
+        c.min-n.ensures,
+        c.pieces-test.true,
+        c.pieces.invariant.some_room,
+        length-append c.add_piece.new.piece (drop n room),
+        length-take n room,
+      );
+      part = omega (arith, c.pieces.invariant.part);
+      takes = some_then c.pieces.invariant.takes c.add_piece.ensures.takes;
+      known = λ bytes told.
+          let first = c.pieces.invariant.known bytes told in
+          let next = rw c.in-Some.is at (c.in_ok-next.ensures.known (drop k bytes) first.2).1 in
+          adds_more bytes k (length (take n room)) _ c.args.check c.pieces.sum c.in-Some.next first next
+          (omega (arith, c.min-n.ensures, c.pieces.invariant.part, length-take n room));
+    }

@@ -1,0 +1,19 @@
+-- The bytes so far are in the check, and the others are to come.
+use Rattle.no_std_io2.proofs.Words.{◌≡◌, ℕ, ◌-◌, ◌<◌, ◌≤◌, List, length, Some, events_of, to_come, tells}
+use Rattle.no_std_io2.proofs.TakesLemmas.{reader}
+use Rattle.record_log.specs.Opening.{AddsPiece, TakesSome}
+use Rattle.record_log.proofs.opening.pass_payload.Given as goal
+
+abbrev pub invariant-pieces : goal.invariant-pieces
+invariant-pieces g l =
+    let R = reader g.R.Stored g.R.Read in
+    record {
+      some_room : 0 < length l.room;
+      part : l.left ≤ l.len;
+      takes : TakesSome (tells R l.fn.r) (tells R l.r);
+      known : (bytes : List ℕ) → to_come (tells R l.fn.r) ≡ Some (events_of bytes)
+          → AddsPiece bytes (l.len - l.left) l.check (Some l.sum) (to_come (tells R l.r));
+    }
+
+abbrev pub decreases-pieces : goal.decreases-pieces
+decreases-pieces g l = l.left

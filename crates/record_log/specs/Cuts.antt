@@ -1,0 +1,39 @@
+-- What a power cut leaves of a log.
+use Rattle.std.specs.Prelude.{◌≡◌, ℕ, List, [], ◌∷◌, ◌++◌, length, drop, Bool, true, false, Result, is_ok}
+use Rattle.no_std_io2.specs.{Calls.{Flushed}, Writers.{Writer}, inner.BufWriter.{BufferMay, InnerCalls}, BufWriter.{writer_inner, writer_buffer}}
+use Rattle.no_std_io2.specs.declared.io.Error.{Error}
+use Rattle.record_log.specs.{Records.{log_of, AreShort, HasRecords, NoneByChance}, Log.{Appends, log_writer, log_inner, log_held}}
+use Rattle.record_log.specs.declared.{log.RecordLog.{RecordLog}, cuts.Step.{Step, TheVariants.{Append, Sync}}}
+
+-- one call, and whether it succeeded
+abbrev pub DidStep : {W : Type 0} {S : ℕ} → Writer W → RecordLog W S → Step → Bool → RecordLog W S → Type 0
+DidStep I old (Append payload) done new = (reply : Result (Unit {0}) Error) × Appends I payload.now old reply new × (done ≡ is_ok reply)
+DidStep {S = S} I old Sync done new = (reply : Result (Unit {0}) Error)
+    × BufferMay I (InnerCalls S) writer_inner writer_buffer (log_writer old) (Flushed reply) (log_writer new) × (done ≡ is_ok reply)
+
+-- The payloads that a `sync` has confirmed, and those that were appended since. A call adds to them if it succeeded.
+abbrev pub Counted : Type 0
+Counted = List (List ℕ) × List (List ℕ)
+
+abbrev pub counted : Counted → Step → Bool → Counted
+counted c (Append payload) true = (c.0, c.1 ++ payload.now ∷ [])
+counted c Sync true = (c.0 ++ c.1, [])
+counted c (Append payload) false = c
+counted c Sync false = c
+
+-- after these calls
+abbrev pub outcome : Counted → List Step → List Bool → Counted
+outcome c (step ∷ steps) (d ∷ done) = outcome (counted c step d) steps done
+outcome c _ _ = c
+
+-- a log with nothing held stands behind the records of these payloads, and before the old bytes `tail`
+abbrev pub StandsAtEnd : {W : Type 0} {S : ℕ} → (W → List ℕ) → (W → ℕ) → List (List ℕ) → List ℕ → RecordLog W S → Type 0
+StandsAtEnd content place before tail l = AreShort before × (log_held l ≡ [])
+    × (content (log_inner l) ≡ log_of before ++ tail) × (place (log_inner l) ≡ length (log_of before))
+
+-- The content has exactly these records: those before, the confirmed ones, and none or some first ones of those that were appended since;
+-- if the old bytes behind it complete no record by chance.
+abbrev pub Survives : List (List ℕ) → List ℕ → Counted → List ℕ → Type 0
+Survives before tail c content = NoneByChance (drop (length (log_of c.0)) tail) c.1
+    → (kept : List (List ℕ)) × (gone : List (List ℕ)) × (rest : List ℕ)
+    × (c.1 ≡ kept ++ gone) × HasRecords content (before ++ (c.0 ++ kept)) rest

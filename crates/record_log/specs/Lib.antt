@@ -1,0 +1,7 @@
+pub mod Records
+pub mod Walk
+pub mod Placed
+pub mod Disk
+pub mod Log
+pub mod Cuts
+pub mod Opening

@@ -1,0 +1,41 @@
+// Which streams put their bytes at a place: cursors over vectors, slices, arrays and boxed slices, and a `Disk`.
+ghost use Rattle.std.specs.Prelude.{length};
+ghost use Rattle.std.specs.Box.{boxed_slice_items};
+ghost use Rattle.no_std_io2.specs.Cursor.{cursor_inner, cursor_position};
+ghost use Rattle.record_log.specs.{Placed.{PutsAt}, Disk.{disk_content, disk_place}};
+
+use crate::disk::Disk;
+use no_std_io2::io::{Cursor, Write};
+use std::alloc::Allocator;
+use std::boxed::BoxedSlice;
+
+/// Cursors over vectors, owned or borrowed, put their bytes at their position.
+pub fn vectors_are_placed<'a, A: Allocator>(
+    owned: &Cursor<Vec<u8, A>>,
+    lent: &Cursor<&'a mut Vec<u8, A>>,
+) -> u64
+    ensures owned { PutsAt ⟦<Cursor<Vec<u8, A>> as Write>⟧ (λ c. (cursor_inner c).items) cursor_position }
+    ensures lent { PutsAt ⟦<Cursor<&'a mut Vec<u8, A>> as Write>⟧ (λ c. (cursor_inner c).now.items) cursor_position }
+{
+    owned.position().min(lent.position())
+}
+
+/// So do cursors over slices, arrays and boxed slices, as far as the bytes fit.
+pub fn slices_are_placed<'a, const N: usize, A: Allocator>(
+    slice: &Cursor<&'a mut [u8]>,
+    array: &Cursor<[u8; N]>,
+    boxed: &Cursor<BoxedSlice<u8, A>>,
+) -> u64
+    ensures slice { PutsAt ⟦<Cursor<&'a mut [u8]> as Write>⟧ (λ c. (cursor_inner c).now) cursor_position }
+    ensures array { PutsAt ⟦<Cursor<[u8; N]> as Write>⟧ cursor_inner cursor_position }
+    ensures boxed { PutsAt ⟦<Cursor<BoxedSlice<u8, A>> as Write>⟧ (λ c. boxed_slice_items (cursor_inner c)) cursor_position }
+{
+    slice.position().min(array.position()).min(boxed.position())
+}
+
+/// And so does a disk, also when its power is cut.
+pub fn disk_is_placed(disk: &Disk) -> usize
+    ensures { PutsAt ⟦<Disk as Write>⟧ disk_content disk_place }
+{
+    disk.content().len()
+}
