@@ -142,14 +142,15 @@ module _ {W V : Type 0} {told : V → WriterState} {takes_all : V → Type 0} {m
       (write_rest_through (put old) (passed_on old back twice) law) was is
 
 -- as a reader: the whole,
-abbrev whole : {W V : Type 0} → (V → Option Store) → (V → ℕ) → (V → Option (List Event)) → (V → List ℕ) → (W → ReadCall → W → Type 0)
+abbrev whole_reader : {W V : Type 0} → (V → Option Store) → (V → ℕ) → (V → Option (List Event)) → (V → List ℕ) → (W → ReadCall → W → Type 0)
     → (V → W) → (V → W → V) → Reader V
-whole store turns events held may get put = record { store = store; turns = turns; events = events; may = PartMay may get put; held = held }
+whole_reader store turns events held may get put =
+    record { store = store; turns = turns; events = events; may = PartMay may get put; held = held }
 
 -- and the part in it
-abbrev part : {W V : Type 0} → (V → Option Store) → (V → ℕ) → (V → Option (List Event)) → (V → List ℕ) → (W → ReadCall → W → Type 0)
+abbrev part_reader : {W V : Type 0} → (V → Option Store) → (V → ℕ) → (V → Option (List Event)) → (V → List ℕ) → (W → ReadCall → W → Type 0)
     → (W → V) → Reader W
-part store turns events held may put = record {
+part_reader store turns events held may put = record {
   store = λ w. store (put w);
   turns = λ w. turns (put w);
   events = λ w. events (put w);
@@ -160,47 +161,47 @@ part store turns events held may put = record {
 module _ {W V : Type 0} {store : V → Option Store} {turns : V → ℕ} {events : V → Option (List Event)} {held : V → List ℕ}
     {may : W → ReadCall → W → Type 0} {get : V → W} {put : V → W → V} where
   passes : (old : V) → ((w : W) → get (put old w) ≡ w) → ((w u : W) → put (put old w) u ≡ put old u)
-      → PassesReads (part store turns events held may (put old)) (whole store turns events held may get put) (put old)
+      → PassesReads (part_reader store turns events held may (put old)) (whole_reader store turns events held may get put) (put old)
   passes old back twice = record { told = λ w. refl; may = passed_on old back twice; held = λ w. refl }
 
   pub passes_read_exact : {old new : V} {buf buf' : List ℕ} {reply : Result (Unit {0}) Error}
-      → ReadExactLaw (part store turns events held may (put old)) (get old) buf reply buf' (get new)
+      → ReadExactLaw (part_reader store turns events held may (put old)) (get old) buf reply buf' (get new)
       → put old (get old) ≡ old → put old (get new) ≡ new → ((w : W) → get (put old w) ≡ w) → ((w u : W) → put (put old w) u ≡ put old u)
-      → ReadExactLaw (whole store turns events held may get put) old buf reply buf' new
+      → ReadExactLaw (whole_reader store turns events held may get put) old buf reply buf' new
   passes_read_exact {old = old} {buf = buf} {buf'} {reply} law was is back twice =
-      lifted get put (λ a b. ReadExactLaw (whole store turns events held may get put) a buf reply buf' b)
+      lifted get put (λ a b. ReadExactLaw (whole_reader store turns events held may get put) a buf reply buf' b)
       (exact_through (put old) (passes old back twice) law) was is
 
   pub passes_read_full : {old new : V} {buf buf' : List ℕ} {n n' : ℕ} {reply : Result (Unit {0}) Error}
-      → ReadFullLaw (part store turns events held may (put old)) (get old) buf n reply buf' n' (get new)
+      → ReadFullLaw (part_reader store turns events held may (put old)) (get old) buf n reply buf' n' (get new)
       → put old (get old) ≡ old → put old (get new) ≡ new → ((w : W) → get (put old w) ≡ w) → ((w u : W) → put (put old w) u ≡ put old u)
-      → ReadFullLaw (whole store turns events held may get put) old buf n reply buf' n' new
+      → ReadFullLaw (whole_reader store turns events held may get put) old buf n reply buf' n' new
   passes_read_full {old = old} {buf = buf} {buf'} {n} {n'} {reply} law was is back twice =
-      lifted get put (λ a b. ReadFullLaw (whole store turns events held may get put) a buf n reply buf' n' b)
+      lifted get put (λ a b. ReadFullLaw (whole_reader store turns events held may get put) a buf n reply buf' n' b)
       (read_full_through (put old) (passes old back twice) law) was is
 
   pub passes_read_to_end : {A : Type 0} {lacks : ℕ → Type 0} {old new : V} {buf buf' : Vec ℕ A} {reply : Result ℕ Error}
-      → ToEndLaw lacks (part store turns events held may (put old)) (get old) buf reply buf' (get new)
+      → ToEndLaw lacks (part_reader store turns events held may (put old)) (get old) buf reply buf' (get new)
       → put old (get old) ≡ old → put old (get new) ≡ new → ((w : W) → get (put old w) ≡ w) → ((w u : W) → put (put old w) u ≡ put old u)
-      → ToEndLaw lacks (whole store turns events held may get put) old buf reply buf' new
+      → ToEndLaw lacks (whole_reader store turns events held may get put) old buf reply buf' new
   passes_read_to_end {lacks = lacks} {old} {buf = buf} {buf'} {reply} law was is back twice =
-      lifted get put (λ a b. ToEndLaw lacks (whole store turns events held may get put) a buf reply buf' b)
+      lifted get put (λ a b. ToEndLaw lacks (whole_reader store turns events held may get put) a buf reply buf' b)
       (drained_through (put old) (passes old back twice) law) was is
 
   pub passes_read_until : {A : Type 0} {d : ℕ} {old new : V} {buf buf' : Vec ℕ A} {reply : Result ℕ Error}
-      → ReadUntilLaw (part store turns events held may (put old)) (get old) d buf reply buf' (get new)
+      → ReadUntilLaw (part_reader store turns events held may (put old)) (get old) d buf reply buf' (get new)
       → put old (get old) ≡ old → put old (get new) ≡ new → ((w : W) → get (put old w) ≡ w) → ((w u : W) → put (put old w) u ≡ put old u)
-      → ReadUntilLaw (whole store turns events held may get put) old d buf reply buf' new
+      → ReadUntilLaw (whole_reader store turns events held may get put) old d buf reply buf' new
   passes_read_until {d = d} {old} {buf = buf} {buf'} {reply} law was is back twice =
-      lifted get put (λ a b. ReadUntilLaw (whole store turns events held may get put) a d buf reply buf' b)
+      lifted get put (λ a b. ReadUntilLaw (whole_reader store turns events held may get put) a d buf reply buf' b)
       (until_through (put old) (passes old back twice) law) was is
 
   pub passes_read_line : {A : Type 0} {old new : V} {buf buf' : String A} {reply : Result ℕ Error}
-      → ReadLineLaw (part store turns events held may (put old)) (get old) buf reply buf' (get new)
+      → ReadLineLaw (part_reader store turns events held may (put old)) (get old) buf reply buf' (get new)
       → put old (get old) ≡ old → put old (get new) ≡ new → ((w : W) → get (put old w) ≡ w) → ((w u : W) → put (put old w) u ≡ put old u)
-      → ReadLineLaw (whole store turns events held may get put) old buf reply buf' new
+      → ReadLineLaw (whole_reader store turns events held may get put) old buf reply buf' new
   passes_read_line {old = old} {buf = buf} {buf'} {reply} law was is back twice =
-      lifted get put (λ a b. ReadLineLaw (whole store turns events held may get put) a buf reply buf' b)
+      lifted get put (λ a b. ReadLineLaw (whole_reader store turns events held may get put) a buf reply buf' b)
       (line_through (put old) (passes old back twice) law) was is
 
 -- for `using` on a call that such a wrapper passes on

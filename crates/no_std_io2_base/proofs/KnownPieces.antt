@@ -1,6 +1,7 @@
 -- What a call that takes one piece gives if the piece is known to come, and a `read_to_string` if all is.
-use Rattle.std.proofs.Common.{◌≡◌, ℕ, ◌+◌, List, [], ◌∷◌, ◌++◌, length, refl, ap, sym, ◌∙◌, arith, append_assoc, append-nil, inl, inr, subst}
-use Rattle.std.proofs.{Common.{Some, Result, Ok, Err, IfOk, IfErr, IfSome, Vec, String, string_bytes, length-append}, lemmas.Grind.{common_steps}}
+use Rattle.std.proofs.Common.{◌≡◌, ℕ, ◌+◌, List, [], ◌∷◌, ◌++◌, length, refl, ap, sym, ◌∙◌, arith, append_assoc, append-nil, inl, inr}
+use Rattle.std.proofs.{Common.{subst, Some, Result, Ok, Err, IfOk, IfErr, IfSome, Vec, String}, lemmas.Grind.{common_steps}}
+use Rattle.std.proofs.Common.{string_bytes, length-append}
 use Rattle.std.proofs.Common.{IsUtf8, string_len, string_capacity, vec_len, vec_capacity, ◌<◌, ◌≤◌}
 use Rattle.no_std_io2_base.specs.{declared.error.Error.{Error}, Errors.{IsOutOfMemory}, Events.{Event, byte, fails, events_of, event_bytes}}
 use Rattle.no_std_io2_base.specs.{Takes.{Reader, ReaderState, Takes, tells, to_come}, BufRead.{ReadUntilLaw, ReadLineLaw}, Pieces.{newline}}
@@ -26,15 +27,15 @@ to_first d (byte b ∷ Q) (c ∷ x) after rest q l e =
 to_first d (fails f ∷ Q) (c ∷ x) after rest q l e = let no : ⊥ = cc in absurd no
 
 -- no fault comes before the first d
-none_before : (d : ℕ) (Q : List Event) (x : List ℕ) (f : Error) (after rest : List Event) → Lacks d (event_bytes Q)
+no_fault_yet : (d : ℕ) (Q : List Event) (x : List ℕ) (f : Error) (after rest : List Event) → Lacks d (event_bytes Q)
     → Q ++ fails f ∷ after ≡ events_of x ++ byte d ∷ rest → ⊥
-none_before d [] [] f after rest q e = cc
-none_before d [] (b ∷ x) f after rest q e = cc
-none_before d (byte b ∷ Q) [] f after rest q e = let same : b ≡ d = cc in q.0 same
-none_before d (fails g ∷ Q) [] f after rest q e = cc
-none_before d (byte b ∷ Q) (c ∷ x) f after rest q e =
-    let tail : Q ++ fails f ∷ after ≡ events_of x ++ byte d ∷ rest = cc in none_before d Q x f after rest q.1 tail
-none_before d (fails g ∷ Q) (c ∷ x) f after rest q e = cc
+no_fault_yet d [] [] f after rest q e = cc
+no_fault_yet d [] (b ∷ x) f after rest q e = cc
+no_fault_yet d (byte b ∷ Q) [] f after rest q e = let same : b ≡ d = cc in q.0 same
+no_fault_yet d (fails g ∷ Q) [] f after rest q e = cc
+no_fault_yet d (byte b ∷ Q) (c ∷ x) f after rest q e =
+    let tail : Q ++ fails f ∷ after ≡ events_of x ++ byte d ∷ rest = cc in no_fault_yet d Q x f after rest q.1 tail
+no_fault_yet d (fails g ∷ Q) (c ∷ x) f after rest q e = cc
 
 -- bytes that lack d, and are first, are no more than those before the first d
 few_before : (d : ℕ) (bs x tail cs : List ℕ) → Lacks d bs → bs ++ cs ≡ x ++ d ∷ tail → length bs ≤ length x
@@ -89,7 +90,7 @@ module _ (lacks : ℕ → Type 0) (d : ℕ) {t t' : ReaderState} {P : List Event
       sym (append_assoc fault.0 (fails e ∷ []) parts_there.0) ∙ ap (λ Q. Q ++ parts_there.0) (sym fault.1) ∙ parts_there.2 in
       let bytes : event_bytes P ≡ event_bytes fault.0 =
       ap event_bytes fault.1 ∙ bytes-append fault.0 (fails e ∷ []) ∙ append-nil (event_bytes fault.0) in
-      none_before d fault.0 x e parts_there.0 rest (subst (λ y. Lacks d y) bytes free) parts
+      no_fault_yet d fault.0 x e parts_there.0 rest (subst (λ y. Lacks d y) bytes free) parts
 
   -- a part of the piece that needed memory, with what was taken before it, is no longer than the piece
   part_short : (part : List ℕ) → Lacks d (event_bytes P) → IsPiecePart d part → ComesBehind t P part

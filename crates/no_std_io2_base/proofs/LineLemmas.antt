@@ -5,7 +5,8 @@ use Rattle.std.proofs.Common.{Err, String, string_bytes, string_len, string_capa
 use Rattle.std.proofs.{Common.{vec_len, le_refl, length-take-le, length-append, append-nil, ⊎_elim}, lemmas.List.{get_or_default}}
 use Rattle.std.proofs.lemmas.List.Elements.{recursion_from_All, All-from_recursion, Contains-append_left, Contains-append_right}
 use Rattle.std.proofs.{lemmas.Str.{IsUtf8-nil, IsUtf8-string_bytes}, Math.Seq.{take-append_seam, drop-append_seam}}
-use Rattle.no_std_io2_base.specs.inner.Lines.{AnswersLine, out_of_memory, part_follows, part_invalid, IsInvalidText, Follows, lines_of, unfinished_line, lines_len, IsLineState}
+use Rattle.no_std_io2_base.specs.inner.Lines.{AnswersLine, out_of_memory, part_follows, part_invalid, IsInvalidText, Follows}
+use Rattle.no_std_io2_base.specs.inner.Lines.{lines_of, unfinished_line, lines_len, IsLineState}
 use Rattle.no_std_io2_base.specs.{inner.Pieces.{Lacks, pieces_of, ArePieces, FindsPiece, but_last}, Pieces.{newline}}
 use Rattle.no_std_io2_base.specs.{declared.error.Error.{Error}}
 use Rattle.no_std_io2_base.specs.{declared.error.ErrorKind.TheVariants.{OutOfMemory}, Errors.{error_kind, IsFault}}

@@ -1,11 +1,10 @@
 //! An array whose bytes from a start to an end are held. All buffers of this crate contain one.
-ghost use Rattle.std.specs.Prelude.{◌≡◌, ◌+◌, ◌-◌, ◌<◌, ◌≤◌, [], ◌++◌, min, length, take, drop, IfErr, OnOk, OnErr};
-ghost use Rattle.std.specs.Prelude.{vec_len, vec_capacity, slice_range};
+ghost use Rattle.std.specs.Prelude.{◌≡◌, ◌+◌, ◌-◌, ◌<◌, ◌≤◌, [], ◌++◌, min, length, take, drop, OnOk, OnErr};
+ghost use Rattle.std.specs.Prelude.{slice_range};
 ghost use Rattle.std.specs.Bool.{OnTrue, OnFalse};
 ghost use Rattle.no_std_io2.specs.declared.buffered.buffer.TheConstants.{SMALL};
-ghost use Rattle.no_std_io2_base.specs.Errors.{IsOutOfMemory};
 ghost use Rattle.no_std_io2_base.specs.inner.InMemory.{AppendsPart};
-ghost use Rattle.no_std_io2_base.specs.inner.Read.{GaveLaw, gave_whole, least_room};
+ghost use Rattle.no_std_io2_base.specs.inner.Read.{GaveLaw, gave_whole};
 
 use no_std_io2_base::error::Result;
 use no_std_io2_base::internal::{append_rest, copy_apart, copy_bytes};

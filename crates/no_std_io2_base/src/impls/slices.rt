@@ -1,9 +1,7 @@
 // A `&[u8]` as a reader of its bytes.
-ghost use Rattle.std.specs.Prelude.{◌≡◌, ◌≤◌, ◌<◌, ◌+◌, ◌++◌, length, [], Some, IfErr, OnOk, OnErr, vec_len, vec_capacity};
-ghost use Rattle.no_std_io2_base.specs.Errors.{IsOutOfMemory};
+ghost use Rattle.std.specs.Prelude.{◌≡◌, ◌≤◌, ◌<◌, ◌+◌, ◌++◌, length, [], Some, OnOk, OnErr, vec_len, vec_capacity};
 ghost use Rattle.no_std_io2_base.specs.Events.{events_of};
 ghost use Rattle.no_std_io2_base.specs.inner.InMemory.{GivesLeft, AppendsPart};
-ghost use Rattle.no_std_io2_base.specs.inner.Read.{least_room};
 ghost use Rattle.no_std_io2_base.specs.Read.{ReadExactLaw};
 
 use super::copying::copy_prefix;

@@ -1,6 +1,6 @@
 // The parts of which the calls that read pieces are made.
 ghost use Rattle.std.specs.Prelude.{◌≡◌, ◌≢◌, ◌<◌, ◌≤◌, ◌+◌, ◌⊎◌, true, false, length, IfErr, IfOk, IsErrAnd, IsUtf8};
-ghost use Rattle.std.specs.Prelude.{string_bytes, string_len, string_capacity, vec_len, vec_capacity, ℕ, take, drop};
+ghost use Rattle.std.specs.Prelude.{string_bytes, string_len, string_capacity, vec_len, vec_capacity, take, drop};
 ghost use Rattle.std.specs.String.{string_vec};
 ghost use Rattle.std.specs.Bool.{OnTrue, OnFalse};
 ghost use Rattle.std.specs.List.{AllWithin};

@@ -1,9 +1,9 @@
 //! The calls of [`BufWriter`] for records, which are written whole or not at all, and for bytes of a reader. Rust's std
 //! has none of them.
-ghost use Rattle.std.specs.Prelude.{◌≡◌, ◌+◌, ◌<◌, ◌≤◌, ◌++◌, [], length, OnOk};
+ghost use Rattle.std.specs.Prelude.{◌+◌, ◌<◌, ◌≤◌, ◌++◌, [], length, OnOk};
 ghost use Rattle.no_std_io2_base.specs.Errors.{IsNoInterruption};
 ghost use Rattle.no_std_io2_base.specs.Moves.{Moves, call_mishap};
-ghost use Rattle.no_std_io2.specs.BufWriter.{writer_inner, writer_buffer, writer_told, Puts, FillsFrom};
+ghost use Rattle.no_std_io2.specs.BufWriter.{writer_inner, writer_buffer, writer_told, Puts};
 ghost use Rattle.no_std_io2.specs.inner.BufWriter.{TakesStep, RoomCalls};
 
 use super::super::buffer::SMALL;
