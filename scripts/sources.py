@@ -183,11 +183,20 @@ def clashes(files):
 
 
 def defined_twice(logic):
-    """The names with two meanings: in all specs/, and in the specs/ and proofs/ of the libraries together."""
+    """The names with two meanings: in the specs/ and proofs/ of the libraries together, and in the specs/ of another
+    crate together with those of the libraries."""
     modules = re.compile(rf"crates/(?:{'|'.join(LIBRARIES)})/(?:specs|proofs)/(?:inner/)?\w+\.antt")
+    groups = {crate: {} for crate in ["", *(path.split("/")[1] for path in logic)]}
+    for path, text in logic.items():
+        crate = path.split("/")[1]
+        if modules.fullmatch(path):
+            groups[""][path] = text
+        for name in groups if crate in LIBRARIES else [crate]:
+            if name and "/specs/" in path:
+                groups[name][path] = text
     found = {}
-    for has in (lambda path: "/specs/" in path, modules.fullmatch):
-        for name, places in clashes({path: text for path, text in logic.items() if has(path)}).items():
+    for files in groups.values():
+        for name, places in clashes(files).items():
             found.setdefault(name, set()).update(places)
     return {name: sorted(places) for name, places in sorted(found.items())}
 
