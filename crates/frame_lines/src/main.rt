@@ -14,6 +14,9 @@ ghost use Rattle.frame_lines.specs.Asking.{AsksFor};
 ghost use Rattle.frame_lines.specs.Printing.{PrintsPayload, PrintsFrames, PrintsAll};
 ghost use Rattle.frame_lines.specs.Fits.{FramesFit, LogFits};
 
+#[cfg(test)]
+mod tests;
+
 use cli::{Reason, about, arguments, report, usage};
 use framing::FrameReader;
 use line_log::LineLog;
@@ -76,7 +79,7 @@ fn asked<R: Env + Alloc<A = Global>>(rt: &R) -> Result<Option<Command>> {
 fn print_line<W: Write + Drop>(lines: &mut LineLog<W, LINE>, payload: &[u8]) -> Result<()>
     requires log { LogFits W.row }
     // After `Ok`, the writer below the log has the whole line.
-    ensures { OnOk result (PrintsPayload W.told lines.old lines.new) }
+    ensures { OnOk result (PrintsPayload W.Write lines.old lines.new) }
 {
     lines.log_text(payload.escape_ascii())?;
     if lines.is_behind() {
@@ -92,8 +95,9 @@ fn print_frames<R: Read + Drop, W: Write + Drop>(
 ) -> Result<()>
     requires frames { FramesFit R.row }
     requires log { LogFits W.row }
-    // One line is printed for each frame, in order.
-    ensures prints { PrintsFrames R.Read W.told frames.old (replicate 4096 0) lines.old result frames.new }
+    // One line is printed for each frame, in order, and the log is flushed once, at the end.
+    ensures prints { PrintsFrames R.Read W.Write frames.old (replicate 4096 0) lines.old
+        result frames.new lines.new }
     // After `Ok`, the log and the writer below it have sent all that they held.
     ensures flushed { OnOk result ((log_tells W.told lines.new).held ≡ []) }
 {
@@ -111,7 +115,8 @@ fn print_all<D: SystemRead + Drop, E: SystemWrite + Drop>(
 ) -> std::result::Result<(), Reason>
     requires frames { FramesFit (patient-row D.row) }
     requires log { LogFits (patient-row E.row) }
-    ensures { PrintsAll ⟦<Patient<D> as Read>⟧ ⟦<Patient<E> as Write>⟧.told frames.old lines.old result frames.new lines.new }
+    ensures { PrintsAll ⟦<Patient<D> as Read>⟧ ⟦<Patient<E> as Write>⟧
+        frames.old lines.old result frames.new lines.new }
 {
     match print_frames(frames, lines) {
         Ok(()) => Ok(()),

@@ -9,7 +9,7 @@ use Rattle.frame_lines.proofs.print_frames.Given as goal
 abbrev pub invariant-frames : goal.invariant-frames
 invariant-frames g l = record {
   payloads : List (List ℕ);
-  prints : PrintsEach (reader g.R.Stored g.R.Read) g.W.Write.told l.initial.frames
+  prints : PrintsEach (reader g.R.Stored g.R.Read) g.W.Write l.initial.frames
       (replicate 4096 0) l.initial.lines payloads l.frames l.room l.lines;
 }
 
