@@ -1,6 +1,6 @@
 -- How a member is added to the archive on standard output, and what is told of it. K are the ghost members of the reader of a file's bytes,
 -- and I those of the output.
-use Rattle.std.specs.Prelude.{◌≡◌, ◌⊎◌, ℕ, Bool, List, [], codes, Option, Some, Result, Ok, Err}
+use Rattle.std.specs.Prelude.{◌≡◌, ◌⊎◌, ℕ, Bool, List, [], ◌∷◌, codes, decimal, Option, Some, Result, Ok, Err}
 use Rattle.std.specs.Fmt.{◌++?◌}
 use Rattle.no_std_io2.specs.{declared.io.{BufWriter.{BufWriter}, Error.{Error}}, Takes.{Reader}, Writers.{Writer}}
 use Rattle.no_std_io2.specs.declared.util.sides.CopyError.{CopyError, TheVariants.{Read, Write}}
@@ -18,6 +18,11 @@ Tried = Result (Unit {0}) (FileFault Reason)
 -- the line that is told of a member of this name
 abbrev pub member_fault : List ℕ → Option (List ℕ) → Option (List ℕ)
 member_fault name text = Some (codes "tar_make: ") ++? Some name ++? Some (codes ": ") ++? text
+
+-- the text that is told of a run in which so many files are done. A carriage return ends it, so that the next line overwrites it
+abbrev pub progress_text : ℕ → ℕ → Option (List ℕ)
+progress_text done all =
+    Some (codes "tar_make: ") ++? Some (decimal done) ++? Some (codes " of ") ++? Some (decimal all) ++? Some (13 ∷ [])
 
 -- the output failed by this error, and the reason is that of its device, if that failed
 abbrev pub BlamesOutput : {D : Type 0} {S : ℕ} → Error → Tried → Builder (Patient D) S → Type 0

@@ -2,7 +2,8 @@
 //! output. Of a directory or a pipe it has the name alone, and not what is in it.
 //!
 //! Devices and sockets are left out, and so is a file that cannot be read, or that no header can hold; its name and the
-//! reason go to standard error.
+//! reason go to standard error. So does a line of how many files are done, if the run takes more than two seconds, and
+//! standard error is a terminal or `--progress` asks for it.
 //! If a file ends earlier than it was found to, or cannot be read to its end, the rest is filled with zeros; if it is
 //! longer, it is cut. The status is 0 if nothing failed, and else 1.
 #![tactic(auto)]
@@ -11,28 +12,32 @@ ghost use Rattle.std.specs.Prelude.{◌≡◌, ◌≢◌, Ok, Err, true, IfOk, I
 ghost use Rattle.std.specs.Process.{exit_status};
 ghost use Rattle.cli.specs.About.{TellsLine, error_line};
 ghost use Rattle.cli.specs.Reasons.{reason_text};
-ghost use Rattle.tar_make.specs.Adding.{AddsBody, AddsHeader, AddsFile, AddsMember, EndsAll, HasName, member_fault};
+ghost use Rattle.tar_make.specs.Adding.{AddsBody, AddsHeader, AddsFile, AddsMember, EndsAll, HasName, member_fault, progress_text};
 
 use cli::{
     FileFault, PerFile, Reason, SystemMessages, SystemOutput, about, each_file, named, report,
 };
 use no_std_io2::io::{BufWriter, CopyError, Error, ErrorKind, Read, Write};
 use std::alloc::Global;
+use std::io::IsTerminal;
 use std::os::unix::fs::{FileTypeExt, MetadataExt, PermissionsExt};
 use std::process::ExitCode;
 use std::rt::{Env, Files};
+use std::time::Instant;
 use std::{env, fs, io};
 use system_streams::{Patient, SystemRead, SystemWrite, open, stdout};
 use tar::{Builder, HeaderBlock, Metadata};
 
 // What `--help` prints.
 const HELP: &str = "\
-Usage: tar_make [FILE]...
+Usage: tar_make [--progress] [FILE]...
 Writes a tar archive of files, directories, symbolic links and named pipes to
 standard output. Of a directory it has the name, and not what is in it.
 
-  --help     prints this text, if it is the first argument
-  --version  prints the version, if it is the first argument
+  --progress  shows how many files are done, also if standard error is no
+              terminal, if it is the first argument
+  --help      prints this text, if it is the first argument
+  --version   prints the version, if it is the first argument
 ";
 
 // The size in bytes of the archive's buffer.
@@ -129,12 +134,77 @@ fn add_file<D: SystemRead + Drop, E: SystemWrite + Drop, const S: usize>(
     }
 }
 
+// Adds the member with this name.
+fn add_named<E: SystemWrite + Drop, const S: usize>(
+    rt: &HostRuntime,
+    name: &str,
+    archive: &mut Builder<Patient<E>, S>,
+) -> Result<(), FileFault<Reason>>
+    ensures { AddsMember ⟦<Patient<fs::File> as Read>⟧ ⟦<Patient<E> as Write>⟧ name.now archive.old result archive.new }
+{
+    let found = match fs::symlink_metadata(rt, name) {
+        Ok(found) => found,
+        Err(e) => return Err(FileFault::File(Reason::System(e))),
+    };
+    let header = match header_of(rt, name, &found) {
+        Ok(header) => header,
+        Err(why) => return Err(FileFault::File(why)),
+    };
+    if !found.is_file() {
+        return add_header(archive, &header);
+    }
+    match open(rt, name) {
+        Ok(mut file) => add_file(archive, &header, &mut file),
+        Err(e) => Err(FileFault::File(Reason::System(e))),
+    }
+}
+
+// How far a run is: the files that are done, of all.
+#[derive(Drop)]
+struct Progress {
+    // When it began, if that is to be shown.
+    start: Option<Instant>,
+    done: usize,
+    all: usize,
+    is_shown: bool,
+}
+
+// Shows how far a run is. The next line overwrites that.
+fn show<M: SystemMessages>(messages: &M, done: usize, all: usize)
+    ensures { TellsLine M.may_tell_text messages.now (progress_text done all) }
+{
+    let _ = messages.tell_text(format_args!("tar_make: {done} of {all}\r"));
+}
+
+// Returns whether two seconds have gone since the start.
+fn is_late(rt: &HostRuntime, start: Option<Instant>) -> bool {
+    match start {
+        Some(start) => match start.elapsed(rt) {
+            Ok(gone) => gone.as_secs() >= 2,
+            Err(_) => false,
+        },
+        None => false,
+    }
+}
+
+impl Progress {
+    // Counts a file that is done, and shows how far the run is, if it is late.
+    fn count<M: SystemMessages>(&mut self, rt: &HostRuntime, messages: &M) {
+        self.done = self.done.saturating_add(1);
+        if is_late(rt, self.start) {
+            show(messages, self.done, self.all);
+            self.is_shown = true;
+        }
+    }
+}
+
 // A run: where the files are, where messages go, and the archive.
 #[derive(Drop)]
 struct Making<'a, M, E: SystemWrite + Drop, const S: usize> {
     files: &'a HostRuntime,
     messages: &'a M,
     archive: Builder<Patient<E>, S>,
+    progress: Progress,
 }
 
 impl<M: SystemMessages, E: SystemWrite + Drop, const S: usize> PerFile for Making<'_, M, E, S> {
@@ -149,21 +219,10 @@ impl<M: SystemMessages, E: SystemWrite + Drop, const S: usize> PerFile for Makin
         × TellsLine M.may_tell old.messages.now (member_fault name (reason_text why)) };
 
     fn try_file(&mut self, name: &str) -> Result<(), FileFault<Reason>> {
-        let found = match fs::symlink_metadata(self.files, name) {
-            Ok(found) => found,
-            Err(e) => return Err(FileFault::File(Reason::System(e))),
-        };
-        let header = match header_of(self.files, name, &found) {
-            Ok(header) => header,
-            Err(why) => return Err(FileFault::File(why)),
-        };
-        if !found.is_file() {
-            return add_header(&mut self.archive, &header);
-        }
-        match open(self.files, name) {
-            Ok(mut file) => add_file(&mut self.archive, &header, &mut file),
-            Err(e) => Err(FileFault::File(Reason::System(e))),
-        }
+        let (files, messages) = (self.files, self.messages);
+        let tried = add_named(files, name, &mut self.archive);
+        self.progress.count(files, messages);
+        tried
     }
 
     fn tell_of(&mut self, name: &str, why: Reason) {
@@ -187,16 +246,41 @@ fn end_all<E: SystemWrite + Drop, const S: usize>(
     }
 }
 
+// Returns when the run began, if progress is to be shown: it was asked for, or standard error is a terminal.
+fn begun(rt: &HostRuntime, is_asked: bool) -> Option<Instant> {
+    if is_asked || rt.stderr().is_terminal() {
+        return Instant::now(rt).ok();
+    }
+    None
+}
+
 // Adds the members with these names, and the end. Returns whether all are what they should be. It stops if standard
 // output fails.
-fn make(rt: &HostRuntime, names: &[String]) -> Result<bool, Reason> {
+fn make(rt: &HostRuntime, is_asked: bool, names: &[String]) -> Result<bool, Reason> {
     let mut making = Making {
         files: rt,
         messages: rt,
         archive: Builder::<_, BUFFER>::new(stdout(rt)),
+        progress: Progress {
+            start: begun(rt, is_asked),
+            done: 0,
+            all: names.len(),
+            is_shown: false,
+        },
     };
     let tried = each_file(&mut making, names);
+    if making.progress.is_shown {
+        let _ = rt.tell_text("\n");
+    }
     end_all(&mut making.archive, tried)
+}
+
+// Adds the members with the names of these arguments, the first of which may be `--progress`.
+fn make_of(rt: &HostRuntime, words: &[String]) -> Result<bool, Reason> {
+    match words.split_first() {
+        Some((first, names)) if first.as_str() == "--progress" => make(rt, true, names),
+        _ => make(rt, false, words),
+    }
 }
 
 // Returns the arguments after the program's name.
@@ -229,7 +313,7 @@ fn main(rt: HostRuntime) -> ExitCode {
     match names(&rt) {
         Ok(names) => match told(&rt, names.as_slice()) {
             Some(told) => told,
-            None => status(&rt, make(&rt, names.as_slice())),
+            None => status(&rt, make_of(&rt, names.as_slice())),
         },
         Err(e) => report(&rt, "tar_make", Err(e)),
     }

@@ -1,6 +1,6 @@
 -- The prover does not find the header, and the file that was opened.
 use Rattle.no_std_io2.proofs.Words.{inl, inr}
-use Rattle.tar_make.proofs.MakingPerFile.try_file.Goals as goal
+use Rattle.tar_make.proofs.add_named.Goals as goal
 
 pub returns-then-not-is_file : goal.returns-then-not-is_file
 returns-then-not-is_file g c = inr (_, c.in-Ok-header_of.ensures, inl c.add_header.ensures)
