@@ -1,4 +1,5 @@
 pub mod Checksum
+pub mod Entries
 pub mod Headers
 pub mod Hex
 pub mod Inbox

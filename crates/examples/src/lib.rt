@@ -1,5 +1,5 @@
-//! First proofs and devices to copy, which the gate proves. Only `counted`, `greps` and `indexed` use another crate than
-//! `no_std_io2`.
+//! First proofs and devices to copy, which the gate proves. Only `counted`, `entries`, `greps` and `indexed` use another
+//! crate than `no_std_io2`.
 //! PROVING and the CALLING pages of `no_std_io2` and `system_streams` show or name all modules except `records`.
 #![tactic(auto)]
 
@@ -11,6 +11,7 @@ mod broken;
 mod checksum;
 mod commands;
 mod counted;
+mod entries;
 mod flash;
 mod greps;
 mod heads;
@@ -36,6 +37,7 @@ pub use broken::Broken;
 pub use checksum::checksum_of;
 pub use commands::{read_command, read_text, read_whole};
 pub use counted::count_reads;
+pub use entries::{Entry, read_member};
 pub use flash::{Flash, FlashFile};
 pub use greps::grep;
 pub use heads::head;
