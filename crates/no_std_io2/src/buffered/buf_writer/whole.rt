@@ -1,9 +1,9 @@
 //! The calls of [`BufWriter`] for records, which are written whole or not at all, and for bytes of a reader. Rust's std
 //! has none of them.
-ghost use Rattle.std.specs.Prelude.{◌+◌, ◌<◌, ◌≤◌, ◌++◌, [], length, OnOk};
+ghost use Rattle.std.specs.Prelude.{◌≡◌, ◌+◌, ◌<◌, ◌≤◌, ◌++◌, [], length, OnOk};
 ghost use Rattle.no_std_io2_base.specs.Errors.{IsNoInterruption};
 ghost use Rattle.no_std_io2_base.specs.Moves.{Moves, call_mishap};
-ghost use Rattle.no_std_io2.specs.BufWriter.{writer_inner, writer_buffer, writer_told, Puts};
+ghost use Rattle.no_std_io2.specs.BufWriter.{writer_inner, writer_buffer, writer_told, Puts, FillsFrom};
 ghost use Rattle.no_std_io2.specs.inner.BufWriter.{TakesStep, RoomCalls};
 
 use super::super::buffer::SMALL;
@@ -73,5 +73,28 @@ impl<W: Write + Drop, const S: usize> BufWriter<W, S> {
         self.sender.hold(head);
         self.sender.hold(tail);
         Ok(())
+    }
+
+    /// Reads `from` into the room beside the held bytes, until `n` more are held or the end comes first. For the
+    /// room, call [`make_room`](BufWriter::make_room) before. Each read asks for all that is missing, and the inner
+    /// writer gets no call. It ignores interruptions.
+    ///
+    /// # Errors
+    /// Returns the first fault of `from`. The bytes that were read before it are held. Never returns `Interrupted`.
+    ///
+    /// ```rust
+    /// let mut w = BufWriter::<Vec<u8>, 8>::new(Vec::new(rt.alloc()));
+    /// let mut from = b"abcdef".as_slice();
+    /// w.make_room(4)?;
+    /// w.fill_from(&mut from, 4)?;
+    /// assert!(rt; w.buffer() == b"abcd".as_slice());
+    /// assert!(rt; from == b"ef".as_slice());
+    /// ```
+    pub fn fill_from<R: Read>(&mut self, from: &mut R, n: usize) -> Result<()>
+        requires { length (writer_buffer self.old) + n ≤ S }
+        ensures fills { FillsFrom R.Read n from.old (writer_buffer self.old) result (writer_buffer self.new) from.new }
+        ensures inner { writer_inner self.new ≡ writer_inner self.old }
+    {
+        self.sender.fill_from(from, n)
     }
 }
