@@ -1,6 +1,8 @@
 // The examples of pages, and those of `examples`: a test for each, which finds one that is no longer what its call does.
-use examples::{checksum_of, entry_of, entry_of_file, grep, head, save, save_summed};
-use io_bench::{Act, Event, Faulty, Feed};
+use examples::{
+    add_table, checksum_of, entry_of, entry_of_file, grep, head, print_table, save, save_summed,
+};
+use io_bench::{Act, Event, Faulty, Feed, Tally};
 use no_std_io2::io::{BufReader, BufWriter, Cursor, ErrorKind, Write};
 use std::fs::remove_file;
 use std::io;
@@ -23,6 +25,29 @@ fn checksum(rt: HostRuntime) -> Result<(), Fail> {
     let mut r = Cursor::new(vec![in rt.alloc(); b'a', b'b', b'c', b'd', b'e']?);
     let mut piece = [0u8; 2];
     assert!(rt; checksum_of(&mut r, &mut piece)? == 495);
+    Ok(())
+}
+
+// A read behind the end: two full pieces are two reads, and the last one, and the end after it, are two more.
+#[test]
+fn a_checksum_asks_for_one_end(rt: HostRuntime) -> Result<(), Fail> {
+    let mut r = Tally::new(Cursor::new(*b"abcde"));
+    let mut piece = [0u8; 2];
+    assert!(rt; checksum_of(&mut r, &mut piece)? == 495);
+    assert!(rt; r.reads() == 4);
+    Ok(())
+}
+
+// A flush behind each row of a table, which through a buffer is a write of the device for each.
+#[test]
+fn a_table_is_one_write(rt: HostRuntime) -> Result<(), Fail> {
+    let mut w = BufWriter::<_, 64>::new(Tally::new(Cursor::new([0u8; 64])));
+    print_table(&mut w, &[(1, 20), (3, 400)])?;
+    w.flush()?;
+    assert!(rt; w.get_ref().writes() == 1);
+    let page = add_table(Cursor::new([b'.'; 64]), &[(1, 20), (3, 400)])?;
+    assert!(rt; page.position() == 11);
+    assert!(rt; page.get_ref().starts_with(b"1=20\n3=400\n."));
     Ok(())
 }
 

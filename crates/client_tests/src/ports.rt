@@ -3,7 +3,7 @@ ghost use Rattle.std.specs.Prelude.{◌&&◌, ◌==◌, ◌%◌, nat_lt};
 
 use examples::{Inbox, Port, Registers, Serial, Source, Uart};
 use no_std_io2::ghost_bytes::GhostBytes;
-use no_std_io2::io::{ErrorKind, Read, Write};
+use no_std_io2::io::{BufWriter, ErrorKind, Read, Write};
 use std::test::Fail;
 
 // A chip with room for three bytes, which is ready at every second look.
@@ -63,6 +63,17 @@ fn a_serial_line_sends_each_byte_once(rt: HostRuntime) -> Result<(), Fail> {
     assert!(rt; line.write(b"a").is_err());
     assert!(rt; line.write(b"a")? == 1);
     assert!(rt; line.port.registers.bytes == *b"a--");
+    Ok(())
+}
+
+// A byte that the chip refused is asked for again: two looks for each of three bytes, and two for the fourth.
+#[test]
+fn a_full_chip_is_asked_once(rt: HostRuntime) -> Result<(), Fail> {
+    let mut w = BufWriter::<_, 8>::new(serial(2));
+    w.write_all(b"abcd")?;
+    assert!(rt; w.flush().is_err());
+    assert!(rt; w.buffer() == b"d".as_slice());
+    assert!(rt; w.get_ref().port.registers.looks == 8);
     Ok(())
 }
 

@@ -1,8 +1,11 @@
 -- Sums of bytes, and what was summed up so far.
 use Rattle.no_std_io2.proofs.Words.{◌^◌, Ok, refl, sum, Reader, ReadCall, Gave, GaveAll, Filled, ReadCallLaw, ◌≡◌, ◌+◌, ◌%◌, ℕ, List, []}
-use Rattle.no_std_io2.proofs.{Words.{◌++◌, true, arith, ReaderState}, CallsAdd.{Joins, joins_modulo, EachAdds}, ReadsLemmas.{Took-none}}
+use Rattle.no_std_io2.proofs.{Words.{◌++◌, ◌<◌, ◌≤◌, true, false, arith, Bool, Err, inl, inr, length, subst, event_bytes}}
+use Rattle.no_std_io2.proofs.{CallsAdd.{Joins, joins_modulo, EachAdds}, ReadsLemmas.{fetches_none, fetches_then, fetches_reads, fetches_until}}
+use Rattle.no_std_io2.proofs.ReadsLemmas.{fetches_end, fetches_fault}
+use Rattle.no_std_io2.specs.{declared.io.Error.{Error}, inner.Writers.{OfObject}, Read.{ReadFullLaw}, Reads.{Fetches}}
 use Rattle.std.proofs.lemmas.List.Sums.{sum_by-append}
-use Rattle.no_std_io2.specs.{Calls.{GaveExactly}, Reads.{Took}, Write.{CallAdds, RestAdds}}
+use Rattle.no_std_io2.specs.{Calls.{GaveExactly}, Write.{CallAdds, RestAdds}}
 use Rattle.no_std_io2.proofs.{Words.{◌∙◌, append-nil, ap, sym, Result, WroteAll}, BufWriterLemmas.{AddsThrough}}
 use Rattle.examples.specs.{declared.summed.Summed.{Summed}, Summed.{summed_sum, Sums, ReadSums}}
 
@@ -41,17 +44,49 @@ reads_sum R sums = record {
 
 -- What was summed up so far.
 
--- these bytes were taken, without a fault, and s is their sum
-pub record SumsSoFar (old now : ReaderState) (s : ℕ) : Type 0 where
+-- these bytes were read, without a fault, from the value of an object, and s is their sum
+pub record SumsSoFar {X : Type 0} {V : X → Type 0} (R : (o : (x : X) × V x) → Reader (V o.0)) (old now : (x : X) × V x) (s : ℕ)
+    : Type 0 where
   pub bytes : List ℕ
-  pub took : Took old bytes (Ok true) now
+  pub fetched : OfObject old (λ a b. Fetches (R old) a bytes (Ok true) b) now
   pub is : s % 2 ^ 64 ≡ sum bytes % 2 ^ 64
 
--- at the start none
-pub sums_none : {old : ReaderState} → SumsSoFar old old 0
-sums_none {old} = record { bytes = []; took = Took-none old; is = refl }
+module _ {X : Type 0} {V : X → Type 0} (R : (o : (x : X) × V x) → Reader (V o.0)) (same : (x : X) (a b : V x) → R (x, a) ≡ R (x, b)) where
+  -- at the start none
+  pub sums_none : (old : (x : X) × V x) → SumsSoFar R old old 0
+  sums_none old = record { bytes = []; fetched = (old.1, refl, fetches_none refl); is = refl }
+
+  -- calls on the value of an object, and then others
+  pub then_fetched : (old mid : (x : X) × V x) (value : V mid.0) {x y : List ℕ} {how : Result Bool Error}
+      → OfObject old (λ a b. Fetches (R old) a x (Ok true) b) mid → Fetches (R mid) mid.1 y how value
+      → OfObject old (λ a b. Fetches (R old) a (x ++ y) how b) (mid.0, value)
+  then_fetched old mid value {x} {y} {how} (v, is, f) g =
+      subst (λ m. (w : V m.0) → Fetches (R m) m.1 y how w → OfObject old (λ a b. Fetches (R old) a (x ++ y) how b) (m.0, w)) (sym is)
+      (λ w h. (w, refl, fetches_then f (subst (λ I. Fetches I v y how w) (same old.0 v old.1) h))) value g
 
 -- and then these
-pub sums_more : {old now : ReaderState} {s : ℕ} (t : ℕ) (x : List ℕ) (before : SumsSoFar old now s) → t % 2 ^ 64 ≡ (s + sum x) % 2 ^ 64
-    → t % 2 ^ 64 ≡ sum (before.bytes ++ x) % 2 ^ 64
-sums_more {s = s} t x before next = omega (arith, before.is, next, sum_by-append (λ b. b) before.bytes x)
+pub sums_more : (s t : ℕ) (bytes x : List ℕ) → s % 2 ^ 64 ≡ sum bytes % 2 ^ 64 → t % 2 ^ 64 ≡ (s + sum x) % 2 ^ 64
+    → t % 2 ^ 64 ≡ sum (bytes ++ x) % 2 ^ 64
+sums_more s t bytes x before next = omega (arith, before, next, sum_by-append (λ b. b) bytes x)
+
+module _ {X : Type 0} {R : Reader X} {a b : X} {buf buf' : List ℕ} {n : ℕ} where
+  -- the calls of a `read_full` that filled the buffer
+  pub fetched_full : {u : Unit {0}} (law : ReadFullLaw R a buf 0 (Ok u) buf' n b) → length buf ≤ n
+      → Fetches R a (event_bytes law.taken) (Ok true) b
+  fetched_full law full = elim law.calls.are [
+    | inl whole ↦ fetches_reads whole.0 b law.calls.made
+    | inr end ↦ absurd (omega (arith, law.counts, full, end.3.0, end.3.1))
+  ]
+
+  -- of one that met the end
+  pub fetched_end : {u : Unit {0}} (law : ReadFullLaw R a buf 0 (Ok u) buf' n b) → n < length buf
+      → Fetches R a (event_bytes law.taken) (Ok false) b
+  fetched_end law few = elim law.calls.are [
+    | inl whole ↦ absurd (omega (arith, law.counts, few, whole.1))
+    | inr end ↦ fetches_until (Ok false) b (λ c at room into read. fetches_end room read into.1) end law.calls.made
+  ]
+
+  -- and of one that met a fault
+  pub fetched_fault : {e : Error} (law : ReadFullLaw R a buf 0 (Err e) buf' n b) → Fetches R a (event_bytes law.taken) (Err e) b
+  fetched_fault {e} law =
+      fetches_until (Err e) b (λ c at room into read. fetches_fault room read law.calls.are.0) law.calls.are.1 law.calls.made

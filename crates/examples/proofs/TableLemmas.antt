@@ -1,6 +1,6 @@
 -- One row more, and what became of a text that was printed to an object.
 use Rattle.no_std_io2.proofs.Words.{◌≡◌, ℕ, ◌+◌, ◌<◌, ◌≤◌, ◌^◌, List, [], ◌++◌, length, take, get_or, Some, Ok, Err, inl, inr, ⊎_elim}
-use Rattle.no_std_io2.proofs.Words.{subst, arith}
+use Rattle.no_std_io2.proofs.Words.{subst, arith, take_more, Option, Result, ◌∷◌}
 use Rattle.no_std_io2.proofs.Words.{WriterState, Moves, MovesFront, sym, append-nil, length-append, told_out, with_buffer}
 use Rattle.std.proofs.lemmas.Fmt.{length-decimal-le}
 use Rattle.no_std_io2.specs.{declared.io.Error.{Error}, inner.Text.{PrintsOrRefuses, PrintsShort}}
@@ -9,7 +9,8 @@ use Rattle.no_std_io2.proofs.{Forwards.{row_back, array}, ObjectRules.{buffered,
 use Rattle.no_std_io2.specs.contracts.io.Cursor.{the_row as cursor-row}
 use Rattle.no_std_io2.specs.declared.io.{Cursor.{Cursor}, BufWriter.{BufWriter}, LineWriter.{LineWriter}}
 use Rattle.no_std_io2.specs.{Cursor.{cursor_out}, BufWriter.{writer_inner, writer_buffer}, LineWriter.{line_inner, line_buffer}}
-use Rattle.examples.specs.Tables.{row_text, table, StopsTable}
+use Rattle.no_std_io2.specs.{Writers.{Writer}, inner.Writers.{OfObject, PrintsByOne}}
+use Rattle.examples.specs.Tables.{row_text, table, ArePrinted, PrintsRows, StopsTable, and_row}
 
 -- a row has at most 22 bytes
 row_short : (row : ℕ × ℕ) → row.0 < 2 ^ 32 → row.1 < 2 ^ 32 → length (row_text row) ≤ 32
@@ -33,6 +34,32 @@ module _ (rows : List (ℕ × ℕ)) (i : ℕ) (within : i < length rows) {a b c 
       (λ moves. inl (MovesFront-stop row_text rows i (0, 0) within (MovesFront-all so_far) moves))
       (λ refused. inr (refused.0, i, within, subst (λ t. Moves a (table (take i rows)) [] t) (sym refused.1) so_far))
       (prints_fitting 32 (Err e) prints (row_short (get_or rows i (0, 0)) id value))
+
+module _ {X : Type 0} {V : X → Type 0} (I : (o : (x : X) × V x) → Writer (V o.0)) (same : (x : X) (a b : V x) → I (x, a) ≡ I (x, b))
+    (old mid : (x : X) × V x) (rows : List (ℕ × ℕ)) (i : ℕ) (within : i < length rows)
+    (so_far : OfObject old (λ a b. ArePrinted (I old) a (take i rows) b) mid) where
+  -- the call for the next row, as one on the object before
+  call_next : {reply : Result (Unit {0}) Error} (new : (x : X) × V x) (t : Option (List ℕ))
+      → OfObject mid (λ a b. PrintsByOne (I mid) 32 t a reply b) new
+      → (v : V old.0) × ArePrinted (I old) old.1 (take i rows) v × OfObject (old.0, v) (λ a b. PrintsByOne (I old) 32 t a reply b) new
+  call_next {reply} new t called =
+      let (v, is, printed) = so_far in
+      let (w, now, one) = subst (λ m. OfObject m (λ a b. PrintsByOne (I m) 32 t a reply b) new) is called in
+      (v, printed, (w, now, subst (λ J. PrintsByOne J 32 t v reply w) (same old.0 v old.1) one))
+
+  -- one row more was printed
+  pub row_printed : (new : (x : X) × V x) → OfObject mid (λ a b. PrintsByOne (I mid) 32 (Some (row_text (get_or rows i (0, 0)))) a (Ok tt) b) new
+      → OfObject old (λ a b. ArePrinted (I old) a (take (i + 1) rows) b) new
+  row_printed new called =
+      let (v, printed, (w, now, one)) = call_next new (Some (row_text (get_or rows i (0, 0)))) called in
+      (w, now, subst (λ l. ArePrinted (I old) old.1 l w) (sym (take_more rows i (0, 0) within)) (and_row (get_or rows i (0, 0)) printed one))
+
+  -- or its call failed
+  pub row_refused : {e : Error} (new : (x : X) × V x)
+      → OfObject mid (λ a b. PrintsByOne (I mid) 32 (Some (row_text (get_or rows i (0, 0)))) a (Err e) b) new
+      → OfObject old (λ a b. PrintsRows (I old) rows a (Err e) b) new
+  row_refused new called =
+      let (v, printed, (w, now, one)) = call_next new (Some (row_text (get_or rows i (0, 0)))) called in (w, now, (i, v, within, printed, one))
 
 -- what is out of the page of n bytes that comes back is out of the one behind the object
 pub page_out : (n : ℕ) (w y : Cursor (List ℕ)) → (cursor-row (array n)).coded.code w ≡ (cursor-row (array n)).coded.code y

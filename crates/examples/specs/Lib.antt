@@ -13,3 +13,4 @@ pub mod Serial
 pub mod Settings
 pub mod Summed
 pub mod Tables
+pub mod Tee

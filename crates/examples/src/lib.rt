@@ -31,6 +31,7 @@ mod serial;
 mod settings;
 mod summed;
 mod tables;
+mod tee;
 mod uart;
 
 pub use broken::Broken;
@@ -58,6 +59,7 @@ pub use serial::{Port, Serial};
 pub use settings::find_setting;
 pub use summed::{Summed, flush_summed, save_summed, write_summed};
 pub use tables::{add_lines, add_table, print_table, table_at, table_of};
+pub use tee::Tee;
 pub use uart::{Registers, Uart};
 
 pub mod records;

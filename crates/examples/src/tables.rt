@@ -3,12 +3,13 @@
 ghost use Rattle.std.specs.Prelude.{◌≡◌, [], ◌++◌, IfOk, IfErr, OnOk};
 ghost use Rattle.no_std_io2.specs.Cursor.{cursor_out};
 ghost use Rattle.no_std_io2.specs.Moves.{Moves, told_out};
-ghost use Rattle.examples.specs.Tables.{table, StopsTable};
+ghost use Rattle.no_std_io2.specs.inner.Writers.{OfObject};
+ghost use Rattle.examples.specs.Tables.{table, PrintsRows, StopsTable};
 
 use no_std_io2::io::{BufWriter, Cursor, LineWriter, Result, Write, print_to_object};
 use std::alloc::Global;
 
-/// Prints a line `ID=VALUE` for each of these rows, each by one `write_all`. It allocates nothing.
+/// Prints a line `ID=VALUE` for each of these rows, each by one `write_all`, and makes no other call. It allocates nothing.
 ///
 /// # Errors
 /// Returns the error of the writer behind the object, which then has accepted some front of the table. No line is too
@@ -17,6 +18,7 @@ use std::alloc::Global;
 pub fn print_table(w: &mut dyn Write, rows: &[(u32, u32)]) -> Result<()>
     ensures all { OnOk result (Moves (told w.old) (table rows.now) [] (told w.new)) }
     ensures stops { IfErr result (λ e. StopsTable (told w.old) rows.now e (told w.new)) }
+    ensures calls { OfObject w.old (λ old new. PrintsRows (Write-dyn w.old) rows.now old result new) w.new }
 {
     'rows: for &(id, value) in rows {
         print_to_object::<_, _, 32>(w, format_args!("{id}={value}\n"))?;

@@ -1,6 +1,6 @@
 //! Plays the rows of what no clause says of the clients: the calls of a `Patient`, of `copy` and of `copy_through`, what
-//! a drop sends, printed readings, a checksum, runs of base64 and of numbers, records that become lines of a log, and two
-//! runs of frames, of lines of a log and of `joined`.
+//! a drop sends, printed readings, a checksum, a writer over two, runs of base64 and of numbers, records that become lines
+//! of a log, and two runs of frames, of lines of a log and of `joined`.
 #![tactic(auto)]
 
 mod copies;
@@ -12,6 +12,7 @@ mod patience;
 mod readings;
 mod records;
 mod sums;
+mod tees;
 
 use rows_play::files::play_files;
 use rows_play::player::{Player, Streams};
@@ -32,6 +33,7 @@ impl Streams for RunTables {
             "DecoderReader" => decoding::lend(words, player),
             "LineSink" => records::lend(words, player),
             "checksum_of" => sums::lend(words, player),
+            "Tee" => tees::lend(words, player),
             "EncoderWriter" | "base64" | "WriteBytesExt" | "ReadBytesExt" => {
                 encoding::lend(name, words, player)
             }
