@@ -8,6 +8,7 @@ pub mod Lengths
 pub mod Lines
 pub mod Magic
 pub mod Messages
+pub mod Parcels
 pub mod Readings
 pub mod Serial
 pub mod Settings

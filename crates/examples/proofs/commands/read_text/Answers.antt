@@ -1,5 +1,5 @@
 -- A known line comes back by `line_known`, a lemma that the search does not have.
-use Rattle.no_std_io2.proofs.Words.{◌≡◌, Ok, Err, ap, ◌∙◌, ◌++◌, ◌∷◌, [], newline, returned_err}
+use Rattle.no_std_io2.proofs.Words.{Ok, Err, ap, ◌∙◌, ◌++◌, ◌∷◌, [], newline, returned_err}
 use Rattle.no_std_io2.proofs.KnownPieces.{line_known}
 use Rattle.examples.proofs.commands.read_text.Goals as goal
 

@@ -1,5 +1,5 @@
 -- The seeks and the read are joined by `stands_at`, a lemma that the search does not have.
-use Rattle.no_std_io2.proofs.Words.{◌≡◌, ap, ◌∙◌, subst, ◌++◌, IsSomeAnd}
+use Rattle.no_std_io2.proofs.Words.{◌≡◌, subst, ◌++◌, IsSomeAnd}
 use Rattle.std.specs.Prelude.{IfSome}
 use Rattle.no_std_io2.proofs.KnownBytes.{stands_at}
 use Rattle.examples.proofs.commands.read_whole.Goals as goal

@@ -1,5 +1,5 @@
 -- What the calls did to the entry, they did to its reader, and each of them keeps the reference.
-use Rattle.no_std_io2.proofs.Words.{◌≡◌, refl, sym, ap, subst}
+use Rattle.no_std_io2.proofs.Words.{refl, sym, ap, subst}
 use Rattle.no_std_io2.proofs.Forwards.{drained_through, calls_keep}
 use Rattle.no_std_io2.specs.Calls.{PartMay}
 use Rattle.examples.specs.declared.entries.Entry.{Entry}
