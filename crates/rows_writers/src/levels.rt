@@ -2,12 +2,14 @@
 ghost use Rattle.no_std_io2.specs.BufWriter.{BufWriterFits};
 ghost use Rattle.no_std_io2.specs.LineWriter.{LineWriterFits};
 
+use crate::benches::new_faulty;
 use crate::devices::{new_device, new_recorder};
 use crate::tower::Tower;
 use crate::writing::{Columns, play, play_seeking};
-use no_std_io2::io::{BufWriter, LineWriter, Seek};
+use io_bench::{Faulty, Tally};
+use no_std_io2::io::{BufWriter, LineWriter, Seek, Sink};
 use rows_play::calls::new_journal;
-use rows_play::line::cut;
+use rows_play::line::{cut, unescape};
 use rows_play::player::Player;
 use rows_play::unplayed::{Played, Unplayed};
 
@@ -17,7 +19,22 @@ pub const RECORDER: usize = 0;
 /// A device that also notes the name of each call.
 pub const NOTED: usize = 1;
 
-/// Lends a level over one of these devices.
+/// A vector.
+pub const VECTOR: usize = 2;
+
+/// A vector that fails as its acts say.
+pub const FAULTY: usize = 3;
+
+/// Such a vector, where each run prints whether it keeps to the laws.
+pub const LAWFUL: usize = 4;
+
+/// The same, below a buffer of the level's own size.
+pub const LAWFUL_BUFFERED: usize = 5;
+
+/// A sink whose writes are counted.
+pub const COUNTED: usize = 6;
+
+/// Lends a level over one of these devices, or, if the level has no name, the device itself.
 pub fn lend<const BASE: usize>(
     level: &str,
     words: &str,
@@ -25,7 +42,7 @@ pub fn lend<const BASE: usize>(
 ) -> Played<()> {
     let (kind, size) = cut(level, " ");
     match size {
-        "0" => lend_size::<BASE, 0>(kind, words, player),
+        "" | "0" => lend_size::<BASE, 0>(kind, words, player),
         "1" => lend_size::<BASE, 1>(kind, words, player),
         "2" => lend_size::<BASE, 2>(kind, words, player),
         "4" => lend_size::<BASE, 4>(kind, words, player),
@@ -43,7 +60,12 @@ fn lend_size<const BASE: usize, const S: usize>(
 ) -> Played<()> {
     match BASE {
         RECORDER => lend_recorder::<S>(kind, words, player),
-        _ => lend_device::<S>(kind, words, player),
+        NOTED => lend_device::<S>(kind, words, player),
+        VECTOR => lend_vector::<S>(kind, words, player),
+        FAULTY => lend_faulty::<S>(kind, words, Columns::State, player),
+        LAWFUL => lend_faulty::<S>(kind, words, Columns::Laws, player),
+        LAWFUL_BUFFERED => lend_buffered::<S>(kind, words, player),
+        _ => lend_counted::<S>(kind, player),
     }
 }
 
@@ -58,6 +80,7 @@ pub fn play_level<W: Tower, const S: usize>(
     requires lines { LineWriterFits W.row S }
 {
     match kind {
+        "" => play(base, columns, player),
         "BufWriter" => play(BufWriter::<W, S>::new(base), columns, player),
         "LineWriter" => play(LineWriter::<W, S>::new(base), columns, player),
         _ => Err(Unplayed::NoStream),
@@ -99,6 +122,48 @@ fn lend_device<const S: usize>(kind: &str, words: &str, player: &mut Player<'_, 
     let device = new_device(player.alloc, &journal)?;
     if S < 1 << 32 {
         return play_seeking_level::<_, S>(kind, device, Columns::Calls(journal), player);
+    }
+    Err(Unplayed::NoStream)
+}
+
+fn lend_vector<const S: usize>(kind: &str, words: &str, player: &mut Player<'_, '_>) -> Played<()> {
+    let content = unescape(player.alloc, words)?;
+    if S < 1 << 32 {
+        return play_level::<_, S>(kind, content, Columns::State, player);
+    }
+    Err(Unplayed::NoStream)
+}
+
+fn lend_faulty<const S: usize>(
+    kind: &str,
+    words: &str,
+    columns: Columns,
+    player: &mut Player<'_, '_>,
+) -> Played<()> {
+    let device = new_faulty(player.alloc, words)?;
+    if S < 1 << 32 {
+        return play_level::<_, S>(kind, device, columns, player);
+    }
+    Err(Unplayed::NoStream)
+}
+
+fn lend_buffered<const S: usize>(
+    kind: &str,
+    words: &str,
+    player: &mut Player<'_, '_>,
+) -> Played<()> {
+    let device = new_faulty(player.alloc, words)?;
+    if S < 1 << 32 {
+        let below = BufWriter::<Faulty<Vec<u8>>, S>::new(device);
+        return play_level::<_, S>(kind, below, Columns::Laws, player);
+    }
+    Err(Unplayed::NoStream)
+}
+
+fn lend_counted<const S: usize>(kind: &str, player: &mut Player<'_, '_>) -> Played<()> {
+    if S < 1 << 32 {
+        let device = Tally::new(Sink::new());
+        return play_level::<_, S>(kind, device, Columns::State, player);
     }
     Err(Unplayed::NoStream)
 }

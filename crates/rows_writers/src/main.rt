@@ -1,11 +1,13 @@
 //! Plays the files of rows that its arguments name, as [`rows_play`] reads them: writers over devices that note each
-//! call, and over memory that runs out.
+//! call or fail, runs of them, and writers over memory that runs out.
 #![tactic(auto)]
 
 mod benches;
 mod devices;
+mod laws;
 mod levels;
 mod refused;
+mod runs;
 mod tower;
 mod writing;
 
@@ -25,7 +27,11 @@ impl Streams for Writers {
             "writer" | "seeker" => devices::lend_recorder(rest, words, player),
             "noted" => devices::lend_device(rest, words, player),
             "bench" => benches::lend(rest, words, player),
+            "laws" => benches::lend_lawful(rest, words, player),
+            "lent" => benches::lend_lent(rest, words, player),
             "heap" => refused::lend(rest, words, player),
+            "joined" => runs::lend_joined(player),
+            "closed" => runs::lend_closed(rest, player),
             _ => Err(Unplayed::NoStream),
         }
     }

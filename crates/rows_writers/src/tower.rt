@@ -1,7 +1,8 @@
 // Towers of writers over a device, level by level.
-use examples::Numbered;
-use io_bench::Tally;
-use no_std_io2::io::{BufWriter, Error, IntoInnerError, LineWriter, Write};
+use crate::laws::Parts;
+use examples::{Narrow, Numbered};
+use io_bench::{Faulty, Tally};
+use no_std_io2::io::{BufWriter, Error, IntoInnerError, LineWriter, Sink, Write};
 use rows_play::calls::Call;
 use rows_play::line::Line;
 use rows_play::noted::Noted;
@@ -28,6 +29,9 @@ pub enum Column {
 pub trait Tower: Write + Drop {
     /// Prints a column of each level that has this part, the outer one first.
     fn show(&self, _part: Column, _line: &mut Line) {}
+
+    /// Adds what stands in it: the bytes out, and then those that are held, the inner level's first.
+    fn see(&self, _parts: &mut Parts, _line: &mut Line) {}
 
     /// Makes a call of the outer level that a device does not have: `below TEXT` writes to the level below, and
     /// `into_inner` unwraps the outer level and puts an empty one in its place. If that fails, the tower is kept; for
@@ -57,6 +61,36 @@ impl Tower for Vec<u8> {
             line.bytes(self);
         }
     }
+
+    fn see(&self, parts: &mut Parts, line: &mut Line) {
+        parts.out(self, line);
+    }
+}
+
+impl Tower for Faulty<Vec<u8>> {
+    fn show(&self, part: Column, line: &mut Line) {
+        self.get_ref().show(part, line);
+    }
+
+    fn see(&self, parts: &mut Parts, line: &mut Line) {
+        self.get_ref().see(parts, line);
+    }
+}
+
+impl Tower for Narrow {
+    fn show(&self, part: Column, line: &mut Line) {
+        self.taken.show(part, line);
+    }
+}
+
+// In place of the bytes, which no sink keeps, the number of the writes.
+impl Tower for Tally<Sink> {
+    fn show(&self, part: Column, line: &mut Line) {
+        if let Column::Taken = part {
+            line.column();
+            line.number(self.writes());
+        }
+    }
 }
 
 impl<W: Tower> Tower for Box<W> {
@@ -74,6 +108,45 @@ fn show_refusal<W>(alloc: Global, refused: &IntoInnerError<W>, line: &mut Line) 
     }
 }
 
+// The new tower after `into_inner`, if there is one: what is in it unwrapped, or else itself.
+enum Ended<W, T> {
+    Unwrapped(W),
+    Kept(T),
+    Gone,
+}
+
+// Prints how an `into_inner` ended. What it contains is taken by one call of a buffer, and by another of a buffer of lines.
+fn end<W, T: Drop>(
+    ended: Result<W, IntoInnerError<T>>,
+    is_lines: bool,
+    alloc: Global,
+    call: &Call<'_>,
+    line: &mut Line,
+) -> Ended<W, T> {
+    match ended {
+        Ok(inner) => {
+            line.word("ok");
+            Ended::Unwrapped(inner)
+        }
+        Err(e) if call.word == "into_inner" => {
+            show_refusal(alloc, &e, line);
+            Ended::Kept(if is_lines {
+                e.into_parts().1
+            } else {
+                e.into_inner()
+            })
+        }
+        Err(e) => {
+            line.error(&if is_lines {
+                e.into_error()
+            } else {
+                Error::from(e)
+            });
+            Ended::Gone
+        }
+    }
+}
+
 impl<W: Tower, const S: usize> Tower for BufWriter<W, S> {
     fn show(&self, part: Column, line: &mut Line) {
         if let Column::Held = part {
@@ -83,31 +156,23 @@ impl<W: Tower, const S: usize> Tower for BufWriter<W, S> {
         self.get_ref().show(part, line);
     }
 
-    fn call_level(
-        tower: &mut Option<BufWriter<W, S>>,
-        alloc: Global,
-        call: &Call<'_>,
-        line: &mut Line,
-    ) {
-        if call.word == "below" {
-            if let Some(writer) = tower {
+    fn see(&self, parts: &mut Parts, line: &mut Line) {
+        self.get_ref().see(parts, line);
+        parts.held(self.buffer(), false, line);
+    }
+
+    fn call_level(tower: &mut Option<Self>, alloc: Global, call: &Call<'_>, line: &mut Line) {
+        match (call.word, tower.take()) {
+            ("below", Some(mut writer)) => {
                 line.done(&writer.get_mut().write_all(&call.bytes));
+                *tower = Some(writer);
             }
-            return;
-        }
-        let Some(writer) = tower.take() else {
-            return;
-        };
-        match writer.into_inner() {
-            Ok(inner) => {
-                line.word("ok");
-                *tower = Some(BufWriter::new(inner));
-            }
-            Err(e) if call.word == "into_inner" => {
-                show_refusal(alloc, &e, line);
-                *tower = Some(e.into_inner());
-            }
-            Err(e) => line.error(&Error::from(e)),
+            (_, Some(writer)) => match end(writer.into_inner(), false, alloc, call, line) {
+                Ended::Unwrapped(inner) => *tower = Some(BufWriter::new(inner)),
+                Ended::Kept(writer) => *tower = Some(writer),
+                Ended::Gone => {}
+            },
+            _ => {}
         }
     }
 }
@@ -121,31 +186,23 @@ impl<W: Tower, const S: usize> Tower for LineWriter<W, S> {
         self.get_ref().show(part, line);
     }
 
-    fn call_level(
-        tower: &mut Option<LineWriter<W, S>>,
-        alloc: Global,
-        call: &Call<'_>,
-        line: &mut Line,
-    ) {
-        if call.word == "below" {
-            if let Some(writer) = tower {
+    fn see(&self, parts: &mut Parts, line: &mut Line) {
+        self.get_ref().see(parts, line);
+        parts.held(self.buffer(), true, line);
+    }
+
+    fn call_level(tower: &mut Option<Self>, alloc: Global, call: &Call<'_>, line: &mut Line) {
+        match (call.word, tower.take()) {
+            ("below", Some(mut writer)) => {
                 line.done(&writer.get_mut().write_all(&call.bytes));
+                *tower = Some(writer);
             }
-            return;
-        }
-        let Some(writer) = tower.take() else {
-            return;
-        };
-        match writer.into_inner() {
-            Ok(inner) => {
-                line.word("ok");
-                *tower = Some(LineWriter::new(inner));
-            }
-            Err(e) if call.word == "into_inner" => {
-                show_refusal(alloc, &e, line);
-                *tower = Some(e.into_parts().1);
-            }
-            Err(e) => line.error(&e.into_error()),
+            (_, Some(writer)) => match end(writer.into_inner(), true, alloc, call, line) {
+                Ended::Unwrapped(inner) => *tower = Some(LineWriter::new(inner)),
+                Ended::Kept(writer) => *tower = Some(writer),
+                Ended::Gone => {}
+            },
+            _ => {}
         }
     }
 }

@@ -3,6 +3,7 @@
 // The columns after a call are its result, the bytes that the device took, the held bytes of each level, the outer one
 // first, and over a recorder the calls that reached it.
 use crate::tower::{Column, Tower};
+use crate::{laws, runs};
 use no_std_io2::io::{Seek, Write};
 use rows_play::calls::{Call, expect, make_call, make_seek, show_calls, show_out};
 use rows_play::journal::Journal;
@@ -23,10 +24,12 @@ pub enum Columns {
     All(Rc<RefCell<Journal>>, usize),
     /// Only the calls.
     Calls(Rc<RefCell<Journal>>),
+    /// None: a run prints whether it keeps to the laws.
+    Laws,
 }
 
-// A tower until it is dropped. Besides the calls of a writer and of a level, there are `expect RESULTS`, which sets the
-// device's next results, and `drop`, which ends the tower.
+// A tower until it is dropped. Besides the calls of a writer and of a level, there are `run CALLS`, `expect RESULTS`, which
+// sets the device's next results, and `drop`, which ends the tower.
 #[derive(Drop)]
 struct Writing<T: Drop> {
     tower: Option<T>,
@@ -68,6 +71,10 @@ impl<T: Tower> Writing<T> {
         };
         match call.word {
             "expect" => self.expect(alloc, call.rest, line),
+            "run" if matches!(self.columns, Columns::Laws) => {
+                laws::call_run(alloc, tower, call, line);
+            }
+            "run" => runs::call_run(alloc, tower, call, line),
             "below" | "into_inner" | "into_error" => {
                 T::call_level(&mut self.tower, alloc, call, line);
             }
@@ -92,6 +99,7 @@ impl<T: Tower> Writing<T> {
                 show_calls(journal, line);
             }
             Columns::Calls(journal) => show_calls(journal, line),
+            Columns::Laws => {}
         }
     }
 

@@ -1,31 +1,26 @@
-// Writers over a vector in a heap.
+// Writers over a vector in a heap, and readers that are read into one.
 //
-// A line `new` says the heap's size, the vector's capacity and its first bytes. A row is a call; then its result, the
-// vector's bytes, the held bytes, the position or the back half of a queue, and how many bytes of the heap are in use.
-// Besides the calls of a writer there are `fill`, which allocates all of the heap that is left, and `free`, which
-// frees that.
+// A line `new` says the heap's size, the vector's capacity and its first bytes, or those of a reader. A row is a call;
+// then its result, the vector's bytes, the held bytes, the position, the back half of a queue or what a reader has left,
+// the limit if there is one, and how many bytes of the heap are in use. Besides the calls of a writer or `read_to_end`
+// there are `fill`, which allocates all of the heap that is left, and `free`, which frees that.
 use super::heaps::{HeapVec, cut_number, vector_of};
 use crate::writing::make_any_call;
 use linked_list_allocator::LocalHeap;
-use no_std_io2::io::{BufWriter, Cursor, LineWriter, Write};
+use no_std_io2::io::{BufWriter, Cursor, LineWriter, Read, Take};
 use rows_play::calls::{Call, make_call};
-use rows_play::line::Line;
+use rows_play::line::{Line, unescape};
 use rows_play::player::{Player, Stream};
 use rows_play::unplayed::{Played, Unplayed};
 use std::alloc::{Allocator, Global};
 use std::collections::VecDeque;
 
-// A writer over a vector in a heap.
-trait HeapWriter: Write {
+// A stream over a vector in a heap.
+trait HeapStream {
     /// Makes a call, and prints its result.
-    fn call(&mut self, call: &Call<'_>, line: &mut Line)
-    where
-        Self: Sized,
-    {
-        make_call(self, call, line);
-    }
+    fn call(&mut self, call: &Call<'_>, line: &mut Line);
 
-    /// Prints the vector's bytes, and in the next column the held bytes or the position.
+    /// Prints the vector's bytes, and in the next column the held bytes, the position or what is left.
     fn show(&self, line: &mut Line);
 }
 
@@ -35,25 +30,41 @@ fn show_held(bytes: &[u8], held: &[u8], line: &mut Line) {
     line.bytes(held);
 }
 
-impl HeapWriter for HeapVec<'_> {
+impl HeapStream for HeapVec<'_> {
+    fn call(&mut self, call: &Call<'_>, line: &mut Line) {
+        make_call(self, call, line);
+    }
+
     fn show(&self, line: &mut Line) {
         show_held(self, b"", line);
     }
 }
 
-impl HeapWriter for BufWriter<HeapVec<'_>, 8> {
+impl HeapStream for BufWriter<HeapVec<'_>, 8> {
+    fn call(&mut self, call: &Call<'_>, line: &mut Line) {
+        make_call(self, call, line);
+    }
+
     fn show(&self, line: &mut Line) {
         show_held(self.get_ref(), self.buffer(), line);
     }
 }
 
-impl HeapWriter for LineWriter<HeapVec<'_>, 8> {
+impl HeapStream for LineWriter<HeapVec<'_>, 8> {
+    fn call(&mut self, call: &Call<'_>, line: &mut Line) {
+        make_call(self, call, line);
+    }
+
     fn show(&self, line: &mut Line) {
         show_held(self.get_ref(), self.buffer(), line);
     }
 }
 
-impl HeapWriter for VecDeque<u8, &LocalHeap> {
+impl HeapStream for VecDeque<u8, &LocalHeap> {
+    fn call(&mut self, call: &Call<'_>, line: &mut Line) {
+        make_call(self, call, line);
+    }
+
     fn show(&self, line: &mut Line) {
         let (front, back) = self.as_slices();
         show_held(front, back, line);
@@ -77,12 +88,15 @@ fn show_clone(cursor: &Cursor<HeapVec<'_>>, line: &mut Line) {
     }
 }
 
-impl HeapWriter for Cursor<HeapVec<'_>> {
+impl HeapStream for Cursor<HeapVec<'_>> {
     fn call(&mut self, call: &Call<'_>, line: &mut Line) {
-        if call.word == "clone" {
-            show_clone(self, line);
-        } else {
-            make_any_call(self, call, line);
+        match call.word {
+            "clone" => show_clone(self, line),
+            "place" => {
+                line.word("-");
+                self.set_position(call.number(line) as u64);
+            }
+            _ => make_any_call(self, call, line),
         }
     }
 
@@ -92,7 +106,7 @@ impl HeapWriter for Cursor<HeapVec<'_>> {
 }
 
 // For every allocator, because a call through a bound needs a type with one lifetime.
-impl<A: Allocator> HeapWriter for Cursor<&mut Vec<u8, A>> {
+impl<A: Allocator> HeapStream for Cursor<&mut Vec<u8, A>> {
     fn call(&mut self, call: &Call<'_>, line: &mut Line) {
         make_any_call(self, call, line);
     }
@@ -102,10 +116,46 @@ impl<A: Allocator> HeapWriter for Cursor<&mut Vec<u8, A>> {
     }
 }
 
-// A writer, its heap, and the block that fills the heap.
+// A reader, and the vector into which it is read.
 #[derive(Drop)]
-struct Writing<'h, W: Drop> {
-    writer: W,
+struct Reading<'h, R: Drop> {
+    from: R,
+    to: HeapVec<'h>,
+}
+
+impl<'h> HeapStream for Reading<'h, &[u8]> {
+    fn call(&mut self, call: &Call<'_>, line: &mut Line) {
+        call_read(&mut self.from, &mut self.to, call, line);
+    }
+
+    fn show(&self, line: &mut Line) {
+        show_held(&self.to, self.from, line);
+    }
+}
+
+impl<'h> HeapStream for Reading<'h, Take<&[u8]>> {
+    fn call(&mut self, call: &Call<'_>, line: &mut Line) {
+        call_read(&mut self.from, &mut self.to, call, line);
+    }
+
+    fn show(&self, line: &mut Line) {
+        show_held(&self.to, self.from.get_ref(), line);
+        line.column();
+        line.number(self.from.limit());
+    }
+}
+
+fn call_read<R: Read>(from: &mut R, to: &mut HeapVec<'_>, call: &Call<'_>, line: &mut Line) {
+    match call.word {
+        "read_to_end" => line.length(&from.read_to_end(to)),
+        _ => line.tell(Unplayed::NoCall),
+    }
+}
+
+// A stream, its heap, and the block that fills the heap.
+#[derive(Drop)]
+struct InHeap<'h, T: Drop> {
+    stream: T,
     heap: &'h LocalHeap,
     filler: HeapVec<'h>,
 }
@@ -118,7 +168,7 @@ fn fill(filler: &mut HeapVec<'_>, heap: &LocalHeap, line: &mut Line) {
     }
 }
 
-impl<'h, W: HeapWriter + Drop> Stream for Writing<'h, W> {
+impl<'h, T: HeapStream + Drop> Stream for InHeap<'h, T> {
     fn play(&mut self, _alloc: Global, call: &Call<'_>, line: &mut Line) {
         match call.word {
             "fill" => fill(&mut self.filler, self.heap, line),
@@ -126,23 +176,23 @@ impl<'h, W: HeapWriter + Drop> Stream for Writing<'h, W> {
                 line.word("-");
                 self.filler = Vec::new(self.heap);
             }
-            _ => self.writer.call(call, line),
+            _ => self.stream.call(call, line),
         }
         line.column();
-        self.writer.show(line);
+        self.stream.show(line);
         line.column();
         line.number(self.heap.used() as u64);
     }
 }
 
-fn play<W: HeapWriter + Drop>(
-    writer: W,
+fn play<T: HeapStream + Drop>(
+    stream: T,
     heap: &LocalHeap,
     player: &mut Player<'_, '_>,
 ) -> Played<()> {
     let filler = Vec::new(heap);
-    player.play(&mut Writing {
-        writer,
+    player.play(&mut InHeap {
+        stream,
         heap,
         filler,
     })
@@ -169,10 +219,32 @@ fn lend_writer<'h>(
     }
 }
 
+// Lends a reader of these bytes, by itself or below a limit of none.
+fn lend_reader(
+    name: &str,
+    heap: &LocalHeap,
+    bytes: &[u8],
+    player: &mut Player<'_, '_>,
+) -> Played<()> {
+    let to = Vec::new(heap);
+    match name {
+        "&[u8]" => play(Reading { from: bytes, to }, heap, player),
+        "Take &[u8]" => {
+            let from = bytes.take(0);
+            play(Reading { from, to }, heap, player)
+        }
+        _ => Err(Unplayed::NoStream),
+    }
+}
+
 pub fn lend(name: &str, words: &str, player: &mut Player<'_, '_>) -> Played<()> {
     let (size, rest) = cut_number(words)?;
     let (capacity, bytes) = cut_number(rest)?;
     let heap = LocalHeap::new(player.alloc, size)?;
-    let vector = vector_of(&heap, capacity, bytes.as_bytes())?;
+    let bytes = unescape(player.alloc, bytes)?;
+    if name.ends_with("&[u8]") {
+        return lend_reader(name, &heap, &bytes, player);
+    }
+    let vector = vector_of(&heap, capacity, &bytes)?;
     lend_writer(name, &heap, vector, player)
 }
