@@ -92,7 +92,8 @@ impl Device {
 }
 impl Write for Device {
     fn write(&mut self, buf: &[u8]) -> io::Result<usize> {
-        let answer = self.answer().map(|(word, n)| if word == "take" { buf.len().min(n.parse().unwrap()) } else { buf.len() });
+        let answer = self.answer().map(|(word, n)| match word.as_str() {
+            "take" => buf.len().min(n.parse().unwrap()), "zero" => 0, _ => buf.len() });
         if let Ok(n) = answer { self.journal.borrow_mut().out.extend(&buf[..n]); }
         self.note(format!("write {} = {}", bytes(buf), number(&answer)));
         answer
@@ -158,6 +159,11 @@ impl Seek for Device {
 }
 
 fn write_call<W: Write + ?Sized>(w: &mut W, word: &str, rest: &str) -> Option<String> {
+    if word == "run" {
+        let calls = rest.split(", ").filter(|call| !call.is_empty());
+        let replies: Option<Vec<_>> = calls.map(|it| it.split_once(' ').unwrap_or((it, ""))).map(|(word, rest)| write_call(w, word, rest)).collect();
+        return replies.map(|it| if it.is_empty() { "-".into() } else { it.join(", ") });
+    }
     let b = unescape(rest);
     Some(match word {
         "write" => number(&w.write(&b)), "write_all" => done(&w.write_all(&b)), "flush" => done(&w.flush()),
@@ -188,6 +194,13 @@ fn read_call<R: BufRead + ?Sized>(r: &mut R, word: &str, rest: &str) -> Option<S
         "pass" => { let n = r.fill_buf().map(|b| b.len().min(count)); if let Ok(n) = n { r.consume(n) } (number(&n), vec![]) }
         "read_until" => { let d = all.first().copied().unwrap_or(b'\n'); all.clear(); (number(&r.read_until(d, &mut all)), all) }
         "skip_until" => (number(&r.skip_until(all.first().copied().unwrap_or(b'\n'))), vec![]),
+        "copy" => {
+            let mut to = Device::default();
+            to.journal.borrow_mut().answers = told(rest.split_once(' ')?.1);
+            let answer = number(&io::copy(r, &mut to));
+            let out = to.journal.borrow().out.clone();
+            (answer, out)
+        }
         "read_line" => { let mut s = String::from_utf8(all).unwrap(); (number(&r.read_line(&mut s)), s.into_bytes()) }
         _ => return None };
     Some(format!("{answer} | {}", bytes(&given)))
@@ -262,7 +275,7 @@ fn level(names: &[&str], device: Device, content: Option<Vec<u8>>) -> Option<Box
         (["BufWriter", n, rest @ ..], content) => Box::new(BufWriter::with_capacity(n.parse().ok()?, level(rest, device, content)?)),
         (["LineWriter", n, rest @ ..], content) => Box::new(LineWriter::with_capacity(n.parse().ok()?, level(rest, device, content)?)),
         (["Box" | "&mut", rest @ ..], content) => level(rest, device, content)?,
-        (["Device" | "Vec"] | ["dyn", "Write" | "Seek"] | ["dyn"] | [], None) => Box::new(device),
+        (["Device" | "Vec" | "Faulty"] | ["dyn", "Write" | "Seek"] | ["dyn"] | [], None) => Box::new(device),
         _ => return None })
 }
 
@@ -315,6 +328,7 @@ trait Source: BufRead {
     fn seek_to(&mut self, _: SeekFrom) -> io::Result<u64> { Err(ErrorKind::Unsupported.into()) }
     fn by(&mut self, n: i64) -> io::Result<()> { self.seek_to(SeekFrom::Current(n)).map(|_| ()) }
     fn place(&mut self, _: u64) {}
+    fn is_feed(&self) -> bool { false }
 }
 type Any = Box<dyn Source>;
 impl Seek for Any {
@@ -328,6 +342,7 @@ impl Source for Device {
 impl Source for &'static [u8] { fn shown(&self) -> String { format!(" | {}", bytes(self)) } }
 impl Source for Cursor<Vec<u8>> {
     fn shown(&self) -> String { format!(" | {}", self.position()) }
+    fn seeks(&mut self, word: &str, rest: &str) -> Option<String> { seek_call(self, word, rest) }
     fn seek_to(&mut self, pos: SeekFrom) -> io::Result<u64> { self.seek(pos) }
     fn place(&mut self, place: u64) { self.set_position(place) }
 }
@@ -347,6 +362,25 @@ impl BufRead for Repeated {
     fn consume(&mut self, _: usize) { unimplemented!() }
 }
 impl Source for Repeated {}
+// Bytes and failures, at most so many bytes at a time; it is only read.
+struct Feed(VecDeque<String>, usize);
+impl Read for Feed {
+    fn read(&mut self, buf: &mut [u8]) -> io::Result<usize> {
+        if buf.is_empty() { return Ok(0); }
+        if self.0.front().is_some_and(|it| unescape(it).len() > 1) { return Err(kind_of(&self.0.pop_front().unwrap()).into()); }
+        let n = self.0.iter().take_while(|it| unescape(it).len() == 1).count().min(self.1).min(buf.len());
+        for (to, from) in buf.iter_mut().zip(self.0.drain(..n)) { *to = unescape(&from)[0]; }
+        Ok(n)
+    }
+}
+impl BufRead for Feed {
+    fn fill_buf(&mut self) -> io::Result<&[u8]> { unimplemented!() }
+    fn consume(&mut self, _: usize) { unimplemented!() }
+}
+impl Source for Feed {
+    fn shown(&self) -> String { format!(" | {}", if self.0.is_empty() { "-".into() } else { Vec::from(self.0.clone()).join(", ") }) }
+    fn is_feed(&self) -> bool { true }
+}
 impl Source for Chain<Any, Any> {
     fn shown(&self) -> String { format!("{}{}", self.get_ref().0.shown(), self.get_ref().1.shown()) }
     fn limit(&mut self, n: u64) { self.get_mut().0.limit(n) }
@@ -357,7 +391,9 @@ impl Source for Take<Any> {
     fn seeks(&mut self, word: &str, rest: &str) -> Option<String> { seek_call(self, word, rest) }
 }
 impl Source for BufReader<Any> {
-    fn shown(&self) -> String { format!(" | {}{}", bytes(self.buffer()), self.get_ref().shown()) }
+    fn shown(&self) -> String {
+        format!("{} | {}{}", if self.get_ref().is_feed() { " | ?" } else { "" }, bytes(self.buffer()), self.get_ref().shown())
+    }
     fn limit(&mut self, n: u64) { self.get_mut().limit(n) }
     fn seeks(&mut self, word: &str, rest: &str) -> Option<String> { seek_call(self, word, rest) }
     fn seek_to(&mut self, pos: SeekFrom) -> io::Result<u64> { self.seek(pos) }
@@ -373,10 +409,14 @@ fn source(names: &[&str], device: &Device, words: &str) -> Option<Any> {
         ["Text"] => Box::new(Text(b"456789")),
         ["Cursor"] => Box::new(Cursor::new(unescape(words))),
         ["&[u8]"] => Box::new(&*unescape(words).leak()),
+        ["Feed"] => { let (most, events) = words.split_once(": ")?; Box::new(Feed(told(events), most.parse().ok()?)) }
         ["Repeat"] => { let (byte, len) = words.split_once(' ')?; Box::new(Repeated(repeat(byte.as_bytes()[0]).take(len.parse().ok()?))) }
         ["Box" | "&mut", rest @ ..] => source(rest, device, words)?,
         ["BufReader", n, rest @ ..] => Box::new(BufReader::with_capacity(n.parse().ok()?, source(rest, device, words)?)),
-        ["Take", rest @ ..] => Box::new(source(rest, device, words)?.take(2)),
+        ["Take", rest @ ..] => {
+            let (limit, words) = words.split_once(" of ").filter(|it| it.0.parse::<u64>().is_ok()).unwrap_or(("2", words));
+            Box::new(source(rest, device, words)?.take(limit.parse().ok()?))
+        }
         ["Chain", "of", _, "&[u8]"] =>
             words.split(" + ").map(|it| Box::new(&*unescape(it).leak()) as Any).reduce(|a, b| Box::new(a.chain(b)))?,
         ["Chain"] => Box::new(source(&[], device, "")?.chain(source(&[], &second, "")?)),
@@ -417,7 +457,9 @@ fn make<'a>(name: &'a str, device: Device, words: &str) -> Option<Box<dyn Stream
             Box::new(source(rest, &device, words)?.split(if *rest == ["Cursor"] { b'3' } else { b',' })), "piece ", *rest != ["Device"])),
         ("lines", rest) => Box::new(Items(
             Box::new(source(rest, &device, words)?.lines().map(|it| it.map(String::into_bytes))), "line ", *rest != ["Device"])),
-        ("reader", rest) | ("seeker", rest @ ["BufReader" | "Take", ..]) =>
+        ("reader", rest) if rest.starts_with(&["Box", "BufReader"]) =>
+            Box::new(Reader { top: source(rest, &device, words)?, shows: |_| String::new() }),
+        ("reader", rest) | ("seeker", rest @ ["BufReader" | "Take" | "Cursor", ..]) =>
             Box::new(Reader { top: source(rest, &device, words)?, shows: |r| r.shown() }),
         ("moved", rest) => Box::new(Reader { top: source(rest, &device, words)?, shows: |r| format!(" | ?{}", r.shown()) }),
         ("answers", rest) => Box::new(Reader { top: source(rest, &device, words)?, shows: |_| String::new() }),
@@ -456,7 +498,7 @@ fn main() {
                 journal.borrow_mut().answers = told(words);
                 let mut stream = make(name, device, words.trim());
                 let notes_calls = !["bench", "cursor", "queue", "grown", "answers"].iter().any(|it| name.starts_with(it))
-                    && !["Cursor", "&[u8]", "Repeat"].iter().any(|it| name.contains(it));
+                    && !["Cursor", "&[u8]", "Repeat", "Feed"].iter().any(|it| name.contains(it));
                 for row in rows.lines().filter(|row| row.contains(" | ") && !row.starts_with('#')) {
                     let call = row.split(" | ").next().unwrap();
                     match stream.as_mut().and_then(|it| play(&mut **it, &journal, call, notes_calls)) {

@@ -23,10 +23,20 @@ pub enum Columns {
     Memory,
 }
 
+// What a row takes: by a call of its own, or by `next` a byte, a piece or a line.
+#[derive(Clone, Copy)]
+pub enum Items {
+    Calls,
+    Bytes,
+    Pieces,
+    Lines,
+}
+
 #[derive(Clone, Copy)]
 pub struct Devices<'j> {
     pub alloc: Global,
     pub columns: Columns,
+    pub items: Items,
     pub journal: &'j Rc<RefCell<Journal>>,
 }
 

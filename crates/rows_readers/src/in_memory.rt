@@ -3,20 +3,23 @@ use crate::devices::Devices;
 use no_std_io2::io::Cursor;
 use rows_play::line::{cut, cut_last, unescape};
 use rows_play::player::Player;
-use rows_play::unplayed::{Played, Unplayed};
+use rows_play::unplayed::Played;
 use std::alloc::Global;
 
+mod asks;
 mod cursors;
+pub mod feeds;
 mod readers;
 mod room;
 mod vectors;
+mod wrapped;
 
 /// Returns whether a stream of this name is one of these; its first or last word says so.
 pub fn has(name: &str) -> bool {
     let (word, _) = cut(name, " ");
     let (_, base) = cut_last(name, " ");
     matches!(word, "cursor" | "grown" | "queue" | "room")
-        || matches!(base, "Cursor" | "&[u8]" | "Repeat")
+        || matches!(base, "Cursor" | "&[u8]" | "Repeat" | "Feed")
 }
 
 /// Makes a cursor on the text that a row's `new` says.
@@ -35,10 +38,11 @@ pub fn lend(
     match word {
         "cursor" => cursors::lend(name, words, player),
         "moved" => cursors::lend_moved(words, devices, player),
-        "reader" => readers::lend(name, words, devices, player),
+        "seeker" => cursors::lend_seeker(name, words, devices, player),
+        "asks" => asks::lend(words, devices, player),
         "grown" => vectors::lend(name, words, player),
         "queue" => vectors::lend_queue(words, player),
         "room" => player.play(&mut room::Room { name }),
-        _ => Err(Unplayed::NoStream),
+        _ => readers::lend(name, words, devices, player),
     }
 }

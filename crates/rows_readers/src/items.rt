@@ -2,14 +2,12 @@
 //
 // The columns after a call are the item (a piece or a line with its kind in front), and the calls that reached the
 // devices, or in memory the capacity of a piece or a line.
-use crate::devices::Devices;
-use crate::in_memory::new_text;
+use crate::devices::{Columns, Devices};
 use crate::streams::show_byte;
 use no_std_io2::io::{BufRead, Bytes, Lines, Read, Result, Split};
 use rows_play::calls::Call;
-use rows_play::line::{Line, cut_last, unescape};
+use rows_play::line::Line;
 use rows_play::player::{Player, Stream};
-use rows_play::recorder::ReaderName;
 use rows_play::unplayed::{Played, Unplayed};
 use std::alloc::Global;
 
@@ -37,7 +35,7 @@ impl<'j, T: Read + Drop> Stream for Singles<'j, T> {
     }
 }
 
-fn play_bytes<T: Read + Drop>(
+pub fn play_bytes<T: Read + Drop>(
     tower: T,
     devices: &Devices<'_>,
     player: &mut Player<'_, '_>,
@@ -77,12 +75,16 @@ impl<'j, T: BufRead + Drop> Stream for Pieces<'j, T> {
     }
 }
 
-fn play_pieces<T: BufRead + Drop>(
+// Plays the pieces between commas, or of streams in memory those between the `3`s.
+pub fn play_pieces<T: BufRead + Drop>(
     tower: T,
-    delim: u8,
     devices: &Devices<'_>,
     player: &mut Player<'_, '_>,
 ) -> Played<()> {
+    let delim = match devices.columns {
+        Columns::Memory => b'3',
+        _ => b',',
+    };
     player.play(&mut Pieces {
         pieces: tower.split(player.alloc, delim),
         devices: *devices,
@@ -108,7 +110,7 @@ impl<'j, T: BufRead + Drop> Stream for TextLines<'j, T> {
     }
 }
 
-fn play_lines<T: BufRead + Drop>(
+pub fn play_lines<T: BufRead + Drop>(
     tower: T,
     devices: &Devices<'_>,
     player: &mut Player<'_, '_>,
@@ -117,53 +119,4 @@ fn play_lines<T: BufRead + Drop>(
         lines: tower.lines(player.alloc),
         devices: *devices,
     })
-}
-
-pub fn lend_bytes(tower: &str, devices: &Devices<'_>, player: &mut Player<'_, '_>) -> Played<()> {
-    match tower {
-        "Device" => play_bytes(devices.first()?, devices, player),
-        "Chain" => {
-            let both = devices
-                .first()?
-                .chain(devices.recorder(ReaderName::Second)?);
-            play_bytes(both, devices, player)
-        }
-        _ => Err(Unplayed::NoStream),
-    }
-}
-
-// Lends the pieces between commas, or of a text those between the `3`s.
-pub fn lend_pieces(
-    tower: &str,
-    words: &str,
-    devices: &Devices<'_>,
-    player: &mut Player<'_, '_>,
-) -> Played<()> {
-    match tower {
-        "Device" => play_pieces(devices.first()?, b',', devices, player),
-        "Cursor" => play_pieces(new_text(player.alloc, words)?, b'3', devices, player),
-        _ => Err(Unplayed::NoStream),
-    }
-}
-
-pub fn lend_lines(
-    tower: &str,
-    words: &str,
-    devices: &Devices<'_>,
-    player: &mut Player<'_, '_>,
-) -> Played<()> {
-    match tower {
-        "Device" => play_lines(devices.first()?, devices, player),
-        "Cursor" => play_lines(new_text(player.alloc, words)?, devices, player),
-        "Chain &[u8] &[u8]" => lend_both(words, devices, player),
-        _ => Err(Unplayed::NoStream),
-    }
-}
-
-// Lends the lines of two slices.
-fn lend_both(words: &str, devices: &Devices<'_>, player: &mut Player<'_, '_>) -> Played<()> {
-    let (first, second) = cut_last(words, " + ");
-    let first = unescape(player.alloc, first)?;
-    let second = unescape(player.alloc, second)?;
-    play_lines(first.as_slice().chain(second.as_slice()), devices, player)
 }

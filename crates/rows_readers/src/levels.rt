@@ -1,8 +1,9 @@
 // The state of each level of a reader, the outer one first, in a column for each level that
 // has one.
 use crate::devices::Columns;
+use crate::in_memory::feeds::show_left;
 use examples::Numbered;
-use io_bench::Tally;
+use io_bench::{Feed, Tally};
 use no_std_io2::io::{BufRead, BufReader, Chain, Cursor, Read, Repeat, Take};
 use rows_play::line::Line;
 use rows_play::noted::Noted;
@@ -43,6 +44,20 @@ impl<'a> Levels for &'a [u8] {
     fn show(&self, _columns: Columns, line: &mut Line) {
         line.column();
         line.bytes(self);
+    }
+}
+
+impl<'a> Levels for Tally<&'a [u8]> {
+    fn show(&self, columns: Columns, line: &mut Line) {
+        self.get_ref().show(columns, line);
+    }
+}
+
+// The events that are left.
+impl Levels for Feed {
+    fn show(&self, _columns: Columns, line: &mut Line) {
+        line.column();
+        show_left(self.left(), line);
     }
 }
 

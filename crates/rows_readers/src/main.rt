@@ -11,12 +11,12 @@ mod noted;
 mod reading;
 mod streams;
 
-use devices::{Columns, Devices};
+use devices::{Columns, Devices, Items};
 use rows_play::calls::new_journal;
 use rows_play::files::play_files;
 use rows_play::line::cut;
 use rows_play::player::{Player, Streams};
-use rows_play::unplayed::{Played, Unplayed};
+use rows_play::unplayed::Played;
 use std::process::ExitCode;
 
 // The streams of this program.
@@ -40,33 +40,23 @@ impl Streams for Readers {
         let devices = Devices {
             alloc: player.alloc,
             columns,
+            items: match word {
+                "bytes" => Items::Bytes,
+                "split" => Items::Pieces,
+                "lines" => Items::Lines,
+                _ => Items::Calls,
+            },
             journal: &journal,
         };
-        match word {
-            "bytes" => items::lend_bytes(tower, &devices, player),
-            "split" => items::lend_pieces(tower, words, &devices, player),
-            "lines" => items::lend_lines(tower, words, &devices, player),
-            _ if columns == Columns::Memory => {
-                in_memory::lend(word, tower, words, &devices, player)
-            }
-            _ => lend_recorded(word, tower, &devices, player),
+        if columns == Columns::Memory {
+            return in_memory::lend(word, tower, words, &devices, player);
         }
-    }
-}
-
-// Lends a stream over devices that note each call.
-fn lend_recorded(
-    word: &str,
-    tower: &str,
-    devices: &Devices<'_>,
-    player: &mut Player<'_, '_>,
-) -> Played<()> {
-    match word {
-        "reader" | "answers" => reading::lend(tower, devices, player),
-        "noted" => noted::lend(tower, devices, player),
-        "seeker" => reading::lend_seeker(tower, devices, player),
-        "moved" => moving::lend(devices, player),
-        _ => Err(Unplayed::NoStream),
+        match word {
+            "noted" => noted::lend(tower, &devices, player),
+            "seeker" => reading::lend_seeker(tower, &devices, player),
+            "moved" => moving::lend(&devices, player),
+            _ => reading::lend(tower, &devices, player),
+        }
     }
 }
 

@@ -3,13 +3,16 @@
 ghost use Rattle.no_std_io2.specs.BufReader.{BufReaderFits};
 ghost use Rattle.std.specs.Prelude.{◌<◌, ◌^◌};
 
-use crate::devices::Devices;
+use crate::devices::{Devices, Items};
+use crate::items::{play_bytes, play_lines, play_pieces};
 use crate::levels::Levels;
-use no_std_io2::io::{BufRead, BufReader, Read, Result, Seek};
+use io_bench::{Act, Faulty};
+use no_std_io2::io::{BufRead, BufReader, Read, Result, Seek, copy};
 use rows_play::calls::{Call, make_seek};
-use rows_play::line::Line;
+use rows_play::line::{Line, cut};
 use rows_play::player::{Player, Stream};
 use rows_play::reads::{make_lend, make_read, make_read_at};
+use rows_play::script::{Answer, parse_answers};
 use rows_play::unplayed::{Played, Unplayed};
 use std::alloc::Global;
 
@@ -45,7 +48,41 @@ fn set_limit<T: Levels>(tower: &mut T, call: &Call<'_>, line: &mut Line) {
     }
 }
 
-// A `BufRead`. Besides its calls, `limit N` sets a limit, and `next` gives a single byte.
+// Returns the acts that a row says, `take 2, fail BrokenPipe`.
+fn acts_of(alloc: Global, words: &str) -> Played<Vec<Act>> {
+    let mut acts = Vec::new(alloc);
+    'answers: for answer in &parse_answers(alloc, words)? {
+        match answer {
+            Answer::Take(n) => acts.push(Act::Take(*n))?,
+            Answer::Fail(kind, None) => acts.push(Act::Fail(*kind))?,
+            _ => return Err(Unplayed::NoWord),
+        }
+    }
+    acts.reverse();
+    Ok(acts)
+}
+
+/// Copies through S bytes to an empty vector that fails as acts say, `copy S ACTS`, and prints the result and the vector.
+pub fn call_copy<R: Read>(alloc: Global, r: &mut R, call: &Call<'_>, line: &mut Line) {
+    let (size, words) = cut(call.rest, " ");
+    let acts = match acts_of(alloc, words) {
+        Ok(acts) => acts,
+        Err(fault) => {
+            line.tell(fault);
+            return;
+        }
+    };
+    let mut to = Faulty::new(Vec::<u8>::new(alloc), acts);
+    match size {
+        "0" => line.position(&copy::<_, _, 0>(r, &mut to)),
+        "4" => line.position(&copy::<_, _, 4>(r, &mut to)),
+        _ => line.tell(Unplayed::NoCall),
+    }
+    line.column();
+    line.bytes(to.get_ref());
+}
+
+// A `BufRead`. Besides its calls, `limit N` sets a limit, `next` gives a single byte, and `copy S ACTS` copies.
 #[derive(Drop)]
 struct Lending<'j, T: Drop> {
     tower: T,
@@ -57,6 +94,7 @@ impl<'j, T: BufRead + Levels + Drop> Stream for Lending<'j, T> {
         match call.word {
             "limit" => set_limit(&mut self.tower, call, line),
             "next" => show_byte(self.tower.by_ref().bytes().next(), line),
+            "copy" => call_copy(alloc, &mut self.tower, call, line),
             _ => make_lend(alloc, &mut self.tower, call, line),
         }
         self.devices.show(&self.tower, line);
@@ -107,28 +145,33 @@ impl<'j, T: BufRead + Seek + Levels + Drop> Stream for Seeking<'j, T> {
     }
 }
 
-/// Plays the rows on a `Read`.
+/// Plays the rows on a `Read`, or on its bytes.
 pub fn play_reading<T: Read + Levels + Drop>(
     tower: T,
     devices: &Devices<'_>,
     player: &mut Player<'_, '_>,
 ) -> Played<()> {
-    player.play(&mut Reading {
-        tower,
-        devices: *devices,
-    })
+    let devices = *devices;
+    match devices.items {
+        Items::Calls => player.play(&mut Reading { tower, devices }),
+        Items::Bytes => play_bytes(tower, &devices, player),
+        _ => Err(Unplayed::NoStream),
+    }
 }
 
-/// Plays the rows on a `BufRead`.
+/// Plays the rows on a `BufRead`, or on its bytes, pieces or lines.
 pub fn play_lending<T: BufRead + Levels + Drop>(
     tower: T,
     devices: &Devices<'_>,
     player: &mut Player<'_, '_>,
 ) -> Played<()> {
-    player.play(&mut Lending {
-        tower,
-        devices: *devices,
-    })
+    let devices = *devices;
+    match devices.items {
+        Items::Calls => player.play(&mut Lending { tower, devices }),
+        Items::Bytes => play_bytes(tower, &devices, player),
+        Items::Pieces => play_pieces(tower, &devices, player),
+        Items::Lines => play_lines(tower, &devices, player),
+    }
 }
 
 /// Plays the rows on a limit over a `BufRead`.

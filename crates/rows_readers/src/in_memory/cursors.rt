@@ -5,9 +5,9 @@
 use super::new_text;
 use super::vectors::Buffered;
 use crate::devices::Devices;
-use crate::streams::make_seeking_call;
+use crate::streams::{call_copy, make_seeking_call, play_seeking};
 use no_std_io2::io::{AsSlice, BufRead, BufReader, BufWriter, Cursor, Seek, Write};
-use rows_play::calls::{Call, make_call};
+use rows_play::calls::{Call, make_call, make_seek};
 use rows_play::line::{Line, unescape};
 use rows_play::player::{Player, Stream};
 use rows_play::unplayed::{Played, Unplayed};
@@ -42,8 +42,8 @@ fn make_any_call<T: Write + BufRead + Seek>(
     }
 }
 
-// A cursor on a vector. Besides the calls of its traits it has `place N`, which sets the position, and `clone`, which
-// continues with the clone and prints whether it is equal.
+// A cursor on a vector. Besides the calls of its traits it has `place N`, which sets the position, `clone`, which continues
+// with the clone and prints whether it is equal, and `copy S ACTS`, which copies the rest.
 #[derive(Drop)]
 struct OnVector {
     cursor: Text,
@@ -70,6 +70,7 @@ impl Stream for OnVector {
         match call.word {
             "place" => self.cursor.set_position(place_of(call, line)),
             "clone" => self.call_clone(line),
+            "copy" => call_copy(alloc, &mut self.cursor, call, line),
             _ => make_any_call(alloc, &mut self.cursor, call, line),
         }
         show(self.cursor.get_ref(), self.cursor.position(), line);
@@ -229,4 +230,36 @@ pub fn lend_moved(words: &str, devices: &Devices<'_>, player: &mut Player<'_, '_
         reader,
         devices: *devices,
     })
+}
+
+// A boxed seeker.
+#[derive(Drop)]
+struct Boxed {
+    seeker: Box<dyn Seek + Drop>,
+}
+
+impl Stream for Boxed {
+    fn play(&mut self, _alloc: Global, call: &Call<'_>, line: &mut Line) {
+        if !make_seek(&mut self.seeker, call, line) {
+            line.tell(Unplayed::NoCall);
+        }
+    }
+}
+
+/// Lends a cursor whose position is shown, or a boxed one.
+pub fn lend_seeker(
+    name: &str,
+    words: &str,
+    devices: &Devices<'_>,
+    player: &mut Player<'_, '_>,
+) -> Played<()> {
+    let text = new_text(player.alloc, words)?;
+    match name {
+        "Cursor" => play_seeking(text, 0, devices, player),
+        "Box dyn Cursor" => {
+            let seeker = Box::new(player.alloc, text)?;
+            player.play(&mut Boxed { seeker })
+        }
+        _ => Err(Unplayed::NoStream),
+    }
 }

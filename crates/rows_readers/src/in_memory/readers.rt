@@ -1,8 +1,11 @@
 // Readers in memory.
+use super::feeds::new_feed;
 use super::new_text;
+use super::wrapped::{Held, Slice};
 use crate::devices::Devices;
-use crate::streams::{play_chain, play_lending, play_limited, play_reading};
-use no_std_io2::io::{Chain, Read, repeat};
+use crate::streams::{play_buffered, play_chain, play_lending, play_limited, play_reading};
+use io_bench::Feed;
+use no_std_io2::io::{BufRead, BufReader, Chain, Cursor, Read, repeat};
 use rows_play::line::{cut_last, unescape};
 use rows_play::player::Player;
 use rows_play::unplayed::{Played, Unplayed};
@@ -20,6 +23,7 @@ pub fn lend(
         "&[u8]" if tower.starts_with("Chain of") => lend_slices(tower, words, devices, player),
         "&[u8]" => lend_slice(tower, words, devices, player),
         "Repeat" => lend_repeat(words, devices, player),
+        "Feed" => lend_feed(tower, words, devices, player),
         _ => Err(Unplayed::NoStream),
     }
 }
@@ -36,6 +40,54 @@ fn lend_text(
         "" => play_lending(second, devices, player),
         "Take" => play_limited(second, 2, devices, player),
         "Chain Cursor" => play_chain(new_text(player.alloc, first)?, second, devices, player),
+        "Chain Box &[u8] Box" => lend_boxes(second, devices, player),
+        "Box BufReader 4" => lend_boxed_buffer(second, devices, player),
+        _ => Err(Unplayed::NoStream),
+    }
+}
+
+// Lends a boxed text behind a boxed slice, which is `ab`.
+fn lend_boxes(
+    text: Cursor<Vec<u8>>,
+    devices: &Devices<'_>,
+    player: &mut Player<'_, '_>,
+) -> Played<()> {
+    let first: Box<dyn Read + Drop> = Box::new(player.alloc, Slice { bytes: b"ab" })?;
+    let second: Box<dyn Read + Drop> = Box::new(player.alloc, text)?;
+    play_reading(first.chain(second), devices, player)
+}
+
+fn lend_boxed_buffer(
+    text: Cursor<Vec<u8>>,
+    devices: &Devices<'_>,
+    player: &mut Player<'_, '_>,
+) -> Played<()> {
+    let reader = BufReader::new(text);
+    let object: Box<dyn BufRead + Drop> = Box::new(player.alloc, Held { reader })?;
+    play_lending(object, devices, player)
+}
+
+// Lends a feed, below a limit that stands before its words: `2 of 4: x, Interrupted`.
+fn lend_feed(
+    tower: &str,
+    words: &str,
+    devices: &Devices<'_>,
+    player: &mut Player<'_, '_>,
+) -> Played<()> {
+    let (limit, words) = words.split_once(" of ").unwrap_or(("0", words));
+    let feed = new_feed(player.alloc, words)?;
+    let Ok(limit) = limit.parse::<u64>() else {
+        return Err(Unplayed::NoNumber);
+    };
+    match tower {
+        "" => play_reading(feed, devices, player),
+        "BufReader 1" => play_buffered::<Feed, 1>(feed, devices, player),
+        "BufReader 2" => play_buffered::<Feed, 2>(feed, devices, player),
+        "BufReader 4" => play_buffered::<Feed, 4>(feed, devices, player),
+        "Take" => play_reading(feed.take(limit), devices, player),
+        "Take BufReader 1" => {
+            play_limited(BufReader::<Feed, 1>::new(feed), limit, devices, player)
+        }
         _ => Err(Unplayed::NoStream),
     }
 }
@@ -54,6 +106,9 @@ fn lend_slice(
         "Chain &[u8]" => {
             let first = unescape(player.alloc, first)?;
             play_chain(first.as_slice(), slice, devices, player)
+        }
+        "Chain Feed" => {
+            play_reading(new_feed(player.alloc, first)?.chain(slice), devices, player)
         }
         _ => Err(Unplayed::NoStream),
     }

@@ -1,0 +1,58 @@
+// Feeds of bytes and failures, `4: x, Interrupted, y`, in pieces of at most 4 bytes.
+use io_bench::{Event, Feed};
+use rows_play::kinds::{kind_of_name, name_of_kind};
+use rows_play::line::{Line, cut};
+use rows_play::unplayed::{Played, Unplayed};
+use std::alloc::Global;
+
+fn parse_event(word: &str) -> Option<Event> {
+    match word.as_bytes() {
+        [byte] => Some(Event::Byte(*byte)),
+        b"\\n" => Some(Event::Byte(b'\n')),
+        _ => Some(Event::Fail(kind_of_name(word)?)),
+    }
+}
+
+fn parse_events(alloc: Global, words: &str) -> Played<Vec<Event>> {
+    let mut events = Vec::new(alloc);
+    if words.is_empty() {
+        return Ok(events);
+    }
+    'events: for word in words.split(", ") {
+        match parse_event(word) {
+            Some(event) => events.push(event)?,
+            None => return Err(Unplayed::NoWord),
+        }
+    }
+    Ok(events)
+}
+
+/// Makes the feed that these words say.
+pub fn new_feed(alloc: Global, words: &str) -> Played<Feed> {
+    let (piece, events) = cut(words, ": ");
+    let events = parse_events(alloc, events)?;
+    match piece.parse::<usize>() {
+        Ok(n) if n > 0 => Ok(Feed::new(events, n)),
+        _ => Err(Unplayed::NoNumber),
+    }
+}
+
+fn show_event(event: Event, line: &mut Line) {
+    match event {
+        Event::Byte(byte) => line.bytes(&[byte]),
+        Event::Fail(kind) => line.word(name_of_kind(kind)),
+    }
+}
+
+/// Prints the events that are left, or a dash if there are none.
+pub fn show_left(events: &[Event], line: &mut Line) {
+    if events.is_empty() {
+        line.word("-");
+    }
+    'events: for (i, event) in events.iter().enumerate() {
+        if i > 0 {
+            line.word(", ");
+        }
+        show_event(*event, line);
+    }
+}
