@@ -14,3 +14,5 @@ mod kinds;
 mod printing;
 #[cfg(test)]
 mod text;
+#[cfg(test)]
+mod worked;
