@@ -90,11 +90,7 @@ impl<C: Client> Stream for Playing<C> {
 }
 
 /// Plays the rows on a client.
-pub fn play<C: Client>(
-    client: C,
-    columns: Columns,
-    player: &mut Player<'_, '_>,
-) -> Played<()> {
+pub fn play<C: Client>(client: C, columns: Columns, player: &mut Player<'_, '_>) -> Played<()> {
     player.play(&mut Playing {
         client: Some(client),
         columns,

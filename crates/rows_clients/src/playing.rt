@@ -2,10 +2,9 @@
 // `feed KIND` is a script whose first read is a fault of this kind.
 ghost use Rattle.no_std_io2.specs.BufReader.{BufReaderFits};
 
-use io_bench::{Event, Feed};
+use io_bench::{Event, Feed, kind_of_name};
 use no_std_io2::io::Read;
 use rows_play::calls::Call;
-use rows_play::kinds::kind_of_name;
 use rows_play::line::Line;
 use rows_play::player::{Player, Stream};
 use rows_play::unplayed::{Played, Unplayed};

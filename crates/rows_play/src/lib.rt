@@ -26,7 +26,6 @@ pub mod calls;
 pub mod count;
 pub mod files;
 pub mod journal;
-pub mod kinds;
 pub mod lent;
 pub mod line;
 pub mod noted;

@@ -2,9 +2,8 @@
 //
 // A run is a list of bytes of which each follows the one before it: dots, or the letters from `a` to `w`, over and
 // over. A long run is printed as `\*300a`: 300 bytes from `a` on.
-use super::kinds::name_of_kind;
 use super::unplayed::{Played, Unplayed};
-use no_std_io2::io::{Error, Result};
+use no_std_io2::io::{Error, ErrorKind, Result};
 use std::alloc::{AllocError, Global};
 
 // A text that is printed piece by piece. If an allocation fails, or if its row cannot be played, it
@@ -145,14 +144,34 @@ impl Line {
         }
     }
 
+    // Prints the name of a kind.
+    pub fn kind(&mut self, kind: ErrorKind) {
+        match format!(in self.alloc; "{kind:?}") {
+            Ok(name) => self.word(name.as_str()),
+            Err(_) => self.cut(),
+        }
+    }
+
     // Prints the name of the kind after a mark, and the text if there is one.
     pub fn error(&mut self, error: &Error) {
         self.word("!");
-        self.word(name_of_kind(error.kind()));
+        self.kind(error.kind());
         if let Some(text) = error.get_ref() {
             self.word(": ");
             self.word(text);
         }
+    }
+
+    // Prints a row that came out differently: its place, as it is wanted, and as it came out.
+    pub fn differing(&mut self, file: &str, number: u64, row: &str, line: &Line) {
+        self.word(file);
+        self.word(":");
+        self.number(number);
+        self.word("\n  wanted: ");
+        self.word(row);
+        self.word("\n     got: ");
+        self.word(line.as_str());
+        self.word("\n");
     }
 
     // Prints a text in parentheses.

@@ -60,14 +60,8 @@ impl<'r, 'a> Player<'r, 'a> {
             return;
         }
         self.count.differing = self.count.differing.wrapping_add(1);
-        self.differing.word(self.count.file);
-        self.differing.word(":");
-        self.differing.number(self.count.line);
-        self.differing.word("\n  wanted: ");
-        self.differing.word(row);
-        self.differing.word("\n     got: ");
-        self.differing.word(line.as_str());
-        self.differing.word("\n");
+        self.differing
+            .differing(self.count.file, self.count.line, row, line);
     }
 }
 

@@ -1,7 +1,7 @@
 // The results that a device is to return.
-use super::kinds::kind_of_name;
 use super::line::{cut, unescape};
 use super::unplayed::{Played, Unplayed};
+use io_bench::{Act, kind_of_name};
 use no_std_io2::io::{Error, ErrorKind};
 use std::alloc::Global;
 
@@ -103,6 +103,31 @@ fn parse_failure(words: &str) -> Played<Answer> {
         Some(place) => Ok(Answer::Fail(kind, Some(place))),
         None => Err(Unplayed::NoWord),
     }
+}
+
+fn parse_act(words: &str) -> Option<Act> {
+    let (word, rest) = cut(words, " ");
+    match word {
+        "zero" => Some(Act::Zero),
+        "take" => Some(Act::Take(rest.parse::<usize>().ok()?)),
+        "fail" => Some(Act::Fail(kind_of_name(rest)?)),
+        _ => None,
+    }
+}
+
+/// Returns the acts of a `Faulty` that a line names, in order: `take 2, zero, fail BrokenPipe`.
+pub fn parse_acts(alloc: Global, words: &str) -> Played<Vec<Act>> {
+    let mut acts = Vec::new(alloc);
+    if words.is_empty() {
+        return Ok(acts);
+    }
+    'acts: for word in words.split(", ") {
+        match parse_act(word) {
+            Some(act) => acts.push(act)?,
+            None => return Err(Unplayed::NoWord),
+        }
+    }
+    Ok(acts)
 }
 
 pub fn misfit() -> Error {

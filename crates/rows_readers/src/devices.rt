@@ -37,6 +37,8 @@ pub struct Devices<'j> {
     pub alloc: Global,
     pub columns: Columns,
     pub items: Items,
+    // What stands after a row's `new`.
+    pub words: &'j str,
     pub journal: &'j Rc<RefCell<Journal>>,
 }
 

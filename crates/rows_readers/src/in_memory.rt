@@ -31,18 +31,17 @@ pub fn new_text(alloc: Global, words: &str) -> Played<Cursor<Vec<u8>>> {
 pub fn lend(
     word: &str,
     name: &str,
-    words: &str,
     devices: &Devices<'_>,
     player: &mut Player<'_, '_>,
 ) -> Played<()> {
     match word {
-        "cursor" => cursors::lend(name, words, player),
-        "moved" => cursors::lend_moved(words, devices, player),
-        "seeker" => cursors::lend_seeker(name, words, devices, player),
-        "asks" => asks::lend(words, devices, player),
-        "grown" => vectors::lend(name, words, player),
-        "queue" => vectors::lend_queue(words, player),
+        "cursor" => cursors::lend(name, devices.words, player),
+        "moved" => cursors::lend_moved(devices, player),
+        "seeker" => cursors::lend_seeker(name, devices, player),
+        "asks" => asks::lend(devices, player),
+        "grown" => vectors::lend(name, devices.words, player),
+        "queue" => vectors::lend_queue(devices.words, player),
         "room" => player.play(&mut room::Room { name }),
-        _ => readers::lend(name, words, devices, player),
+        _ => readers::lend(name, devices, player),
     }
 }

@@ -46,10 +46,11 @@ impl Streams for Readers {
                 "lines" => Items::Lines,
                 _ => Items::Calls,
             },
+            words,
             journal: &journal,
         };
         if columns == Columns::Memory {
-            return in_memory::lend(word, tower, words, &devices, player);
+            return in_memory::lend(word, tower, &devices, player);
         }
         match word {
             "noted" => noted::lend(tower, &devices, player),

@@ -6,13 +6,13 @@ ghost use Rattle.std.specs.Prelude.{◌<◌, ◌^◌};
 use crate::devices::{Devices, Items};
 use crate::items::{play_bytes, play_lines, play_pieces};
 use crate::levels::Levels;
-use io_bench::{Act, Faulty};
+use io_bench::Faulty;
 use no_std_io2::io::{BufRead, BufReader, Read, Result, Seek, copy};
 use rows_play::calls::{Call, make_seek};
 use rows_play::line::{Line, cut};
 use rows_play::player::{Player, Stream};
 use rows_play::reads::{make_lend, make_read, make_read_at};
-use rows_play::script::{Answer, parse_answers};
+use rows_play::script::parse_acts;
 use rows_play::unplayed::{Played, Unplayed};
 use std::alloc::Global;
 
@@ -48,24 +48,10 @@ fn set_limit<T: Levels>(tower: &mut T, call: &Call<'_>, line: &mut Line) {
     }
 }
 
-// Returns the acts that a row says, `take 2, fail BrokenPipe`.
-fn acts_of(alloc: Global, words: &str) -> Played<Vec<Act>> {
-    let mut acts = Vec::new(alloc);
-    'answers: for answer in &parse_answers(alloc, words)? {
-        match answer {
-            Answer::Take(n) => acts.push(Act::Take(*n))?,
-            Answer::Fail(kind, None) => acts.push(Act::Fail(*kind))?,
-            _ => return Err(Unplayed::NoWord),
-        }
-    }
-    acts.reverse();
-    Ok(acts)
-}
-
 /// Copies through S bytes to an empty vector that fails as acts say, `copy S ACTS`, and prints the result and the vector.
 pub fn call_copy<R: Read>(alloc: Global, r: &mut R, call: &Call<'_>, line: &mut Line) {
     let (size, words) = cut(call.rest, " ");
-    let acts = match acts_of(alloc, words) {
+    let acts = match parse_acts(alloc, words) {
         Ok(acts) => acts,
         Err(fault) => {
             line.tell(fault);

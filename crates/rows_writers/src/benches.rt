@@ -6,38 +6,14 @@ use crate::levels::{COUNTED, FAULTY, LAWFUL, LAWFUL_BUFFERED, VECTOR, lend as le
 use crate::tower::Object;
 use crate::writing::{Columns, play};
 use examples::Narrow;
-use io_bench::{Act, Faulty};
+use io_bench::Faulty;
 use no_std_io2::io::{BufWriter, Sink, Write};
 use rows_play::calls::{Call, make_call};
-use rows_play::kinds::kind_of_name;
 use rows_play::line::{Line, cut, cut_last};
 use rows_play::player::{Player, Stream};
+use rows_play::script::parse_acts;
 use rows_play::unplayed::{Played, Unplayed};
 use std::alloc::Global;
-
-fn parse_act(words: &str) -> Option<Act> {
-    let (word, rest) = cut(words, " ");
-    match word {
-        "zero" => Some(Act::Zero),
-        "take" => Some(Act::Take(rest.parse::<usize>().ok()?)),
-        "fail" => Some(Act::Fail(kind_of_name(rest)?)),
-        _ => None,
-    }
-}
-
-fn parse_acts(alloc: Global, words: &str) -> Played<Vec<Act>> {
-    let mut acts = Vec::new(alloc);
-    if words.is_empty() {
-        return Ok(acts);
-    }
-    'acts: for word in words.split(", ") {
-        match parse_act(word) {
-            Some(act) => acts.push(act)?,
-            None => return Err(Unplayed::NoWord),
-        }
-    }
-    Ok(acts)
-}
 
 /// Makes an empty vector that fails as these acts say: `take 2, zero, fail BrokenPipe`.
 pub fn new_faulty(alloc: Global, words: &str) -> Played<Faulty<Vec<u8>>> {

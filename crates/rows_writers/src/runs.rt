@@ -5,10 +5,9 @@
 // many that it may make, and the inner calls with the lengths of their bytes.
 ghost use Rattle.std.specs.Prelude.{⊤};
 
-use io_bench::{Op, Reply, Tally, joined, run_closed, run_writes};
+use io_bench::{Op, Reply, Tally, joined, kind_of_name, run_closed, run_writes};
 use no_std_io2::io::{Error, Result, Sink, Write};
 use rows_play::calls::Call;
-use rows_play::kinds::kind_of_name;
 use rows_play::line::Line;
 use rows_play::player::{Player, Stream};
 use rows_play::unplayed::{Played, Unplayed};

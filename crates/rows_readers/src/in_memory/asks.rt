@@ -85,8 +85,8 @@ impl<'a, 'j> Stream for Asking<'a, 'j> {
 }
 
 /// Lends a buffered reader over these bytes.
-pub fn lend(words: &str, devices: &Devices<'_>, player: &mut Player<'_, '_>) -> Played<()> {
-    let bytes = unescape(player.alloc, words)?;
+pub fn lend(devices: &Devices<'_>, player: &mut Player<'_, '_>) -> Played<()> {
+    let bytes = unescape(player.alloc, devices.words)?;
     let reader = BufReader::new(Tally::new(bytes.as_slice()));
     player.play(&mut Asking {
         reader,

@@ -224,8 +224,8 @@ pub fn lend(name: &str, words: &str, player: &mut Player<'_, '_>) -> Played<()> 
     }
 }
 
-pub fn lend_moved(words: &str, devices: &Devices<'_>, player: &mut Player<'_, '_>) -> Played<()> {
-    let reader = BufReader::<Text, 4>::new(new_text(player.alloc, words)?);
+pub fn lend_moved(devices: &Devices<'_>, player: &mut Player<'_, '_>) -> Played<()> {
+    let reader = BufReader::<Text, 4>::new(new_text(player.alloc, devices.words)?);
     player.play(&mut Moving {
         reader,
         devices: *devices,
@@ -247,13 +247,8 @@ impl Stream for Boxed {
 }
 
 /// Lends a cursor whose position is shown, or a boxed one.
-pub fn lend_seeker(
-    name: &str,
-    words: &str,
-    devices: &Devices<'_>,
-    player: &mut Player<'_, '_>,
-) -> Played<()> {
-    let text = new_text(player.alloc, words)?;
+pub fn lend_seeker(name: &str, devices: &Devices<'_>, player: &mut Player<'_, '_>) -> Played<()> {
+    let text = new_text(player.alloc, devices.words)?;
     match name {
         "Cursor" => play_seeking(text, 0, devices, player),
         "Box dyn Cursor" => {

@@ -1,6 +1,5 @@
 // Feeds of bytes and failures, `4: x, Interrupted, y`, in pieces of at most 4 bytes.
-use io_bench::{Event, Feed};
-use rows_play::kinds::{kind_of_name, name_of_kind};
+use io_bench::{Event, Feed, kind_of_name};
 use rows_play::line::{Line, cut};
 use rows_play::unplayed::{Played, Unplayed};
 use std::alloc::Global;
@@ -40,7 +39,7 @@ pub fn new_feed(alloc: Global, words: &str) -> Played<Feed> {
 fn show_event(event: Event, line: &mut Line) {
     match event {
         Event::Byte(byte) => line.bytes(&[byte]),
-        Event::Fail(kind) => line.word(name_of_kind(kind)),
+        Event::Fail(kind) => line.kind(kind),
     }
 }
 

@@ -11,30 +11,20 @@ use rows_play::player::Player;
 use rows_play::unplayed::{Played, Unplayed};
 
 // Lends the stream of this name, which ends with the name of its device.
-pub fn lend(
-    name: &str,
-    words: &str,
-    devices: &Devices<'_>,
-    player: &mut Player<'_, '_>,
-) -> Played<()> {
+pub fn lend(name: &str, devices: &Devices<'_>, player: &mut Player<'_, '_>) -> Played<()> {
     let (tower, device) = cut_last(name, " ");
     match device {
-        "Cursor" => lend_text(tower, words, devices, player),
-        "&[u8]" if tower.starts_with("Chain of") => lend_slices(tower, words, devices, player),
-        "&[u8]" => lend_slice(tower, words, devices, player),
-        "Repeat" => lend_repeat(words, devices, player),
-        "Feed" => lend_feed(tower, words, devices, player),
+        "Cursor" => lend_text(tower, devices, player),
+        "&[u8]" if tower.starts_with("Chain of") => lend_slices(tower, devices, player),
+        "&[u8]" => lend_slice(tower, devices, player),
+        "Repeat" => lend_repeat(devices, player),
+        "Feed" => lend_feed(tower, devices, player),
         _ => Err(Unplayed::NoStream),
     }
 }
 
-fn lend_text(
-    tower: &str,
-    words: &str,
-    devices: &Devices<'_>,
-    player: &mut Player<'_, '_>,
-) -> Played<()> {
-    let (first, second) = cut_last(words, " + ");
+fn lend_text(tower: &str, devices: &Devices<'_>, player: &mut Player<'_, '_>) -> Played<()> {
+    let (first, second) = cut_last(devices.words, " + ");
     let second = new_text(player.alloc, second)?;
     match tower {
         "" => play_lending(second, devices, player),
@@ -68,13 +58,11 @@ fn lend_boxed_buffer(
 }
 
 // Lends a feed, below a limit that stands before its words: `2 of 4: x, Interrupted`.
-fn lend_feed(
-    tower: &str,
-    words: &str,
-    devices: &Devices<'_>,
-    player: &mut Player<'_, '_>,
-) -> Played<()> {
-    let (limit, words) = words.split_once(" of ").unwrap_or(("0", words));
+fn lend_feed(tower: &str, devices: &Devices<'_>, player: &mut Player<'_, '_>) -> Played<()> {
+    let (limit, words) = devices
+        .words
+        .split_once(" of ")
+        .unwrap_or(("0", devices.words));
     let feed = new_feed(player.alloc, words)?;
     let Ok(limit) = limit.parse::<u64>() else {
         return Err(Unplayed::NoNumber);
@@ -92,13 +80,8 @@ fn lend_feed(
     }
 }
 
-fn lend_slice(
-    tower: &str,
-    words: &str,
-    devices: &Devices<'_>,
-    player: &mut Player<'_, '_>,
-) -> Played<()> {
-    let (first, second) = cut_last(words, " + ");
+fn lend_slice(tower: &str, devices: &Devices<'_>, player: &mut Player<'_, '_>) -> Played<()> {
+    let (first, second) = cut_last(devices.words, " + ");
     let bytes = unescape(player.alloc, second)?;
     let slice = bytes.as_slice();
     match tower {
@@ -115,8 +98,8 @@ fn lend_slice(
 }
 
 // Lends a byte as often as the number behind it says.
-fn lend_repeat(words: &str, devices: &Devices<'_>, player: &mut Player<'_, '_>) -> Played<()> {
-    let (byte, len) = cut_last(words, " ");
+fn lend_repeat(devices: &Devices<'_>, player: &mut Player<'_, '_>) -> Played<()> {
+    let (byte, len) = cut_last(devices.words, " ");
     match (byte.as_bytes().first(), len.parse::<u64>()) {
         (Some(byte), Ok(len)) => play_reading(repeat(*byte, len), devices, player),
         _ => Err(Unplayed::NoNumber),
@@ -131,13 +114,8 @@ fn two<'a>(words: &'a str) -> Two<'a> {
 }
 
 // Lends a chain of three or four slices.
-fn lend_slices(
-    tower: &str,
-    words: &str,
-    devices: &Devices<'_>,
-    player: &mut Player<'_, '_>,
-) -> Played<()> {
-    let (words, last) = cut_last(words, " + ");
+fn lend_slices(tower: &str, devices: &Devices<'_>, player: &mut Player<'_, '_>) -> Played<()> {
+    let (words, last) = cut_last(devices.words, " + ");
     match tower {
         "Chain of 3" => play_chain(two(words), last.as_bytes(), devices, player),
         "Chain of 4" => {
