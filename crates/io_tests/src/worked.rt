@@ -1,5 +1,5 @@
 // The worked examples of this library that no row says: 18, what errors print, and one of 32, a vector of a million bytes. The
-// others are in the worked.rows of rows_writers, rows_readers and rows_runs.
+// others are in the worked.rows of rows_writers, rows_readers and rows_clients.
 use no_std_io2::io::{Error, ErrorKind, Read};
 use std::alloc::Global;
 use std::test::Fail;
