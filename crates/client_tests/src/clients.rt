@@ -1,9 +1,10 @@
 // The examples of pages, and those of `examples`: a test for each, which finds one that is no longer what its call does.
 use examples::{
-    add_table, checksum_of, entry_of, entry_of_file, grep, head, print_table, save, save_summed,
+    Parcels, add_table, checksum_of, entry_of, entry_of_file, grep, head, print_table, read_front,
+    read_parcel, save, save_summed,
 };
 use io_bench::{Act, Event, Faulty, Feed, Tally};
-use no_std_io2::io::{BufReader, BufWriter, Cursor, ErrorKind, Write};
+use no_std_io2::io::{BufReader, BufWriter, Cursor, ErrorKind, Read, Write};
 use std::fs::remove_file;
 use std::io;
 use std::rt::Files;
@@ -48,6 +49,27 @@ fn a_table_is_one_write(rt: HostRuntime) -> Result<(), Fail> {
     let page = add_table(Cursor::new([b'.'; 64]), &[(1, 20), (3, 400)])?;
     assert!(rt; page.position() == 11);
     assert!(rt; page.get_ref().starts_with(b"1=20\n3=400\n."));
+    Ok(())
+}
+
+// What a parcel leaves, read in part and whole: a byte too many or too few is the next length. What a `Take` leaves.
+#[test]
+fn parcels_leave_what_follows(rt: HostRuntime) -> Result<(), Fail> {
+    let mut parcels = Parcels {
+        rest: Read::take(b"\x03abc\x02de".as_slice(), 0),
+    };
+    if let Some(mut parcel) = parcels.next_parcel()? {
+        let mut byte = [0u8; 1];
+        parcel.read_exact(&mut byte)?;
+        assert!(rt; byte == *b"a");
+    }
+    assert!(rt; read_parcel(rt.alloc(), &mut parcels)? == Some(vec![in rt.alloc(); b'd', b'e']?));
+    assert!(rt; read_parcel(rt.alloc(), &mut parcels)?.is_none());
+    let mut r = b"abcde".as_slice();
+    let mut front = Vec::<u8>::new(rt.alloc());
+    assert!(rt; read_front(&mut r, 2, &mut front)? == 2);
+    assert!(rt; front.as_slice() == b"ab".as_slice());
+    assert!(rt; r == b"cde".as_slice());
     Ok(())
 }
 

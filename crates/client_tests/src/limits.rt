@@ -31,7 +31,11 @@ fn each_write_of_no_bytes_is_made(rt: HostRuntime) -> Result<(), Fail> {
     assert!(rt; w.write(b"abc\nd")? == 4);
     assert!(rt; w.buffer() == b"c\n".as_slice());
     let mut replies = Vec::new(rt.alloc());
-    run_writes(&mut w, &[Op::WriteAll(b""), Op::WriteAll(b"")], &mut replies)?;
+    run_writes(
+        &mut w,
+        &[Op::WriteAll(b""), Op::WriteAll(b"")],
+        &mut replies,
+    )?;
     assert!(rt; w.buffer().is_empty());
     assert!(rt; w.get_ref().get_ref().as_slice() == b"abc\n".as_slice());
     Ok(())
