@@ -1,3 +1,4 @@
 pub mod NumberLemmas
 pub mod SpelledLemmas
+pub mod VarintLemmas
 pub mod ChunkLemmas

@@ -4,10 +4,12 @@ use Rattle.no_std_io2.proofs.Words.{sym, ap, ap₂, ◌∙◌, subst, arith, Rea
 use Rattle.no_std_io2.proofs.TakesLemmas.{TakesBytes-fills}
 use Rattle.no_std_io2.specs.Reads.{TakesBytes}
 use Rattle.std.proofs.{Math.Nat.{pow-suc, pow-succ', div-div-eq-div-mul, div-one, mul_assoc}, lemmas.Nat.{div-mul-add, mod-mul-add}}
-use Rattle.std.specs.Int.{byte_at, bytes_high_first, bytes_low_first}
+use Rattle.std.specs.{Int.{Width, byte_at, bytes_high_first, bytes_low_first, cast_unsigned}, Prelude.{ℤ}}
+use Rattle.std.proofs.lemmas.Int.{of_z-to_z}
+use mir.Val.{bits}
 use Rattle.byteorder.specs.Endian.{big_number, big_bytes, little_number, little_bytes}
-use Rattle.byteorder.specs.Numbers.{big_from-cons, big_from-lt, little_from-cons}
-use Rattle.numbers.specs.Numbers.{AreBytes, ReadsValue}
+use Rattle.byteorder.specs.Numbers.{big_from-cons, big_from-lt, little_from-cons, little_from-lt}
+use Rattle.numbers.specs.Numbers.{AreBytes, ReadsValue, first_byte, signed_by}
 
 -- byte k of x, without the case of the lowest
 byte_is : (k x : ℕ) → byte_at k x ≡ x / 256 ^ k % 256
@@ -63,3 +65,34 @@ module _ {V : Type 0} {R : Reader V} {n x : ℕ} {old new : V} where
   takes_little reads =
       let is = little_spelled reads.buf n reads.long reads.are in
       subst (λ l. TakesBytes (tells R old) l (tells R new)) (sym (ap (little_bytes n) reads.spells ∙ is)) (TakesBytes-fills reads.law)
+
+-- The same of a byte.
+one_byte : (bytes : List ℕ) → length bytes ≡ 1 → first_byte bytes ∷ [] ≡ bytes
+one_byte [] long = absurd (omega (arith, long))
+one_byte (b ∷ []) long = refl
+one_byte (b ∷ c ∷ bytes) long = absurd (omega (arith, long))
+
+pub takes_byte : {V : Type 0} {R : Reader V} {x : ℕ} {old new : V} → ReadsValue R first_byte 1 old (Ok x) new
+    → TakesBytes (tells R old) (x ∷ []) (tells R new)
+takes_byte {R = R} {x} {old} {new} reads =
+    let is = one_byte reads.buf reads.long in
+    subst (λ l. TakesBytes (tells R old) l (tells R new)) (sym (ap (λ b. b ∷ []) reads.spells ∙ is)) (TakesBytes-fills reads.law)
+
+-- The same of a signed number of width w in either order, of which `number` and `spelled` are the words, as `big_number` and `big_bytes`.
+pub takes_signed : {V : Type 0} {R : Reader V} {n : ℕ} {x : ℤ} {old new : V} (w : Width) (number : ℕ → List ℕ → ℕ) (spelled : ℕ → List ℕ)
+    → ((bytes : List ℕ) → length bytes ≡ n → AreBytes bytes → (spelled (number n bytes) ≡ bytes) × (number n bytes < 2 ^ bits w))
+    → ReadsValue R (signed_by w number n) n old (Ok x) new → TakesBytes (tells R old) (spelled (cast_unsigned w x)) (tells R new)
+takes_signed {R = R} {n} {x} {old} {new} w number spelled spells reads =
+    let (is, small) = spells reads.buf reads.long reads.are in
+    let whole : spelled (cast_unsigned w x) ≡ reads.buf =
+    ap (λ z. spelled (cast_unsigned w z)) reads.spells ∙ ap spelled (of_z-to_z w (number n reads.buf) small) ∙ is in
+    subst (λ l. TakesBytes (tells R old) l (tells R new)) (sym whole) (TakesBytes-fills reads.law)
+
+-- in each order
+pub big_spells : (n : ℕ) (bytes : List ℕ) → length bytes ≡ n → AreBytes bytes
+    → (big_bytes n (big_number n bytes) ≡ bytes) × (big_number n bytes < 256 ^ n)
+big_spells n bytes long are = (big_spelled bytes n long are, big_from-lt 0 n bytes are)
+
+pub little_spells : (n : ℕ) (bytes : List ℕ) → length bytes ≡ n → AreBytes bytes
+    → (little_bytes n (little_number n bytes) ≡ bytes) × (little_number n bytes < 256 ^ n)
+little_spells n bytes long are = (little_spelled bytes n long are, little_from-lt 0 n bytes are)

@@ -1,5 +1,8 @@
-//! A caller: headers of chunks, the kind in two bytes and the length in four, big-endian. What was written is read back.
-ghost use Rattle.std.specs.Prelude.{◌≡◌, ◌<◌, ◌^◌, ◌++◌, ℕ, List, IfOk, Ok, Some};
+//! Callers: headers of chunks, the kind in two bytes and the length in four, big-endian. What was written is read back. And
+//! steps, which have a sign.
+ghost use Rattle.byteorder.specs.Endian.{big_bytes};
+ghost use Rattle.std.specs.Int.{cast_unsigned, w16};
+ghost use Rattle.std.specs.Prelude.{◌≡◌, ◌<◌, ◌^◌, ◌++◌, ◌∷◌, ℕ, List, IfOk, Ok, Some};
 ghost use Rattle.numbers.specs.ChunkHeaders.{chunk_header, ReadsChunkHeader, WritesChunkHeader};
 ghost use Rattle.no_std_io2.specs.Events.{Event, events_of};
 ghost use Rattle.no_std_io2.specs.Moves.{MovesFront};
@@ -35,4 +38,16 @@ pub fn read_chunk_header<R: Read>(r: &mut R) -> Result<(u16, u32)>
     let kind = r.read_u16::<BigEndian>()?;
     let len = r.read_u32::<BigEndian>()?;
     Ok((kind, len))
+}
+
+/// Reads a step: its axis in one byte, and its length with a sign in two, big-endian.
+///
+/// # Errors
+/// Returns the error of a `read_exact` that fails. The axis may be taken then.
+pub fn read_step<R: Read>(r: &mut R) -> Result<(u8, i16)>
+    ensures { IfOk result (λ s. TakesBytes (tells R.Read r.old) (s.0 ∷ big_bytes 2 (cast_unsigned w16 s.1)) (tells R.Read r.new)) }
+{
+    let axis = r.read_u8()?;
+    let length = r.read_i16::<BigEndian>()?;
+    Ok((axis, length))
 }

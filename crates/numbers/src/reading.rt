@@ -1,10 +1,12 @@
 // [`ReadBytesExt`], which reads numbers.
-ghost use Rattle.std.specs.Prelude.{FitsSigned, ◌≡◌, ◌<◌, ◌^◌, [], ◌∷◌};
-ghost use Rattle.std.specs.Int.{w8, w16, w32, w64, cast_signed, cast_unsigned};
+ghost use Rattle.std.specs.Float.{binary32, binary64};
+ghost use Rattle.std.specs.Prelude.{FitsSigned, ◌≡◌, ◌<◌, ◌^◌, [], ◌∷◌, from_bits};
+ghost use Rattle.std.specs.Int.{w8, w16, w32, w64, w128, cast_signed, cast_unsigned};
 ghost use Rattle.numbers.specs.Numbers.{AreBytes, ReadsValue, ReadsBack, ReadsInto, first_byte, signed_by};
 
 use byteorder::ByteOrder;
 use no_std_io2::io::{Read, Result};
+use std::num::{f32_from_bits_with_nan, f64_from_bits_with_nan};
 
 /// Reads numbers from any reader. Each call for one number is one `read_exact` of its bytes, in the order that the type
 /// parameter names. Follows `ReadBytesExt` of the Rust crate `byteorder`.
@@ -63,6 +65,18 @@ pub trait ReadBytesExt: Read {
         Ok(T::read_u64(plain_bytes(&bytes)))
     }
 
+    /// Reads a number of 16 bytes.
+    final fn read_u128<T: ByteOrder>(&mut self) -> Result<u128>
+    where
+        Self: Sized,
+        ensures reads { ReadsValue ⟦<Self as Read>⟧ (T.number_of 16) 16 self.old result self.new }
+        ensures back { ReadsBack ⟦<Self as Read>⟧ (λ x. x < 256 ^ 16) (T.bytes_of 16) self.old result self.new }
+    {
+        let mut bytes = [0u8; 16];
+        self.read_exact(&mut bytes)?;
+        Ok(T::read_u128(plain_bytes(&bytes)))
+    }
+
     /// Reads a signed byte.
     final fn read_i8(&mut self) -> Result<i8>
     where
@@ -111,6 +125,44 @@ pub trait ReadBytesExt: Read {
     {
         match self.read_u64::<T>() {
             Ok(x) => Ok(x.cast_signed()),
+            Err(e) => Err(e),
+        }
+    }
+
+    /// Reads a signed number of 16 bytes.
+    final fn read_i128<T: ByteOrder>(&mut self) -> Result<i128>
+    where
+        Self: Sized,
+        ensures reads { ReadsValue ⟦<Self as Read>⟧ (signed_by w128 T.number_of 16) 16 self.old result self.new }
+        ensures back { ReadsBack ⟦<Self as Read>⟧ (FitsSigned w128) (λ x. T.bytes_of 16 (cast_unsigned w128 x)) self.old result self.new }
+    {
+        match self.read_u128::<T>() {
+            Ok(x) => Ok(x.cast_signed()),
+            Err(e) => Err(e),
+        }
+    }
+
+    /// Reads a floating-point number of 4 bytes. The bytes of a NaN give a NaN, whose bits are not kept: in Rattle no NaN has
+    /// bits. To keep them, use `read_u32`.
+    final fn read_f32<T: ByteOrder>(&mut self) -> Result<f32>
+    where
+        Self: Sized,
+        ensures { ReadsValue ⟦<Self as Read>⟧ (λ bytes. from_bits binary32 (T.number_of 4 bytes)) 4 self.old result self.new }
+    {
+        match self.read_u32::<T>() {
+            Ok(bits) => Ok(f32_from_bits_with_nan(bits)),
+            Err(e) => Err(e),
+        }
+    }
+
+    /// Reads a floating-point number of 8 bytes, a NaN as `read_f32` does.
+    final fn read_f64<T: ByteOrder>(&mut self) -> Result<f64>
+    where
+        Self: Sized,
+        ensures { ReadsValue ⟦<Self as Read>⟧ (λ bytes. from_bits binary64 (T.number_of 8 bytes)) 8 self.old result self.new }
+    {
+        match self.read_u64::<T>() {
+            Ok(bits) => Ok(f64_from_bits_with_nan(bits)),
             Err(e) => Err(e),
         }
     }

@@ -1,10 +1,12 @@
 // [`WriteBytesExt`], which writes numbers.
-ghost use Rattle.std.specs.Prelude.{[], ◌∷◌};
-ghost use Rattle.std.specs.Int.{w8, w16, w32, w64, cast_unsigned};
+ghost use Rattle.std.specs.Float.{binary32, binary64};
+ghost use Rattle.std.specs.Prelude.{[], ◌∷◌, to_bits};
+ghost use Rattle.std.specs.Int.{w8, w16, w32, w64, w128, cast_unsigned};
 ghost use Rattle.no_std_io2.specs.Writers.{WriteAllOf};
 
 use byteorder::ByteOrder;
 use no_std_io2::io::{Result, Write};
+use std::num::{f32_to_bits_with_nan, f64_to_bits_with_nan};
 
 /// Writes numbers to any writer. Each call is one `write_all` of the bytes of the number, in the order that its type
 /// parameter names. Follows `WriteBytesExt` of the Rust crate `byteorder`.
@@ -90,6 +92,44 @@ pub trait WriteBytesExt: Write {
         ensures law { WriteAllOf ⟦<Self as Write>⟧ self.old (T.bytes_of 8 (cast_unsigned w64 n)) result self.new }
     {
         self.write_u64::<T>(n.cast_unsigned())
+    }
+
+    /// Writes a number of 16 bytes.
+    final fn write_u128<T: ByteOrder>(&mut self, n: u128) -> Result<()>
+    where
+        Self: Sized,
+        ensures law { WriteAllOf ⟦<Self as Write>⟧ self.old (T.bytes_of 16 n) result self.new }
+    {
+        let mut bytes = [0u8; 16];
+        T::write_u128(&mut bytes, n);
+        self.write_all(&bytes)
+    }
+
+    /// Writes a signed number of 16 bytes.
+    final fn write_i128<T: ByteOrder>(&mut self, n: i128) -> Result<()>
+    where
+        Self: Sized,
+        ensures law { WriteAllOf ⟦<Self as Write>⟧ self.old (T.bytes_of 16 (cast_unsigned w128 n)) result self.new }
+    {
+        self.write_u128::<T>(n.cast_unsigned())
+    }
+
+    /// Writes a floating-point number of 4 bytes, each NaN as the quiet one without a sign.
+    final fn write_f32<T: ByteOrder>(&mut self, n: f32) -> Result<()>
+    where
+        Self: Sized,
+        ensures law { WriteAllOf ⟦<Self as Write>⟧ self.old (T.bytes_of 4 (to_bits binary32 n)) result self.new }
+    {
+        self.write_u32::<T>(f32_to_bits_with_nan(n))
+    }
+
+    /// Writes a floating-point number of 8 bytes, each NaN as the quiet one without a sign.
+    final fn write_f64<T: ByteOrder>(&mut self, n: f64) -> Result<()>
+    where
+        Self: Sized,
+        ensures law { WriteAllOf ⟦<Self as Write>⟧ self.old (T.bytes_of 8 (to_bits binary64 n)) result self.new }
+    {
+        self.write_u64::<T>(f64_to_bits_with_nan(n))
     }
 }
 

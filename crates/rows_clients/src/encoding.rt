@@ -7,13 +7,14 @@ use crate::client::{Client, Columns, new_device, play};
 use base64::engine::general_purpose::STANDARD;
 use base64_stream::{EncoderWriter, decoded, encoded};
 use no_std_io2::io::Result as IoResult;
-use numbers::{BigEndian, LittleEndian, ReadBytesExt, WriteBytesExt};
+use numbers::{BigEndian, LittleEndian, ReadBytesExt, WriteBytesExt, read_varint, write_varint};
 use rows_play::calls::{Call, make_call};
 use rows_play::line::Line;
 use rows_play::player::{Player, Stream};
 use rows_play::recorder::Recorder;
 use rows_play::unplayed::{Played, Unplayed};
 use std::alloc::Global;
+use std::num::{saturating_f32_to_u64, saturating_f64_to_u64};
 
 impl Client for EncoderWriter<Recorder, 512> {
     fn call(&mut self, _alloc: Global, call: &Call<'_>, line: &mut Line) {
@@ -50,6 +51,10 @@ fn write_unsigned(to: &mut Recorder, call: &Call<'_>) -> Option<IoResult<()>> {
         "u16le" => Some(to.write_u16::<LittleEndian>(u16::try_from(n).ok()?)),
         "u32be" => Some(to.write_u32::<BigEndian>(u32::try_from(n).ok()?)),
         "u64be" => Some(to.write_u64::<BigEndian>(n)),
+        "u128be" => Some(to.write_u128::<BigEndian>(u128::from(n))),
+        "f32be" => Some(to.write_f32::<BigEndian>(f32::from(u16::try_from(n).ok()?))),
+        "f64le" => Some(to.write_f64::<LittleEndian>(f64::from(u32::try_from(n).ok()?))),
+        "varint" => Some(write_varint(to, n)),
         _ => None,
     }
 }
@@ -74,7 +79,7 @@ struct Writing {
 
 impl Client for Writing {
     fn call(&mut self, _alloc: Global, call: &Call<'_>, line: &mut Line) {
-        let written = if call.word.starts_with('u') {
+        let written = if !call.word.starts_with('i') {
             write_unsigned(&mut self.device, call)
         } else {
             write_signed(&mut self.device, call)
@@ -124,6 +129,9 @@ impl Reading {
             "u16le" => show_unsigned(self.device.read_u16::<LittleEndian>().map(u64::from), line),
             "u32be" => show_unsigned(self.device.read_u32::<BigEndian>().map(u64::from), line),
             "u64be" => show_unsigned(self.device.read_u64::<BigEndian>(), line),
+            "f32be" => show_unsigned(self.device.read_f32::<BigEndian>().map(saturating_f32_to_u64), line),
+            "f64le" => show_unsigned(self.device.read_f64::<LittleEndian>().map(saturating_f64_to_u64), line),
+            "varint" => show_unsigned(read_varint(&mut self.device), line),
             _ => line.tell(Unplayed::NoCall),
         }
     }
@@ -143,7 +151,7 @@ impl Client for Reading {
     fn call(&mut self, _alloc: Global, call: &Call<'_>, line: &mut Line) {
         if call.word == "u16be_into" {
             self.read_three(line);
-        } else if call.word.starts_with('u') {
+        } else if !call.word.starts_with('i') {
             self.read_unsigned(call.word, line);
         } else {
             self.read_signed(call.word, line);
