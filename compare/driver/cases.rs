@@ -79,6 +79,33 @@ fn frames_of(len: usize, frames: usize) -> &'static [u8] {
     Vec::leak((0..frames).flat_map(|at| header.iter().chain(&source()[at..at + len])).copied().collect())
 }
 
+// Letters, each of which is also a digit of base64.
+fn letters() -> &'static [u8] {
+    static LETTERS: OnceLock<Vec<u8>> = OnceLock::new();
+    LETTERS.get_or_init(|| source().iter().map(|it| b'a' + it % 26).collect())
+}
+
+// An archive of so many members, each with so many bytes.
+fn archive_of(len: usize, members: usize) -> &'static [u8] {
+    let size = format!("{len:011o}");
+    let mut header = [0u8; 512];
+    for (at, text) in [
+        (0, "folder/member"),
+        (100, "0000644"),
+        (124, size.as_str()),
+        (136, "14524757200"),
+        (148, "        0"),
+        (257, "ustar\x0000"),
+    ] {
+        header[at..at + text.len()].copy_from_slice(text.as_bytes());
+    }
+    let sum: u32 = header.iter().map(|byte| u32::from(*byte)).sum();
+    header[148..156].copy_from_slice(format!("{sum:06o}\0 ").as_bytes());
+    let padding = vec![0u8; len.next_multiple_of(512) - len];
+    let member = |at: usize| header.iter().chain(&source()[at..at + len]).chain(&padding);
+    Vec::leak((0..members).flat_map(member).copied().collect())
+}
+
 // A number of bytes, as the table shows it.
 fn size_text(size: usize) -> String {
     match size {
@@ -132,6 +159,17 @@ macro_rules! sides {
     ($name:ident std_kit) => {
         [Some(ours::$name), None, crate::original!($name), None]
     };
+    ($name:ident none) => {
+        [Some(ours::$name), Some(crate::clients::$name), None, None]
+    };
+    // A crate whose text may be missing.
+    ($name:ident $peer:ident) => {{
+        #[cfg($peer)]
+        let sides: [Option<Call>; SIDES] = sides!($name none);
+        #[cfg(not($peer))]
+        let sides: [Option<Call>; SIDES] = [None; SIDES];
+        sides
+    }};
 }
 
 /// A case for each size of each line of the list, if its name has this word.
@@ -150,16 +188,23 @@ pub fn with(word: &str) -> Vec<Case> {
                 let source = match kind {
                     "lines" => lines_of(size, 2 * calls),
                     "frames" => frames_of(size, 2 * calls),
+                    "letters" => letters(),
+                    "archive" => archive_of(size, 2 * calls),
                     _ => source(),
                 };
-                cases.push(Case {
+                let case = Case {
                     name,
                     class: stringify!($class),
                     size,
                     source,
                     calls: calls as u64,
                     sides: sides!($name $($missing)?),
-                });
+                };
+                if case.has(0) {
+                    cases.push(case);
+                } else {
+                    eprintln!("skipped: {} (no text of the crate)", case.name);
+                }
             }
         )*};
     }

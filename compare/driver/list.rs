@@ -3,7 +3,7 @@
 //!
 //! Classes, with the most instructions that a case may take to the better of std and the original crate: `short` 1.00,
 //! and 1.25 if more than 32 bytes move; `long` 1.25; `fields` 1.4; `append` 1.4, and 1.75 if more than 32 bytes move;
-//! `whole` has no limit, since its definition asks for more.
+//! `whole` has no limit, since its definition asks for more. `client` is 1.25, to the crate of Rust that it names.
 
 macro_rules! listed {
     ($read:ident) => {
@@ -121,13 +121,28 @@ macro_rules! listed {
             queue_turns: bytes whole "a queue, `write_all` and `read_exact` of {}" [16 100 1000] | original;
             queue_held: bytes whole "a queue that holds 3000, `write_all` and `read_exact` of {}" [7 64 1000] | original;
             queue_to_end: bytes whole "a queue, `write_all` of {} and `read_to_end`" [4000] | original;
-            frame_send: bytes long "`FrameWriter` 8192, `send` of {}" [1 18 100 1000] | kit;
+            frame_send: bytes long "`FrameWriter` 8192, `send` of {}" [1 18 40 100 500 1000] | kit;
             frame_next: frames long "`FrameReader` 8192, `next` of {}" [1 18 100 1000] | kit;
             frame_past: frames whole "`FrameReader` 64, `next` of {}" [1000 100000] | kit;
             copy_to_vec: bytes whole "a copy of a slice of {} into a new vector" [100 10000 65536] | kit;
             copy_short: bytes whole "a copy of {}, through one buffer for all" [100 1000] | kit;
             copy_64: bytes whole "`copy` 64 of {}" [16777216] | std_kit;
             copy_8192: bytes whole "`copy` 8192 of {}" [16777216];
+
+            numbers_slice: bytes client "`byteorder`, `read_u32` of a slice" [4] | byteorder;
+            numbers_reader: bytes client "`byteorder`, a number of each length from a `BufReader` 1024" [15] | byteorder;
+            numbers_into: bytes client "`byteorder`, `read_u16_into` of {} bytes from a `BufReader` 8192" [8 128] | byteorder;
+            numbers_vec: bytes client "`byteorder`, a number of each length to a `Vec`" [15] | byteorder;
+            numbers_writer: bytes client "`byteorder`, a number of each length to a `BufWriter` 1024" [15] | byteorder;
+            base64_encode: letters client "`base64`, `write_all` of {} to an encoder" [57 900 10000] | base64;
+            base64_to_end: letters client "`base64`, {} decoded by `read_to_end`" [99 900 9999] | base64;
+            base64_exact: letters client "`base64`, `read_exact` of {} from a decoder" [7 40] | base64;
+            base64_until: letters client "`base64`, `read_until` through a `BufReader` 512 of a decoder" [256] | base64;
+            tar_append: letters client "`tar`, a member of {} appended" [100 900 100000] | tar;
+            tar_next: archive client "`tar`, the next of members of {}" [100 900] | tar;
+            tar_read: archive client "`tar`, the next of members of {}, and its bytes" [100 900] | tar;
+            log_info: bytes client "`log`, a number by `info!`" [1] | log;
+            log_text: bytes client "a log, a name and a number by `log_text`" [1] | none;
         }
     };
 }

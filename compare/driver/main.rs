@@ -4,6 +4,7 @@
 #![feature(seek_stream_len)]
 
 mod cases;
+mod clients;
 mod counting;
 mod list;
 mod table;

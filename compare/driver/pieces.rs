@@ -4,7 +4,7 @@ use super::streams::*;
 use crate::cases::{FAILED, sample};
 use std::collections::VecDeque;
 
-fn until_often<R: BufRead>(r: &mut R, calls: u64) -> u64 {
+pub fn until_often<R: BufRead>(r: &mut R, calls: u64) -> u64 {
     let mut piece = Vec::new();
     let mut sum = 0u64;
     for _ in 0..calls {

@@ -26,7 +26,7 @@ mod streams {
 #[path = "calls.rs"]
 mod calls;
 #[path = "often.rs"]
-mod often;
+pub mod often;
 #[path = "pieces.rs"]
 mod pieces;
 

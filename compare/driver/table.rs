@@ -3,18 +3,19 @@ use crate::cases::Case;
 use crate::{Measured, SIDES};
 
 // The classes, and the most that a case of one may take, in instructions to the better of the other two.
-const CLASSES: [(&str, &str); 5] = [
+const CLASSES: [(&str, &str); 6] = [
     ("short", "1.00, longer than 32 bytes 1.25"),
     ("long", "1.25"),
     ("fields", "1.40"),
     ("append", "1.40, longer than 32 bytes 1.75"),
     ("whole", "none"),
+    ("client", "1.25"),
 ];
 
 fn most(case: &Case) -> f64 {
     match case.class {
         "short" if case.size <= 32 => 1.0,
-        "short" | "long" => 1.25,
+        "short" | "long" | "client" => 1.25,
         "fields" => 1.4,
         "append" if case.size <= 32 => 1.4,
         "append" => 1.75,
