@@ -1,5 +1,6 @@
 -- What a decoder gives, one step after another, and the law of its `read`.
-use Rattle.no_std_io2.proofs.Words.{◌≡◌, ℕ, ◌+◌, ◌-◌, ◌*◌, ◌/◌, ◌%◌, ◌<◌, ◌≤◌, min, Bool, true, false, List, [], ◌∷◌, ◌++◌, length, take, drop}
+use Rattle.no_std_io2.proofs.Words.{◌≡◌, ℕ, ◌+◌, ◌-◌, ◌*◌, ◌/◌, ◌%◌, ◌<◌, ◌≤◌, min, Bool, true, false, List, [], ◌∷◌, ◌++◌, length, take}
+use Rattle.no_std_io2.proofs.Words.{drop}
 use Rattle.no_std_io2.proofs.Words.{Option, Some, None, Result, Ok, Err, refl, sym, ap, ap₂, subst, ◌∙◌, arith, inl, inr, append_assoc}
 use Rattle.no_std_io2.proofs.Words.{append-nil, length-append, length-take, length-drop, take-append-drop, nil_from_length, common_steps}
 use Rattle.no_std_io2.proofs.Words.{Event, byte, fails, events_of, event_bytes, HasNoFault, Reader, ReadLaw, tells, Takes, to_come}
@@ -166,7 +167,8 @@ module _ {R : Type 0} (I : Reader R) where
       go (Err e) is = cc is
 
   -- and the end came if there is no group
-  ended : (old mid : DecoderReader R) (how : Result Bool Error) (P : List Event) → Ok tt ≡ said how → HasTo 4 how (length (decoder_text mid))
+  ended : (old mid : DecoderReader R) (how : Result Bool Error) (P : List Event) → Ok tt ≡ said how
+      → HasTo 4 how (length (decoder_text mid))
       → GathersTo P how (tells I (decoder_inner mid))
       → HasNoFault P × (length (decoder_text mid) < 4 → IsAtEnd (tells I (decoder_inner mid)))
   ended old mid (Ok true) P is enough ends = (ends, λ short. absurd (omega (arith, short, enough)))
@@ -185,7 +187,8 @@ module _ {R : Type 0} (I : Reader R) where
       (ap (decoded_events old.engine old.closed []) (sym (append_assoc held P E))
       ∙ without_interruptions old.engine old.closed [] (held ++ P) E
       (HasNoFault-append held P (HasNoFault-events_of (decoder_text old)) free)
-      ∙ ap (λ l. decoded_events old.engine old.closed [] (events_of l ++ E)) (bytes-behind (decoder_text old) P ∙ text_grows old mid gathers)
+      ∙ ap (λ l. decoded_events old.engine old.closed [] (events_of l ++ E))
+      (bytes-behind (decoder_text old) P ∙ text_grows old mid gathers)
       ∙ ap₂ (λ e c. decoded_events e c [] (events_of (decoder_text mid) ++ E)) (sym engine) (sym closed)))
 
   -- the end came before a group was whole
@@ -213,7 +216,8 @@ module _ {R : Type 0} (I : Reader R) where
       let held = events_of (decoder_text old) in
       let chars : event_bytes (held ++ Q) ≡ decoder_text mid =
       bytes-behind (decoder_text old) Q
-      ∙ ap (λ l. decoder_text old ++ l) (sym (append-nil (event_bytes Q)) ∙ sym (bytes-append Q (fails e ∷ [])) ∙ ap event_bytes (sym split))
+      ∙ ap (λ l. decoder_text old ++ l)
+      (sym (append-nil (event_bytes Q)) ∙ sym (bytes-append Q (fails e ∷ [])) ∙ ap event_bytes (sym split))
       ∙ text_grows old mid gathers in
       let engine = old.engine in
       let closed = old.closed in
@@ -288,7 +292,8 @@ module _ {R : Type 0} (I : Reader R) where
               (ap (λ k. nat_lt (length x) (k * 3)) groups ∙ sym closed) ∙ after E)
           | inl few ↦
               let all : rest ≡ [] = nil_from_length rest (omega (arith, last few, length-drop n (decoder_text mid))) in
-              decodes_last [] read inner (text_ends old mid gathers few) (text_next mid [] none ∙ in_two e mid.closed n (decoder_text mid) []
+              decodes_last [] read inner (text_ends old mid gathers few)
+              (text_next mid [] none ∙ in_two e mid.closed n (decoder_text mid) []
               ∙ ap (λ c. decoded_events e c [] (events_of s ++ (events_of rest ++ []))) opened
               ∙ ap (λ l. decoded_events e false [] (events_of s ++ (events_of l ++ []))) all
               ∙ text_first e false s [] (omega (arith, few, last few, long))
@@ -371,7 +376,8 @@ module _ {R : Type 0} (I : Reader R) where
       → decoder_text new ≡ decoder_text mid → ReadLaw decoder_reader old buf (Ok n) buf' new
   gave_waiting {old} {mid} {new} buf buf' n (decodes, turns, end) count split inner engine closed text =
       let x = take n buf' in
-      let given : Decodes I old (events_of x) new = decodes_more (events_of x) decodes inner (waiting_first mid new x split engine closed text) in
+      let given : Decodes I old (events_of x) new = decodes_more (events_of x) decodes inner
+      (waiting_first mid new x split engine closed text) in
       let fewer : length (decoder_waiting mid) ≡ length x + length (decoder_waiting new) =
       ap length split ∙ length-append x (decoder_waiting new) in
       let falls : decoder_turns I.turns new + min 1 (length (events_of x)) ≤ decoder_turns I.turns old =
@@ -390,7 +396,8 @@ module _ {R : Type 0} (I : Reader R) where
       → decoder_closed r ≡ false → decoder_text r ≡ [] → decoder_waiting r ≡ [] → to_come (tells I (decoder_inner r)) ≡ Some E
       → decoder_events (tells I) r ≡ Some (decoded_events engine false [] E)
   starts_decoding r engine E is opened no_text idle told =
-      ap (option_map (decoder_gives r)) told ∙ ap Some (text_next I r E idle ∙ ap (λ t. decoded_events r.engine r.closed [] (events_of t ++ E)) no_text
+      ap (option_map (decoder_gives r)) told
+      ∙ ap Some (text_next I r E idle ∙ ap (λ t. decoded_events r.engine r.closed [] (events_of t ++ E)) no_text
       ∙ ap₂ (λ e c. decoded_events e c [] E) is opened)
 
 -- all that was told was read, without a fault

@@ -30,7 +30,8 @@ same_test a b c d first second = elim (cases_lt a b) [
 -- the bytes of the first group, and the others
 in_one : (first rest x : List ℕ) (E : List Event) → x ≡ first ++ rest → events_of first ++ (events_of rest ++ E) ≡ events_of x ++ E
 in_one first rest x E split =
-    sym (append_assoc (events_of first) (events_of rest) E) ∙ ap (λ l. l ++ E) (sym (events_of-append first rest) ∙ ap events_of (sym split))
+    sym (append_assoc (events_of first) (events_of rest) E)
+    ∙ ap (λ l. l ++ E) (sym (events_of-append first rest) ∙ ap events_of (sym split))
 
 -- some bytes give themselves
 pub group_given : (x : List ℕ) → 0 < length x → group_events x ≡ events_of x
@@ -138,7 +139,8 @@ module _ (engine : GeneralPurpose) where
   group_in_front closed text E whole =
       let chars = bytes-events_of text in
       completes closed [] (events_of text) E (HasNoFault-events_of text) (omega arith) (omega (arith, whole, ap length chars))
-      ∙ ap (λ g. group_events (decoded_group engine closed g) ++ decoded_events engine (closed_after closed (decoded_group engine closed g)) [] E)
+      ∙ ap (λ g. group_events (decoded_group engine closed g) ++ decoded_events engine
+      (closed_after closed (decoded_group engine closed g)) [] E)
       chars
 
   -- Several groups in front that are decoded at once.

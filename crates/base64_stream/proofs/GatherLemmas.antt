@@ -1,6 +1,7 @@
 -- Reads that go on until a group is whole.
 use Rattle.no_std_io2.proofs.Words.{common_steps, ◌≡◌, ℕ, ◌-◌, ◌<◌, ◌≤◌, List, [], ◌++◌, length, true, false, Ok, Err}
-use Rattle.no_std_io2.proofs.Words.{refl, sym, ap, subst, ◌∙◌, arith, append_assoc, append-nil, length-append, nil_from_length, Reader, GaveLaw, bytes_given}
+use Rattle.no_std_io2.proofs.Words.{refl, sym, ap, subst, ◌∙◌, arith, append_assoc, append-nil, length-append, nil_from_length, Reader}
+use Rattle.no_std_io2.proofs.Words.{GaveLaw, bytes_given}
 use Rattle.no_std_io2.proofs.Words.{IsFault, IsInterruption}
 use Rattle.no_std_io2.specs.{declared.io.Error.{Error}, inner.Buffer.{ReadsOn, AsksOn}, inner.Reads.{Reads}}
 use Rattle.no_std_io2.proofs.ReadsLemmas.{Reads-none, Reads-more, Reads-again, Reads-end, Reads-fault}
@@ -38,7 +39,15 @@ module _ {R : Type 0} {I : Reader R} {old now : DecoderReader R} (before : Gathe
   -- enough characters are there
   pub gathers_enough : 4 ≤ length (decoder_text now) → GathersText I old (Ok tt) now
   gathers_enough enough =
-      record { how = Ok true; is = refl; given = before.given; reads = before.reads; holds = before.holds; enough = enough; keeps = before.keeps }
+      record {
+        how = Ok true;
+        is = refl;
+        given = before.given;
+        reads = before.reads;
+        holds = before.holds;
+        enough = enough;
+        keeps = before.keeps;
+      }
 
   module _ (below : length (decoder_text now) < 4) where
     -- the room into which the next read goes

@@ -8,7 +8,8 @@ use Rattle.base64.specs.declared.{decode.DecodeError.{DecodeError}, engine.Decod
 use Rattle.base64.specs.declared.engine.DecodePaddingMode.TheVariants.{Indifferent, RequireCanonical, RequireNone}
 use Rattle.base64.specs.declared.engine.general_purpose.GeneralPurpose.{GeneralPurpose}
 use Rattle.base64.specs.{GeneralPurpose.{decode_of}, Decode.{or_else, symbol_error, group_error, group_bytes, groups_error, groups_bytes}}
-use Rattle.base64.specs.Decode.{no_leftover, groups_before_last, lone_error, push_leftover, scan_steps, scan_last, leftover_error, leftover_bytes}
+use Rattle.base64.specs.Decode.{no_leftover, groups_before_last, lone_error, push_leftover, scan_steps, scan_last, leftover_error}
+use Rattle.base64.specs.Decode.{leftover_bytes}
 use Rattle.base64.specs.Decode.{suffix_error, suffix_bytes, decode_error, decoded_bytes, decode_outcome}
 use Rattle.base64.proofs.{Tables.{are_tables_padding}, Decoding.{scan-cons_ok, scan-cons_err, suffix_error_of, suffix_bytes_of}}
 
@@ -236,7 +237,8 @@ module _ (e : GeneralPurpose) where
         group_bytes dec s 0,
         decoded_bytes dec pad r,
         refl,
-        sym bytes ∙ rw more (ap₂ (λ l m. l ++ m) split tail ∙ append_assoc (group_bytes dec s 0) (groups_bytes dec r q) (suffix_bytes dec pad (4 * q) r)),
+        sym bytes ∙ rw more (ap₂ (λ l m. l ++ m) split tail
+            ∙ append_assoc (group_bytes dec s 0) (groups_bytes dec r q) (suffix_bytes dec pad (4 * q) r)),
         rw (head.0, head.1) refl,
         rw (no_lone, others, end) refl,
       )

@@ -8,7 +8,8 @@ ghost use Rattle.no_std_io2.specs.Read.{ReadLaw};
 ghost use Rattle.no_std_io2.specs.Takes.{tells};
 ghost use Rattle.no_std_io2.specs.Events.{events_of};
 ghost use Rattle.no_std_io2.specs.Takes.{to_come};
-ghost use Rattle.base64_stream.specs.Decoder.{DecoderMay, DecodesFront, FillsWaiting, GathersText, decoder_closed, decoder_engine, decoder_events};
+ghost use Rattle.base64_stream.specs.Decoder.{DecoderMay, DecodesFront, FillsWaiting, GathersText, decoder_closed, decoder_engine};
+ghost use Rattle.base64_stream.specs.Decoder.{decoder_events};
 ghost use Rattle.base64_stream.specs.Decoder.{decoder_inner, decoder_text, decoder_turns, decoder_waiting};
 
 use crate::text::Text;

@@ -1,7 +1,8 @@
 -- Sums of bytes, and what was summed up so far.
 use Rattle.no_std_io2.proofs.Words.{◌^◌, Ok, refl, sum, Reader, ReadCall, Gave, GaveAll, Filled, ReadCallLaw, ◌≡◌, ◌+◌, ◌%◌, ℕ, List, []}
 use Rattle.no_std_io2.proofs.{Words.{◌++◌, ◌<◌, ◌≤◌, true, false, arith, Bool, Err, inl, inr, length, subst, event_bytes}}
-use Rattle.no_std_io2.proofs.{CallsAdd.{Joins, joins_modulo, EachAdds}, ReadsLemmas.{fetches_none, fetches_then, fetches_reads, fetches_until}}
+use Rattle.no_std_io2.proofs.{CallsAdd.{Joins, joins_modulo, EachAdds}}
+use Rattle.no_std_io2.proofs.{ReadsLemmas.{fetches_none, fetches_then, fetches_reads, fetches_until}}
 use Rattle.no_std_io2.proofs.ReadsLemmas.{fetches_end, fetches_fault}
 use Rattle.no_std_io2.specs.{declared.io.Error.{Error}, inner.Writers.{OfObject}, Read.{ReadFullLaw}, Reads.{Fetches}}
 use Rattle.std.proofs.lemmas.List.Sums.{sum_by-append}

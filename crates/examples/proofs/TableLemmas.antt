@@ -48,18 +48,24 @@ module _ {X : Type 0} {V : X → Type 0} (I : (o : (x : X) × V x) → Writer (V
       (v, printed, (w, now, subst (λ J. PrintsByOne J 32 t v reply w) (same old.0 v old.1) one))
 
   -- one row more was printed
-  pub row_printed : (new : (x : X) × V x) → OfObject mid (λ a b. PrintsByOne (I mid) 32 (Some (row_text (get_or rows i (0, 0)))) a (Ok tt) b) new
+  pub row_printed : (new : (x : X) × V x)
+      → OfObject mid (λ a b. PrintsByOne (I mid) 32 (Some (row_text (get_or rows i (0, 0)))) a (Ok tt) b) new
       → OfObject old (λ a b. ArePrinted (I old) a (take (i + 1) rows) b) new
   row_printed new called =
-      let (v, printed, (w, now, one)) = call_next new (Some (row_text (get_or rows i (0, 0)))) called in
-      (w, now, subst (λ l. ArePrinted (I old) old.1 l w) (sym (take_more rows i (0, 0) within)) (and_row (get_or rows i (0, 0)) printed one))
+      let (v, printed, (w, now, one)) = call_next new (Some (row_text (get_or rows i (0, 0)))) called in (
+        w,
+        now,
+        subst (λ l. ArePrinted (I old) old.1 l w) (sym (take_more rows i (0, 0) within))
+            (and_row (get_or rows i (0, 0)) printed one),
+      )
 
   -- or its call failed
   pub row_refused : {e : Error} (new : (x : X) × V x)
       → OfObject mid (λ a b. PrintsByOne (I mid) 32 (Some (row_text (get_or rows i (0, 0)))) a (Err e) b) new
       → OfObject old (λ a b. PrintsRows (I old) rows a (Err e) b) new
   row_refused new called =
-      let (v, printed, (w, now, one)) = call_next new (Some (row_text (get_or rows i (0, 0)))) called in (w, now, (i, v, within, printed, one))
+      let (v, printed, (w, now, one)) = call_next new (Some (row_text (get_or rows i (0, 0)))) called in
+      (w, now, (i, v, within, printed, one))
 
 -- what is out of the page of n bytes that comes back is out of the one behind the object
 pub page_out : (n : ℕ) (w y : Cursor (List ℕ)) → (cursor-row (array n)).coded.code w ≡ (cursor-row (array n)).coded.code y

@@ -12,7 +12,7 @@ use Rattle.no_std_io2.specs.BufWriter.{writer_told}
 use Rattle.no_std_io2.specs.declared.io.Error.{Error}
 use Rattle.no_std_io2.specs.Errors.{error_kind}
 use Rattle.examples.specs.declared.tee.Tee.{Tee}
-use Rattle.examples.specs.Tee.{accepted, tee_told, BothAdd}
+use Rattle.examples.specs.Tee.{accepted_bytes, tee_told, BothAdd}
 
 -- what a tee tells over writers that tell f and s
 abbrev pub over_both : WriterState → WriterState → WriterState
@@ -25,7 +25,7 @@ pub tee_moves : {s s' : WriterState} {x : List ℕ} {k : List ErrorKind} (f f' :
 tee_moves f f' m turns = record { front = m.front; bytes = m.bytes; mishaps = tt; turns = turns }
 
 -- all bytes that a writer has accepted, after it accepted x
-pub accepts : {s s' : WriterState} {x : List ℕ} {k : List ErrorKind} → Moves s x k s' → accepted s' ≡ accepted s ++ x
+pub accepts : {s s' : WriterState} {x : List ℕ} {k : List ErrorKind} → Moves s x k s' → accepted_bytes s' ≡ accepted_bytes s ++ x
 accepts m = m.bytes
 
 -- The first took the first n of some first bytes, and the second all of these.
@@ -45,8 +45,8 @@ tee_wrote a b {old} {new} mid {k} n most buf {x} within first room second is =
     let no_turn = zero_none n buf in
     let turns : (a new.first).turns + (writer_told b new.second).turns + count_by is_interruption (zero_write n buf)
     ≤ (a old.first).turns + (writer_told b old.second).turns = omega (arith, first.turns, given.turns, no_turn) in
-    let ones : accepted (a new.first) ≡ accepted (a old.first) ++ take n buf =
-    subst (λ y. accepted (a new.first) ≡ accepted (a old.first) ++ y) same (accepts first) in
+    let ones : accepted_bytes (a new.first) ≡ accepted_bytes (a old.first) ++ take n buf =
+    subst (λ y. accepted_bytes (a new.first) ≡ accepted_bytes (a old.first) ++ y) same (accepts first) in
     write_law_by {Adds = BothAdd a b} bound (tee_moves (a old.first) (a new.first) given turns) (ones, accepts given)
 
 -- No room could be made in the second.
@@ -56,5 +56,6 @@ pub tee_full : {A B : Type 0} {S : ℕ} (a : A → WriterState) (b : B → Write
 tee_full a b {old} {new} e buf same room =
     let turns : (a new.first).turns + (writer_told b new.second).turns + count_by is_interruption (error_kind e ∷ [])
     ≤ (a old.first).turns + (writer_told b old.second).turns = rw same (omega (arith, room.turns)) in
-    let ones : accepted (a new.first) ≡ accepted (a old.first) ++ [] = rw same (sym (append-nil (accepted (a old.first)))) in
+    let ones : accepted_bytes (a new.first) ≡ accepted_bytes (a old.first) ++ [] = rw same
+    (sym (append-nil (accepted_bytes (a old.first)))) in
     write_law_by {Adds = BothAdd a b} tt (tee_moves (a old.first) (a new.first) room turns) (ones, accepts room)

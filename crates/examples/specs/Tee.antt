@@ -13,8 +13,8 @@ abbrev pub second_of : {A B : Type 0} {S : ℕ} → Tee A B S → BufWriter B S
 second_of t = t.second
 
 -- all bytes that a writer has accepted
-abbrev pub accepted : WriterState → List ℕ
-accepted t = t.out ++ t.held
+abbrev pub accepted_bytes : WriterState → List ℕ
+accepted_bytes t = t.out ++ t.held
 
 -- What a tee tells: what the second has is out, and what its buffer has is held. The turns are those of both.
 abbrev pub tee_told : {A B : Type 0} {S : ℕ} → (A → WriterState) → (B → WriterState) → Tee A B S → WriterState
@@ -27,5 +27,5 @@ tee_told a b t = record {
 
 -- both writers accepted these bytes
 abbrev pub BothAdd : {A B : Type 0} {S : ℕ} → (A → WriterState) → (B → WriterState) → Tee A B S → List ℕ → Tee A B S → Type 0
-BothAdd a b old bytes new = (accepted (a new.first) ≡ accepted (a old.first) ++ bytes)
-    × (accepted (writer_told b new.second) ≡ accepted (writer_told b old.second) ++ bytes)
+BothAdd a b old bytes new = (accepted_bytes (a new.first) ≡ accepted_bytes (a old.first) ++ bytes)
+    × (accepted_bytes (writer_told b new.second) ≡ accepted_bytes (writer_told b old.second) ++ bytes)

@@ -1,18 +1,23 @@
 -- What bytes of numbers of variable length spell, and what was read of them.
-use Rattle.no_std_io2.proofs.Words.{◌≡◌, ◌≢◌, ◌⊎◌, ℕ, zero, suc, ◌+◌, ◌*◌, ◌/◌, ◌%◌, ◌^◌, ◌<◌, ◌≤◌, List, [], ◌∷◌, ◌++◌, length, take, drop, get_or}
-use Rattle.no_std_io2.proofs.Words.{Result, Ok, Err, Option, None, Some, refl, sym, ap, subst, ◌∙◌, arith, inl, inr, append-nil, append_assoc}
-use Rattle.no_std_io2.proofs.Words.{length-append, length-take-le, nil_from_length, ap₂, ◌-◌, cases_lt, Event, events_of, Reader, tells, to_come}
+use Rattle.no_std_io2.proofs.Words.{◌≡◌, ◌≢◌, ◌⊎◌, ℕ, zero, suc, ◌+◌, ◌*◌, ◌/◌, ◌%◌, ◌^◌, ◌<◌, ◌≤◌, List, [], ◌∷◌, ◌++◌, length, take, drop}
+use Rattle.no_std_io2.proofs.Words.{get_or}
+use Rattle.no_std_io2.proofs.Words.{Result, Ok, Err, Option, None, Some, refl, sym, ap, subst, ◌∙◌, arith, inl, inr, append-nil}
+use Rattle.no_std_io2.proofs.Words.{append_assoc}
+use Rattle.no_std_io2.proofs.Words.{length-append, length-take-le, nil_from_length, ap₂, ◌-◌, cases_lt, Event, events_of, Reader, tells}
+use Rattle.no_std_io2.proofs.Words.{to_come}
 use Rattle.std.proofs.Common.{set, add-one}
 use Rattle.std.proofs.{lemmas.List.{drop_more, length-set, take_more_set}, Math.Nat.{pow-suc}}
 use Rattle.std.specs.Prelude.{IfSome, IfNone}
 use Rattle.no_std_io2.specs.{declared.io.Error.{Error}, Reads.{TakesBytes}}
 use Rattle.no_std_io2.proofs.{TakesLemmas.{Took-then}, ReadsLemmas.{Took-none}}
 use Rattle.numbers.specs.Numbers.{AreRead, ReadsBack, ReadsValue, first_byte, no_number, one_more}
-use Rattle.numbers.specs.Varint.{varint_value, GoesOn, NoneEnds, IsVarint, SpellsVarint, IsGathered, IsRefused, GathersBack, GathersVarint, ReadsVarintBack}
+use Rattle.numbers.specs.Varint.{varint_value, VarintContinues, NoneEnds, IsVarint, SpellsVarint, IsGathered, IsRefused, GathersBack}
+use Rattle.numbers.specs.Varint.{GathersVarint}
+use Rattle.numbers.specs.Varint.{ReadsVarintBack}
 use Rattle.numbers.proofs.{NumberLemmas.{ReadSoFar, into_none, into_more}, SpelledLemmas.{takes_byte}}
 
 -- bytes that go on, and one more
-all_more : (x : List ℕ) (b : ℕ) → NoneEnds x → GoesOn b → NoneEnds (x ++ b ∷ [])
+all_more : (x : List ℕ) (b : ℕ) → NoneEnds x → VarintContinues b → NoneEnds (x ++ b ∷ [])
 all_more [] b all on = (on, tt)
 all_more (a ∷ x) b all on = (all.0, all_more x b all.1 on)
 
@@ -131,7 +136,8 @@ module _ {V : Type 0} {R : Reader V} {old : V} where
         (rest : List Event) → IsVarint bytes → to_come (tells R old) ≡ Some (events_of bytes ++ rest)
         → (t : ℕ) × (tail : List ℕ) × (bytes ≡ take i buf ++ t ∷ tail) × IsVarint (t ∷ tail) × (reply ≡ Ok t)
         × (to_come (tells R new) ≡ Some (events_of tail ++ rest))
-    next_known reply new back bytes rest is told = let (tail, split, ends, known) = before.back bytes rest is told in go tail split ends known
+    next_known reply new back bytes rest is told = let
+        (tail, split, ends, known) = before.back bytes rest is told in go tail split ends known
       where
         go : (tail : List ℕ) → bytes ≡ take i buf ++ tail → IsVarint tail → to_come (tells R mid) ≡ Some (events_of tail ++ rest)
             → (t : ℕ) × (tail : List ℕ) × (bytes ≡ take i buf ++ t ∷ tail) × IsVarint (t ∷ tail) × (reply ≡ Ok t)
@@ -145,7 +151,7 @@ module _ {V : Type 0} {R : Reader V} {old : V} where
     pub gather_more : (b : ℕ) {new : V} → 128 ≤ b → ReadsValue R first_byte 1 mid (Ok b) new
         → ReadsBack R (λ x. x < 256) (λ x. x ∷ []) mid (Ok b) new → GatheredSoFar R old start (i + 1) (set buf i b) new
     gather_more b {new} high reads back =
-        let on : GoesOn b = (high, omega (arith, reads.spells, reads.are 0)) in
+        let on : VarintContinues b = (high, omega (arith, reads.spells, reads.are 0)) in
         let grown = take_more_set buf i b within in
         record {
           read = into_more start buf i b within before.read reads;
@@ -156,10 +162,10 @@ module _ {V : Type 0} {R : Reader V} {old : V} where
               let joined : bytes ≡ take (i + 1) (set buf i b) ++ tail =
               split ∙ ap (λ x. take i buf ++ x ∷ tail) same ∙ sym (append_assoc (take i buf) (b ∷ []) tail)
               ∙ ap (λ l. l ++ tail) (sym grown) in
-              (tail, joined, after tail t ends (subst GoesOn (sym same) on), left);
+              (tail, joined, after tail t ends (subst VarintContinues (sym same) on), left);
         }
       where
-        after : (tail : List ℕ) (t : ℕ) → IsVarint (t ∷ tail) → GoesOn t → IsVarint tail
+        after : (tail : List ℕ) (t : ℕ) → IsVarint (t ∷ tail) → VarintContinues t → IsVarint tail
         after [] t ends on = absurd (omega (arith, ends, on.0))
         after (c ∷ tail) t ends on = ends.2
 
@@ -326,7 +332,8 @@ module _ {V : Type 0} (R : Reader V) (old new : V) (buf : List ℕ) where
       absurd (let no : ⊥ = cc said in no)
 
   -- it is not refused,
-  pub back_refused : (len : ℕ) {e : Error} → GathersBack R old buf (Ok len) new → IsRefused (take len buf) → ReadsVarintBack R old (Err e) new
+  pub back_refused : (len : ℕ) {e : Error} → GathersBack R old buf (Ok len) new → IsRefused (take len buf)
+      → ReadsVarintBack R old (Err e) new
   back_refused len back refused n bytes rest (is, value) small told =
       let (said, front, left) = back bytes rest is (ten_most bytes is (omega (arith, value, small))) told in
       let long : len ≡ length bytes = cc said in

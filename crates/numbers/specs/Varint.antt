@@ -1,5 +1,6 @@
 -- A number in groups of seven bits, the lowest first (LEB128): each byte but the last has its highest bit set.
-use Rattle.std.specs.Prelude.{◌≡◌, ◌≢◌, ◌⊎◌, ℕ, ◌+◌, ◌*◌, ◌%◌, ◌<◌, ◌≤◌, ◌^◌, List, [], ◌∷◌, ◌++◌, length, take, codes, ⊤, Result, Ok, Err, Some}
+use Rattle.std.specs.Prelude.{◌≡◌, ◌≢◌, ◌⊎◌, ℕ, ◌+◌, ◌*◌, ◌%◌, ◌<◌, ◌≤◌, ◌^◌, List, [], ◌∷◌, ◌++◌, length, take, codes, ⊤, Result, Ok, Err}
+use Rattle.std.specs.Prelude.{Some}
 use Rattle.no_std_io2.specs.{declared.io.{Error.{Error}, ErrorKind.TheVariants.{InvalidData}}, Errors.{SaysError}}
 use Rattle.no_std_io2.specs.{Events.{Event, events_of}, Takes.{to_come, Reader, tells}}
 use Rattle.numbers.specs.Numbers.{AreRead, ReadsValue, first_byte}
@@ -10,19 +11,19 @@ varint_value [] = 0
 varint_value (b ∷ bytes) = b % 128 + 128 * varint_value bytes
 
 -- a byte behind which another one comes
-abbrev pub GoesOn : ℕ → Type 0
-GoesOn b = (128 ≤ b) × (b < 256)
+abbrev pub VarintContinues : ℕ → Type 0
+VarintContinues b = (128 ≤ b) × (b < 256)
 
 -- none of them ends a number
 abbrev pub NoneEnds : List ℕ → Type 0
 NoneEnds [] = ⊤
-NoneEnds (b ∷ bytes) = GoesOn b × NoneEnds bytes
+NoneEnds (b ∷ bytes) = VarintContinues b × NoneEnds bytes
 
 -- The bytes are a number, the shortest that spells it: the last one is not 0, if others come before it.
 abbrev pub IsVarint : List ℕ → Type 0
 IsVarint [] = ⊥
 IsVarint (b ∷ []) = b < 128
-IsVarint (b ∷ c ∷ bytes) = GoesOn b × (c ∷ bytes ≢ 0 ∷ []) × IsVarint (c ∷ bytes)
+IsVarint (b ∷ c ∷ bytes) = VarintContinues b × (c ∷ bytes ≢ 0 ∷ []) × IsVarint (c ∷ bytes)
 
 -- these bytes spell n
 abbrev pub SpellsVarint : ℕ → List ℕ → Type 0

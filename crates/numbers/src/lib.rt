@@ -1,5 +1,6 @@
 //! Reads and writes numbers of 1 to 16 bytes in either order, and of variable length (LEB128), over every `Read` and every
-//! `Write` of `no_std_io2`. Nothing is allocated, and no system is called. Follows the traits `ReadBytesExt` and `WriteBytesExt` of the Rust crate `byteorder`.
+//! `Write` of `no_std_io2`. Nothing is allocated, and no system is called. Follows the traits `ReadBytesExt` and
+//! `WriteBytesExt` of the Rust crate `byteorder`.
 #![tactic(auto)]
 
 mod chunk_header;

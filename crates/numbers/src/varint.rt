@@ -47,7 +47,8 @@ fn put_varint(n: u64, bytes: &mut [u8; 10]) -> usize
 /// most ten. Never returns `Interrupted`.
 pub fn read_varint<R: Read>(r: &mut R) -> Result<u64>
     ensures reads { ReadsVarint R.Read r.old result r.new }
-    ensures takes { IfOk result (λ n. (bytes : List ℕ) × SpellsVarint n bytes × TakesBytes (tells R.Read r.old) bytes (tells R.Read r.new)) }
+    ensures takes { IfOk result
+        (λ n. (bytes : List ℕ) × SpellsVarint n bytes × TakesBytes (tells R.Read r.old) bytes (tells R.Read r.new)) }
     ensures back { ReadsVarintBack R.Read r.old result r.new }
 {
     let mut bytes = [0u8; 10];

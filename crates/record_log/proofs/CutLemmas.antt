@@ -6,7 +6,7 @@ use Rattle.std.specs.Prelude.{is_ok, OnErr}
 use Rattle.no_std_io2.specs.declared.io.Error.{Error}
 use Rattle.record_log.specs.{Placed.{PutsAt, Stands}, Log.{Appends, log_inner, log_held}}
 use Rattle.record_log.specs.Records.{record_of, log_of, AreShort, HasRecords}
-use Rattle.record_log.specs.Cuts.{DidStep, Counted, counted, outcome, StandsAtEnd, Survives}
+use Rattle.record_log.specs.Cuts.{DidStep, Counted, count_step, outcome, StandsAtEnd, Survives}
 use Rattle.record_log.specs.declared.{log.RecordLog.{RecordLog}, cuts.Step.{Step, TheVariants.{Append, Sync}}}
 use Rattle.record_log.proofs.RecordLemmas.{log-append, AreShort-append, cut_log}
 use Rattle.record_log.proofs.PlacedLemmas.{all_there, flush_there, begins_anew, front_there}
@@ -31,11 +31,11 @@ records_after ps ks x rest short has = record {
 
 -- one more call and its reply
 pub outcome-more : (c : Counted) (steps : List Step) (done : List Bool) (step : Step) (d : Bool) → length steps ≡ length done
-    → outcome c (steps ++ step ∷ []) (done ++ d ∷ []) ≡ counted (outcome c steps done) step d
+    → outcome c (steps ++ step ∷ []) (done ++ d ∷ []) ≡ count_step (outcome c steps done) step d
 outcome-more c [] [] step d long = refl
 outcome-more c [] (e ∷ done) step d long = absurd (omega (arith, long))
 outcome-more c (s ∷ steps) [] step d long = absurd (omega (arith, long))
-outcome-more c (s ∷ steps) (e ∷ done) step d long = outcome-more (counted c s e) steps done step d (omega (arith, long))
+outcome-more c (s ∷ steps) (e ∷ done) step d long = outcome-more (count_step c s e) steps done step d (omega (arith, long))
 
 module _ {W : Type 0} {S : ℕ} (content : W → List ℕ) (place : W → ℕ) {before : List (List ℕ)} {tail : List ℕ} where
   -- at the start
@@ -61,7 +61,8 @@ module _ {W : Type 0} {S : ℕ} (content : W → List ℕ) (place : W → ℕ) {
         → OnOk reply (Keeps content place before tail (c.0, c.1 ++ payload ∷ []) new)
         × OnErr reply (Keeps content place before tail c new)
     appended c payload (Ok u) old new k (inl put) =
-        let there = all_there I content place puts S (record_of payload) (Ok u) _ _ (omega (arith, put.0.0)) put.1.calls.are put.1.calls.made
+        let there = all_there I content place puts S (record_of payload) (Ok u) _ _
+        (omega (arith, put.0.0)) put.1.calls.are put.1.calls.made
         k.stands in
         let same : log_of c.1 ++ record_of payload ≡ log_of (c.1 ++ payload ∷ []) =
         ap (λ l. log_of c.1 ++ l) (sym (append-nil (record_of payload))) ∙ sym (log-append c.1 (payload ∷ [])) in (
@@ -89,24 +90,24 @@ module _ {W : Type 0} {S : ℕ} (content : W → List ℕ) (place : W → ℕ) {
 
     -- one call
     pub keeps_more : (c : Counted) (step : Step) (done : Bool) (old new : RecordLog W S) → Keeps content place before tail c old
-        → DidStep I old step done new → Keeps content place before tail (counted c step done) new
+        → DidStep I old step done new → Keeps content place before tail (count_step c step done) new
     keeps_more c (Append payload) done old new k (reply, did, is) =
-        subst (λ d. Keeps content place before tail (counted c (Append payload) d) new) (sym is)
+        subst (λ d. Keeps content place before tail (count_step c (Append payload) d) new) (sym is)
         (by reply (appended c payload.now reply old new k did))
       where
         by : (r : Result (Unit {0}) Error) → OnOk r (Keeps content place before tail (c.0, c.1 ++ payload.now ∷ []) new)
             × OnErr r (Keeps content place before tail c new)
-            → Keeps content place before tail (counted c (Append payload) (is_ok r)) new
+            → Keeps content place before tail (count_step c (Append payload) (is_ok r)) new
         by (Ok u) both = both.0
         by (Err e) both = both.1
     keeps_more c Sync done old new k (reply, did, is) =
-        subst (λ d. Keeps content place before tail (counted c Sync d) new) (sym is)
+        subst (λ d. Keeps content place before tail (count_step c Sync d) new) (sym is)
         (by reply (flush_there I content place puts reply _ _ did.are did.made k.stands))
       where
         by : (r : Result (Unit {0}) Error)
             → Stands (log_of before ++ log_of c.0) (log_of c.1) (drop (length (log_of c.0)) tail) (content (log_inner new))
             (place (log_inner new)) (log_held new) × OnOk r (log_held new ≡ [])
-            → Keeps content place before tail (counted c Sync (is_ok r)) new
+            → Keeps content place before tail (count_step c Sync (is_ok r)) new
         by (Ok u) both =
             let anew = begins_anew (subst (λ h. Stands (log_of before ++ log_of c.0) (log_of c.1) (drop (length (log_of c.0)) tail)
             (content (log_inner new)) (place (log_inner new)) h) both.1 both.0) in

@@ -8,7 +8,7 @@ use Rattle.no_std_io2.specs.{inner.Kinds.{is_interruption}, inner.Write.{zero_wr
 use Rattle.std.proofs.Common.{take_all, take-append-drop}
 use Rattle.no_std_io2.specs.{declared.io.{Cursor.{Cursor}}, inner.Cursor.{put_at, PutsMay, FitsMay, PutsFitting, fitting}}
 use Rattle.no_std_io2.specs.Cursor.{cursor_inner, cursor_position}
-use Rattle.record_log.specs.Placed.{IsPut, PutsCall}
+use Rattle.record_log.specs.Placed.{IsPutAt, PutsCall}
 
 module _ {T : Type 0} (items : T → List ℕ) (capacity : T → ℕ) where
   -- a call of a cursor over a vector
@@ -32,7 +32,7 @@ module _ {T : Type 0} (items : T → List ℕ) (capacity : T → ℕ) where
 
 -- bytes that fit are put
 fits_put : (bs : List ℕ) (place : ℕ) (x new : List ℕ) (place' : ℕ) → PutsFitting bs place x new place'
-    → IsPut place (fitting place x bs) bs new
+    → IsPutAt place (fitting place x bs) bs new
 fits_put bs place x new place' did = elim (cases_lt (length bs) place) [
   | inl past ↦
       let none : length bs - place ≡ 0 = omega (arith, past) in
@@ -57,7 +57,7 @@ module _ {T : Type 0} (items : T → List ℕ) where
       let bs = items (cursor_inner old) in
       let place = cursor_position old in
       let part : take n x ≡ fitting place x bs = grind (arith, common_steps, did.0) in (
-        subst (λ l. IsPut place l bs (items (cursor_inner new))) (sym part) (fits_put bs place x _ _ did.1),
+        subst (λ l. IsPutAt place l bs (items (cursor_inner new))) (sym part) (fits_put bs place x _ _ did.1),
         omega (arith, did.1.1, did.0, length-take (length bs - place) x),
       )
   slice_puts old new (Wrote x (Err e)) did = absurd did.0
@@ -65,7 +65,7 @@ module _ {T : Type 0} (items : T → List ℕ) where
       let bs = items (cursor_inner old) in
       let place = cursor_position old in
       let whole : fitting place x bs ≡ x = take_all (length bs - place) x (did.variant.0 refl) in (
-        subst (λ l. IsPut place l bs (items (cursor_inner new))) whole (fits_put bs place x _ _ did.puts),
+        subst (λ l. IsPutAt place l bs (items (cursor_inner new))) whole (fits_put bs place x _ _ did.puts),
         did.puts.1 ∙ ap (λ l. place + length l) whole,
       )
   slice_puts old new (WroteAll x (Err e)) did =

@@ -1,6 +1,7 @@
 -- What the reads of `open` give of known bytes.
 use Rattle.no_std_io2.proofs.Words.{◌≡◌, ℕ, ◌+◌, ◌<◌, ◌≤◌, ◌^◌, List, [], ◌∷◌, ◌++◌, length, take, drop, refl, sym, ap, subst, ◌∙◌}
-use Rattle.no_std_io2.proofs.Words.{arith, append_assoc, append-nil, length-append, length-drop, length-take-le, take-append-drop, Some, ap₂}
+use Rattle.no_std_io2.proofs.Words.{arith, append_assoc, append-nil, length-append, length-drop, length-take-le, take-append-drop, Some}
+use Rattle.no_std_io2.proofs.Words.{ap₂}
 use Rattle.no_std_io2.proofs.Words.{cases_lt, inl, inr, Result, Err, Event, event_bytes, events_of, HasNoFault, fails, to_come}
 use Rattle.no_std_io2.proofs.Words.{Reader, tells, ReaderState, Takes, Option, take-append_seam}
 use Rattle.std.proofs.Math.Seq.{take-length, take-add}
@@ -167,5 +168,6 @@ passed_more bytes end n sum s fits (payload, rest, small, is, long, left) adds =
     }
 
 -- and these were all
-pub passed_all : (bytes : List ℕ) (end : ℕ) {o : Option (List Event)} (s : Passed bytes end o) → HasNoRecord s.rest → PassesRecords bytes end
+pub passed_all : (bytes : List ℕ) (end : ℕ) {o : Option (List Event)} (s : Passed bytes end o) → HasNoRecord s.rest
+    → PassesRecords bytes end
 passed_all bytes end s none = (s.payloads, s.rest, record { short = s.short; bytes = s.split; none = none }, s.counts)

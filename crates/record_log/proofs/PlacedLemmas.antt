@@ -2,17 +2,18 @@
 use Rattle.no_std_io2.proofs.Words.{◌≡◌, ℕ, ◌+◌, ◌-◌, ◌<◌, ◌≤◌, List, [], ◌++◌, length, take, drop, refl, sym, ap, ap₂, subst, ◌∙◌}
 use Rattle.no_std_io2.proofs.Words.{arith, append_assoc, append-nil, length-append, length-drop, length-take-le, take-append_seam, OnOk}
 use Rattle.no_std_io2.proofs.Words.{take-append-drop, cases_lt, inl, inr, IsFront, Result, Ok, Err, Writes, Made, CallOf}
-use Rattle.no_std_io2.proofs.Words.{RoomCalls, WriteAllCalls, FlushCalls, first_stops, first_goes_on, no_write, write_took, write_again, write_stuck, write_fault, WriteCall, Wrote, Writer, nil_from_length}
+use Rattle.no_std_io2.proofs.Words.{RoomCalls, WriteAllCalls, FlushCalls, first_stops, first_goes_on, no_write, write_took, write_again}
+use Rattle.no_std_io2.proofs.Words.{write_stuck, write_fault, WriteCall, Wrote, Writer, nil_from_length}
 use Rattle.std.proofs.Math.Seq.{drop-append-add, take-length}
 use Rattle.std.proofs.lemmas.{List.{drop-drop, drop-append-le, take_all}}
 use Rattle.std.specs.Prelude.{replicate}
 use Rattle.no_std_io2.proofs.CallsLemmas.{made_split}
 use Rattle.no_std_io2.proofs.Words.{Flushed}
 use Rattle.no_std_io2.specs.{declared.io.Error.{Error}}
-use Rattle.record_log.specs.Placed.{IsPut, PutsAt, Stands}
+use Rattle.record_log.specs.Placed.{IsPutAt, PutsAt, Stands}
 
 -- bytes that are put at a place within a content stand there, and those behind them stay
-pub put_within : (a b x now new : List ℕ) (place : ℕ) → now ≡ a ++ b → place ≡ length a → IsPut place x now new
+pub put_within : (a b x now new : List ℕ) (place : ℕ) → now ≡ a ++ b → place ≡ length a → IsPutAt place x now new
     → new ≡ a ++ (x ++ drop (length x) b)
 put_within a b x now new place is at (inl put) =
     let gap : place - length now ≡ 0 = omega (arith, at, ap length is, length-append a b) in
@@ -24,7 +25,8 @@ put_within a b x now new place is at (inl put) =
 put_within a b x now new place is at (inr none) = none.1 ∙ is ∙ ap (λ l. a ++ (l ++ drop (length l) b)) (sym none.0)
 
 -- of a list and the end of another, the first n are gone
-drop_over : (n k : ℕ) (torn tail : List ℕ) → drop n (torn ++ drop (k + length torn) tail) ≡ drop n torn ++ drop (k + (n + (length torn - n))) tail
+drop_over : (n k : ℕ) (torn tail : List ℕ)
+    → drop n (torn ++ drop (k + length torn) tail) ≡ drop n torn ++ drop (k + (n + (length torn - n))) tail
 drop_over n k torn tail = elim (cases_lt n (length torn)) [
   | inl less ↦
       let same : k + length torn ≡ k + (n + (length torn - n)) = omega (arith, less) in
@@ -50,7 +52,7 @@ drop_front n torn held front = elim (cases_lt n (length torn)) [
 
 module _ {base accepted tail : List ℕ} {now : List ℕ} {place : ℕ} {held : List ℕ} (s : Stands base accepted tail now place held) where
   -- some first held bytes were put at the place
-  lands : (n : ℕ) (new : List ℕ) → n ≤ length held → IsPut place (take n held) now new
+  lands : (n : ℕ) (new : List ℕ) → n ≤ length held → IsPutAt place (take n held) now new
       → new ≡ base ++ (s.out ++ ((take n held ++ drop n s.torn) ++ drop (length s.out + length (take n held ++ drop n s.torn)) tail))
   lands n new few put =
       let x = take n held in
@@ -68,7 +70,8 @@ module _ {base accepted tail : List ℕ} {now : List ℕ} {place : ℕ} {held : 
       ∙ ap (λ m. base ++ (s.out ++ ((x ++ drop n s.torn) ++ drop m tail))) same
 
   -- a write of the held bytes failed, and left some of them
-  pub fails_there : (n : ℕ) (new : List ℕ) → n ≤ length held → IsPut place (take n held) now new → Stands base accepted tail new place held
+  pub fails_there : (n : ℕ) (new : List ℕ) → n ≤ length held → IsPutAt place (take n held) now new
+      → Stands base accepted tail new place held
   fails_there n new few put =
       let more = drop_front n s.torn held s.front in record {
         out = s.out;
@@ -83,7 +86,7 @@ module _ {base accepted tail : List ℕ} {now : List ℕ} {place : ℕ} {held : 
       }
 
   -- it took some of them
-  pub takes_there : (n : ℕ) (new : List ℕ) → n ≤ length held → IsPut place (take n held) now new
+  pub takes_there : (n : ℕ) (new : List ℕ) → n ≤ length held → IsPutAt place (take n held) now new
       → Stands base accepted tail new (place + n) (drop n held)
   takes_there n new few put =
       let x = take n held in
@@ -121,18 +124,19 @@ few_of n x = elim (cases_lt n (length x)) [
 
 -- a write that failed
 failed : {base accepted tail now new : List ℕ} {p q : ℕ} (x : List ℕ) → Stands base accepted tail now p x
-    → ((n : ℕ) × IsPut p (take n x) now new) × (q ≡ p) → Stands base accepted tail new q x
+    → ((n : ℕ) × IsPutAt p (take n x) now new) × (q ≡ p) → Stands base accepted tail new q x
 failed {base} {accepted} {tail} {now} {new} {p} x s did =
     let few = few_of did.0.0 x in
     subst (λ q. Stands base accepted tail new q x) (sym did.1)
-    (fails_there s few.0 new few.1 (subst (λ y. IsPut p y now new) (sym few.2) did.0.1))
+    (fails_there s few.0 new few.1 (subst (λ y. IsPutAt p y now new) (sym few.2) did.0.1))
 
 -- x is held behind what was accepted before; or a fault came, and nothing more was accepted
 abbrev pub AfterPut : (base accepted tail now : List ℕ) (place : ℕ) → Result (Unit {0}) Error → List ℕ → List ℕ → Type 0
 AfterPut base accepted tail now place (Ok u) x left = Stands base (accepted ++ x) tail now place left
 AfterPut base accepted tail now place (Err e) x left = Stands base accepted tail now place left
 
-module _ {W : Type 0} (I : Writer W) (content : W → List ℕ) (place : W → ℕ) (puts : PutsAt I content place) {base accepted tail : List ℕ} where
+module _ {W : Type 0} (I : Writer W) (content : W → List ℕ) (place : W → ℕ)
+    (puts : PutsAt I content place) {base accepted tail : List ℕ} where
   -- the writes of a loop
   pub writes_there : {text : List ℕ} {C : List WriteCall} {x left : List ℕ} {reply : Result (Unit {0}) Error} (old new : W)
       → Writes text C x reply left → Made (CallOf I) old C new
@@ -169,7 +173,8 @@ module _ {W : Type 0} (I : Writer W) (content : W → List ℕ) (place : W → �
   room_there S n old new (inr sent) made s = writes_there old new sent.1 made s
 
   -- the calls of a `write_all` of x that is shorter than the buffer
-  pub all_there : (S : ℕ) {C : List WriteCall} {held left : List ℕ} (x : List ℕ) (reply : Result (Unit {0}) Error) (old new : W) → length x < S
+  pub all_there : (S : ℕ) {C : List WriteCall} {held left : List ℕ} (x : List ℕ) (reply : Result (Unit {0}) Error) (old new : W)
+      → length x < S
       → WriteAllCalls S x held C reply left → Made (CallOf I) old C new
       → Stands base accepted tail (content old) (place old) held → AfterPut base accepted tail (content new) (place new) reply x left
   all_there S x reply old new less (first_stops room) made s = room_there S (length x) old new room made s

@@ -1,6 +1,7 @@
 -- A list of records is read back from its bytes, also from a front of them.
 use Rattle.no_std_io2.proofs.Words.{◌≡◌, ℕ, ◌+◌, ◌<◌, ◌≤◌, ◌^◌, List, [], ◌∷◌, ◌++◌, length, take, drop, refl, sym, ap, subst, ◌∙◌}
-use Rattle.no_std_io2.proofs.Words.{arith, append_assoc, append-nil, length-append, length-drop, take-append_seam, drop-append_seam, take-append-le}
+use Rattle.no_std_io2.proofs.Words.{arith, append_assoc, append-nil, length-append, length-drop, take-append_seam, drop-append_seam}
+use Rattle.no_std_io2.proofs.Words.{take-append-le}
 use Rattle.no_std_io2.proofs.Words.{take-append-drop, cases_lt, inl, inr, nil_from_length}
 use Rattle.std.proofs.{Math.Seq.{drop-nil}, lemmas.List.{drop-drop}}
 use Rattle.std.proofs.lemmas.{List.{append_cancel_left}, Nat.{from_le_bytes-to_le_bytes_4}}

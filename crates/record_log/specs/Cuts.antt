@@ -1,6 +1,7 @@
 -- What a power cut leaves of a log.
 use Rattle.std.specs.Prelude.{◌≡◌, ℕ, List, [], ◌∷◌, ◌++◌, length, drop, Bool, true, false, Result, is_ok}
-use Rattle.no_std_io2.specs.{Calls.{Flushed}, Writers.{Writer}, inner.BufWriter.{BufferMay, InnerCalls}, BufWriter.{writer_inner, writer_buffer}}
+use Rattle.no_std_io2.specs.{Calls.{Flushed}, Writers.{Writer}, inner.BufWriter.{BufferMay, InnerCalls}}
+use Rattle.no_std_io2.specs.{BufWriter.{writer_inner, writer_buffer}}
 use Rattle.no_std_io2.specs.declared.io.Error.{Error}
 use Rattle.record_log.specs.{Records.{log_of, AreShort, HasRecords, NoneByChance}, Log.{Appends, log_writer, log_inner, log_held}}
 use Rattle.record_log.specs.declared.{log.RecordLog.{RecordLog}, cuts.Step.{Step, TheVariants.{Append, Sync}}}
@@ -15,15 +16,15 @@ DidStep {S = S} I old Sync done new = (reply : Result (Unit {0}) Error)
 abbrev pub Counted : Type 0
 Counted = List (List ℕ) × List (List ℕ)
 
-abbrev pub counted : Counted → Step → Bool → Counted
-counted c (Append payload) true = (c.0, c.1 ++ payload.now ∷ [])
-counted c Sync true = (c.0 ++ c.1, [])
-counted c (Append payload) false = c
-counted c Sync false = c
+abbrev pub count_step : Counted → Step → Bool → Counted
+count_step c (Append payload) true = (c.0, c.1 ++ payload.now ∷ [])
+count_step c Sync true = (c.0 ++ c.1, [])
+count_step c (Append payload) false = c
+count_step c Sync false = c
 
 -- after these calls
 abbrev pub outcome : Counted → List Step → List Bool → Counted
-outcome c (step ∷ steps) (d ∷ done) = outcome (counted c step d) steps done
+outcome c (step ∷ steps) (d ∷ done) = outcome (count_step c step d) steps done
 outcome c _ _ = c
 
 -- a log with nothing held stands behind the records of these payloads, and before the old bytes `tail`

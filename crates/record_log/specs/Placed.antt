@@ -5,17 +5,17 @@ use Rattle.no_std_io2.specs.{inner.Cursor.{put_at}, inner.Writers.{CallOf}}
 
 -- A content became another: x was put at a place, with zeros before it if the content ended before the place. An x of no byte may leave
 -- all as it was.
-abbrev pub IsPut : ℕ → List ℕ → List ℕ → List ℕ → Type 0
-IsPut place x old new = (new ≡ put_at place x old) ⊎ ((x ≡ []) × (new ≡ old))
+abbrev pub IsPutAt : ℕ → List ℕ → List ℕ → List ℕ → Type 0
+IsPutAt place x old new = (new ≡ put_at place x old) ⊎ ((x ≡ []) × (new ≡ old))
 
 -- What one call does to a content and a place. The bytes that it accepted are put at the place, which moves behind them. A call that
 -- fails may leave more bytes of x there, behind the place, as a power cut does.
 abbrev pub PutsCall : List ℕ → ℕ → WriteCall → List ℕ → ℕ → Type 0
-PutsCall content place (Wrote x (Ok n)) content' place' = IsPut place (take n x) content content' × (place' ≡ place + n)
-PutsCall content place (Wrote x (Err e)) content' place' = ((n : ℕ) × IsPut place (take n x) content content') × (place' ≡ place)
-PutsCall content place (WroteAll x (Ok u)) content' place' = IsPut place x content content' × (place' ≡ place + length x)
+PutsCall content place (Wrote x (Ok n)) content' place' = IsPutAt place (take n x) content content' × (place' ≡ place + n)
+PutsCall content place (Wrote x (Err e)) content' place' = ((n : ℕ) × IsPutAt place (take n x) content content') × (place' ≡ place)
+PutsCall content place (WroteAll x (Ok u)) content' place' = IsPutAt place x content content' × (place' ≡ place + length x)
 PutsCall content place (WroteAll x (Err e)) content' place' =
-    (n : ℕ) × (m : ℕ) × (n ≤ m) × IsPut place (take m x) content content' × (place' ≡ place + n)
+    (n : ℕ) × (m : ℕ) × (n ≤ m) × IsPutAt place (take m x) content content' × (place' ≡ place + n)
 PutsCall content place (Flushed reply) content' place' = (content' ≡ content) × (place' ≡ place)
 
 -- Each call of this writer does so to this content and this place of it.

@@ -1,9 +1,8 @@
 // Where a log ends.
-ghost use Rattle.std.specs.Prelude.{◌≡◌, ◌+◌, ◌<◌, ◌≤◌, ◌^◌, ℕ, List, length, take, drop, Some, IsOk, IfOk, IfSome, IfNone, OnOk, IsSomeAnd, ◌++◌};
-ghost use Rattle.std.specs.{Bool.{OnTrue, OnFalse}, List.{fold}};
-ghost use Rattle.no_std_io2.specs.Events.{Event, events_of};
-ghost use Rattle.no_std_io2.specs.Takes.{Takes, tells, to_come};
-ghost use Rattle.record_log.specs.Records.{add_number, record_of, HasNoRecord, log_of, HasRecords};
+ghost use Rattle.std.specs.Prelude.{◌≡◌, ◌+◌, ◌<◌, ◌^◌, ℕ, List, length, Some, IsOk, IfOk, IfSome, IsSomeAnd};
+ghost use Rattle.std.specs.Bool.{OnTrue};
+ghost use Rattle.no_std_io2.specs.Events.{events_of};
+ghost use Rattle.no_std_io2.specs.Takes.{tells, to_come};
 ghost use Rattle.record_log.specs.Opening.{TakesSome, GivesPiece, AddsPiece, PassesRecord, PassesRecords, Opens};
 
 use crate::records::{HEADER, add_bytes, header, start, told_len};

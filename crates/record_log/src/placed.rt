@@ -1,8 +1,8 @@
 // Which streams put their bytes at a place: cursors over vectors, slices, arrays and boxed slices, and a `Disk`.
-ghost use Rattle.std.specs.Prelude.{length};
 ghost use Rattle.std.specs.Box.{boxed_slice_items};
 ghost use Rattle.no_std_io2.specs.Cursor.{cursor_inner, cursor_position};
-ghost use Rattle.record_log.specs.{Placed.{PutsAt}, Disk.{disk_content, disk_place}};
+ghost use Rattle.record_log.specs.Placed.{PutsAt};
+ghost use Rattle.record_log.specs.Disk.{disk_content, disk_place};
 
 use crate::disk::Disk;
 use no_std_io2::io::{Cursor, Write};

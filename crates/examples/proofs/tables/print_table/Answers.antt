@@ -14,7 +14,8 @@ rows-preserved g c =
     let printed = c.in_ok-print_to_object.ensures in
     record {
       moves = row_more c.args.rows.now c.rows.id-index c.rows-test.true before.moves printed.prints;
-      calls = row_printed (λ o. goal.Write-dyn g o) (λ x a b. refl) c.args.w.now c.rows.w.now c.args.rows.now c.rows.id-index c.rows-test.true
+      calls = row_printed (λ o. goal.Write-dyn g o)
+          (λ x a b. refl) c.args.w.now c.rows.w.now c.args.rows.now c.rows.id-index c.rows-test.true
           before.calls (c.rows.w.now.0, c.print_to_object.new.w) printed.calls;
     }
 

@@ -16,8 +16,10 @@ returns-in-Some-clause-takes g c =
 
 pub returns-in-Some-clause-back : goal.returns-in-Some-clause-back
 returns-in-Some-clause-back g c =
-    back_read (reader g.R.Stored g.R.Read) c.args.r.now c.gather.new.r c.gather.new.bytes c.in_ok-len.len c.in-Some.n c.in_ok-len.ensures.back c.in-Some.ensures.some
+    back_read (reader g.R.Stored g.R.Read) c.args.r.now c.gather.new.r c.gather.new.bytes
+    c.in_ok-len.len c.in-Some.n c.in_ok-len.ensures.back c.in-Some.ensures.some
 
 pub returns-in-None-clause-back : goal.returns-in-None-clause-back
 returns-in-None-clause-back g c =
-    back_refused (reader g.R.Stored g.R.Read) c.args.r.now c.gather.new.r c.gather.new.bytes c.in_ok-len.len c.in_ok-len.ensures.back c.in-None.ensures.none
+    back_refused (reader g.R.Stored g.R.Read) c.args.r.now c.gather.new.r c.gather.new.bytes
+    c.in_ok-len.len c.in_ok-len.ensures.back c.in-None.ensures.none

@@ -6,7 +6,11 @@ use Rattle.numbers.proofs.VarintLemmas.{value_more, value_past}
 use Rattle.numbers.proofs.varint.value_of.Goals as goal
 
 pub bytes-init : goal.bytes-init
-bytes-init c = record { value = sym (ap varint_value (drop_all (length c.args.bytes.now) c.args.bytes.now (omega arith))); within = omega arith }
+bytes-init c = record {
+  value = sym
+      (ap varint_value (drop_all (length c.args.bytes.now) c.args.bytes.now (omega arith)));
+  within = omega arith;
+}
 
 pub bytes-preserved : goal.bytes-preserved
 bytes-preserved c =

@@ -32,7 +32,8 @@ returns g c = record {
       let steps = c.args.steps.now in
       let done = c.steps.done in
       let all = c.steps-test.false in
-      let both = ap₂ (λ s t. outcome ([], []) s t) (take_all i steps all) (take_all i done (omega (arith, c.steps.invariant.one_each, all))) in
+      let both = ap₂ (λ s t. outcome ([], []) s t) (take_all i steps all)
+      (take_all i done (omega (arith, c.steps.invariant.one_each, all))) in
       subst (λ k. Survives before tail k (content (log_inner c.steps.log))) both
       (keeps_survives content place _ _ (c.steps.invariant.keeps content place before tail puts at));
 }

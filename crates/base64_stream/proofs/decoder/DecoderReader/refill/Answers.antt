@@ -3,7 +3,8 @@ use Rattle.no_std_io2.proofs.Words.{◌≡◌, length, drop, min, ap, sym, ◌�
 use Rattle.no_std_io2.proofs.TakesLemmas.{reader}
 use Rattle.base64_stream.specs.{Decoder.{decoder_text}, Waiting.{text_items}}
 use Rattle.no_std_io2.specs.declared.io.ErrorKind.TheVariants.{InvalidData}
-use Rattle.base64_stream.proofs.DecoderLemmas.{AreGroups, only_kind, refill_ends, refill_fails, refill_gives, refill_refuses, still_gathered}
+use Rattle.base64_stream.proofs.DecoderLemmas.{AreGroups, only_kind, refill_ends, refill_fails, refill_gives, refill_refuses}
+use Rattle.base64_stream.proofs.DecoderLemmas.{still_gathered}
 use Rattle.base64_stream.proofs.decoder.DecoderReader.refill.Goals as goal
 
 pub returns-in_err-gather : goal.returns-in_err-gather
@@ -41,7 +42,8 @@ returns-then-decode-2 g c =
       λ many. omega (arith, many, held, c.min-first.ensures),
       λ few. omega (arith, few, held, c.min-first.ensures),
     ) in
-    let still = still_gathered (reader g.R.Stored g.R.Read) c.args.self.now c.gather.new.self mid c.max.result c.in_ok-gather.ensures refused
+    let still = still_gathered
+    (reader g.R.Stored g.R.Read) c.args.self.now c.gather.new.self mid c.max.result c.in_ok-gather.ensures refused
     c.requires in
     refill_gives (reader g.R.Stored g.R.Read) c.args.self.now mid c.decode-2.new.self first still refused.1 groups
     (rw c.if-decode-2.true at c.decode-2.ensures)
@@ -53,8 +55,10 @@ returns g c =
     let mid = c.decode.new.self in
     let held : c.len-held.result ≡ length (decoder_text mid) = c.len-held.ensures.len ∙ ap (λ t. length (text_items t)) (sym refused.5) in
     let first = c.min-first.result in
-    let still = still_gathered (reader g.R.Stored g.R.Read) c.args.self.now c.gather.new.self mid c.max.result c.in_ok-gather.ensures refused
+    let still = still_gathered
+    (reader g.R.Stored g.R.Read) c.args.self.now c.gather.new.self mid c.max.result c.in_ok-gather.ensures refused
     c.requires in
     refill_refuses (reader g.R.Stored g.R.Read) c.args.self.now mid (record c.decode-2.new.self { text = c.consume.new.self }) first still
-    refused.1 (omega (arith, held, c.if-held-eq0.false)) (c.min-first.ensures ∙ ap (λ n. min n 4) held) again.0 again.1 again.2 again.3 again.4
+    refused.1 (omega (arith, held, c.if-held-eq0.false))
+    (c.min-first.ensures ∙ ap (λ n. min n 4) held) again.0 again.1 again.2 again.3 again.4
     (c.consume.ensures ∙ ap (λ t. drop first (text_items t)) again.5) (only_kind _ InvalidData c.from.ensures.0 c.from.ensures.1)
