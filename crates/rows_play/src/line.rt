@@ -222,6 +222,20 @@ pub fn cut_last<'a>(text: &'a str, mark: &str) -> (&'a str, &'a str) {
     }
 }
 
+/// Returns the number that a word is.
+pub fn number(word: &str) -> Played<usize> {
+    match word.parse::<usize>() {
+        Ok(n) => Ok(n),
+        Err(_) => Err(Unplayed::NoNumber),
+    }
+}
+
+/// Returns the number that is the first word of a line, and the rest of the line.
+pub fn cut_number(words: &str) -> Played<(usize, &str)> {
+    let (word, rest) = cut(words, " ");
+    Ok((number(word)?, rest))
+}
+
 // The length from which on a run is printed as one.
 const LONG: u64 = 24;
 

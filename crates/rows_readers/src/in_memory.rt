@@ -10,7 +10,8 @@ mod asks;
 mod cursors;
 pub mod feeds;
 mod readers;
-mod room;
+mod trial_readers;
+mod trials;
 mod vectors;
 mod wrapped;
 
@@ -18,7 +19,7 @@ mod wrapped;
 pub fn has(name: &str) -> bool {
     let (word, _) = cut(name, " ");
     let (_, base) = cut_last(name, " ");
-    matches!(word, "cursor" | "grown" | "queue" | "room")
+    matches!(word, "cursor" | "grown" | "queue" | "room" | "heap")
         || matches!(base, "Cursor" | "&[u8]" | "Repeat" | "Feed")
 }
 
@@ -41,7 +42,10 @@ pub fn lend(
         "asks" => asks::lend(devices, player),
         "grown" => vectors::lend(name, devices.words, player),
         "queue" => vectors::lend_queue(devices.words, player),
-        "room" => player.play(&mut room::Room { name }),
+        "room" | "heap" => {
+            let is_in_heap = word == "heap";
+            player.play(&mut trials::Trials { name, is_in_heap })
+        }
         _ => readers::lend(name, devices, player),
     }
 }

@@ -4,9 +4,9 @@
 
 mod benches;
 mod devices;
+mod heaps;
 mod laws;
 mod levels;
-mod refused;
 mod runs;
 mod tower;
 mod writing;
@@ -29,7 +29,7 @@ impl Streams for Writers {
             "bench" => benches::lend(rest, words, player),
             "laws" => benches::lend_lawful(rest, words, player),
             "lent" => benches::lend_lent(rest, words, player),
-            "heap" => refused::lend(rest, words, player),
+            "heap" => heaps::lend(rest, words, player),
             "joined" => runs::lend_joined(player),
             "closed" => runs::lend_closed(rest, player),
             _ => Err(Unplayed::NoStream),

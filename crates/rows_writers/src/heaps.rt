@@ -3,17 +3,21 @@
 // A line `new` says the heap's size, the vector's capacity and its first bytes, or those of a reader. A row is a call;
 // then its result, the vector's bytes, the held bytes, the position, the back half of a queue or what a reader has left,
 // the limit if there is one, and how many bytes of the heap are in use. Besides the calls of a writer or `read_to_end`
-// there are `fill`, which allocates all of the heap that is left, and `free`, which frees that.
-use super::heaps::{HeapVec, cut_number, vector_of};
+// there are `fill`, which allocates all of the heap that is left, and `free`, which frees that. A heap has room for a
+// number of bytes, in blocks whose lengths are rounded up to 16; an allocation that does not fit fails. A block that grows
+// is in the heap together with its copy until the copy is made.
 use crate::writing::make_any_call;
 use linked_list_allocator::LocalHeap;
 use no_std_io2::io::{BufWriter, Cursor, LineWriter, Read, Take};
 use rows_play::calls::{Call, make_call};
-use rows_play::line::{Line, unescape};
+use rows_play::line::{Line, cut_number, unescape};
 use rows_play::player::{Player, Stream};
 use rows_play::unplayed::{Played, Unplayed};
 use std::alloc::{Allocator, Global};
 use std::collections::VecDeque;
+
+/// A vector in a heap.
+type HeapVec<'a> = Vec<u8, &'a LocalHeap>;
 
 // A stream over a vector in a heap.
 trait HeapStream {
@@ -245,6 +249,7 @@ pub fn lend(name: &str, words: &str, player: &mut Player<'_, '_>) -> Played<()> 
     if name.ends_with("&[u8]") {
         return lend_reader(name, &heap, &bytes, player);
     }
-    let vector = vector_of(&heap, capacity, &bytes)?;
+    let mut vector = Vec::with_capacity(&heap, capacity)?;
+    vector.extend_from_slice(&bytes)?;
     lend_writer(name, &heap, vector, player)
 }
