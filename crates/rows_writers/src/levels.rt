@@ -1,6 +1,7 @@
 // A level over a device. The name of the level is its kind and its size.
 ghost use Rattle.no_std_io2.specs.BufWriter.{BufWriterFits};
 ghost use Rattle.no_std_io2.specs.LineWriter.{LineWriterFits};
+ghost use Rattle.std.specs.Prelude.{◌<◌, ◌^◌};
 
 use crate::benches::new_faulty;
 use crate::devices::{new_device, new_recorder};
@@ -58,6 +59,9 @@ fn lend_size<const BASE: usize, const S: usize>(
     words: &str,
     player: &mut Player<'_, '_>,
 ) -> Played<()> {
+    if S >= 1 << 32 {
+        return Err(Unplayed::NoStream);
+    }
     match BASE {
         RECORDER => lend_recorder::<S>(kind, words, player),
         NOTED => lend_device::<S>(kind, words, player),
@@ -99,39 +103,31 @@ fn play_seeking_level<W: Tower + Seek, const S: usize>(
 {
     match kind {
         "BufWriter" => play_seeking(BufWriter::<W, S>::new(base), columns, player),
-        "LineWriter" => play(LineWriter::<W, S>::new(base), columns, player),
-        _ => Err(Unplayed::NoStream),
+        _ => play_level::<W, S>(kind, base, columns, player),
     }
 }
 
-fn lend_recorder<const S: usize>(
-    kind: &str,
-    words: &str,
-    player: &mut Player<'_, '_>,
-) -> Played<()> {
+fn lend_recorder<const S: usize>(kind: &str, words: &str, player: &mut Player<'_, '_>) -> Played<()>
+    requires { S < 2 ^ 32 }
+{
     let journal = new_journal(player.alloc, words)?;
     let recorder = new_recorder(player.alloc, &journal)?;
-    if S < 1 << 32 {
-        return play_seeking_level::<_, S>(kind, recorder, Columns::All(journal, 1), player);
-    }
-    Err(Unplayed::NoStream)
+    play_seeking_level::<_, S>(kind, recorder, Columns::All(journal, 1), player)
 }
 
-fn lend_device<const S: usize>(kind: &str, words: &str, player: &mut Player<'_, '_>) -> Played<()> {
+fn lend_device<const S: usize>(kind: &str, words: &str, player: &mut Player<'_, '_>) -> Played<()>
+    requires { S < 2 ^ 32 }
+{
     let journal = new_journal(player.alloc, words)?;
     let device = new_device(player.alloc, &journal)?;
-    if S < 1 << 32 {
-        return play_seeking_level::<_, S>(kind, device, Columns::Calls(journal), player);
-    }
-    Err(Unplayed::NoStream)
+    play_seeking_level::<_, S>(kind, device, Columns::Calls(journal), player)
 }
 
-fn lend_vector<const S: usize>(kind: &str, words: &str, player: &mut Player<'_, '_>) -> Played<()> {
+fn lend_vector<const S: usize>(kind: &str, words: &str, player: &mut Player<'_, '_>) -> Played<()>
+    requires { S < 2 ^ 32 }
+{
     let content = unescape(player.alloc, words)?;
-    if S < 1 << 32 {
-        return play_level::<_, S>(kind, content, Columns::State, player);
-    }
-    Err(Unplayed::NoStream)
+    play_level::<_, S>(kind, content, Columns::State, player)
 }
 
 fn lend_faulty<const S: usize>(
@@ -139,31 +135,24 @@ fn lend_faulty<const S: usize>(
     words: &str,
     columns: Columns,
     player: &mut Player<'_, '_>,
-) -> Played<()> {
+) -> Played<()>
+    requires { S < 2 ^ 32 }
+{
     let device = new_faulty(player.alloc, words)?;
-    if S < 1 << 32 {
-        return play_level::<_, S>(kind, device, columns, player);
-    }
-    Err(Unplayed::NoStream)
+    play_level::<_, S>(kind, device, columns, player)
 }
 
-fn lend_buffered<const S: usize>(
-    kind: &str,
-    words: &str,
-    player: &mut Player<'_, '_>,
-) -> Played<()> {
+fn lend_buffered<const S: usize>(kind: &str, words: &str, player: &mut Player<'_, '_>) -> Played<()>
+    requires { S < 2 ^ 32 }
+{
     let device = new_faulty(player.alloc, words)?;
-    if S < 1 << 32 {
-        let below = BufWriter::<Faulty<Vec<u8>>, S>::new(device);
-        return play_level::<_, S>(kind, below, Columns::Laws, player);
-    }
-    Err(Unplayed::NoStream)
+    let below = BufWriter::<Faulty<Vec<u8>>, S>::new(device);
+    play_level::<_, S>(kind, below, Columns::Laws, player)
 }
 
-fn lend_counted<const S: usize>(kind: &str, player: &mut Player<'_, '_>) -> Played<()> {
-    if S < 1 << 32 {
-        let device = Tally::new(Sink::new());
-        return play_level::<_, S>(kind, device, Columns::State, player);
-    }
-    Err(Unplayed::NoStream)
+fn lend_counted<const S: usize>(kind: &str, player: &mut Player<'_, '_>) -> Played<()>
+    requires { S < 2 ^ 32 }
+{
+    let device = Tally::new(Sink::new());
+    play_level::<_, S>(kind, device, Columns::State, player)
 }

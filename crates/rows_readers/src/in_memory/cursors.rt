@@ -77,7 +77,7 @@ impl Stream for OnVector {
     }
 }
 
-// A cursor on borrowed content, or on a boxed slice. A new one is made for each call, at the position of the last one.
+// A cursor on borrowed content, on a boxed slice or on an array of two bytes. A new one is made for each call, at the position of the last one.
 // It has `place N` too.
 #[derive(Drop)]
 struct OnLent<'a> {
@@ -111,8 +111,20 @@ impl<'a> OnLent<'a> {
                 self.content = cursor.into_inner().into_vec();
                 position
             }
+            "[u8;2]" => self.call_array(alloc, call, line),
             _ => self.make_reading_call(alloc, call, line),
         }
+    }
+
+    fn call_array(&mut self, alloc: Global, call: &Call<'_>, line: &mut Line) -> u64 {
+        let [first, second] = self.content.as_slice() else {
+            return self.refuse(line);
+        };
+        let mut cursor = Cursor::new([*first, *second]);
+        cursor.set_position(self.position);
+        make_any_call(alloc, &mut cursor, call, line);
+        self.content.copy_from_slice(cursor.get_ref());
+        cursor.position()
     }
 
     // Makes a call on a cursor that only reads and seeks, and returns the position afterwards.
@@ -166,22 +178,6 @@ impl<'a> Stream for OnLent<'a> {
     }
 }
 
-// A cursor on an array of two bytes. It has `place N` too.
-#[derive(Drop)]
-struct OnArray {
-    cursor: Cursor<[u8; 2]>,
-}
-
-impl Stream for OnArray {
-    fn play(&mut self, alloc: Global, call: &Call<'_>, line: &mut Line) {
-        match call.word {
-            "place" => self.cursor.set_position(place_of(call, line)),
-            _ => make_any_call(alloc, &mut self.cursor, call, line),
-        }
-        show(self.cursor.get_ref(), self.cursor.position(), line);
-    }
-}
-
 // A buffer of 4 bytes over a text. Besides the calls of a reader and a seeker it has `place N`, which sets the position
 // of the text below, and `position`, which asks for its own.
 #[derive(Drop)]
@@ -210,12 +206,6 @@ pub fn lend(name: &str, words: &str, player: &mut Player<'_, '_>) -> Played<()> 
         "BufWriter 8" => player.play(&mut Buffered {
             writer: BufWriter::new(Cursor::new(content)),
         }),
-        "[u8;2]" => match content.as_slice() {
-            [first, second] => player.play(&mut OnArray {
-                cursor: Cursor::new([*first, *second]),
-            }),
-            _ => Err(Unplayed::NoWord),
-        },
         _ => player.play(&mut OnLent {
             name,
             content,
