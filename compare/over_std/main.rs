@@ -161,7 +161,8 @@ impl Seek for Device {
 fn write_call<W: Write + ?Sized>(w: &mut W, word: &str, rest: &str) -> Option<String> {
     if word == "run" {
         let calls = rest.split(", ").filter(|call| !call.is_empty());
-        let replies: Option<Vec<_>> = calls.map(|it| it.split_once(' ').unwrap_or((it, ""))).map(|(word, rest)| write_call(w, word, rest)).collect();
+        let words = calls.map(|it| it.split_once(' ').unwrap_or((it, "")));
+        let replies: Option<Vec<_>> = words.map(|(word, rest)| write_call(w, word, rest)).collect();
         return replies.map(|it| if it.is_empty() { "-".into() } else { it.join(", ") });
     }
     let b = unescape(rest);

@@ -77,8 +77,8 @@ impl Stream for OnVector {
     }
 }
 
-// A cursor on borrowed content, on a boxed slice or on an array of two bytes. A new one is made for each call, at the position of the last one.
-// It has `place N` too.
+// A cursor on borrowed content, on a boxed slice or on an array of two bytes. A new one is made for each call, at the
+// position of the last one. It has `place N` too.
 #[derive(Drop)]
 struct OnLent<'a> {
     name: &'a str,
