@@ -1,5 +1,5 @@
-// Archives whose reader fails inside a member, the reads that a header takes, and a member that borrows the archive.
-use examples::read_member;
+// Archives whose reader fails inside a member, the reads that a header takes, and members that borrow the archive.
+use examples::{ar, read_member};
 use io_bench::{Event, Feed, Tally};
 use no_std_io2::io::{BufReader, ErrorKind, Read};
 use std::alloc::Allocator;
@@ -101,5 +101,36 @@ fn an_archive_goes_on_behind_an_entry(rt: HostRuntime) -> Result<(), Fail> {
     assert!(rt; read_member(&mut archive, &mut bytes)?.is_some());
     assert!(rt; read_member(&mut archive, &mut bytes)?.is_none());
     assert!(rt; bytes.len() == 3);
+    Ok(())
+}
+
+// A content that is read as a header after a fault in the middle of it.
+#[test]
+fn a_content_is_no_header(rt: HostRuntime) -> Result<(), Fail> {
+    let mut events = Vec::new(rt.alloc());
+    add(
+        &mut events,
+        b"outer           0           0     0     0       102       `\n",
+    )?;
+    add(&mut events, b"0123456789012345678901234567890123456789")?;
+    events.push(Event::Fail(ErrorKind::WouldBlock))?;
+    add(
+        &mut events,
+        b"evil.txt        0           0     0     0       2         `\nok",
+    )?;
+    add(
+        &mut events,
+        b"b               0           0     0     0       2         `\nhi",
+    )?;
+    let mut archive = ar::Archive::new(BufReader::<_, 64>::new(Feed::new(events, 512)));
+    let outer = archive.next_entry()?.ok_or("no entry")?;
+    assert!(rt; outer.header.size == 102);
+    match archive.next_entry() {
+        Ok(_) => return Err(Fail::new("no fault")),
+        Err(e) => assert!(rt; e.kind() == ErrorKind::WouldBlock),
+    }
+    let content = ar::read_next(rt.alloc(), &mut archive)?.ok_or("no entry")?;
+    assert!(rt; content.as_slice() == b"hi".as_slice());
+    assert!(rt; ar::read_next(rt.alloc(), &mut archive)?.is_none());
     Ok(())
 }

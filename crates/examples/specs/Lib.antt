@@ -1,3 +1,4 @@
+pub mod Ar
 pub mod Checksum
 pub mod Entries
 pub mod Headers

@@ -1,12 +1,14 @@
 //! First proofs and devices to copy, which the gate proves. Only `counted`, `entries`, `greps` and `indexed` use another
 //! crate than `no_std_io2`.
-//! PROVING and the CALLING pages of `no_std_io2` and `system_streams` show or name all modules except `records`.
+//! PROVING and the CALLING pages of `no_std_io2` and `system_streams` show or name all modules except `ar`, which FOUND has,
+//! and `records`.
 #![tactic(auto)]
 
 ghost use Rattle.std.specs.Prelude.{◌≡◌, [], ◌++◌, IfOk};
 ghost use Rattle.no_std_io2.specs.BufWriter.{BufWriterFits};
 ghost use Rattle.no_std_io2.specs.Moves.{Moves};
 
+pub mod ar;
 mod broken;
 mod checksum;
 mod commands;
