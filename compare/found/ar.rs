@@ -61,7 +61,7 @@ fn faults() {
         let first = builder.append(&of_a, &b"hi"[..]).is_ok();
         let second = builder.append(&of_a, &b"hi"[..]).is_ok();
         let made = builder.into_inner().unwrap().data;
-        format!("{first}, {second}, {}", String::from_utf8_lossy(&made[..12]).replace('\n', "|"))
+        format!("{first}, {second}, {}", String::from_utf8_lossy(&made[..12]).replace('\n', "\\n"))
     });
     show("ar-4", || {
         let bytes = format!("!<arch>\n{}hi", header("a", 200));

@@ -31,7 +31,7 @@ fn main() {
     let mut w = LineWriter::<Takes, 8>::new(Takes(Vec::new(), vec![1]));
     w.write(b"a\nb").unwrap();
     w.write(b"b").unwrap();
-    println!("no_std_io2-3 {}", String::from_utf8_lossy(&w.get_ref().0).replace('\n', "|"));
+    println!("no_std_io2-3 {}", String::from_utf8_lossy(&w.get_ref().0).replace('\n', "\\n"));
 
     let end = catch_unwind(|| {
         let mut cursor = Cursor::new(Vec::new());
