@@ -168,11 +168,7 @@ fn read_rest<R: Read>(entry: &mut Entry<R>, buf: &mut Vec<u8>) -> Result<usize>
 }
 
 // Reads the rest of the content by way of an entry, which has ended when this returns.
-fn read_lent<R: Read>(
-    archive: &mut Archive<R>,
-    header: Header,
-    buf: &mut Vec<u8>,
-) -> Result<usize>
+fn read_lent<R: Read>(archive: &mut Archive<R>, header: Header, buf: &mut Vec<u8>) -> Result<usize>
     ensures { ReadsContent R.Read archive.old buf.old.items archive.new buf.new.items }
 {
     let mut entry = Entry { header, archive };
