@@ -185,6 +185,15 @@ calls! {
         let mut content = Vec::with_capacity(32 * calls as usize);
         text_often(&mut content, calls).wrapping_add(sample(&content))
     }
+    constants_vec(source, room, calls) {
+        let mut w = Vec::with_capacity(32 * calls as usize);
+        for _ in 0..calls {
+            if write!(w, "HTTP/1.1 200 OK\r\n").is_err() || write!(w, "\r\n").is_err() {
+                return FAILED;
+            }
+        }
+        sample(&w)
+    }
     values_writer(source, room, calls) {
         let mut w = buffered_writer::<_, 1024>(Counter::default());
         let mut sum = 0u64;

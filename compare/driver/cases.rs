@@ -73,6 +73,15 @@ fn lines_of(len: usize, lines: usize) -> &'static [u8] {
     Vec::leak((0..lines).flat_map(line).collect())
 }
 
+// So many lines, each of five fields.
+fn rows_of(len: usize, rows: usize) -> &'static [u8] {
+    let mut text = lines_of(len, rows).to_vec();
+    for row in text.chunks_mut(len) {
+        (1..5).for_each(|field| row[field * len / 5] = b',');
+    }
+    Vec::leak(text)
+}
+
 // So many frames, each with a payload of so many bytes.
 fn frames_of(len: usize, frames: usize) -> &'static [u8] {
     let header = (len as u32).to_le_bytes();
@@ -187,6 +196,7 @@ pub fn with(word: &str) -> Vec<Case> {
                 // The longer of two runs makes twice as many calls.
                 let source = match kind {
                     "lines" => lines_of(size, 2 * calls),
+                    "rows" => rows_of(size, 2 * calls),
                     "frames" => frames_of(size, 2 * calls),
                     "letters" => letters(),
                     "archive" => archive_of(size, 2 * calls),

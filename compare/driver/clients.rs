@@ -33,9 +33,10 @@ mod numbers {
     }
 
     fn write_mixed<W: Write>(w: &mut W, n: u64) -> Result<()> {
-        w.write_u8(n as u8)?;
-        w.write_u16::<LittleEndian>(n as u16)?;
-        w.write_u32::<BigEndian>(n as u32)?;
+        let byte = n.to_le_bytes()[0];
+        w.write_u8(byte)?;
+        w.write_u16::<LittleEndian>(u16::from(byte))?;
+        w.write_u32::<BigEndian>(u32::from(byte))?;
         w.write_u64::<LittleEndian>(n)
     }
 

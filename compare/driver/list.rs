@@ -93,6 +93,7 @@ macro_rules! listed {
             reader_line_1024: lines short "`BufReader` 1024, `read_line` of {} into one text" [13 16 33 80 900] | original;
             reader_line_grows: lines short "`BufReader` 64, `read_line` of {} into one growing text" [16 80] | original;
             reader_split_1024: lines short "`BufReader` 1024, `split`, lines of {}" [13 16 80] | original;
+            reader_fields: rows short "`BufReader` 1024, rows of {} by `read_until`, and their fields" [16 80] | original;
             reader_seek: bytes short "`BufReader` 1024, `seek` by 3 and `read_exact` of 8" [8];
             reader_moves: bytes short "`BufReader` 1024, `seek_relative` of 3 and `read_exact` of 8" [8] | original;
             two_readers: bytes short "`BufReader` 64 over `BufReader` 1024, `read` of {}" [1 7 16 100];
@@ -101,6 +102,7 @@ macro_rules! listed {
 
             text_writer: bytes whole "`BufWriter` 1024, `write!` of a name and a number" [1];
             text_vec: bytes whole "`Vec`, `write!` of a name and a number" [1];
+            constants_vec: bytes whole "`Vec`, `write!` of two constant texts" [1];
             reader_position: bytes whole "`BufReader` 1024, `stream_position` and `read_exact` of 8" [8];
             slice_to_end: bytes whole "a slice, `read_to_end` of {}" [100 900 4096 10000 16777216];
             reader_to_end: bytes whole "`BufReader` 1024, `read_to_end` of {}" [100 900 4096 10000 16777216];

@@ -139,6 +139,26 @@ calls! {
         sum
     }
     reader_split_1024(source, room, calls) { items_often(buffered_reader::<_, 1024>(source).split(b'\n'), calls) }
+    reader_fields(source, room, calls) {
+        let mut r = buffered_reader::<_, 1024>(source);
+        let (mut row, mut field) = (Vec::new(), Vec::new());
+        let mut sum = 0u64;
+        for _ in 0..calls {
+            row.clear();
+            if r.read_until(b'\n', &mut row).is_err() {
+                return FAILED;
+            }
+            let mut left = &row[..];
+            for _ in 0..5 {
+                field.clear();
+                match left.read_until(b',', &mut field) {
+                    Ok(n) => sum = sum.wrapping_add(n as u64).wrapping_add(first_byte(&field)),
+                    Err(_) => return FAILED,
+                }
+            }
+        }
+        sum
+    }
     reader_moves(source, room, calls) {
         let mut r = buffered_reader::<_, 1024>(Cursor::new(source));
         let mut sum = 0u64;

@@ -35,15 +35,14 @@ fn beside_kit(values: &Measured) -> (usize, f64) {
     (ratios.len(), (ratios.iter().sum::<f64>() / ratios.len() as f64).exp())
 }
 
-// The last cell of a case's line: `*` if it is above its class's limit, and the class's name if that has no limit.
+// The last cell of a case's line: `*` if it is above its class's limit, and the class's name if all its cases are told.
 fn mark(case: &Case, counts: &[Option<f64>; SIDES]) -> &'static str {
-    let limit = most(case);
-    if limit == f64::INFINITY {
-        case.class
-    } else if ratio(counts).is_some_and(|it| it > limit + 0.005) {
-        "*"
-    } else {
-        ""
+    let is_above = ratio(counts).is_some_and(|it| it > most(case) + 0.005);
+    match (case.class, is_above) {
+        ("client", true) => "client *",
+        ("whole" | "client", _) => case.class,
+        (_, true) => "*",
+        _ => "",
     }
 }
 
