@@ -47,7 +47,10 @@ impl Queue {
     {
         let end = self.len.min(CAPACITY);
         let start = n.min(end);
-        self.bytes.copy_within(start..end, 0);
+        // A copy from or to an array on the stack is a call of `memcpy`, since LLVM knows that nothing overlaps it. Any
+        // other is a test, a call and loops.
+        let bytes = self.bytes;
+        self.bytes[..end - start].copy_from_slice(&bytes[start..end]);
         self.len = end - start;
     }
 }
@@ -78,16 +81,6 @@ impl Write for Queue {
     }
 }
 
-// Copies bytes over as many others. It is not inlined: LLVM does not know that the slices cannot overlap, and compiles
-// a copy to a test, a call and loops.
-#[inline(never)]
-fn copy_over(from: &[u8], to: &mut [u8])
-    requires { length from.now ≡ length to.old }
-    ensures { to.new ≡ from.now }
-{
-    to.copy_from_slice(from);
-}
-
 /// Puts the first of these bytes behind those that wait, as many as fit, and returns how many they are.
 #[inline(never)]
 #[unsafe(no_mangle)]
@@ -97,7 +90,9 @@ pub extern "C" fn bare_put(queue: &mut Queue, bytes: &[u8]) -> usize
 {
     let start = queue.len.min(CAPACITY);
     let n = bytes.len().min(CAPACITY - start);
-    copy_over(&bytes[..n], &mut queue.bytes[start..start + n]);
+    let mut all = queue.bytes;
+    all[start..start + n].copy_from_slice(&bytes[..n]);
+    queue.bytes = all;
     queue.len = start + n;
     n
 }
@@ -110,7 +105,8 @@ pub extern "C" fn bare_take(queue: &mut Queue, room: &mut [u8]) -> usize
     ensures takes { waiting queue.new ≡ drop result (waiting queue.old) }
 {
     let n = queue.waiting().len().min(room.len());
-    copy_over(&queue.waiting()[..n], &mut room[..n]);
+    let bytes = queue.bytes;
+    room[..n].copy_from_slice(&bytes[..n]);
     queue.advance(n);
     n
 }
