@@ -129,8 +129,18 @@ impl Reading {
             "u16le" => show_unsigned(self.device.read_u16::<LittleEndian>().map(u64::from), line),
             "u32be" => show_unsigned(self.device.read_u32::<BigEndian>().map(u64::from), line),
             "u64be" => show_unsigned(self.device.read_u64::<BigEndian>(), line),
-            "f32be" => show_unsigned(self.device.read_f32::<BigEndian>().map(saturating_f32_to_u64), line),
-            "f64le" => show_unsigned(self.device.read_f64::<LittleEndian>().map(saturating_f64_to_u64), line),
+            "f32be" => show_unsigned(
+                self.device
+                    .read_f32::<BigEndian>()
+                    .map(saturating_f32_to_u64),
+                line,
+            ),
+            "f64le" => show_unsigned(
+                self.device
+                    .read_f64::<LittleEndian>()
+                    .map(saturating_f64_to_u64),
+                line,
+            ),
             "varint" => show_unsigned(read_varint(&mut self.device), line),
             _ => line.tell(Unplayed::NoCall),
         }
