@@ -180,6 +180,13 @@ fn seek_call<S: Seek + ?Sized>(s: &mut S, word: &str, rest: &str) -> Option<Stri
         "seek_relative" => done(&s.seek_relative(rest.parse().ok()?)),
         "stream_position" => number(&s.stream_position()), "rewind" => done(&s.rewind()), _ => return None })
 }
+fn copy_call<R: Read + ?Sized>(r: &mut R, rest: &str) -> Option<String> {
+    let mut to = Device::default();
+    to.journal.borrow_mut().answers = told(rest.split_once(' ')?.1);
+    let answer = number(&io::copy(r, &mut to));
+    let out = bytes(&to.journal.borrow().out);
+    Some(format!("{answer} | {out}"))
+}
 fn read_call<R: BufRead + ?Sized>(r: &mut R, word: &str, rest: &str) -> Option<String> {
     let count = rest.parse().unwrap_or(0);
     let mut room = vec![b'.'; count];
@@ -195,13 +202,7 @@ fn read_call<R: BufRead + ?Sized>(r: &mut R, word: &str, rest: &str) -> Option<S
         "pass" => { let n = r.fill_buf().map(|b| b.len().min(count)); if let Ok(n) = n { r.consume(n) } (number(&n), vec![]) }
         "read_until" => { let d = all.first().copied().unwrap_or(b'\n'); all.clear(); (number(&r.read_until(d, &mut all)), all) }
         "skip_until" => (number(&r.skip_until(all.first().copied().unwrap_or(b'\n'))), vec![]),
-        "copy" => {
-            let mut to = Device::default();
-            to.journal.borrow_mut().answers = told(rest.split_once(' ')?.1);
-            let answer = number(&io::copy(r, &mut to));
-            let out = to.journal.borrow().out.clone();
-            (answer, out)
-        }
+        "copy" => return copy_call(r, rest),
         "read_line" => { let mut s = String::from_utf8(all).unwrap(); (number(&r.read_line(&mut s)), s.into_bytes()) }
         _ => return None };
     Some(format!("{answer} | {}", bytes(&given)))
@@ -323,6 +324,8 @@ impl Stream for Room {
 }
 // A level of a tower of readers. std shows no bytes behind a `BufReader`, so these are not compared.
 trait Source: BufRead {
+    // A copy is the type's own: std has bodies for slices and for long buffers.
+    fn copies(&mut self, rest: &str) -> Option<String> { copy_call(self, rest) }
     fn shown(&self) -> String { String::new() }
     fn limit(&mut self, _: u64) {}
     fn seeks(&mut self, _word: &str, _rest: &str) -> Option<String> { None }
@@ -431,12 +434,48 @@ struct Reader { top: Any, shows: fn(&Any) -> String }
 impl Stream for Reader {
     fn call(&mut self, word: &str, rest: &str) -> Option<String> {
         match word {
+            "copy" => self.top.copies(rest),
             "limit" => { self.top.limit(rest.parse().ok()?); Some("-".into()) }
             "place" => { self.top.place(rest.parse().ok()?); Some("-".into()) }
             _ => self.top.seeks(word, rest).or_else(|| read_call(&mut self.top, word, rest)),
         }
     }
     fn columns(&self) -> String { (self.shows)(&self.top) }
+}
+// Copies of a text, of three pieces or of the device through a buffer of 64 bytes at each end, or of a text through none. They go
+// to the device, or to a vector, which is then a column.
+struct Copies { device: Device, is_to_vector: bool }
+fn flush_copy(from: Box<dyn Read>, mut to: impl Write) -> io::Result<u64> {
+    let count = io::copy(&mut BufReader::with_capacity(64, from), &mut to)?;
+    to.flush().map(|_| count)
+}
+impl Stream for Copies {
+    fn call(&mut self, word: &str, rest: &str) -> Option<String> {
+        let mut to = if self.is_to_vector { Device::default() } else { self.device.clone() };
+        let (journal, text) = (to.journal.clone(), unescape(rest));
+        let (from, form): (Box<dyn Read>, _) = match word {
+            "copy" => return Some(number(&io::copy(&mut &*text, &mut to))),
+            "buf" | "line" => (Box::new(Cursor::new(text)), word),
+            "pieces" => (Box::new(Feed(told("a, b, \\n, c, d, \\n, e, \\n, f"), 4)), rest),
+            "from" => (Box::new(self.device.clone()), rest),
+            _ => return None };
+        let answer = number(&match form {
+            "line" => flush_copy(from, LineWriter::with_capacity(64, to)), _ => flush_copy(from, BufWriter::with_capacity(64, to)) });
+        Some(if self.is_to_vector { format!("{answer} | {}", bytes(&journal.borrow().out)) } else { answer })
+    }
+}
+// Readings that `write!` prints through a buffer of 64 bytes.
+struct Readings(BufWriter<Device>);
+impl Stream for Readings {
+    fn call(&mut self, word: &str, rest: &str) -> Option<String> {
+        let (w, name) = (&mut self.0, "t");
+        let mut values = rest.split(' ').filter_map(|it| it.parse::<u32>().ok());
+        Some(done(&match word {
+            "write_readings" => values.try_for_each(|value| write!(w, "{name}={value}\n")),
+            "send_reading" => values.next().map(|value| write!(w, "{name}={value}\n").and_then(|_| w.flush()))?,
+            "flush" => w.flush(), _ => return None }))
+    }
+    fn columns(&self) -> String { format!(" | {}", bytes(&self.0.get_ref().journal.borrow().out)) }
 }
 // Single bytes, pieces or lines, with a word in front; of those of texts the room is a column, which is not compared.
 struct Items(Box<dyn Iterator<Item = io::Result<Vec<u8>>>>, &'static str, bool);
@@ -452,6 +491,8 @@ fn make<'a>(name: &'a str, device: Device, words: &str) -> Option<Box<dyn Stream
     Some(match (names[0], &names[1..]) {
         ("bench", [.., "&mut", _] | [.., "dyn", _]) => return None,
         ("cursor" | "queue", rest) => { let top = level(rest, device.clone(), Some(unescape(words))); Box::new(Tower { names, device, top }) }
+        ("copy" | "copy_through", kind) => Box::new(Copies { device, is_to_vector: *kind == ["Vec"] }),
+        ("write_readings", []) => Box::new(Readings(BufWriter::with_capacity(64, device))),
         ("grown", [kind]) => Box::new(Room(Cursor::new(Vec::with_capacity(words.parse().ok()?)), *kind == "Vec")),
         ("bytes", rest) => Box::new(Items(Box::new(source(rest, &device, words)?.bytes().map(|it| it.map(|b| vec![b]))), "", false)),
         ("split", rest) => Box::new(Items(
@@ -494,11 +535,12 @@ fn main() {
         for (table, name) in text.split("\nstream ").skip(1).flat_map(named) {
             for group in table.split("\nnew").skip(1) {
                 let (words, rows) = group.split_once('\n').unwrap();
-                let device = Device { is_noted: name.starts_with("noted"), ..Device::default() };
+                let device = Device { is_noted: name == "copy" || name.starts_with("noted"), ..Device::default() };
                 let journal = device.journal.clone();
                 journal.borrow_mut().answers = told(words);
                 let mut stream = make(name, device, words.trim());
-                let notes_calls = !["bench", "cursor", "queue", "grown", "answers"].iter().any(|it| name.starts_with(it))
+                let silent = ["bench", "cursor", "queue", "grown", "answers", "copy_through Vec"];
+                let notes_calls = !silent.iter().any(|it| name.starts_with(it))
                     && !["Cursor", "&[u8]", "Repeat", "Feed"].iter().any(|it| name.contains(it));
                 for row in rows.lines().filter(|row| row.contains(" | ") && !row.starts_with('#')) {
                     let call = row.split(" | ").next().unwrap();
