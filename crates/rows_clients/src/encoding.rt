@@ -132,13 +132,13 @@ impl Reading {
             "f32be" => show_unsigned(
                 self.device
                     .read_f32::<BigEndian>()
-                    .map(saturating_f32_to_u64),
+                    .map(|x| saturating_f32_to_u64(x)),
                 line,
             ),
             "f64le" => show_unsigned(
                 self.device
                     .read_f64::<LittleEndian>()
-                    .map(saturating_f64_to_u64),
+                    .map(|x| saturating_f64_to_u64(x)),
                 line,
             ),
             "varint" => show_unsigned(read_varint(&mut self.device), line),
