@@ -1,4 +1,5 @@
 pub mod Frames
+pub mod Places
 pub mod Sending
 pub mod Taking
 pub mod Back

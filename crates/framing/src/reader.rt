@@ -7,6 +7,8 @@ ghost use Rattle.no_std_io2.specs.Takes.{tells};
 ghost use Rattle.no_std_io2.specs.Moves.{WriterState};
 ghost use Rattle.no_std_io2.specs.BufReader.{reader_held};
 ghost use Rattle.framing.specs.Frames.{frame, HasHeader};
+ghost use Rattle.framing.specs.Places.{IsPlace, IsPlace-prop};
+ghost use Rattle.framing.specs.declared.reader.Place.TheVariants.{Between, Inside};
 
 pub(crate) mod parts;
 
@@ -33,19 +35,23 @@ use parts::{HEADER, ended_inside, no_room, told_len};
 #[derive(Drop)]
 pub struct FrameReader<R, const S: usize> {
     inner: BufReader<R, S>,
-    // The length of the payload that is read past the buffer, or 0 if none is.
-    len: usize,
-    // How many of its bytes are in the caller's room.
-    given: usize,
+    place: Place,
     ghost header_fits: { 4 ≤ S },
-    ghost is_u32: { len < 2 ^ 32 },
-    ghost is_long: { 0 < len → S < 4 + len },
-    ghost within: { given ≤ len },
+    ghost is_place: { IsPlace S place } by { IsPlace-prop S place },
+}
+
+// Where a reader of frames is.
+#[derive(Clone, Copy)]
+enum Place {
+    // Before the header of the next frame: all bytes that were read of it are in the buffer.
+    Between,
+    // Behind the header of a frame that is longer than the buffer. Of its payload of `len` bytes, `given` are in the
+    // caller's room.
+    Inside { len: usize, given: usize },
 }
 
 impl<R: Read, const S: usize> FrameReader<R, S> {
     ghost use Rattle.framing.specs.Taking.{frame_reader, reads_from, seen_bytes, frame_to_come, frame_turns, SeesTo, TakesFrame};
-    ghost use Rattle.framing.specs.Taking.{KeepsBehind};
     ghost use Rattle.framing.specs.Back.{AreToCome, GivesBack, WentOut};
 
     /// Makes a reader of the frames of `inner`. `S` is from 4 to 2^63 - 1.
@@ -58,8 +64,7 @@ impl<R: Read, const S: usize> FrameReader<R, S> {
     {
         FrameReader {
             inner: BufReader::new(inner),
-            len: 0,
-            given: 0,
+            place: Place::Between,
         }
     }
 
@@ -97,15 +102,19 @@ impl<R: Read, const S: usize> FrameReader<R, S> {
         ensures within { IfOk result (λ o. IfSome o (λ n. n ≤ length room.new)) }
         ensures spends_turn { IfOk result (λ o. IfSome o (λ _. frame_turns R.turns self.new < frame_turns R.turns self.old)) }
     {
-        if let Some(len) = self.give_held(room) {
-            return Ok(Some(len));
+        match self.place {
+            Place::Between => match self.give_held(room) {
+                Some(len) => Ok(Some(len)),
+                None => self.take_first(room),
+            },
+            Place::Inside { len, given } => self.take_long(len, given, room),
         }
-        self.take_next(room)
     }
 
     // Gives the next payload if its frame is held and it fits: the hot path of `next`.
     #[inline(always)]
     fn give_held(&mut self, room: &mut [u8]) -> Option<usize>
+        requires between { self.old.place ≡ Between }
         ensures gives { IfSome result (λ n. (seen_bytes self.old room.old ≡ frame (take n room.new) ++ seen_bytes self.new room.new)
             × (n ≤ length room.old) × (n < 2 ^ 32)) }
         ensures behind { IfSome result (λ n. drop n room.new ≡ drop n room.old) }
@@ -115,7 +124,7 @@ impl<R: Read, const S: usize> FrameReader<R, S> {
         ensures none { IfNone result ((self.new ≡ self.old) × (room.new ≡ room.old)) }
     {
         let held = self.inner.buffer();
-        if self.len > 0 || held.len() < HEADER {
+        if held.len() < HEADER {
             return None;
         }
         let len = told_len(held);
@@ -129,7 +138,7 @@ impl<R: Read, const S: usize> FrameReader<R, S> {
     // Gives a payload of this length, whose frame is held.
     #[inline(always)]
     fn give(&mut self, len: usize, room: &mut [u8])
-        requires whole { self.old.len ≡ 0 }
+        requires between { self.old.place ≡ Between }
         requires header { HasHeader len (reader_held (frame_reader self.old)) }
         requires held { 4 + len ≤ length (reader_held (frame_reader self.old)) }
         requires fits { len ≤ length room.old }
@@ -144,108 +153,110 @@ impl<R: Read, const S: usize> FrameReader<R, S> {
         self.inner.consume(HEADER + len);
     }
 
-    // The whole of `next`.
+    // Takes the next frame, from its header on: the cold path of `next`.
     #[cold]
     #[inline(never)]
-    fn take_next(&mut self, room: &mut [u8]) -> Result<Option<usize>>
+    fn take_first(&mut self, room: &mut [u8]) -> Result<Option<usize>>
+        requires between { self.old.place ≡ Between }
         ensures takes { TakesFrame R.Read self.old room.old result self.new room.new }
         ensures within { IfOk result (λ o. IfSome o (λ n. n ≤ length room.new)) }
         ensures spends_turn { IfOk result (λ o. IfSome o (λ _. frame_turns R.turns self.new < frame_turns R.turns self.old)) }
     {
-        if !self.see_header()? {
+        if !self.see_held(HEADER)? {
             if self.inner.buffer().is_empty() {
                 return Ok(None);
             }
             return Err(ended_inside());
         }
-        let len = self.next_len();
+        let len = told_len(self.inner.buffer());
+        if len <= S - HEADER {
+            return self.take_short(len, room);
+        }
+        self.begin_long(len);
+        self.take_long(len, 0, room)
+    }
+
+    // Takes a frame that fits the buffer. Its header is held, and says a payload of this length.
+    fn take_short(&mut self, len: usize, room: &mut [u8]) -> Result<Option<usize>>
+        requires between { self.old.place ≡ Between }
+        requires header { HasHeader len (reader_held (frame_reader self.old)) }
+        requires short { 4 + len ≤ S }
+        requires small { len < 2 ^ 32 }
+        ensures takes { TakesFrame R.Read self.old room.old result self.new room.new }
+        ensures within { IfOk result (λ o. IfSome o (λ n. n ≤ length room.new)) }
+        ensures spends_turn { IfOk result (λ o. IfSome o (λ _. frame_turns R.turns self.new < frame_turns R.turns self.old)) }
+    {
         if len > room.len() {
             return Err(no_room());
         }
-        if !self.see_frame(len, room)? {
+        if !self.see_held(HEADER + len)? {
             return Err(ended_inside());
         }
-        self.give_seen(len, room);
+        self.give(len, room);
         Ok(Some(len))
     }
 
-    // Reads until the header of the next frame is seen. `false` means that the end came first.
-    fn see_header(&mut self) -> Result<bool>
-        ensures sees { (room : List ℕ) → SeesTo R.Read S 4 (reads_from self.old) (seen_bytes self.old room) result (reads_from self.new)
-            (seen_bytes self.new room) }
+    // Takes the rest of a frame that is longer than the buffer, and is begun.
+    #[cold]
+    #[inline(never)]
+    fn take_long(&mut self, len: usize, given: usize, room: &mut [u8]) -> Result<Option<usize>>
+        requires inside { self.old.place ≡ Inside len given }
+        ensures takes { TakesFrame R.Read self.old room.old result self.new room.new }
+        ensures within { IfOk result (λ o. IfSome o (λ n. n ≤ length room.new)) }
+        ensures spends_turn { IfOk result (λ o. IfSome o (λ _. frame_turns R.turns self.new < frame_turns R.turns self.old)) }
+    {
+        if len > room.len() {
+            return Err(no_room());
+        }
+        if !self.see_payload(len, given, room)? {
+            return Err(ended_inside());
+        }
+        self.place = Place::Between;
+        Ok(Some(len))
+    }
+
+    // Reads until `n` bytes of the next frame are held. `false` means that the end came first.
+    fn see_held(&mut self, n: usize) -> Result<bool>
+        requires between { self.old.place ≡ Between }
+        requires fits { n ≤ S }
+        ensures sees { SeesTo R.Read S n (reads_from self.old) (reader_held (frame_reader self.old)) result (reads_from self.new)
+            (reader_held (frame_reader self.new)) }
+        ensures between { self.new.place ≡ Between }
         ensures turns_never_rise { frame_turns R.turns self.new ≤ frame_turns R.turns self.old }
     {
-        if self.len > 0 {
-            return Ok(true);
-        }
-        self.inner.fill_to(HEADER)
+        self.inner.fill_to(n)
     }
 
-    // Returns the length of the next payload, whose header is seen.
-    fn next_len(&self) -> usize
-        requires { (room : List ℕ) → 4 ≤ length (seen_bytes self.now room) }
-        ensures header { (room : List ℕ) → HasHeader result (seen_bytes self.now room) }
-        ensures small { result < 2 ^ 32 }
-    {
-        if self.len > 0 {
-            return self.len;
-        }
-        told_len(self.inner.buffer())
-    }
-
-    // Reads until the next frame is seen, whose payload has this length and fits the room. `false` means that the end
-    // came first.
-    fn see_frame(&mut self, len: usize, room: &mut [u8]) -> Result<bool>
-        requires header { (room : List ℕ) → HasHeader len (seen_bytes self.old room) }
-        requires small { len < 2 ^ 32 }
+    // Reads until the payload of a frame that is longer than the buffer is in the room, which it fits. `false` means that
+    // the end came first.
+    fn see_payload(&mut self, len: usize, given: usize, room: &mut [u8]) -> Result<bool>
+        requires inside { self.old.place ≡ Inside len given }
         requires fits { len ≤ length room.old }
         ensures sees { SeesTo R.Read S (4 + len) (reads_from self.old) (seen_bytes self.old room.old) result (reads_from self.new)
             (seen_bytes self.new room.new) }
-        ensures room { KeepsBehind S len room.old room.new }
-        ensures full { IfOk result (λ seen. seen ≡ true → self.new.given ≡ self.new.len) }
+        ensures behind { drop len room.new ≡ drop len room.old }
+        ensures whole { IfOk result (λ seen. seen ≡ true → self.new.place ≡ Inside len len) }
         ensures turns_never_rise { frame_turns R.turns self.new ≤ frame_turns R.turns self.old }
     {
-        if self.len == 0 && len <= S - HEADER {
-            return self.inner.fill_to(HEADER + len);
-        }
-        self.begin_long(len);
-        self.inner.read_full(&mut room[..len], &mut self.given)?;
-        Ok(self.given >= len)
+        let mut filled = given;
+        let read = self.inner.read_full(&mut room[..len], &mut filled);
+        self.place = Place::Inside { len, given: filled };
+        read?;
+        Ok(filled >= len)
     }
 
-    // Takes the header of a frame that is longer than the buffer, if it is not taken yet. The payload has this length.
+    // Takes the header of a frame that is longer than the buffer. It is held, and the payload has this length.
     fn begin_long(&mut self, len: usize)
+        requires between { self.old.place ≡ Between }
+        requires header { HasHeader len (reader_held (frame_reader self.old)) }
         requires small { len < 2 ^ 32 }
-        requires long { self.old.len ≡ 0 → S < 4 + len }
-        requires header { (room : List ℕ) → HasHeader len (seen_bytes self.old room) }
-        ensures len { self.new.len ≡ len }
-        ensures long { S < 4 + len }
+        requires long { S < 4 + len }
+        ensures inside { self.new.place ≡ Inside len 0 }
         ensures inner { reads_from self.new ≡ reads_from self.old }
         ensures seen { (room : List ℕ) → seen_bytes self.new room ≡ seen_bytes self.old room }
         ensures turns_never_rise { frame_turns R.turns self.new ≤ frame_turns R.turns self.old }
     {
-        if self.len == 0 {
-            self.inner.consume(HEADER);
-            self.len = len;
-        }
-    }
-
-    // Gives the payload of a frame that is seen. If it is longer than the buffer, it is in the room already.
-    fn give_seen(&mut self, len: usize, room: &mut [u8])
-        requires header { HasHeader len (seen_bytes self.old room.old) }
-        requires whole { 4 + len ≤ length (seen_bytes self.old room.old) }
-        requires full { self.old.given ≡ self.old.len }
-        requires fits { len ≤ length room.old }
-        ensures gives { seen_bytes self.old room.old ≡ frame (take len room.new) ++ seen_bytes self.new room.new }
-        ensures behind { drop len room.new ≡ drop len room.old }
-        ensures inner { reads_from self.new ≡ reads_from self.old }
-        ensures long { length room.new ≡ length room.old }
-        ensures spends_turn { frame_turns R.turns self.new < frame_turns R.turns self.old }
-    {
-        if self.len == 0 {
-            return self.give(len, room);
-        }
-        self.len = 0;
-        self.given = 0;
+        self.inner.consume(HEADER);
+        self.place = Place::Inside { len, given: 0 };
     }
 }

@@ -1,8 +1,8 @@
 -- The prover does not find that the held bytes are the frame and what follows it (`take-append_seam`).
 use Rattle.no_std_io2.proofs.Words.{◌≡◌, ◌≤◌, ◌+◌, ◌-◌, ◌++◌, length, length-append, length-take, length-drop, take, drop, ap, ◌∙◌, arith}
 use Rattle.no_std_io2.proofs.Words.{sym, take-append_seam, reader_held}
-use Rattle.framing.specs.Frames.{frame}
-use Rattle.framing.proofs.SeenLemmas.{begun_none, seen_between, short_given}
+use Rattle.framing.specs.{Frames.{frame}, Places.{long_part}}
+use Rattle.framing.proofs.SeenLemmas.{seen_between, short_given}
 use Rattle.framing.proofs.reader.FrameReader.give.Goals as goal
 
 pub returns-clause-gives : goal.returns-clause-gives
@@ -21,5 +21,6 @@ returns-clause-gives g c =
     ∙ take-append_seam got (drop len c.args.room.now) ∙ copied in
     let fits : len ≤ length room = omega (arith, long, length-append got (drop len c.args.room.now)) in
     let left = reader_held c.consume.new.self in
-    seen_between r c.args.room.now c.requires.whole ∙ short_given len held left room c.requires.header fits front c.consume.ensures.law.held
-    ∙ ap (λ p. frame (take len room) ++ (p ++ left)) (sym (begun_none r.len (take r.given room) c.requires.whole))
+    seen_between r c.args.room.now c.requires.between
+    ∙ short_given len held left room c.requires.header fits front c.consume.ensures.law.held
+    ∙ ap (λ p. frame (take len room) ++ (long_part p room ++ left)) (sym c.requires.between)
