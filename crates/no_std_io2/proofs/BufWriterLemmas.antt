@@ -79,21 +79,6 @@ pub MovesFront-device : {W : Type 0} {S : ℕ} (told : W → WriterState) (w v :
     → OnOk r (Moves (told (writer_inner w)) x [] (told (writer_inner v)))
 MovesFront-device told w v x r f none flushed = grind (arith, common_steps, device_moves, writer_buffer, buffer_none, writer_inner)
 
--- the same of a `LineWriter` as `MovesFront-device`
-pub MovesFront-line_device : {W : Type 0} {S : ℕ} (told : W → WriterState) (w v : LineWriter W S) (x : List ℕ) (r : Result (Unit {0}) Error)
-    → MovesFront (line_told told w) x r (line_told told v) → line_buffer w ≡ []
-    → OnOk r ((line_told told v).held ≡ [])
-    → OnOk r (Moves (told (line_inner w)) x [] (told (line_inner v)))
-MovesFront-line_device told w v x r f none flushed =
-    let after = told (line_inner v) in
-    device_moves (told (line_inner w)) after r (line_buffer w) (line_buffer v) none (buffer_none r after.held (line_buffer v) flushed) f
-
--- an empty `LineWriter` in front of a device, as `Moves-device`
-pub Moves-line_device : {W : Type 0} {S : ℕ} {a : WriterState} {b : WriterState} {x : List ℕ} {k : List ErrorKind} (told : W → WriterState)
-    (w : LineWriter W S) (device : W) → line_inner w ≡ device → line_buffer w ≡ [] → a ≡ line_told told w → Moves a x k b
-    → Moves (told device) x k b
-Moves-line_device {b = b} {x = x} {k = k} told w device inner none is m = grind (arith, common_steps)
-
 -- Steps of a writer with a buffer: what two steps do, they do one after another. For the lemmas of both buffered writers.
 
 -- no error is `Ok`
@@ -216,12 +201,6 @@ module _ {W : Type 0} {may : W → WriteCall → W → Type 0} {Adds : W → Lis
       adds = joins.more _ _ _ p.sent q.sent p.adds q.adds;
     }
 
-    -- x was held, or passed on by one `write`
-    put_write : (S : ℕ) {C : List WriteCall} {x held left : List ℕ} {reply : Result ℕ Error}
-        → PutCalls S x (length x) (SingleCall (Wrote x)) held C reply left → (a b : W) → Made may a C b
-        → AddsThrough Adds held left a (accepted_of reply x) b
-    put_write = grind (arith, nat_tests, common_steps, take_all, append-nil)
-
     -- by the calls of one `write_all`
     put_all : (S : ℕ) {C : List WriteCall} {x held left : List ℕ} {reply : Result (Unit {0}) Error}
         → PutCalls S x tt (λ C. AllCalls C x) held C reply left → (a b : W) → Made may a C b
@@ -231,18 +210,6 @@ module _ {W : Type 0} {may : W → WriteCall → W → Type 0} {Adds : W → Lis
     put_all S {C} {x} {reply = reply} (inr past) a b made =
         let r = all_adds joins each C x reply a b made past.1.2 in
         (r.0, r.1, r.2, record { sent = r.0; split = grind (arith, append-nil); adds = r.3 })
-
-    -- room was made for x, and then that
-    written_adds : {S : ℕ} {C : List WriteCall} {x held left : List ℕ} {reply : Result ℕ Error} → WriteCalls S x held C reply left
-        → (a b : W) → Made may a C b → CallAdds (AddsThrough Adds held left) a (Wrote x reply) b
-    written_adds {S} {x = x} (first_stops room) a b made = room_adds S (length x) room a b made
-    written_adds {S} {x = x} (first_goes_on {C} {D} room put) a b made =
-        let m = made_split may C a D b made in then_adds (room_adds S (length x) room a m.0 m.1) (put_write S put m.0 b m.2)
-
-    -- The calls of a `write` of x add what is no longer held of the held bytes and of those that the `write` took, after an error too.
-    pub buffered_write_adds : {S : ℕ} {x held left : List ℕ} {reply : Result ℕ Error} {a b : W}
-        → ByCalls may a (λ C. WriteCalls S x held C reply left) b → CallAdds (AddsThrough Adds held left) a (Wrote x reply) b
-    buffered_write_adds {a = a} {b} calls = written_adds calls.are a b calls.made
 
     -- the same of a `write_all`
     written_all_adds : {S : ℕ} {C : List WriteCall} {x held left : List ℕ} {reply : Result (Unit {0}) Error}

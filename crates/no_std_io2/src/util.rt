@@ -17,10 +17,8 @@ mod sides;
 mod strings;
 
 pub use lent::copy_lent;
-pub use no_std_io2_base::empties::Empty;
 pub use no_std_io2_base::makers::{empty, repeat, sink};
-pub use no_std_io2_base::repeats::Repeat;
-pub use no_std_io2_base::sinks::Sink;
+pub use no_std_io2_base::util::{Empty, Repeat, Sink};
 pub use read_at::read_exact_at;
 pub use retries::{flush_with_retries, write_with_retries};
 pub use sides::{CopyError, copy_sided, copy_with};

@@ -11,7 +11,7 @@ use Rattle.no_std_io2_base.specs.inner.Read.{Gathers, no_read, and_gave, and_aga
 use Rattle.no_std_io2_base.specs.{Moves.{WriterState, IsFront, Moves, call_mishap}, inner.Read.{ExactCalls, ToEndCalls}}
 use Rattle.no_std_io2_base.specs.{inner.Pieces.{PartCalls, no_part, and_part, part_interrupted, PieceCalls}, inner.Lines.{AnswersLine}}
 use Rattle.no_std_io2_base.specs.{declared.error.ErrorKind.{ErrorKind}, inner.Kinds.{is_interruption}}
-use Rattle.no_std_io2_base.proofs.{CallsLemmas.{made_split}, MovesLemmas.{Moves-refl, after_ok}}
+use Rattle.no_std_io2_base.proofs.{CallsLemmas.{made_split}, MovesLemmas.{after_ok}}
 
 -- What each call adds to a writer's own state, the calls of a `write_all` or a `write_rest` add together.
 
@@ -105,7 +105,7 @@ module _ {R : Type 0} {may : R → ReadCall → R → Type 0} {Adds : R → List
   -- one `read_exact` of a type with a body of its own for it
   exactly_adds : (buf : List ℕ) (reply : Result (Unit {0}) Error) (a b : R) → may a (GaveExactly (length buf) (gave_whole reply buf)) b
       → (x : List ℕ) × OnOk reply (x ≡ buf) × Adds a x b
-  exactly_adds buf x2 a b call = grind (arith, common_steps)
+  exactly_adds buf reply a b call = grind (arith, common_steps)
 
   -- the reads of a `read_exact`
   fill_adds : (C : List ReadCall) (buf : List ℕ) (reply : Result (Unit {0}) Error) (a b : R) → FillCalls C reply buf → Made may a C b
@@ -153,24 +153,8 @@ module _ {R : Type 0} {may : R → ReadCall → R → Type 0} {Adds : R → List
       (and_last are.0 (Filled last.0) a b (λ mid c. parts_add are.1 a mid c) (λ c d call. each.lent c d last.0 call)
       (subst (λ K. Made may a K b) last.1 m.made))
 
-  -- what the calls of a `read_line` add, which appends the line after `Ok`
-  pub line_adds : {old old' : List ℕ} (reply : Result ℕ Error) (a b : R)
-      → (made : (line : List ℕ) × (read : Result ℕ Error)
-      × ByCalls may a (λ C. PieceCalls (Unit {0}) 10 C line read) b × AnswersLine line read reply old old')
-      → (line : List ℕ) × OnOk reply (old' ≡ old ++ line) × Adds a line b
-  line_adds reply a b (line, read, made, answers) =
-      (line, line_appended _ _ line reply read answers, piece_adds (Unit {0}) 10 read a b made)
-
 -- The laws of `write` and `flush` of a wrapper with a state of its own: from what was accepted, the turns that are left, and what
 -- was added.
-
--- the mishaps of a call of the writer below happened, whatever bytes it accepted
-pub spends_below : {a b : WriterState} {y : List ℕ} {happened : List ErrorKind} → Moves a y happened b → SpendsMishaps a happened b
-spends_below moves = (moves.mishaps, moves.turns)
-
--- without a call of the writer below none happened
-pub spends_nothing : (a : WriterState) → SpendsMishaps a [] a
-spends_nothing a = spends_below (Moves-refl a)
 
 -- a `write` of no byte is no interruption
 pub zero_none : (n : ℕ) (x : List ℕ) → count_by is_interruption (zero_write n x) ≡ 0

@@ -94,7 +94,7 @@ writes_whole (write_fault some is) = tt
 
 -- a call as its law says is one that the writer may make
 pub law_may : {W : Type 0} (I : Writer W) (old new : W) (call : WriteCall) → CallOf I old call new → I.may old call new
-law_may x1 old new x4 law = grind (arith, common_steps)
+law_may I old new call law = grind (arith, common_steps)
 
 -- the `write_all` of a type that has a body of its own for it is one call, with that call's law
 pub own_law : {W : Type 0} {told : W → WriterState} {takes_all : W → Type 0} {may : W → WriteCall → W → Type 0} {a b : W} {x : List ℕ}

@@ -52,12 +52,12 @@ IsLengthened end bs grown =
 
 -- so they do
 pub lengthened_reaches : (end : ℕ) (bs grown : List ℕ) → IsLengthened end bs grown → end ≤ length grown
-lengthened_reaches end bs grown x4 = grind (arith, common_steps)
+lengthened_reaches end bs grown lengthened = grind (arith, common_steps)
 
 -- x was put into such bytes
 pub put_lengthened : (place end : ℕ) (x bs grown : List ℕ) → end ≡ place + length x → IsLengthened end bs grown
     → splice grown place end x ≡ put_at place x bs
-put_lengthened place end x bs grown at x7 = grind (arith, common_steps, length-append, length-replicate, drop_all, append-nil, put_opened)
+put_lengthened place end x bs grown at lengthened = grind (arith, common_steps, length-append, length-replicate, drop_all, append-nil, put_opened)
 
 -- bytes are out as soon as they are accepted
 appends_moves : {old new x : List ℕ} {k : List ErrorKind} → new ≡ old ++ x → count_by is_interruption k ≡ 0
@@ -70,7 +70,7 @@ all_accepted {x = x} moves = record { accepted = x; front = ([], sym (append-nil
 
 -- a refusal is no interruption
 refused_fault : (place : ℕ) (x : List ℕ) (e : Error) → IsRefusal place x e → IsFault e
-refused_fault place x e x4 = grind (arith, common_steps)
+refused_fault place x e refused = grind (arith, common_steps)
 
 -- x that was put goes out
 put_goes_out : (bs : List ℕ) (place : ℕ) (x bs' : List ℕ) (place' : ℕ) → bs' ≡ put_at place x bs
@@ -138,7 +138,7 @@ append_moves {old} {x} (Err e) is same refused = grind (arith, common_steps)
 -- after a `write_all` of x all of x is out, also if x is empty
 all_goes_out : (bs : List ℕ) (place : ℕ) (x bs' : List ℕ) (place' : ℕ) → PutsAll bs place x (Ok tt) bs' place'
     → bytes_before place' bs' ≡ bytes_before place bs ++ x
-all_goes_out bs place x3 bs' place' h = grind (arith, common_steps, put_goes_out)
+all_goes_out bs place x bs' place' h = grind (arith, common_steps, put_goes_out)
 
 -- so it keeps the law of writers
 pub puts_all : (bs : List ℕ) (place : ℕ) (x : List ℕ) (reply : Result (Unit {0}) Error) (bs' : List ℕ) (place' : ℕ)
@@ -154,7 +154,7 @@ puts_all bs place x (Err e) bs' place' h = (
 pub appends_whole : {A : Type 0} (old new x : List ℕ) (len capacity : ℕ) (reply : Result A Error) → OnOk reply (new ≡ old ++ x)
     → OnErr reply (new ≡ old) → IfErr reply IsOutOfMemory → OnErr reply (capacity < len + length x)
     → AppendsWhole old len capacity x reply new
-appends_whole old new x len capacity x6 is same refused full = grind (arith, common_steps)
+appends_whole old new x len capacity reply is same refused full = grind (arith, common_steps)
 
 -- and as a `write_all` it keeps the law
 pub appends_all : {old new x : List ℕ} (len capacity : ℕ) (reply : Result (Unit {0}) Error) → AppendsWhole old len capacity x reply new

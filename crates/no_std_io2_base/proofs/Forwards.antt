@@ -31,7 +31,7 @@ module _ {X Y : Type 0} {R : Reader X} {R' : Reader Y} {put : X → Y} (through 
       subst (λ t. P t (tells R' (put b))) (sym (through.told a)) (subst (λ t. P (tells R a) t) (sym (through.told b)) holds)
 
   call_through : (call : ReadCall) → ReadCallLaw R a call b → ReadCallLaw R' (put a) call (put b)
-  call_through x1 law = grind (arith, common_steps)
+  call_through call law = grind (arith, common_steps)
 
 -- what a call did to a value, it did to that which the value was put into
 module _ {X Y : Type 0} {R : Reader X} {R' : Reader Y} (put : X → Y) (through : PassesReads R R' put) {a b : X} where

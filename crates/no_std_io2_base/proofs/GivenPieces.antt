@@ -3,16 +3,15 @@ use Rattle.no_std_io2_base.proofs.TakesLemmas.{left_of, spends, bytes-append, by
 use Rattle.no_std_io2_base.proofs.PieceLemmas.{pieces-first, pieces-last, ends_with_byte-end, ends_with_byte-lacks}
 use Rattle.std.proofs.Common.{rules, ◌≡◌, ℕ, ◌+◌, ◌<◌, ◌≤◌, ◌⊎◌, false, cond, if◌then◌else◌, Option, Some, None, List, [], ◌∷◌, ◌++◌}
 use Rattle.std.proofs.Common.{length, filter, refl, sym, ap, ap₂, ◌∙◌, subst, arith, append-nil, append_assoc, Result, Ok, Err, inl, inr}
-use Rattle.std.proofs.Common.{⊎_elim, length-append, IfSome, OnSome, IfErr, Vec, String, vec_len, vec_capacity, IsSomeAnd, true}
-use Rattle.std.proofs.Common.{string_len, string_capacity}
+use Rattle.std.proofs.Common.{⊎_elim, length-append, IfSome, OnSome, IfErr, Vec, vec_len, vec_capacity, IsSomeAnd, true}
 use Rattle.std.proofs.lemmas.{Grind.{common_steps}, List.{append_cancel_left, nil_from_length, Folds.{concat-append}}}
 use Rattle.no_std_io2_base.specs.{declared.error.Error.{Error}, Errors.{IsFault, IsOutOfMemory}, Events.{Event, byte, fails, events_of}}
 use Rattle.no_std_io2_base.specs.{Events.{event_bytes, HasNoFault}, inner.Events.{EndsInFault, bytes_to_fault, first_fault}}
 use Rattle.no_std_io2_base.specs.{Takes.{ReaderState, Takes, to_come, Reader, tells}, inner.Iterators.{NextPieceLaw, ends_at, items_left}}
-use Rattle.no_std_io2_base.specs.{BufRead.{ReadUntilLaw, ReadLineLaw}}
-use Rattle.no_std_io2_base.specs.inner.Pieces.{Lacks, EndsAt, pieces_of, pieces_before, pieces_given, GivesFirst, ComeFirst}
+use Rattle.no_std_io2_base.specs.{BufRead.{ReadUntilLaw}}
+use Rattle.no_std_io2_base.specs.inner.Pieces.{Lacks, EndsAt, pieces_of, pieces_before, pieces_given, GivesFirst}
 use Rattle.no_std_io2_base.specs.inner.Pieces.{GivesNext, GivesNone, GivenRead}
-use Rattle.no_std_io2_base.specs.{Pieces.{newline, GivesPieces, AreAllPieces}, Moves.{IsFront}, Reads.{StopsAfter}}
+use Rattle.no_std_io2_base.specs.{Pieces.{GivesPieces, AreAllPieces}, Reads.{StopsAfter}}
 use Rattle.std.specs.{List.{concat}, Io.BufRead.{ends_with_byte}}
 use Rattle.no_std_io2_base.specs.inner.Pieces.{PieceEnds}
 
@@ -33,7 +32,7 @@ bytes_to_fault-append (fails e ∷ P) Q h = ap (λ t. if t then bytes_to_fault (
 -- a piece that ends in d is the first piece, whatever follows
 before-first : (d : ℕ) (f : Option Error) (bs cs : List ℕ) → Lacks d bs
     → pieces_before d f (bs ++ d ∷ cs) ≡ (bs ++ d ∷ []) ∷ pieces_before d f cs
-before-first d x2 bs cs h = grind (arith, common_steps, pieces-first, filter, cond, ends_with_byte-end)
+before-first d f bs cs h = grind (arith, common_steps, pieces-first, filter, cond, ends_with_byte-end)
 
 -- what a front without faults is in what is given
 given-front : (d : ℕ) (P Q : List Event) → HasNoFault P
@@ -64,7 +63,7 @@ given_next d E P after split free ends some =
 -- if they have no byte, they are all
 given_none : (d : ℕ) (E P after : List Event) → E ≡ P ++ after → HasNoFault P → EndsAt d P ⊎ (Lacks d (event_bytes P) × (after ≡ []))
     → length (event_bytes P) ≡ 0 → GivesNone d E
-given_none d x2 x3 after split free x7 x8 =
+given_none d E P after split free at none =
     grind (arith, common_steps, bytes-append, length-append, given-front, nil_from_length, first_fault-append)
 
 -- bytes without a d give no piece that a d ended
@@ -117,14 +116,6 @@ pub until_given : {X A : Type 0} {R : Reader X} {old new : X} {d : ℕ} {buf buf
 until_given {buf = buf} {reply = reply} {E} law told =
     piece_given (λ n. vec_capacity buf < vec_len buf + n) _ _ _ E law.taken reply law.takes law.ends told
 
--- The same of a `read_line`; its `read` is the result before the bytes become a text.
-pub line_given : {X A : Type 0} {R : Reader X} {old new : X} {buf buf' : String A} {reply : Result ℕ Error} {E : List Event}
-    → (law : ReadLineLaw R old buf reply buf' new) → to_come (tells R old) ≡ Some E
-    → (after : List Event) × (to_come (tells R new) ≡ Some after) × (E ≡ law.taken ++ after)
-    × GivenRead newline E (event_bytes law.taken) law.read after
-line_given {buf = buf} {E = E} law told =
-    piece_given (λ n. string_capacity buf < string_len buf + n) _ _ _ E law.taken law.read law.takes law.ends told
-
 -- there are no more bytes than events
 pub few_bytes : (P : List Event) → length (event_bytes P) ≤ length P
 few_bytes [] = omega arith
@@ -140,12 +131,12 @@ module _ {X T : Type 0} {R : Reader X} {old new : X} {view : T → List ℕ} {tr
     -- each item of `Split` and `Lines` spends a turn
     pub next_turns : (result : Option (Result T Error)) → NextPieceLaw R old view trim refuses d result new
         → OnSome result (items_left (ends_at result) (R.turns new) < items_left false (R.turns old))
-    next_turns x1 law = grind (arith, common_steps)
+    next_turns result law = grind (arith, common_steps)
 
     -- and each of their errors is a fault
     pub next_fault : (result : Option (Result T Error)) → ((piece : List ℕ) (e : Error) → refuses piece e → IsFault e)
         → NextPieceLaw R old view trim refuses d result new → IfSome result (λ item. IfErr item IsFault)
-    next_fault x1 refused law = grind (arith, common_steps)
+    next_fault result refused law = grind (arith, common_steps)
 
     module _ {E : List Event} (told : to_come (tells R old) ≡ Some E) where
       -- an item is the next piece, trimmed
@@ -197,12 +188,6 @@ until_says {R = R} {d} {reply} {old} {new} law = by (to_come (tells R old)) refl
     by None is = tt
     by (Some E) is = let given = until_given law is in grind (arith, common_steps, nil_from_length, same_pieces, given)
 
--- the fault behind the pieces so far
-faulted : (d : ℕ) (a b c : Option (List Event)) (ps : List (List ℕ)) (x : List ℕ) (e : Error)
-    → IfSome a (λ E. IsSomeAnd b (GivesFirst d E ps)) → IfSome b (λ E. IsSomeAnd c (Says d E x (Err e)))
-    → IfSome a (λ E. (pieces_given d E ≡ ps) × (first_fault E ≡ Some e)) ⊎ IsOutOfMemory e
-faulted d a b c ps x e first next = grind (arith, common_steps)
-
 -- a part of a piece behind them
 parted : (d n : ℕ) (E F after : List Event) (ps : List (List ℕ)) (x part rest : List ℕ) → x ≡ part ++ rest → GivesFirst d E ps F
     → Says d F x (Ok n) after → bytes_to_fault E ≡ (concat ps ++ part) ++ (rest ++ bytes_to_fault after)
@@ -219,24 +204,6 @@ module _ {X A : Type 0} {R : Reader X} {d : ℕ} {a : ReaderState} {ps : List (L
     pub pieces_end : {n : ℕ} (law : ReadUntilLaw R mid d buf (Ok n) buf' new) → n ≡ 0
         → GivesPieces d a ps (tells R new) × AreAllPieces d a ps None
     pieces_end law none = grind (arith, common_steps, until_says law, append-nil)
-
-    -- a `read_until` failed: these were all pieces before this fault, or an allocation failed
-    pub pieces_fault : {e : Error} → ReadUntilLaw R mid d buf (Err e) buf' new → AreAllPieces d a ps (Some e) ⊎ IsOutOfMemory e
-    pieces_fault law = faulted d _ _ _ ps (event_bytes law.taken) _ gives.told (until_says law)
-
-    -- a part of the piece comes first, behind the pieces so far
-    pub pieces_part : {n : ℕ} (law : ReadUntilLaw R mid d buf (Ok n) buf' new) (part line : List ℕ) → IsFront part line
-        → line ≡ event_bytes law.taken → ComeFirst a (concat ps ++ part)
-    pieces_part {n} law part line (rest, is) same =
-        by (to_come a) (to_come (tells R mid)) (to_come (tells R new)) gives.told (until_says law)
-      where
-        by : (t m u : Option (List Event)) → IfSome t (λ E. IsSomeAnd m (GivesFirst d E ps))
-            → IfSome m (λ E. IsSomeAnd u (Says d E (event_bytes law.taken) (Ok n)))
-            → IfSome t (λ E. IsFront (concat ps ++ part) (bytes_to_fault E))
-        by None m u first next = tt
-        by (Some E) (Some F) (Some after) first next =
-            (rest ++ bytes_to_fault after, parted d n E F after ps _ part rest (sym same ∙ is) first next)
-        by (Some E) m u first next = grind (arith, common_steps)
 
     -- a `read_until` failed: behind the pieces so far these bytes were taken
     pub stops_reading : {e : Error} (law : ReadUntilLaw R mid d buf (Err e) buf' new)

@@ -12,7 +12,7 @@ use Rattle.no_std_io2_base.specs.{Read.{ReadFullLaw, ReadToEndLaw}, Errors.{IsOu
 use Rattle.no_std_io2_base.specs.declared.traits.seek.SeekFrom.TheVariants.{Start}
 use Rattle.no_std_io2_base.proofs.TakesLemmas.{bytes-append, events_of-append, bytes-events_of, bytes-behind, cut-bytes, cut-append}
 use Rattle.no_std_io2_base.proofs.TakesLemmas.{HasNoFault-front, HasNoFault-behind, HasNoFault-events_of, bytes-cut, all_taken, left_of}
-use Rattle.no_std_io2_base.proofs.{TakesLemmas.{front_taken, Took-then}, LimitLemmas.{cut-within, limit_reader, limit_to_end}}
+use Rattle.no_std_io2_base.proofs.{LimitLemmas.{cut-within, limit_reader, limit_to_end}}
 use Rattle.no_std_io2_base.specs.{Read.{ToEndLaw}, inner.Take.{limit_left, limit_inner, cut_to_come}}
 use Rattle.no_std_io2_base.specs.declared.traits.take.Take.{Take}
 use Rattle.no_std_io2_base.specs.inner.Read.{FillsOrEnds}
@@ -124,15 +124,6 @@ exact_cut {buf' = buf'} bs rest law told fits =
 same_front : (p q r s : List ℕ) → p ++ r ≡ q ++ s → length q ≡ length p → q ≡ p
 same_front p q r s is long =
     sym (take-append_seam q s) ∙ ap (λ n. take n (q ++ s)) long ∙ ap (take (length p)) (sym is) ∙ take-append_seam p r
-
--- Two reads, of as many bytes as two known parts have, gave these parts.
-pub in_parts : {a b c : ReaderState} {x y : List ℕ} (ps qs rest : List ℕ) → TakesBytes a x b → TakesBytes b y c
-    → to_come a ≡ Some (events_of (ps ++ (qs ++ rest))) → length x ≡ length ps → length y ≡ length qs → (x ≡ ps) × (y ≡ qs)
-in_parts {x = x} {y} ps qs rest first next told long longer =
-    let (more, is) = front_taken (ps ++ (qs ++ rest)) (x ++ y) (Took-then first next) told in
-    let same = is ∙ append_assoc x y more in
-    let one = same_front ps x _ _ same long in
-    (one, same_front qs y rest more (append_cancel_left x _ _ (ap (λ l. l ++ (qs ++ rest)) one ∙ same)) longer)
 
 -- What a call gives if only bytes are to come, and what it took is all of them.
 

@@ -43,33 +43,33 @@ cut-within (fails e ∷ P) R (suc k) k' within falls =
 
 cut_taken : (E E' : Option (List Event)) (P : List Event) (k k' : ℕ) → AreTaken E P E' → cut k P ≡ P → k' + length (event_bytes P) ≡ k
     → AreTaken (cut_to_come k E) P (cut_to_come k' E')
-cut_taken x1 x2 x3 k k' taken within falls = grind (arith, common_steps, cut-within)
+cut_taken E E' P k k' taken within falls = grind (arith, common_steps, cut-within)
 
 -- the end is the end of the cut events
 pub cut_end : (k : ℕ) (E : Option (List Event)) → IfSome E (λ l. l ≡ []) → IfSome (cut_to_come k E) (λ l. l ≡ [])
-cut_end k x2 end = grind (arith, common_steps, cut-none)
+cut_end k E end = grind (arith, common_steps, cut-none)
 
 -- at limit 0 it is at its end
 pub cut_zero : (k : ℕ) (E : Option (List Event)) → k ≡ 0 → IfSome (cut_to_come k E) (λ l. l ≡ [])
-cut_zero k x2 x3 = grind (arith, common_steps)
+cut_zero k E none = grind (arith, common_steps)
 
 -- bytes that fit and an error before the last of them are within
 answered_within : (k : ℕ) (answer : Result (List ℕ) Error) → 0 < k → length (bytes_given answer) ≤ k
     → cut k (answered answer) ≡ answered answer
-answered_within k x2 some fits = grind (arith, common_steps, cut-fitting, cut-error)
+answered_within k answer some fits = grind (arith, common_steps, cut-fitting, cut-error)
 
 pub bytes-answered : (answer : Result (List ℕ) Error) → event_bytes (answered answer) ≡ bytes_given answer
-bytes-answered x1 = grind (arith, common_steps, bytes-events_of)
+bytes-answered answer = grind (arith, common_steps, bytes-events_of)
 
 -- the error that was lent is that which came from the inner reader
 fault_within : (k : ℕ) (lent : Result (List ℕ) Error) → fault_of (lent_within k lent) ≡ fault_of lent
-fault_within k x2 = grind (arith, common_steps)
+fault_within k lent = grind (arith, common_steps)
 
 pub fault-bytes : (answer : Result (List ℕ) Error) → event_bytes (fault_of answer) ≡ []
-fault-bytes x1 = grind (arith, common_steps)
+fault-bytes answer = grind (arith, common_steps)
 
 fault-within : (k : ℕ) (answer : Result (List ℕ) Error) → 0 < k → cut k (fault_of answer) ≡ fault_of answer
-fault-within k x2 some = grind (arith, common_steps)
+fault-within k answer some = grind (arith, common_steps)
 
 -- bytes that are cut are their first ones
 cut-events_of : (k : ℕ) (bs : List ℕ) → cut k (events_of bs) ≡ events_of (take k bs)
@@ -80,7 +80,7 @@ cut-events_of (suc k) (b ∷ bs) = ap (λ l. byte b ∷ l) (cut-events_of k bs)
 -- as many bytes as fit in the room up to the limit are as many of those up to the limit as fit in the room
 gave_most : (room limit left some : ℕ) (answer : Result (List ℕ) Error) → some ≡ min limit left
     → IsOkAnd answer (λ x. length x ≡ min (min room limit) left) → IsOkAnd answer (λ x. length x ≡ min room some)
-gave_most room limit left some x5 is gave_front = grind (arith, common_steps)
+gave_most room limit left some answer is gave_front = grind (arith, common_steps)
 
 module _ {T : Type 0} {inner : Reader T} where
   -- what the inner reader took, the `Take` took
@@ -197,7 +197,7 @@ module _ {T : Type 0} (inner : Reader T) where
 -- what comes next under the limit begins with a part of what comes next
 pub front_cut : (E : Option (List Event)) (bs : List ℕ) (n k : ℕ) → n ≤ k → IfSome E (λ l. BeginsWith l bs)
     → IfSome (cut_to_come k E) (λ l. BeginsWith l (take n bs))
-front_cut x1 bs n k within front = grind (arith, common_steps, begins_cut)
+front_cut E bs n k within front = grind (arith, common_steps, begins_cut)
 
 -- some bytes under the limit are some bytes
 pub some_within : (k : ℕ) (bs : List ℕ) → 0 < length (take k bs) → 0 < length bs
@@ -205,11 +205,11 @@ some_within k bs some = omega (arith, some, length-take k bs)
 
 -- no bytes under a limit above 0 are none
 pub none_within : (k : ℕ) (bs : List ℕ) → 0 < k → take k bs ≡ [] → bs ≡ []
-none_within k x2 some x4 = grind (arith, common_steps)
+none_within k bs some none = grind (arith, common_steps)
 
 -- of no bytes none are under the limit
 pub none_lent : (k : ℕ) {bs : List ℕ} → bs ≡ [] → take k bs ≡ []
-none_lent x1 x2 = grind (arith, common_steps)
+none_lent k none = grind (arith, common_steps)
 
 -- at limit 0 nothing is held
 pub none_at_limit : {k : ℕ} (bs : List ℕ) → k ≡ 0 → take k bs ≡ []

@@ -249,7 +249,7 @@ line_at_once {R = R} {old} {lent = lent} {n} {buf = buf} {buf'} filled found who
     }
 
 memory_or_other : (kind : ErrorKind) → (kind ≡ OutOfMemory) ⊎ (kind ≡ OutOfMemory → ⊥)
-memory_or_other x1 = grind (arith, common_steps)
+memory_or_other kind = grind (arith, common_steps)
 
 -- before a fault no byte of a line came, and the text stays
 pub line_faulted : {X A : Type 0} {R : Reader X} {old new : X} {e : Error} {buf : String A} → FilledLaw R old (Err e) new → IsFault e
@@ -275,4 +275,4 @@ line_faulted {R = R} {old} {e = e} {buf} filled fault =
 -- a text refuses only a line that has some bytes
 pub line_some : {A : Type 0} (buf : String A) (line : List ℕ)
     → (string_capacity buf < string_len buf + length line) ⊎ (IsUtf8 line → ⊥) → 0 < length line
-line_some buf x2 line_refused = grind (arith, common_steps)
+line_some buf line line_refused = grind (arith, common_steps)

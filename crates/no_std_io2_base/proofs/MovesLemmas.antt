@@ -3,7 +3,7 @@ use Rattle.std.proofs.{lemmas.Grind.{common_steps, flat_map-append}, Common.{◌
 use Rattle.std.proofs.Common.{List, [], ◌∷◌, ◌++◌, Option, None, Some, refl, sym, ap, ◌∙◌, arith, count_by, append_assoc, append-nil, ◌<◌}
 use Rattle.std.proofs.Common.{take, drop, get_or, take-append-drop, flat_map, OnErr, IsOk, codes, length-drop, inl, inr}
 use Rattle.std.proofs.lemmas.{List.{Sums.{sum_by-append, sum_by-cons}, take_more, flat_map_more}, Bool.Decides.{nat_tests}}
-use Rattle.std.proofs.lemmas.List.{append_cancel_left, Folds.{concat-append}}
+use Rattle.std.proofs.lemmas.List.{Folds.{concat-append}}
 use Rattle.no_std_io2_base.specs.{declared.error.ErrorKind.{ErrorKind}, declared.error.Error.{Error}}
 use Rattle.no_std_io2_base.specs.{Moves.{WriterState, IsFront, Moves, MovesFront, Sends, call_mishap}, inner.Moves.{HasSpent}}
 use Rattle.no_std_io2_base.specs.inner.Write.{MovesEach, zero_write, Writes, no_write, write_took, write_again, write_stuck, write_fault}
@@ -18,15 +18,11 @@ use Rattle.no_std_io2_base.proofs.CallsLemmas.{writes_whole, law_may}
 
 -- what holds, holds after an `Ok`
 pub after_ok : {A E : Type 0} {P : Type 0} (reply : Result A E) → P → OnOk reply P
-after_ok x1 p = grind (arith, common_steps)
+after_ok reply p = grind (arith, common_steps)
 
 -- a list is a front of itself
 pub IsFront-refl : (xs : List ℕ) → IsFront xs xs
 IsFront-refl xs = ([], sym (append-nil xs))
-
--- a front of a front is a front of the whole
-pub IsFront-trans : (xs ys zs : List ℕ) → IsFront xs ys → IsFront ys zs → IsFront xs zs
-IsFront-trans xs ys zs f g = (f.0 ++ g.0, g.1 ∙ ap (λ l. l ++ g.0) f.1 ∙ append_assoc xs f.0 g.0)
 
 -- in two lists joined as many are counted as in the first and in the second together
 pub count_by-append : {X : Type 0} (p : X → Bool) (xs ys : List X) → count_by p (xs ++ ys) ≡ count_by p xs + count_by p ys
@@ -92,7 +88,7 @@ MovesFront-join x y r f g = record {
 }
   where
     joined : (r : Result (Unit {0}) Error) → OnOk r (g.accepted ≡ y) → OnOk r (x ++ g.accepted ≡ x ++ y)
-    joined x1 e = grind (arith, common_steps)
+    joined r e = grind (arith, common_steps)
 
 -- `write_all(x)?; write_all(y)`, if the first failed: the second was not made
 pub MovesFront-first : {a b : WriterState} (x y : List ℕ) (e : Error) → MovesFront a x (Err e) b → MovesFront a (x ++ y) (Err e) b
@@ -102,11 +98,6 @@ MovesFront-first x y e f = grind (arith, common_steps)
 pub MovesFront-ends : {a b c : WriterState} (x : List ℕ) (r : Result (Unit {0}) Error) → Moves a x [] b
     → Moves b [] (call_mishap r) c → MovesFront a x r c
 MovesFront-ends x r m n = record { accepted = x; front = IsFront-refl x; whole = after_ok r refl; moves = Moves-ends m n }
-
--- `write_all(x)?; write_all(y)?; write_all(z)`, if the first two returned `Ok`
-pub MovesFront-three : {a b c d : WriterState} (x y z : List ℕ) (r : Result (Unit {0}) Error) → MovesFront a x (Ok tt) b
-    → MovesFront b y (Ok tt) c → MovesFront c z r d → MovesFront a (x ++ y ++ z) r d
-MovesFront-three x y z r f g h = MovesFront-join (x ++ y) z r (MovesFront-join x y (Ok tt) f g) h
 
 -- `write_all(x)?; write_all(y)?; write_all(z)`, if the second failed: the third was not made
 pub MovesFront-second : {a b c : WriterState} (x y z : List ℕ) (e : Error) → MovesFront a x (Ok tt) b → MovesFront b y (Err e) c
@@ -133,25 +124,10 @@ pub Moves-each : (a c : WriterState) (xs : List (List ℕ)) → MovesEach a xs c
 Moves-each a c [] f = f
 Moves-each a c (x ∷ xs) f = Moves-then f.1 (Moves-each f.0 c xs f.2)
 
--- What a writer that held nothing accepted is out behind what was out, or held.
-pub out_front : {a b : WriterState} {x : List ℕ} {k : List ErrorKind} → Moves a x k b → a.held ≡ []
-    → (sent : List ℕ) × (b.out ≡ a.out ++ sent) × (x ≡ sent ++ b.held)
-out_front {a} {b} {x} moves empty = grind (arith, common_steps, append_assoc, append_cancel_left)
-
--- A device behind a new buffer has what it had, and then a front of the text, after an error too.
-pub device_front : {a b : WriterState} {text : List ℕ} {r : Result (Unit {0}) Error} → MovesFront a text r b → a.held ≡ []
-    → (sent : List ℕ) × (b.out ≡ a.out ++ sent) × IsFront sent text
-device_front {b = b} m empty =
-    let (sent, is, split) = out_front m.moves empty in (sent, is, IsFront-trans sent _ _ (b.held, split) m.front)
-
 -- After a `flush` that returned `Ok`, a device behind a new buffer has all of the text.
 pub device_empty : {a b : WriterState} {text : List ℕ} {k : List ErrorKind} → Moves a text k b → a.held ≡ [] → b.held ≡ []
     → b.out ≡ a.out ++ text
 device_empty {a} {b} {text} moves empty flushed = grind (arith, common_steps)
-
--- After all of a list was written, and flushed, its elements are out, joined.
-pub all_passed : (a b : WriterState) (xs : List (List ℕ)) → MovesEach a xs b → a.held ≡ [] → b.held ≡ [] → b.out ≡ a.out ++ concat xs
-all_passed a b xs each empty flushed = device_empty (Moves-each a b xs each) empty flushed
 
 -- A loop that passes pieces on has passed one more.
 pub Moves-piece : {a b c : WriterState} {line piece : List ℕ} {u : Unit {0}} (ps : List (List ℕ)) → Moves a (concat ps) [] b
@@ -159,11 +135,6 @@ pub Moves-piece : {a b c : WriterState} {line piece : List ℕ} {u : Unit {0}} (
 Moves-piece {a} {b} {c} {line} {piece} {u} ps so_far next same =
     rw (concat-append ps (piece ∷ []), append-nil piece)
     (Moves-trans so_far (subst (λ l. Moves b l [] c) same (MovesFront-whole line u next)))
-
--- `write_rest(&mut x)?; flush()`, if the first returned `Ok`
-pub Sends-flush : {a b c : WriterState} {r : Result (Unit {0}) Error} {u : Unit {0}} {x left : List ℕ} → Sends a x (Ok u) b left
-    → Moves b [] (call_mishap r) c → Sends a x r c left
-Sends-flush f g = record { sent = f.sent; split = f.split; moves = Moves-ends f.moves g }
 
 -- A loop writes the text of each element of a list.
 module _ {X : Type 0} (text : X → List ℕ) (xs : List X) (i : ℕ) (d : X) (within : i < length xs) where
@@ -222,7 +193,7 @@ writes_left (write_fault some is) = some
 -- for no bytes there is no call
 pub writes_idle : {text : List ℕ} {C : List WriteCall} {x left : List ℕ} {reply : Result (Unit {0}) Error}
     → Writes text C x reply left → x ≡ [] → (C ≡ []) × IsOk reply
-writes_idle x1 empty = grind (arith, common_steps)
+writes_idle writes empty = grind (arith, common_steps)
 
 module _ {X : Type 0} (I : Writer X) where
   -- what was accepted
@@ -272,7 +243,7 @@ module _ {X : Type 0} (I : Writer X) where
 -- a call of a writer with no mishap to come returns `Ok`
 pub call_steady : {a c : WriterState} {x : List ℕ} (reply : Result (Unit {0}) Error) → a.mishaps ≡ Some [] → Moves a x (call_mishap reply) c
     → IsOk reply
-call_steady x1 e f = grind (arith, common_steps, Moves-steady)
+call_steady reply e f = grind (arith, common_steps, Moves-steady)
 
 module _ {X : Type 0} (I : Writer X) where
   -- what a writer that takes all does: it still takes all, and returns `Ok`

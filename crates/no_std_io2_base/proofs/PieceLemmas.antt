@@ -1,15 +1,15 @@
 -- Pieces of bytes, and what calls took of one.
 use Rattle.std.proofs.{lemmas.Grind.{common_steps}, Common.{◌≡◌, ◌≢◌, ℕ, ◌==◌, true, false, Bool, if◌then◌else◌, List, [], ◌∷◌, ◌++◌}}
 use Rattle.std.proofs.Common.{length, refl, sym, ap, ◌∙◌, arith, true≢false, eqb-true, eq-eqb, ne_eqb, suc-ne-zero, get_or, drop, count_by}
-use Rattle.std.proofs.Common.{ap₂, cond, ◌&&◌, length-append, ◌⊎◌, inl, inr, ◌+◌, ◌<◌, ◌≤◌, take, All, Option, None, Some, IfSome}
+use Rattle.std.proofs.Common.{ap₂, cond, ◌&&◌, length-append, inl, inr, ◌+◌, ◌<◌, ◌≤◌, take, All, Option, None, Some, IfSome}
 use Rattle.std.proofs.Common.{append_assoc, append-nil, add-one}
 use Rattle.std.proofs.Common.{take-suc, slice_index, drop_of_length-le, take_all, le_refl, length-take, take-append-drop, rules, Result, Ok}
-use Rattle.std.proofs.{Common.{Err, Vec, vec_len, vec_capacity, subst, ⊎_elim, ◌-◌}, lemmas.List.Sums.{sum_by-append, sum_by-cons}}
+use Rattle.std.proofs.{Common.{Err, Vec, vec_len, vec_capacity, subst, ⊎_elim, ◌-◌}, lemmas.List.Sums.{sum_by-cons}}
 use Rattle.std.proofs.lemmas.{Bool.{lt-ltb}, List.{get_or-append-add, get_or_default, Elements.{recursion_from_All}}}
-use Rattle.no_std_io2_base.specs.inner.Pieces.{Lacks, in_front, pieces_of, ArePieces, EndsPiece, EndsAt, but_last, FindsPiece}
+use Rattle.no_std_io2_base.specs.inner.Pieces.{Lacks, in_front, pieces_of, ArePieces, EndsPiece, but_last, FindsPiece}
 use Rattle.no_std_io2_base.specs.inner.Pieces.{IsPiecePart, ComesBehind, PartCalls, no_part, and_part, part_interrupted, PieceCalls}
 use Rattle.std.specs.Io.BufRead.{ends_with_byte}
-use Rattle.no_std_io2_base.specs.{inner.Pieces.{IsAll}, Events.{Event, byte, event_bytes, fails, events_of, HasNoFault}}
+use Rattle.no_std_io2_base.specs.{Events.{Event, byte, event_bytes, fails, events_of, HasNoFault}}
 use Rattle.no_std_io2_base.specs.{inner.Events.{BeginsWith}, Takes.{ReaderState, Takes, to_come, Reader}, inner.Takes.{AreTaken}}
 use Rattle.no_std_io2_base.specs.{declared.error.Error.{Error}, Errors.{IsInterruption}, Calls.{ReadCall, Filled, Consumed}}
 use Rattle.no_std_io2_base.specs.{inner.Read.{FilledLaw}, BufRead.{ReadUntilLaw}}
@@ -131,23 +131,6 @@ pub count-lacks : (d : ℕ) (bs : List ℕ) → Lacks d bs → count_by (λ b. b
 count-lacks d [] none = refl
 count-lacks d (b ∷ bs) none =
     omega (arith, sum_by-cons (λ b. cond (b == d) 1 0) b bs, ap {B = ℕ} (λ t. cond t 1 0) (ne_eqb b d none.0), count-lacks d bs none.1)
-
--- bytes that end in d, the only one in them, have one
-pub count-piece : (d : ℕ) (bs : List ℕ) → EndsPiece d bs → count_by (λ b. b == d) bs ≡ 1
-count-piece d bs ends = grind (arith, common_steps, sum_by-append, sum_by-cons, count-lacks, eq-eqb)
-
--- the bytes of a piece end in d, the only d in them
-pub piece_bytes : {d : ℕ} {P : List Event} → EndsAt d P → EndsPiece d (event_bytes P)
-piece_bytes {d} {P} (front, is, none) = (event_bytes front, ap event_bytes is ∙ bytes-append front (byte d ∷ []), none)
-
--- What one piece is, by its last byte: it ends in d, or it is the last one.
-pub piece_ended : (d : ℕ) (old : ReaderState) (P : List Event) → EndsAt d P ⊎ (Lacks d (event_bytes P) × IsAll old P)
-    → (ends_with_byte d (event_bytes P) ≡ true → EndsPiece d (event_bytes P))
-    × (ends_with_byte d (event_bytes P) ≡ false → Lacks d (event_bytes P) × IsAll old P)
-piece_ended d old P (inl at) =
-    let ends = piece_bytes at in
-    (λ _. ends, λ not. absurd (true≢false (sym (ap (ends_with_byte d) ends.1 ∙ ends_with_byte-end d ends.0) ∙ not)))
-piece_ended d old P (inr last) = (λ ended. absurd (true≢false (sym ended ∙ ends_with_byte-lacks d (event_bytes P) last.0)), λ _. last)
 
 -- Bytes that belong to one piece.
 

@@ -21,7 +21,7 @@ use Rattle.no_std_io2_base.specs.inner.Pieces.{PieceEnds}
 -- a `fill_buf` and its loan are a call
 fill_law : {X : Type 0} {R : Reader X} {old new : X} (reply : Result (Bor (List ℕ)) Error) → FillBufLaw R old reply
     → AfterLoan R old reply new → FilledLaw R old (lent_bytes reply) new
-fill_law x1 law loan = grind (arith, common_steps)
+fill_law reply law loan = grind (arith, common_steps)
 
 -- a `fill_buf` and its loan are a call, with the result as a `match` names it
 pub filled_law : {X : Type 0} {R : Reader X} {old new : X} {reply answer : Result (Bor (List ℕ)) Error} → reply ≡ answer

@@ -178,7 +178,7 @@ EndsInFault-behind P Q {e} no_fault fault = grind (arith, common_steps, append_a
 
 -- how it ended behind events without a fault
 pub ends_so : (c : ReaderState) (P Q : List Event) (how : Result Bool Error) → HasNoFault P → GathersTo Q how c → GathersTo (P ++ Q) how c
-ends_so c P Q x4 none ends = grind (arith, common_steps, HasNoFault-append, EndsInFault-behind)
+ends_so c P Q how none ends = grind (arith, common_steps, HasNoFault-append, EndsInFault-behind)
 
 -- bytes and then others
 pub Took-then : {a b c : ReaderState} {x y : List ℕ} {how : Result Bool Error} → Took a x (Ok true) b → Took b y how c
@@ -205,11 +205,11 @@ TakesBytes-pair (Err e) one next = tt
 module _ {X : Type 0} (R : Reader X) where
   -- a call that keeps its law is one that the reader may make
   read_may : (a b : X) (call : ReadCall) → ReadCallLaw R a call b → R.may a call b
-  read_may a b x3 law = grind (arith, common_steps)
+  read_may a b call law = grind (arith, common_steps)
 
   -- and it takes something
   law_takes : (a b : X) (call : ReadCall) → ReadCallLaw R a call b → (P : List Event) × Takes (tells R a) P (tells R b)
-  law_takes a b x3 law = grind (arith, common_steps)
+  law_takes a b call law = grind (arith, common_steps)
 
   -- calls, without their laws
   pub made_may : (C : List ReadCall) (a b : X) → Made (ReadCallLaw R) a C b → Made R.may a C b
@@ -237,7 +237,7 @@ read_law (Err e) read = record { bound = omega arith; takes = read.takes; end = 
 -- and a call that fits is a `read`
 pub read_by : {X : Type 0} {R : Reader X} {old new : X} {buf buf' : List ℕ} (reply : Result ℕ Error) → IfOk reply (λ n. n ≤ length buf')
     → GaveLaw R old (length buf') (gave_front reply buf') new → ReadLaw R old buf reply buf' new
-read_by x1 bound law = grind (arith, common_steps)
+read_by reply bound law = grind (arith, common_steps)
 
 -- a read that gives some bytes spends a turn
 pub read_spends : {X : Type 0} {R : Reader X} {old new : X} {buf buf' : List ℕ} {n : ℕ} → ReadLaw R old buf (Ok n) buf' new → (n ≡ 0 → ⊥)
@@ -257,15 +257,15 @@ met_end law is none some = let zero = nothing_read law is none in (zero.takes, z
 
 -- then all of it was taken
 pub all_taken : (P : List Event) (room : ℕ) (left : Option (List Event)) → IfSome left (λ E. E ≡ []) → IfSome left (AllOrNone P room)
-all_taken x1 room x3 end = grind (arith, common_steps)
+all_taken P room left end = grind (arith, common_steps)
 
 -- how a `read_to_end` ended, as one call
 pub drains_ended : (lacks : Type 0) (P : List Event) (reply : Result ℕ Error) (new : ReaderState) → DrainsOrStops lacks P reply new
     → DrainsOrStops (Unit {0}) P (without_number reply) new
-drains_ended lacks x2 x3 new ends = grind (arith, common_steps)
+drains_ended lacks P reply new ends = grind (arith, common_steps)
 
 pub cut-none : (k : ℕ) → cut k [] ≡ []
-cut-none x1 = grind (arith, common_steps)
+cut-none k = grind (arith, common_steps)
 
 -- a cut past all bytes keeps them
 pub cut-fitting : (k : ℕ) (bs : List ℕ) → length bs ≤ k → cut k (events_of bs) ≡ events_of bs
@@ -275,7 +275,7 @@ cut-fitting (suc k) (b ∷ bs) fits = ap (λ l. byte b ∷ l) (cut-fitting k bs 
 
 -- and an error, if it comes before the last byte
 pub cut-error : (k : ℕ) (e : Error) → 0 < k → cut k (fails e ∷ []) ≡ fails e ∷ []
-cut-error x1 e some = grind (arith, common_steps)
+cut-error k e some = grind (arith, common_steps)
 
 -- bytes that fit fill the room alone
 pub gives_whole : {room : ℕ} (x : List ℕ) → length x ≤ room → Gives room (events_of x) x

@@ -8,7 +8,7 @@ use Rattle.std.proofs.lemmas.Fn.{chained_keeps}
 use Rattle.no_std_io2_base.specs.{declared.error.{Error.{Error}, ErrorKind.TheVariants.{WriteZero}}, Errors.{IsInterruption, IsFault}}
 use Rattle.no_std_io2_base.specs.{Errors.{SaysError, IsNoInterruption, IsTextError}, Calls.{Wrote}}
 use Rattle.no_std_io2_base.specs.inner.Write.{Writes, no_write, write_took, write_again, write_stuck, write_fault}
-use Rattle.no_std_io2_base.specs.{Moves.{WriterState, Sends, Moves, MovesFront, call_mishap}, inner.Moves.{HasSpent, HasSpentTries}}
+use Rattle.no_std_io2_base.specs.{Moves.{WriterState, Moves, MovesFront, call_mishap}, inner.Moves.{HasSpent, HasSpentTries}}
 use Rattle.no_std_io2_base.specs.Writers.{Writer, TakesAll, WriteOf, WriteRestOf, WriteAllOf}
 use Rattle.no_std_io2_base.specs.inner.Writers.{CallOf, PrintsOf, WriteFmtOf}
 use Rattle.no_std_io2_base.specs.{declared.error.ErrorKind.{ErrorKind}, Retries.{HasAtMost, Tries, next_try}}
@@ -24,7 +24,7 @@ use mathlib.Core.HLevel.{⊥_prop}
 
 -- what the test `is_empty` says of a slice if it is false
 pub not_empty : (b : Bool) (left : List ℕ) → b ≡ (length left == 0) → b ≡ false → 0 < length left
-not_empty b x2 is h = grind (arith, common_steps)
+not_empty b left is h = grind (arith, common_steps)
 
 -- what the test `is_empty` says of a slice if it is true
 pub is_empty : (b : Bool) (left : List ℕ) → b ≡ (length left == 0) → b ≡ true → left ≡ []
@@ -80,17 +80,9 @@ module _ {X : Type 0} {I : Writer X} {old now : X} {start left : List ℕ} where
 
 -- How tries follow one another.
 
--- at the start nothing went, and all is still to go
-pub sends_none : (a : WriterState) (to_go : List ℕ) → Sends a to_go (Ok tt) a to_go
-sends_none a to_go = record { sent = []; split = refl; moves = Moves-refl a }
-
 -- what was left out of a list of kinds, counted
 count_all : (xs : List ErrorKind) → length xs ≡ count_by (λ _. true) xs
 count_all = is_count_by length (λ _. true) refl (λ x xs. omega arith)
-
--- no try was made, and no mishap spent
-pub spent_none : (n : ℕ) (old : Option (List ErrorKind)) → HasSpentTries n n old old
-spent_none = grind (arith, common_steps)
 
 -- a mishap more was spent
 pub spent_more : (n left less : ℕ) (old mid new : Option (List ErrorKind)) (k : ErrorKind)
@@ -101,11 +93,6 @@ spent_more = grind (arith, common_steps, count_all)
 pub spent_all : (n : ℕ) (old mid new : Option (List ErrorKind)) (k : ErrorKind) → HasSpentTries n 0 old mid
     → HasSpent mid (k ∷ []) new → HasAtMost n old → ⊥
 spent_all = grind (arith, common_steps, count_all)
-
--- if there were enough retries, enough are left
-pub spent_left : (n left : ℕ) (old mid new : Option (List ErrorKind)) → HasSpentTries n left old mid → HasSpent mid [] new
-    → HasAtMost n old → HasAtMost left new
-spent_left n left x3 mid new f g most = grind (arith, common_steps, count_all)
 
 -- a try that failed, and then the others, one fewer
 pub tries_again : {W : Type 0} (law : W → List ℕ → Result (Unit {0}) Error → W → List ℕ → Type 0) (retries less : ℕ)
@@ -216,7 +203,7 @@ MovesFront-had {a} {b} {text} {r} had = record {
 }
   where
     is_whole : (r : Result (Unit {0}) Error) {x y : List ℕ} (z : List ℕ) → x ≡ y → OnOk r (x ≡ z) → OnOk r (y ≡ z)
-    is_whole x1 z is whole = grind (arith, common_steps)
+    is_whole r z is whole = grind (arith, common_steps)
 
 -- of any text some bytes were accepted
 MovesFront-some : {a b : WriterState} {r : Result (Unit {0}) Error} → ∥ ((text : List ℕ) × MovesFront a text r b) ∥₁
@@ -250,7 +237,7 @@ IsNoInterruption-prop (Err e) = Prim.hlevel props
 
 -- an error that keeps the kind of a fault is a fault
 text_fault : (met r : Result (Unit {0}) Error) → FailsText met r → IsNoInterruption met → IsNoInterruption r
-text_fault met x2 why fault = grind (arith, common_steps)
+text_fault met r why fault = grind (arith, common_steps)
 
 -- the name of the loan is what it was
 pub name_kept : {X : Type 0} {at : X → Type 0} {name was : ℕ} {R : X → List ℕ → Type 0} {Q : List ℕ → Type 0}
@@ -308,11 +295,11 @@ MovesFront-text_flush {text = text} {u} r f g = ⊎_elim (λ front. MovesFront-f
 
 -- what stands under an `Ok`, if the result is no error
 pub when_ok : {E X : Type 0} (r : Result (Unit {0}) E) → false ≡ is_err r → OnOk r X → X
-when_ok x1 is x = grind (arith, common_steps)
+when_ok r is x = grind (arith, common_steps)
 
 -- an unused page has no text
 pub page_none : (N : ℕ) (bytes : List ℕ) → HasText N bytes 0 false []
-page_none N x2 = grind (arith, common_steps)
+page_none N bytes = grind (arith, common_steps)
 
 module _ {P : Type 0} (has : List ℕ → P → Type 0) where
   abbrev PageGives : P → List ℕ → P → Type 0
@@ -330,18 +317,18 @@ module _ {P : Type 0} (has : List ℕ → P → Type 0) where
 -- the specified text does not fit
 pub page_over : (N : ℕ) (output : Option (List ℕ)) (bytes : List ℕ) (len : ℕ) {is_over : Bool} → is_over ≡ true
     → IfSome output (HasText N bytes len is_over) → IfSome output (λ bs. N < length bs)
-page_over N x2 bytes len is has = grind (arith, common_steps)
+page_over N output bytes len is has = grind (arith, common_steps)
 
 -- or these bytes are it
 pub page_text : (N : ℕ) (output : Option (List ℕ)) (bytes : List ℕ) (len : ℕ) {text : List ℕ} {is_over : Bool} → is_over ≡ false
     → text ≡ take len bytes
     → IfSome output (HasText N bytes len is_over) → IfSome output (λ bs. text ≡ bs)
-page_text N x2 bytes len is same has = grind (arith, common_steps)
+page_text N output bytes len is same has = grind (arith, common_steps)
 
 -- a text that was printed is one of the two results
 pub short_prints : (N : ℕ) {old new : WriterState} {output : Option (List ℕ)} (reply : Result (Unit {0}) Error)
     → PrintsShort N old output reply new → PrintsOrRefuses N old output reply new
-short_prints N x2 prints = grind (arith, common_steps)
+short_prints N reply prints = grind (arith, common_steps)
 
 -- A text of at most N bytes was accepted, or a front of it; or its own `fmt` failed, and the writer got no call.
 pub prints_fitting : (N : ℕ) {a b : WriterState} {bs : List ℕ} (r : Result (Unit {0}) Error) → PrintsOrRefuses N a (Some bs) r b

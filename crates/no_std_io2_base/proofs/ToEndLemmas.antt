@@ -75,7 +75,7 @@ recount (Ok n) k = Ok k
 recount (Err e) k = Err e
 
 pub ended_recount : (reply : Result ℕ Error) (k : ℕ) → without_number (recount reply k) ≡ without_number reply
-ended_recount x1 k = grind (arith, common_steps)
+ended_recount reply k = grind (arith, common_steps)
 
 -- The bytes of P were appended, and then those of Q.
 module _ {A : Type 0} (buf mid : Vec ℕ A) (P Q : List Event) (first : mid.items ≡ buf.items ++ event_bytes P) where
@@ -214,7 +214,7 @@ module _ {T U : Type 0} (R : Reader T) (S : Reader U) where
 end_of_both : (l : Type 0) (P : List Event) (t t' : ReaderState) (reply : Result ℕ Error) → (IsAtEnd t → IsAtEnd t')
     → DrainsOrStops l P reply t
     → DrainsOrStops l P reply t'
-end_of_both l x2 t t' x5 end stops = grind (arith, common_steps)
+end_of_both l P t t' reply end stops = grind (arith, common_steps)
 
 module _ {T U A : Type 0} (R : Reader T) (S : Reader U) {old new : Chain T U} {buf buf' : Vec ℕ A} where
   -- a `read_to_end` is one call

@@ -3,12 +3,10 @@
 #![tactic(auto)]
 
 pub mod cursor;
-pub mod empties;
 pub mod error;
 pub mod ghost_bytes;
 mod impls;
 pub mod internal;
 pub mod makers;
-pub mod repeats;
-pub mod sinks;
 pub mod traits;
+pub mod util;

@@ -2,9 +2,7 @@
 ghost use Rattle.std.specs.Prelude.{◌≡◌, [], replicate};
 ghost use Rattle.no_std_io2_base.specs.inner.InMemory.{repeat_left, empty_taken, sink_taken};
 
-use crate::empties::Empty;
-use crate::repeats::Repeat;
-use crate::sinks::Sink;
+use crate::util::{Empty, Repeat, Sink};
 
 /// Returns a reader that is at its end, and that takes every byte as a writer. Follows `std::io::empty`.
 ///

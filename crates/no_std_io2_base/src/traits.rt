@@ -14,6 +14,7 @@ pub(crate) mod room;
 pub(crate) mod seek;
 mod split;
 mod stored;
+mod strings;
 mod take;
 mod text;
 mod write;

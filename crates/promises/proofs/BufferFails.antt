@@ -20,11 +20,11 @@ use Rattle.std.specs.Vec.{vec_len, vec_capacity}
 -- a vector fails by `OutOfMemory` only
 whole_fails : {A : Type 0} (old new x : List ℕ) (len capacity : ℕ) (reply : Result A Error) → AppendsWhole old len capacity x reply new
     → IfErr reply IsOutOfMemory
-whole_fails old new x len capacity x6 is = grind (arith, common_steps)
+whole_fails old new x len capacity reply is = grind (arith, common_steps)
 
 pub appends_fails : {W : Type 0} (items : W → List ℕ) (len capacity : W → ℕ)
     → FailsOnly IsOutOfMemory (AppendsMay items len capacity)
-appends_fails items len capacity old new x6 made = grind (arith, common_steps)
+appends_fails items len capacity old new call made = grind (arith, common_steps)
 
 module _ {W : Type 0} (I : Writer W) (Q : Error → Type 0) (fails : FailsOnly Q I.may) where
   -- so does each call, by its law

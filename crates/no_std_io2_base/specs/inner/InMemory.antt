@@ -4,8 +4,7 @@ use Rattle.std.specs.Prelude.{IsOkAnd, replicate, Some, Vec, vec_len, vec_capaci
 use Rattle.no_std_io2_base.specs.inner.{Cursor.{HasMoved}, Read.{least_room}}
 use Rattle.no_std_io2_base.specs.Calls.{WriteCall, Wrote, WroteAll, Flushed, ReadCall, Gave, GaveExactly, GaveAll, Filled, Consumed}
 use Rattle.no_std_io2_base.specs.{declared.error.Error.{Error}, Errors.{IsOutOfMemory, IsUnexpectedEnd}, Calls.{SeekCall, Sought}}
-use Rattle.no_std_io2_base.specs.{declared.repeats.Repeat.{Repeat}, Moves.{WriterState}, declared.sinks.Sink.{Sink}}
-use Rattle.no_std_io2_base.specs.declared.empties.Empty.{Empty}
+use Rattle.no_std_io2_base.specs.{Moves.{WriterState}, declared.util.{Empty.{Empty}, Repeat.{Repeat}, Sink.{Sink}}}
 
 -- A reader of the bytes that are left gives as many of them as fit. Its `read_exact` gives all that it is asked for, or changes nothing.
 abbrev pub GivesLeft : {X : Type 0} → (X → List ℕ) → X → ReadCall → X → Type 0

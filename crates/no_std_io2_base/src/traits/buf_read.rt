@@ -7,9 +7,10 @@ ghost use Rattle.no_std_io2_base.specs.Read.{ConsumeLaw};
 ghost use Rattle.no_std_io2_base.specs.inner.Iterators.{split_reader, split_delim, split_is_ended, lines_reader, lines_is_ended};
 
 use super::lines::Lines;
-use super::pieces::{append_text, find_piece, put_back, take_bytes};
+use super::pieces::find_piece;
 use super::read::Read;
 use super::split::Split;
+use super::strings::{append_text, put_back, take_bytes};
 use crate::error::Result;
 use crate::impls::append;
 use std::alloc::{Allocator, Global};

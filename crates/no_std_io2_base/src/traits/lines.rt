@@ -6,8 +6,9 @@ ghost use Rattle.no_std_io2_base.specs.inner.Lines.{line_text, RefusesLine};
 ghost use Rattle.no_std_io2_base.specs.inner.Iterators.{lines_reader, lines_is_ended, ends_at, items_left, NextPieceLaw};
 
 use super::buf_read::BufRead;
-use super::pieces::{text_of, trim_line};
+use super::pieces::trim_line;
 use super::read::Read;
+use super::strings::text_of;
 use crate::error::Result;
 use std::alloc::Global;
 

@@ -11,9 +11,9 @@ ghost use Rattle.no_std_io2_base.specs.Takes.{to_come};
 
 use super::bytes::Bytes;
 use super::chain::Chain;
-use super::pieces::{put_back, take_bytes};
 use super::room::{LEAST_ROOM, open_room, reserve_first};
 use super::stored::Stored;
+use super::strings::{put_back, take_bytes};
 use super::take::Take;
 use crate::error::{Result, failed_to_fill};
 use std::alloc::{Allocator, Global};

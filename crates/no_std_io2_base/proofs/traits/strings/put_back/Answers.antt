@@ -3,7 +3,7 @@ use Rattle.std.proofs.{lemmas.Grind.{common_steps}, Common.{◌≡◌, ℕ, ◌-
 use Rattle.std.proofs.{Common.{take_all, length-drop, string_bytes, IsUtf8}, lemmas.{Str.{IsUtf8-append}, List.{take-append-drop}}}
 use Rattle.no_std_io2_base.specs.inner.Lines.{AnswersLine}
 use Rattle.no_std_io2_base.proofs.LineLemmas.{line_kept, became, line_refused}
-use Rattle.no_std_io2_base.proofs.traits.pieces.put_back.Goals as goal
+use Rattle.no_std_io2_base.proofs.traits.strings.put_back.Goals as goal
 
 -- the bytes from a place on, as a slice has them
 behind : (n : ℕ) (bytes lent : List ℕ) → lent ≡ bytes → take (length lent - n) (drop n lent) ≡ drop n bytes

@@ -3,7 +3,7 @@ use Rattle.std.proofs.Common.{◌≡◌, ◌≤◌, ◌++◌, arith, length, tak
 use Rattle.std.proofs.{Common.{length-append, length-drop}, lemmas.List.{take-replicate, drop-replicate, length-replicate}}
 use Rattle.no_std_io2_base.proofs.InMemoryReads.{split_at, takes_left, read_left}
 use Rattle.no_std_io2_base.specs.inner.InMemory.{repeat_left}
-use Rattle.no_std_io2_base.proofs.repeats.RepeatRead.read.Goals as goal
+use Rattle.no_std_io2_base.proofs.util.RepeatRead.read.Goals as goal
 
 pub returns : goal.returns
 returns c =
