@@ -57,7 +57,7 @@ lengthened_reaches end bs grown lengthened = grind (arith, common_steps)
 -- x was put into such bytes
 pub put_lengthened : (place end : ℕ) (x bs grown : List ℕ) → end ≡ place + length x → IsLengthened end bs grown
     → splice grown place end x ≡ put_at place x bs
-put_lengthened place end x bs grown at lengthened = grind (arith, common_steps, length-append, length-replicate, drop_all, append-nil, put_opened)
+put_lengthened place end x bs grown at long = grind (arith, common_steps, length-append, length-replicate, drop_all, append-nil, put_opened)
 
 -- bytes are out as soon as they are accepted
 appends_moves : {old new x : List ℕ} {k : List ErrorKind} → new ≡ old ++ x → count_by is_interruption k ≡ 0
