@@ -155,7 +155,10 @@ impl Seek for Device {
     }
     fn rewind(&mut self) -> io::Result<()> { self.name("rewind".into()); self.seek(SeekFrom::Start(0)).map(|_| ()) }
     fn stream_position(&mut self) -> io::Result<u64> { self.name("stream_position".into()); self.seek(SeekFrom::Current(0)) }
-    fn seek_relative(&mut self, n: i64) -> io::Result<()> { self.name(format!("seek_relative {n}")); self.seek(SeekFrom::Current(n)).map(|_| ()) }
+    fn seek_relative(&mut self, n: i64) -> io::Result<()> {
+        self.name(format!("seek_relative {n}"));
+        self.seek(SeekFrom::Current(n)).map(|_| ())
+    }
 }
 
 fn write_call<W: Write + ?Sized>(w: &mut W, word: &str, rest: &str) -> Option<String> {
@@ -178,7 +181,7 @@ fn seek_call<S: Seek + ?Sized>(s: &mut S, word: &str, rest: &str) -> Option<Stri
                 _ => SeekFrom::Current(n.parse().ok()?) }))
         }
         "seek_relative" => done(&s.seek_relative(rest.parse().ok()?)),
-        "stream_position" => number(&s.stream_position()), "rewind" => done(&s.rewind()), _ => return None })
+        "stream_position" | "position" => number(&s.stream_position()), "rewind" => done(&s.rewind()), _ => return None })
 }
 fn copy_call<R: Read + ?Sized>(r: &mut R, rest: &str) -> Option<String> {
     let mut to = Device::default();
@@ -214,47 +217,37 @@ trait Level: Write {
     fn held(&self) -> String { String::new() }
     fn below(&mut self) -> Option<&mut Box<dyn Level>> { None }
     fn place(&mut self, place: u64) { if let Some(below) = self.below() { below.place(place) } }
-    fn seek_to(&mut self, _: SeekFrom) -> io::Result<u64> { Err(ErrorKind::Unsupported.into()) }
-    fn back(&mut self) -> io::Result<()> { Err(ErrorKind::Unsupported.into()) }
-    fn at(&mut self) -> io::Result<u64> { Err(ErrorKind::Unsupported.into()) }
-    fn by(&mut self, n: i64) -> io::Result<()> { self.seek_to(SeekFrom::Current(n)).map(|_| ()) }
+    fn seeker(&mut self) -> io::Result<&mut dyn Seek> { Err(ErrorKind::Unsupported.into()) }
     fn reads(&mut self, _word: &str, _rest: &str) -> Option<String> { None }
     // A new level with so much room on the one below; or the error, what a refusal prints, and the old one.
     fn end(self: Box<Self>, _room: usize) -> (Option<(Error, String)>, Box<dyn Level>) { unreachable!() }
 }
 impl Seek for Box<dyn Level> {
-    fn seek(&mut self, pos: SeekFrom) -> io::Result<u64> { self.seek_to(pos) }
-    fn rewind(&mut self) -> io::Result<()> { self.back() }
-    fn stream_position(&mut self) -> io::Result<u64> { self.at() }
-    fn seek_relative(&mut self, n: i64) -> io::Result<()> { self.by(n) }
+    fn seek(&mut self, pos: SeekFrom) -> io::Result<u64> { self.seeker()?.seek(pos) }
+    fn rewind(&mut self) -> io::Result<()> { self.seeker()?.rewind() }
+    fn stream_position(&mut self) -> io::Result<u64> { self.seeker()?.stream_position() }
+    fn seek_relative(&mut self, n: i64) -> io::Result<()> { self.seeker()?.seek_relative(n) }
 }
 impl Level for Device {
-    fn by(&mut self, n: i64) -> io::Result<()> { self.seek_relative(n) }
-    fn seek_to(&mut self, pos: SeekFrom) -> io::Result<u64> { self.seek(pos) }
-    fn back(&mut self) -> io::Result<()> { self.rewind() }
-    fn at(&mut self) -> io::Result<u64> { self.stream_position() }
+    fn seeker(&mut self) -> io::Result<&mut dyn Seek> { Ok(self) }
     fn reads(&mut self, word: &str, rest: &str) -> Option<String> { read_call(self, word, rest) }
 }
 impl<T: AsRef<[u8]>> Level for Cursor<T> where Cursor<T>: Write {
     fn taken(&self, _: &Journal) -> String { format!("{} | {}", bytes(self.get_ref().as_ref()), self.position()) }
     fn place(&mut self, place: u64) { self.set_position(place) }
-    fn seek_to(&mut self, pos: SeekFrom) -> io::Result<u64> { self.seek(pos) }
-    fn back(&mut self) -> io::Result<()> { self.rewind() }
-    fn at(&mut self) -> io::Result<u64> { self.stream_position() }
+    fn seeker(&mut self) -> io::Result<&mut dyn Seek> { Ok(self) }
     fn reads(&mut self, word: &str, rest: &str) -> Option<String> { read_call(self, word, rest) }
 }
 impl Level for VecDeque<u8> {
     fn taken(&self, _: &Journal) -> String { bytes(&self.iter().copied().collect::<Vec<_>>()) }
     fn reads(&mut self, word: &str, rest: &str) -> Option<String> { read_call(self, word, rest) }
 }
-macro_rules! buffers { ($writer:ident, $held:expr, $seek:expr, $back:expr, $at:expr) => {
+macro_rules! buffers { ($writer:ident, $held:expr, $($seeker:tt)*) => {
     impl Level for $writer<Box<dyn Level>> {
         fn taken(&self, journal: &Journal) -> String { self.get_ref().taken(journal) }
         fn held(&self) -> String { format!(" | {}{}", $held(self), self.get_ref().held()) }
         fn below(&mut self) -> Option<&mut Box<dyn Level>> { Some(self.get_mut()) }
-        fn seek_to(&mut self, pos: SeekFrom) -> io::Result<u64> { $seek(self, pos) }
-        fn back(&mut self) -> io::Result<()> { $back(self) }
-        fn at(&mut self) -> io::Result<u64> { $at(self) }
+        $($seeker)*
         fn end(self: Box<Self>, room: usize) -> (Option<(Error, String)>, Box<dyn Level>) {
             match (*self).into_inner() {
                 Ok(inner) => (None, Box::new($writer::with_capacity(room, inner))),
@@ -263,10 +256,8 @@ macro_rules! buffers { ($writer:ident, $held:expr, $seek:expr, $back:expr, $at:e
         }
     }
 } }
-buffers!(BufWriter, |w: &BufWriter<_>| bytes(w.buffer()), |w: &mut BufWriter<_>, pos| w.seek(pos), |w: &mut BufWriter<_>| w.rewind(),
-    |w: &mut BufWriter<_>| w.stream_position());
-buffers!(LineWriter, |_| "?", |_, _| Err(ErrorKind::Unsupported.into()), |_| Err(ErrorKind::Unsupported.into()),
-    |_| Err(ErrorKind::Unsupported.into()));
+buffers!(BufWriter, |w: &BufWriter<_>| bytes(w.buffer()), fn seeker(&mut self) -> io::Result<&mut dyn Seek> { Ok(self) });
+buffers!(LineWriter, |_| "?",);
 // A tower of these names: over the device, or over a cursor on these bytes.
 fn level(names: &[&str], device: Device, content: Option<Vec<u8>>) -> Option<Box<dyn Level>> {
     Some(match (names, content) {
@@ -328,26 +319,20 @@ trait Source: BufRead {
     fn copies(&mut self, rest: &str) -> Option<String> { copy_call(self, rest) }
     fn shown(&self) -> String { String::new() }
     fn limit(&mut self, _: u64) {}
-    fn seeks(&mut self, _word: &str, _rest: &str) -> Option<String> { None }
-    fn seek_to(&mut self, _: SeekFrom) -> io::Result<u64> { Err(ErrorKind::Unsupported.into()) }
-    fn by(&mut self, n: i64) -> io::Result<()> { self.seek_to(SeekFrom::Current(n)).map(|_| ()) }
+    fn seeker(&mut self) -> io::Result<&mut dyn Seek> { Err(ErrorKind::Unsupported.into()) }
     fn place(&mut self, _: u64) {}
     fn is_feed(&self) -> bool { false }
 }
 type Any = Box<dyn Source>;
 impl Seek for Any {
-    fn seek(&mut self, pos: SeekFrom) -> io::Result<u64> { self.seek_to(pos) }
-    fn seek_relative(&mut self, n: i64) -> io::Result<()> { self.by(n) }
+    fn seek(&mut self, pos: SeekFrom) -> io::Result<u64> { self.seeker()?.seek(pos) }
+    fn seek_relative(&mut self, n: i64) -> io::Result<()> { self.seeker()?.seek_relative(n) }
 }
-impl Source for Device {
-    fn seek_to(&mut self, pos: SeekFrom) -> io::Result<u64> { self.seek(pos) }
-    fn by(&mut self, n: i64) -> io::Result<()> { self.seek_relative(n) }
-}
+impl Source for Device { fn seeker(&mut self) -> io::Result<&mut dyn Seek> { Ok(self) } }
 impl Source for &'static [u8] { fn shown(&self) -> String { format!(" | {}", bytes(self)) } }
 impl Source for Cursor<Vec<u8>> {
     fn shown(&self) -> String { format!(" | {}", self.position()) }
-    fn seeks(&mut self, word: &str, rest: &str) -> Option<String> { seek_call(self, word, rest) }
-    fn seek_to(&mut self, pos: SeekFrom) -> io::Result<u64> { self.seek(pos) }
+    fn seeker(&mut self) -> io::Result<&mut dyn Seek> { Ok(self) }
     fn place(&mut self, place: u64) { self.set_position(place) }
 }
 // A text whose reads nobody sees.
@@ -358,15 +343,15 @@ impl BufRead for Text {
     fn consume(&mut self, n: usize) { self.0.consume(n) }
 }
 impl Source for Text {}
-// A byte that is repeated; it is only read.
-struct Repeated(Take<Repeat>);
-impl Read for Repeated { fn read(&mut self, buf: &mut [u8]) -> io::Result<usize> { self.0.read(buf) } }
-impl BufRead for Repeated {
+// What is only read: a byte that is repeated, or a feed.
+struct Unlent<R>(R);
+impl<R: Read> Read for Unlent<R> { fn read(&mut self, buf: &mut [u8]) -> io::Result<usize> { self.0.read(buf) } }
+impl<R: Read> BufRead for Unlent<R> {
     fn fill_buf(&mut self) -> io::Result<&[u8]> { unimplemented!() }
     fn consume(&mut self, _: usize) { unimplemented!() }
 }
-impl Source for Repeated {}
-// Bytes and failures, at most so many bytes at a time; it is only read.
+impl Source for Unlent<Take<Repeat>> {}
+// Bytes and failures, at most so many bytes at a time.
 struct Feed(VecDeque<String>, usize);
 impl Read for Feed {
     fn read(&mut self, buf: &mut [u8]) -> io::Result<usize> {
@@ -377,12 +362,11 @@ impl Read for Feed {
         Ok(n)
     }
 }
-impl BufRead for Feed {
-    fn fill_buf(&mut self) -> io::Result<&[u8]> { unimplemented!() }
-    fn consume(&mut self, _: usize) { unimplemented!() }
-}
-impl Source for Feed {
-    fn shown(&self) -> String { format!(" | {}", if self.0.is_empty() { "-".into() } else { Vec::from(self.0.clone()).join(", ") }) }
+impl Source for Unlent<Feed> {
+    fn shown(&self) -> String {
+        let left = Vec::from(self.0.0.clone()).join(", ");
+        format!(" | {}", if left.is_empty() { "-" } else { &left })
+    }
     fn is_feed(&self) -> bool { true }
 }
 impl Source for Chain<Any, Any> {
@@ -392,16 +376,14 @@ impl Source for Chain<Any, Any> {
 impl Source for Take<Any> {
     fn shown(&self) -> String { format!(" | {}{}", Take::limit(self), self.get_ref().shown()) }
     fn limit(&mut self, n: u64) { self.set_limit(n) }
-    fn seeks(&mut self, word: &str, rest: &str) -> Option<String> { seek_call(self, word, rest) }
+    fn seeker(&mut self) -> io::Result<&mut dyn Seek> { Ok(self) }
 }
 impl Source for BufReader<Any> {
     fn shown(&self) -> String {
         format!("{} | {}{}", if self.get_ref().is_feed() { " | ?" } else { "" }, bytes(self.buffer()), self.get_ref().shown())
     }
     fn limit(&mut self, n: u64) { self.get_mut().limit(n) }
-    fn seeks(&mut self, word: &str, rest: &str) -> Option<String> { seek_call(self, word, rest) }
-    fn seek_to(&mut self, pos: SeekFrom) -> io::Result<u64> { self.seek(pos) }
-    fn by(&mut self, n: i64) -> io::Result<()> { self.seek_relative(n) }
+    fn seeker(&mut self) -> io::Result<&mut dyn Seek> { Ok(self) }
     fn place(&mut self, place: u64) { self.get_mut().place(place) }
 }
 // A tower of these names: over devices, or over texts on both sides of a plus.
@@ -413,8 +395,8 @@ fn source(names: &[&str], device: &Device, words: &str) -> Option<Any> {
         ["Text"] => Box::new(Text(b"456789")),
         ["Cursor"] => Box::new(Cursor::new(unescape(words))),
         ["&[u8]"] => Box::new(&*unescape(words).leak()),
-        ["Feed"] => { let (most, events) = words.split_once(": ")?; Box::new(Feed(told(events), most.parse().ok()?)) }
-        ["Repeat"] => { let (byte, len) = words.split_once(' ')?; Box::new(Repeated(repeat(byte.as_bytes()[0]).take(len.parse().ok()?))) }
+        ["Feed"] => { let (most, events) = words.split_once(": ")?; Box::new(Unlent(Feed(told(events), most.parse().ok()?))) }
+        ["Repeat"] => { let (byte, len) = words.split_once(' ')?; Box::new(Unlent(repeat(byte.as_bytes()[0]).take(len.parse().ok()?))) }
         ["Box" | "&mut", rest @ ..] => source(rest, device, words)?,
         ["BufReader", n, rest @ ..] => Box::new(BufReader::with_capacity(n.parse().ok()?, source(rest, device, words)?)),
         ["Take", rest @ ..] => {
@@ -437,7 +419,7 @@ impl Stream for Reader {
             "copy" => self.top.copies(rest),
             "limit" => { self.top.limit(rest.parse().ok()?); Some("-".into()) }
             "place" => { self.top.place(rest.parse().ok()?); Some("-".into()) }
-            _ => self.top.seeks(word, rest).or_else(|| read_call(&mut self.top, word, rest)),
+            _ => self.top.seeker().ok().and_then(|it| seek_call(it, word, rest)).or_else(|| read_call(&mut self.top, word, rest)),
         }
     }
     fn columns(&self) -> String { (self.shows)(&self.top) }
@@ -490,7 +472,6 @@ fn make<'a>(name: &'a str, device: Device, words: &str) -> Option<Box<dyn Stream
     let names: Vec<&str> = name.split(' ').collect();
     Some(match (names[0], &names[1..]) {
         ("bench", [.., "&mut", _] | [.., "dyn", _]) => return None,
-        ("cursor" | "queue", rest) => { let top = level(rest, device.clone(), Some(unescape(words))); Box::new(Tower { names, device, top }) }
         ("copy" | "copy_through", kind) => Box::new(Copies { device, is_to_vector: *kind == ["Vec"] }),
         ("write_readings", []) => Box::new(Readings(BufWriter::with_capacity(64, device))),
         ("grown", [kind]) => Box::new(Room(Cursor::new(Vec::with_capacity(words.parse().ok()?)), *kind == "Vec")),
@@ -499,16 +480,15 @@ fn make<'a>(name: &'a str, device: Device, words: &str) -> Option<Box<dyn Stream
             Box::new(source(rest, &device, words)?.split(if *rest == ["Cursor"] { b'3' } else { b',' })), "piece ", *rest != ["Device"])),
         ("lines", rest) => Box::new(Items(
             Box::new(source(rest, &device, words)?.lines().map(|it| it.map(String::into_bytes))), "line ", *rest != ["Device"])),
-        ("reader", rest) if rest.starts_with(&["Box", "BufReader"]) =>
+        ("reader", rest @ ["Box", "BufReader", ..]) | ("answers", rest)
+            | ("noted", rest @ ([.., "dyn", "Read" | "BufRead"] | ["Take"] | ["Chain"] | ["BufReader", _])) =>
             Box::new(Reader { top: source(rest, &device, words)?, shows: |_| String::new() }),
         ("reader", rest) | ("seeker", rest @ ["BufReader" | "Take" | "Cursor", ..]) =>
             Box::new(Reader { top: source(rest, &device, words)?, shows: |r| r.shown() }),
         ("moved", rest) => Box::new(Reader { top: source(rest, &device, words)?, shows: |r| format!(" | ?{}", r.shown()) }),
-        ("answers", rest) => Box::new(Reader { top: source(rest, &device, words)?, shows: |_| String::new() }),
-        ("noted", [.., "dyn", "Read" | "BufRead"] | ["Take"] | ["Chain"] | ["BufReader", _]) =>
-            Box::new(Reader { top: source(&names[1..], &device, words)?, shows: |_| String::new() }),
-        ("writer" | "seeker" | "noted" | "bench", rest) => {
-            let top = Some(level(rest, device.clone(), None)?);
+        ("cursor" | "queue" | "writer" | "seeker" | "noted" | "bench", rest) => {
+            let content = ["cursor", "queue"].contains(&names[0]).then(|| unescape(words));
+            let top = Some(level(rest, device.clone(), content)?);
             Box::new(Tower { names, device, top })
         }
         _ => return None })
