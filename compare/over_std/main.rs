@@ -1,5 +1,6 @@
 // Plays files of rows over Rust's std::io: the same answers of the device, the same calls, the same columns. It prints each row that
-// comes out otherwise, and for each file how many rows did not and how many it has no stream or call for.
+// comes out otherwise, behind the streams of its table for which it does so alike, and for each file how many rows did not and how
+// many it has no stream or call for.
 use std::{cell::RefCell, collections::VecDeque, env, fs, io, io::*, panic, rc::Rc};
 
 #[derive(Default)]
@@ -506,31 +507,39 @@ fn is_met(row: &str, got: &str) -> bool {
     let (row, got): (Vec<_>, Vec<_>) = (row.split(" | ").collect(), got.split(" | ").collect());
     row.len() == got.len() && row.iter().zip(got).all(|(row, got)| got == "?" || *row == got)
 }
+// Plays the rows of a group over a new stream.
+fn play_group<'a>(name: &'a str, group: &'a str) -> Vec<(&'a str, Option<String>)> {
+    let (words, rows) = group.split_once('\n').unwrap();
+    let device = Device { is_noted: name == "copy" || name.starts_with("noted"), ..Device::default() };
+    let journal = device.journal.clone();
+    journal.borrow_mut().answers = told(words);
+    let mut stream = make(name, device, words.trim());
+    let silent = ["bench", "cursor", "queue", "grown", "answers", "copy_through Vec"];
+    let notes_calls = !silent.iter().any(|it| name.starts_with(it))
+        && !["Cursor", "&[u8]", "Repeat", "Feed"].iter().any(|it| name.contains(it));
+    let rows = rows.lines().filter(|row| row.contains(" | ") && !row.starts_with('#'));
+    let call = |row: &'a str| row.split(" | ").next().unwrap();
+    rows.map(|row| (row, stream.as_mut().and_then(|it| play(&mut **it, &journal, call(row), notes_calls)))).collect()
+}
 fn main() {
     panic::set_hook(Box::new(|_| {}));
     for file in env::args().skip(1) {
         let (mut same, mut differing, mut left) = (0, 0, 0);
         let text = fs::read_to_string(&file).unwrap();
-        let named = |it| str::lines(it).next().unwrap().split(", ").map(move |name| (it, name));
-        for (table, name) in text.split("\nstream ").skip(1).flat_map(named) {
-            for group in table.split("\nnew").skip(1) {
-                let (words, rows) = group.split_once('\n').unwrap();
-                let device = Device { is_noted: name == "copy" || name.starts_with("noted"), ..Device::default() };
-                let journal = device.journal.clone();
-                journal.borrow_mut().answers = told(words);
-                let mut stream = make(name, device, words.trim());
-                let silent = ["bench", "cursor", "queue", "grown", "answers", "copy_through Vec"];
-                let notes_calls = !silent.iter().any(|it| name.starts_with(it))
-                    && !["Cursor", "&[u8]", "Repeat", "Feed"].iter().any(|it| name.contains(it));
-                for row in rows.lines().filter(|row| row.contains(" | ") && !row.starts_with('#')) {
-                    let call = row.split(" | ").next().unwrap();
-                    match stream.as_mut().and_then(|it| play(&mut **it, &journal, call, notes_calls)) {
-                        None => left += 1,
-                        Some(got) if is_met(row, &got) => same += 1,
-                        Some(got) => { differing += 1; println!("{name}: {row}\n    std: {got}") }
-                    }
+        for table in text.split("\nstream ").skip(1) {
+            let mut found: Vec<(String, Vec<&str>)> = vec![];
+            let names = table.lines().next().unwrap().split(", ");
+            for (name, group) in names.flat_map(|name| table.split("\nnew").skip(1).map(move |group| (name, group))) {
+                for (row, got) in play_group(name, group) {
+                    let Some(got) = got else { left += 1; continue };
+                    if is_met(row, &got) { same += 1; continue; }
+                    differing += 1;
+                    let pair = format!("{row}\n    std: {got}");
+                    match found.iter_mut().find(|it| it.0 == pair && !it.1.contains(&name)) {
+                        Some(it) => it.1.push(name), None => found.push((pair, vec![name])) }
                 }
             }
+            for (pair, names) in found { println!("{}: {pair}", names.join(", ")); }
         }
         println!("{file}: {same} rows the same, {differing} differ, {left} not played");
     }
