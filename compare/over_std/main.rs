@@ -207,7 +207,10 @@ fn read_call<R: BufRead + ?Sized>(r: &mut R, word: &str, rest: &str) -> Option<S
         "read_until" => { let d = all.first().copied().unwrap_or(b'\n'); all.clear(); (number(&r.read_until(d, &mut all)), all) }
         "skip_until" => (number(&r.skip_until(all.first().copied().unwrap_or(b'\n'))), vec![]),
         "copy" => return copy_call(r, rest),
-        "read_line" => { let mut s = String::from_utf8(all).unwrap(); (number(&r.read_line(&mut s)), s.into_bytes()) }
+        "read_line" | "read_to_string" => {
+            let mut text = String::from_utf8(all).unwrap();
+            (number(&if word == "read_line" { r.read_line(&mut text) } else { r.read_to_string(&mut text) }), text.into_bytes())
+        }
         _ => return None };
     Some(format!("{answer} | {}", bytes(&given)))
 }

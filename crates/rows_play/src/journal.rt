@@ -1,5 +1,6 @@
 // The results that a device is to return, the bytes that it took, and the calls that reached it.
 use super::line::Line;
+use super::recorder::ReaderName;
 use super::script::{Answer, error_of, misfit, no_memory};
 use no_std_io2::io::{Result, SeekFrom};
 use std::alloc::Global;
@@ -13,7 +14,8 @@ pub struct Journal {
     // The rest of the bytes that a result gives.
     pending: Vec<u8>,
     out: Vec<u8>,
-    calls: Line,
+    // The calls since they were last printed.
+    pub calls: Line,
     alloc: Global,
 }
 
@@ -51,7 +53,8 @@ impl Journal {
         self.answers.pop().unwrap_or(Answer::Plain)
     }
 
-    fn begin_call(&mut self, call: &str) {
+    // Begins to note a call.
+    pub fn begin_call(&mut self, call: &str) {
         if !self.calls.is_empty() {
             self.calls.word(", ");
         }
@@ -109,9 +112,17 @@ impl Journal {
         Ok(given)
     }
 
-    fn note_read(&mut self, call: &str, room: usize, answer: &Result<Vec<u8>>) {
+    // Begins to note a call of one of the readers, with a number.
+    fn begin_read(&mut self, call: &str, name: ReaderName, number: usize) {
         self.begin_call(call);
-        self.calls.number(room as u64);
+        self.calls.word(match name {
+            ReaderName::Only => " ",
+            ReaderName::Second => " second ",
+        });
+        self.calls.number(number as u64);
+    }
+
+    fn note_read(&mut self, answer: &Result<Vec<u8>>) {
         self.calls.word(" = ");
         match answer {
             Ok(bytes) => self.calls.bytes(bytes),
@@ -138,30 +149,31 @@ impl Journal {
 
     // Returns the result of a read into this much room, by a call of this name, and notes it. A
     // read into no room gives nothing.
-    pub fn read(&mut self, call: &str, room: usize) -> Result<Vec<u8>> {
+    pub fn read(&mut self, call: &str, name: ReaderName, room: usize) -> Result<Vec<u8>> {
+        self.begin_read(call, name, room);
         let answer = self.next_bytes(room);
-        self.note_read(call, room, &answer);
+        self.note_read(&answer);
         answer
     }
 
     // Notes that `amount` lent bytes were consumed.
-    pub fn consume(&mut self, call: &str, amount: usize) {
-        self.begin_call(call);
-        self.calls.number(amount as u64);
+    pub fn consume(&mut self, name: ReaderName, amount: usize) {
+        self.begin_read("consume", name, amount);
     }
 
     fn note_seek(&mut self, pos: SeekFrom, answer: &Result<u64>) {
+        self.begin_call("seek ");
         match pos {
             SeekFrom::Start(n) => {
-                self.begin_call("seek start ");
+                self.calls.word("start ");
                 self.calls.number(n);
             }
             SeekFrom::End(n) => {
-                self.begin_call("seek end ");
+                self.calls.word("end ");
                 self.calls.offset(n);
             }
             SeekFrom::Current(n) => {
-                self.begin_call("seek current ");
+                self.calls.word("current ");
                 self.calls.offset(n);
             }
         }
@@ -178,28 +190,5 @@ impl Journal {
         };
         self.note_seek(pos, &answer);
         answer
-    }
-
-    /// Notes a call that the device makes of others.
-    pub fn note(&mut self, call: &str) {
-        self.begin_call(call);
-    }
-
-    /// Notes such a call with its bytes.
-    pub fn note_bytes(&mut self, call: &str, bytes: &[u8]) {
-        self.begin_call(call);
-        self.calls.bytes(bytes);
-    }
-
-    /// Notes such a call with a number.
-    pub fn note_number(&mut self, call: &str, number: usize) {
-        self.begin_call(call);
-        self.calls.number(number as u64);
-    }
-
-    /// Notes such a call with an offset.
-    pub fn note_offset(&mut self, call: &str, offset: i64) {
-        self.begin_call(call);
-        self.calls.offset(offset);
     }
 }

@@ -26,25 +26,28 @@ impl<T> Noted<T> {
 
 fn note(journal: &RefCell<Journal>, call: &str) {
     if let Ok(mut journal) = journal.try_borrow_mut() {
-        journal.note(call);
+        journal.begin_call(call);
     }
 }
 
 fn note_bytes(journal: &RefCell<Journal>, call: &str, bytes: &[u8]) {
     if let Ok(mut journal) = journal.try_borrow_mut() {
-        journal.note_bytes(call, bytes);
+        journal.begin_call(call);
+        journal.calls.bytes(bytes);
     }
 }
 
-fn note_number(journal: &RefCell<Journal>, call: &str, number: usize) {
+fn note_length(journal: &RefCell<Journal>, call: &str, len: usize) {
     if let Ok(mut journal) = journal.try_borrow_mut() {
-        journal.note_number(call, number);
+        journal.begin_call(call);
+        journal.calls.number(len as u64);
     }
 }
 
 fn note_offset(journal: &RefCell<Journal>, call: &str, offset: i64) {
     if let Ok(mut journal) = journal.try_borrow_mut() {
-        journal.note_offset(call, offset);
+        journal.begin_call(call);
+        journal.calls.offset(offset);
     }
 }
 
@@ -95,13 +98,13 @@ impl<T: Read> Read for Noted<T> {
 
     #[tactic(auto, using(no_std_io2::proofs::ObjectRules::passes_on))]
     fn read_exact(&mut self, buf: &mut [u8]) -> Result<()> {
-        note_number(&self.journal, "read_exact ", buf.len());
+        note_length(&self.journal, "read_exact ", buf.len());
         self.inner.read_exact(buf)
     }
 
     #[tactic(auto, using(no_std_io2::proofs::ObjectRules::passes_on))]
     fn read_full(&mut self, buf: &mut [u8], filled: &mut usize) -> Result<()> {
-        note_number(&self.journal, "read_full ", buf.len());
+        note_length(&self.journal, "read_full ", buf.len());
         self.inner.read_full(buf, filled)
     }
 

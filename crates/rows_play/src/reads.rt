@@ -31,25 +31,19 @@ fn copied(alloc: Global, bytes: &[u8], line: &mut Line) -> Vec<u8> {
     copy
 }
 
-fn call_read<R: Read>(alloc: Global, r: &mut R, count: usize, line: &mut Line) {
-    let mut room = dots(alloc, count, line);
-    show_given(&r.read(&mut room), &room, line);
-}
-
-fn call_read_exact<R: Read>(alloc: Global, r: &mut R, count: usize, line: &mut Line) {
-    let mut room = dots(alloc, count, line);
-    line.done(&r.read_exact(&mut room));
-    line.column();
-    line.bytes(&room);
-}
-
-// Fills a buffer as far as there are bytes, and prints how many bytes of it are filled.
-fn call_read_full<R: Read>(alloc: Global, r: &mut R, count: usize, line: &mut Line) {
-    let mut room = dots(alloc, count, line);
-    let mut filled = 0;
-    line.done(&r.read_full(&mut room, &mut filled));
-    line.word(", filled ");
-    line.number(filled as u64);
+// Reads into a buffer of dots.
+fn call_fill<R: Read>(alloc: Global, r: &mut R, call: &Call<'_>, line: &mut Line) {
+    let mut room = dots(alloc, call.number(line), line);
+    match call.word {
+        "read" => line.length(&r.read(&mut room)),
+        "read_exact" => line.done(&r.read_exact(&mut room)),
+        _ => {
+            let mut filled = 0;
+            line.done(&r.read_full(&mut room, &mut filled));
+            line.word(", filled ");
+            line.number(filled as u64);
+        }
+    }
     line.column();
     line.bytes(&room);
 }
@@ -105,33 +99,47 @@ fn call_skip<R: BufRead>(r: &mut R, count: usize, line: &mut Line) {
     line.bytes(b"");
 }
 
-fn call_read_until<R: BufRead>(alloc: Global, r: &mut R, delim: &[u8], line: &mut Line) {
+// Returns the delimiter of a row.
+fn delim_of(call: &Call<'_>) -> u8 {
+    call.bytes.first().copied().unwrap_or(b'\n')
+}
+
+fn call_read_until<R: BufRead>(alloc: Global, r: &mut R, call: &Call<'_>, line: &mut Line) {
     let mut piece = Vec::new(alloc);
-    let delim = delim.first().copied().unwrap_or(b'\n');
-    show_given(&r.read_until(delim, &mut piece), &piece, line);
+    show_given(&r.read_until(delim_of(call), &mut piece), &piece, line);
 }
 
-fn call_skip_until<R: BufRead>(r: &mut R, delim: &[u8], line: &mut Line) {
-    let delim = delim.first().copied().unwrap_or(b'\n');
-    show_given(&r.skip_until(delim), b"", line);
-}
-
-fn call_read_line<R: BufRead>(alloc: Global, r: &mut R, old: &str, line: &mut Line) {
+// Makes a string of the text of a row.
+fn old_text(alloc: Global, call: &Call<'_>, line: &mut Line) -> String {
     let mut text = String::new(alloc);
-    if text.push_str(old).is_err() {
-        line.cut();
+    match std::str::from_utf8(&call.bytes) {
+        Ok(old) => {
+            if text.push_str(old).is_err() {
+                line.cut();
+            }
+        }
+        Err(_) => line.tell(Unplayed::NoWord),
     }
+    text
+}
+
+fn call_read_line<R: BufRead>(alloc: Global, r: &mut R, call: &Call<'_>, line: &mut Line) {
+    let mut text = old_text(alloc, call, line);
     show_given(&r.read_line(alloc, &mut text), text.as_bytes(), line);
 }
 
+fn call_read_to_string<R: Read>(alloc: Global, r: &mut R, call: &Call<'_>, line: &mut Line) {
+    let mut text = old_text(alloc, call, line);
+    show_given(&r.read_to_string(alloc, &mut text), text.as_bytes(), line);
+}
+
 /// Makes the call of a row on any reader, and prints its result: `read N`, `read_exact N`, `read_full N`,
-/// `read_to_end OLD`, which appends to these bytes, `read_into N`, which reads all into a vector of this capacity,
-/// `read_at_most N`, or `take N`, which reads at most that many bytes through the borrowed reader.
+/// `read_to_end OLD` and `read_to_string OLD`, which append to these bytes, `read_into N`, which reads all into a vector of
+/// this capacity, `read_at_most N`, or `take N`, which reads at most that many bytes through the borrowed reader.
 pub fn make_read<R: Read>(alloc: Global, r: &mut R, call: &Call<'_>, line: &mut Line) {
     match call.word {
-        "read" => call_read(alloc, r, call.number(line), line),
-        "read_exact" => call_read_exact(alloc, r, call.number(line), line),
-        "read_full" => call_read_full(alloc, r, call.number(line), line),
+        "read" | "read_exact" | "read_full" => call_fill(alloc, r, call, line),
+        "read_to_string" => call_read_to_string(alloc, r, call, line),
         "read_to_end" => call_read_to_end(r, copied(alloc, &call.bytes, line), line),
         "read_at_most" => call_read_at_most(alloc, r, call.number(line), line),
         "read_into" => call_read_into(alloc, r, call.number(line), line),
@@ -151,9 +159,9 @@ pub fn make_lend<R: BufRead>(alloc: Global, r: &mut R, call: &Call<'_>, line: &m
         "fill_buf" => call_fill_buf(r, line),
         "pass" => show_given(&pass(r, call.number(line)), b"", line),
         "skip" => call_skip(r, call.number(line), line),
-        "read_until" => call_read_until(alloc, r, &call.bytes, line),
-        "skip_until" => call_skip_until(r, &call.bytes, line),
-        "read_line" => call_read_line(alloc, r, call.rest, line),
+        "read_until" => call_read_until(alloc, r, call, line),
+        "skip_until" => show_given(&r.skip_until(delim_of(call)), b"", line),
+        "read_line" => call_read_line(alloc, r, call, line),
         _ => make_read(alloc, r, call, line),
     }
 }

@@ -36,29 +36,6 @@ pub enum ReaderName {
     Second,
 }
 
-impl ReaderName {
-    fn read(self) -> &'static str {
-        match self {
-            ReaderName::Only => "read ",
-            ReaderName::Second => "read second ",
-        }
-    }
-
-    fn fill(self) -> &'static str {
-        match self {
-            ReaderName::Only => "fill ",
-            ReaderName::Second => "fill second ",
-        }
-    }
-
-    fn consume(self) -> &'static str {
-        match self {
-            ReaderName::Only => "consume ",
-            ReaderName::Second => "consume second ",
-        }
-    }
-}
-
 impl Recorder {
     pub fn new(alloc: Global, journal: Rc<RefCell<Journal>>, name: ReaderName) -> Recorder {
         Recorder {
@@ -86,7 +63,7 @@ impl Recorder {
 
     fn ask_read(&self, call: &str, room: usize) -> Result<Vec<u8>> {
         match self.journal.try_borrow_mut() {
-            Ok(mut journal) => journal.read(call, room),
+            Ok(mut journal) => journal.read(call, self.name, room),
             Err(_) => Err(in_use()),
         }
     }
@@ -147,7 +124,7 @@ impl Read for Recorder {
             return Ok(0);
         }
         self.turns -= 1;
-        let bytes = self.ask_read(self.name.read(), buf.len())?;
+        let bytes = self.ask_read("read", buf.len())?;
         let n = bytes.len().min(buf.len());
         buf[..n].copy_from_slice(&bytes[..n]);
         Ok(n)
@@ -158,7 +135,7 @@ impl BufRead for Recorder {
     fn fill_buf(&mut self) -> Result<&[u8]> {
         if self.lent.rest().is_empty() && self.turns > 0 {
             self.turns -= 1;
-            let bytes = self.ask_read(self.name.fill(), LENT)?;
+            let bytes = self.ask_read("fill", LENT)?;
             if bytes.len() <= self.turns {
                 self.turns -= bytes.len();
                 self.lent = LentRecorder::new(bytes);
@@ -169,7 +146,7 @@ impl BufRead for Recorder {
 
     fn consume(&mut self, amount: usize) {
         if let Ok(mut journal) = self.journal.try_borrow_mut() {
-            journal.consume(self.name.consume(), amount);
+            journal.consume(self.name, amount);
         }
         self.lent.pass(amount);
     }

@@ -1,7 +1,7 @@
 // The results that a device is to return.
-use super::line::{cut, unescape};
+use super::line::{cut, number, unescape};
 use super::unplayed::{Played, Unplayed};
-use io_bench::{Act, kind_of_name};
+use io_bench::{Act, Event, Reply, kind_of_name};
 use no_std_io2::io::{Error, ErrorKind};
 use std::alloc::Global;
 
@@ -60,42 +60,56 @@ pub fn error_of(kind: ErrorKind, place: Option<usize>) -> Error {
     }
 }
 
-// Returns the results that a line names, the last one first.
-pub fn parse_answers(alloc: Global, words: &str) -> Played<Vec<Answer>> {
-    let mut answers = Vec::new(alloc);
+/// What stands in a list of words.
+pub trait Word: Drop {
+    /// Returns what the word says.
+    fn parse(alloc: Global, word: &str) -> Played<Self>
+    where
+        Self: Sized;
+}
+
+/// Returns what the words of a list say, in order.
+pub fn parse_list<T: Word>(alloc: Global, words: &str) -> Played<Vec<T>> {
+    let mut list = Vec::new(alloc);
     if words.is_empty() {
-        return Ok(answers);
+        return Ok(list);
     }
     'words: for word in words.split(", ") {
-        answers.push(parse_answer(alloc, word)?)?;
+        list.push(T::parse(alloc, word)?)?;
     }
+    Ok(list)
+}
+
+// Returns the results that a line names, the last one first.
+pub fn parse_answers(alloc: Global, words: &str) -> Played<Vec<Answer>> {
+    let mut answers = parse_list(alloc, words)?;
     answers.reverse();
     Ok(answers)
 }
 
-fn parse_answer(alloc: Global, words: &str) -> Played<Answer> {
-    let (word, rest) = cut(words, " ");
-    match word {
-        "all" | "end" => Ok(Answer::Plain),
-        "give" => match unescape(alloc, rest) {
-            Ok(bytes) => Ok(Answer::Give(bytes)),
-            Err(fault) => Err(fault),
-        },
-        "take" | "at" => match rest.parse::<u64>() {
-            Ok(n) if word == "at" => Ok(Answer::At(n)),
-            Ok(n) => Ok(Answer::Take(n as usize)),
-            Err(_) => Err(Unplayed::NoNumber),
-        },
-        "fail" => parse_failure(rest),
-        _ => Err(Unplayed::NoWord),
+impl Word for Answer {
+    fn parse(alloc: Global, words: &str) -> Played<Answer> {
+        let (word, rest) = cut(words, " ");
+        match word {
+            "all" | "end" => Ok(Answer::Plain),
+            "give" => match unescape(alloc, rest) {
+                Ok(bytes) => Ok(Answer::Give(bytes)),
+                Err(fault) => Err(fault),
+            },
+            "take" | "at" => match rest.parse::<u64>() {
+                Ok(n) if word == "at" => Ok(Answer::At(n)),
+                Ok(n) => Ok(Answer::Take(n as usize)),
+                Err(_) => Err(Unplayed::NoNumber),
+            },
+            "fail" => parse_failure(rest),
+            _ => Err(Unplayed::NoWord),
+        }
     }
 }
 
 fn parse_failure(words: &str) -> Played<Answer> {
     let (name, text) = cut(words, " ");
-    let Some(kind) = kind_of_name(name) else {
-        return Err(Unplayed::NoWord);
-    };
+    let kind = kind_of(name)?;
     if text.is_empty() {
         return Ok(Answer::Fail(kind, None));
     }
@@ -105,29 +119,52 @@ fn parse_failure(words: &str) -> Played<Answer> {
     }
 }
 
-fn parse_act(words: &str) -> Option<Act> {
-    let (word, rest) = cut(words, " ");
-    match word {
-        "zero" => Some(Act::Zero),
-        "take" => Some(Act::Take(rest.parse::<usize>().ok()?)),
-        "fail" => Some(Act::Fail(kind_of_name(rest)?)),
-        _ => None,
+// Returns the kind of this name.
+fn kind_of(name: &str) -> Played<ErrorKind> {
+    match kind_of_name(name) {
+        Some(kind) => Ok(kind),
+        None => Err(Unplayed::NoWord),
     }
 }
 
-/// Returns the acts of a `Faulty` that a line names, in order: `take 2, zero, fail BrokenPipe`.
-pub fn parse_acts(alloc: Global, words: &str) -> Played<Vec<Act>> {
-    let mut acts = Vec::new(alloc);
-    if words.is_empty() {
-        return Ok(acts);
-    }
-    'acts: for word in words.split(", ") {
-        match parse_act(word) {
-            Some(act) => acts.push(act)?,
-            None => return Err(Unplayed::NoWord),
+// The acts of a `Faulty`: `take 2, zero, fail BrokenPipe`.
+impl Word for Act {
+    fn parse(_alloc: Global, words: &str) -> Played<Act> {
+        let (word, rest) = cut(words, " ");
+        match word {
+            "zero" => Ok(Act::Zero),
+            "take" => Ok(Act::Take(number(rest)?)),
+            "fail" => Ok(Act::Fail(kind_of(rest)?)),
+            _ => Err(Unplayed::NoWord),
         }
     }
-    Ok(acts)
+}
+
+/// Returns the acts of a `Faulty` that a line names, in order.
+pub fn parse_acts(alloc: Global, words: &str) -> Played<Vec<Act>> {
+    parse_list(alloc, words)
+}
+
+// The bytes and failures of a `Feed`: `x, Interrupted, \n`.
+impl Word for Event {
+    fn parse(_alloc: Global, word: &str) -> Played<Event> {
+        match word.as_bytes() {
+            [byte] => Ok(Event::Byte(*byte)),
+            b"\\n" => Ok(Event::Byte(b'\n')),
+            _ => Ok(Event::Fail(kind_of(word)?)),
+        }
+    }
+}
+
+// The replies of a run: `2, ok, !BrokenPipe`.
+impl Word for Reply {
+    fn parse(_alloc: Global, word: &str) -> Played<Reply> {
+        match word.strip_prefix("!") {
+            Some(name) => Ok(Reply::Failed(Error::from(kind_of(name)?))),
+            None if word == "ok" => Ok(Reply::Done),
+            None => Ok(Reply::Took(number(word)?)),
+        }
+    }
 }
 
 pub fn misfit() -> Error {
