@@ -386,7 +386,6 @@ impl Source for BufReader<Any> {
     fn shown(&self) -> String {
         format!("{} | {}{}", if self.get_ref().is_feed() { " | ?" } else { "" }, bytes(self.buffer()), self.get_ref().shown())
     }
-    fn limit(&mut self, n: u64) { self.get_mut().limit(n) }
     fn seeker(&mut self) -> io::Result<&mut dyn Seek> { Ok(self) }
     fn place(&mut self, place: u64) { self.get_mut().place(place) }
 }
