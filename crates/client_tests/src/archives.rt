@@ -1,5 +1,5 @@
-// Archives whose reader fails inside a member, the reads that a header takes, and members that borrow the archive.
-use examples::{ar, read_member};
+// Archives whose reader fails inside a member, and the reads that a header takes.
+use examples::ar;
 use io_bench::{Event, Feed, Tally};
 use no_std_io2::io::{BufReader, ErrorKind, Read};
 use std::alloc::Allocator;
@@ -82,25 +82,6 @@ fn an_archive_asks_for_a_whole_header(rt: HostRuntime) -> Result<(), Fail> {
     assert!(rt; shown.as_str() == "[98]");
     assert!(rt; archive.next()?.is_none());
     assert!(rt; archive.member().get_ref().get_ref().reads() == 3);
-    Ok(())
-}
-
-// Members that are read by way of an entry: the archive goes on behind each.
-#[test]
-fn an_archive_goes_on_behind_an_entry(rt: HostRuntime) -> Result<(), Fail> {
-    let mut events = Vec::new(rt.alloc());
-    add_header(&mut events, b"a", b"00000000003", b"004641")?;
-    add(&mut events, b"xyz")?;
-    add_zeros(&mut events, 509)?;
-    add_header(&mut events, b"b", b"00000000000", b"004637")?;
-    let mut archive = Archive::new(BufReader::<_, 64>::new(Feed::new(events, 512)));
-    let mut bytes = Vec::<u8>::new(rt.alloc());
-    let first = read_member(&mut archive, &mut bytes)?.ok_or("no header")?;
-    assert!(rt; first.name.as_slice() == b"a".as_slice());
-    assert!(rt; bytes.as_slice() == b"xyz".as_slice());
-    assert!(rt; read_member(&mut archive, &mut bytes)?.is_some());
-    assert!(rt; read_member(&mut archive, &mut bytes)?.is_none());
-    assert!(rt; bytes.len() == 3);
     Ok(())
 }
 

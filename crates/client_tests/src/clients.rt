@@ -1,15 +1,8 @@
 // The examples of pages, and those of `examples`: a test for each, which finds one that is no longer what its call does.
-use examples::{
-    Parcels, add_table, checksum_of, entry_of, entry_of_file, grep, head, print_table, read_front,
-    read_parcel, save, save_summed,
-};
+use examples::{add_table, checksum_of, head, print_table, read_front, save, save_summed};
 use io_bench::{Act, Event, Faulty, Feed, Tally};
 use no_std_io2::io::{BufReader, BufWriter, Cursor, ErrorKind, Read, Write};
-use std::fs::remove_file;
-use std::io;
-use std::rt::Files;
 use std::test::Fail;
-use system_streams::create;
 
 // The first example of CALLING.md of `no_std_io2`.
 #[test]
@@ -52,19 +45,9 @@ fn a_table_is_one_write(rt: HostRuntime) -> Result<(), Fail> {
     Ok(())
 }
 
-// What a parcel leaves, read in part and whole: a byte too many or too few is the next length. What a `Take` leaves.
+// What a `Take` leaves: a byte too many or too few.
 #[test]
-fn parcels_leave_what_follows(rt: HostRuntime) -> Result<(), Fail> {
-    let mut parcels = Parcels {
-        rest: Read::take(b"\x03abc\x02de".as_slice(), 0),
-    };
-    if let Some(mut parcel) = parcels.next_parcel()? {
-        let mut byte = [0u8; 1];
-        parcel.read_exact(&mut byte)?;
-        assert!(rt; byte == *b"a");
-    }
-    assert!(rt; read_parcel(rt.alloc(), &mut parcels)? == Some(vec![in rt.alloc(); b'd', b'e']?));
-    assert!(rt; read_parcel(rt.alloc(), &mut parcels)?.is_none());
+fn a_take_leaves_what_follows(rt: HostRuntime) -> Result<(), Fail> {
     let mut r = b"abcde".as_slice();
     let mut front = Vec::<u8>::new(rt.alloc());
     assert!(rt; read_front(&mut r, 2, &mut front)? == 2);
@@ -101,19 +84,6 @@ fn lines_before_a_fault(rt: HostRuntime) -> Result<(), Fail> {
     Ok(())
 }
 
-// A line too many or too few, or one without the word; the line behind the last one that was wanted.
-#[test]
-fn lines_with_a_word(rt: HostRuntime) -> Result<(), Fail> {
-    let mut r = Cursor::new(*b"a key\nkeen\nkey\nno\nkeys");
-    let mut out = Vec::<u8>::new(rt.alloc());
-    assert!(rt; grep(rt.alloc(), &mut r, &mut out, b"key", 2)? == 2);
-    assert!(rt; out.as_slice() == b"a key\nkey\n".as_slice());
-    assert!(rt; r.position() == 15);
-    assert!(rt; grep(rt.alloc(), &mut r, &mut out, b"key", 2)? == 1);
-    assert!(rt; out.as_slice() == b"a key\nkey\nkeys".as_slice());
-    Ok(())
-}
-
 // The test of CALLING.md of `io_bench`.
 // The device takes three bytes, and then fails twice: no byte is lost, and none is sent again.
 #[test]
@@ -130,32 +100,6 @@ fn a_record_outlives_faults(rt: HostRuntime) -> Result<(), Fail> {
     Ok(())
 }
 
-// Returns why an entry of the file is not read.
-fn refusal_of(rt: &impl Files, i: u32) -> Result<io::ErrorKind, Fail> {
-    match entry_of_file(rt, "entries", i, &mut [0u8; 3]) {
-        Ok(()) => Err(Fail::new("found")),
-        Err(e) => Ok(e.kind()),
-    }
-}
-
-// An entry of a file in memory that is there and is refused, or another one's bytes.
-#[test]
-fn in_memory(rt: HostRuntime) -> Result<(), Fail> {
-    let file = b"onetwosix\0\0\0\0\x03\0\0\0\x06\0\0\0\x09\0\0\0".as_slice();
-    let mut entry = [0u8; 3];
-    entry_of(file, 0, &mut entry)?;
-    assert!(rt; entry == *b"one");
-    entry_of(file, 2, &mut entry)?;
-    assert!(rt; entry == *b"six");
-    match entry_of(file, 5, &mut entry) {
-        Ok(()) => Err(Fail::new("found")),
-        Err(e) => {
-            assert!(rt; e.kind() == ErrorKind::UnexpectedEof);
-            Ok(())
-        }
-    }
-}
-
 // A sum of other bytes than those that the vector got behind its own, or a long text that is refused.
 #[test]
 fn summed(rt: HostRuntime) -> Result<(), Fail> {
@@ -163,25 +107,5 @@ fn summed(rt: HostRuntime) -> Result<(), Fail> {
     let (device, sum) = save_summed(vec![in rt.alloc(); b'a', b'b']?, text.as_slice())?;
     assert!(rt; sum == 15000);
     assert!(rt; device.len() == 5002 && device.starts_with(b"ab\x03") && device.ends_with(b"\x03"));
-    Ok(())
-}
-
-// The example of `indexed` of `examples`, over a file with three entries and their index. An entry of another place;
-// one that is not there, or cut off, taken for one; an error of the system without its kind.
-#[test]
-fn indexed(rt: HostRuntime) -> Result<(), Fail> {
-    let rt = &rt;
-    let file = b"onetwosix\0\0\0\0\x03\0\0\0\x06\0\0\0\x09\0\0\0".as_slice();
-    create(rt, "entries")?.write_all(file)?;
-    let mut entry = [0u8; 3];
-    entry_of_file(rt, "entries", 1, &mut entry)?;
-    assert!(rt; entry == *b"two");
-    entry_of_file(rt, "entries", 2, &mut entry)?;
-    assert!(rt; entry == *b"six");
-    assert!(rt; refusal_of(rt, 5)? == io::ErrorKind::UnexpectedEof);
-    create(rt, "entries")?.write_all(&file[..20])?;
-    assert!(rt; refusal_of(rt, 1)? == io::ErrorKind::UnexpectedEof);
-    remove_file(rt, "entries")?;
-    assert!(rt; refusal_of(rt, 1)? == io::ErrorKind::NotFound);
     Ok(())
 }

@@ -1,7 +1,6 @@
-// Calls at a limit: a write of no bytes, and the longest record.
-use examples::records::read_record;
+// A run with a write of no bytes.
 use io_bench::{Act, Faulty, Op, run_writes};
-use no_std_io2::io::{BufReader, LineWriter, Read, Write};
+use no_std_io2::io::{LineWriter, Write};
 use std::test::Fail;
 
 // A run that passes over a `write_all` of no bytes, which sends a line that is held.
@@ -38,21 +37,5 @@ fn each_write_of_no_bytes_is_made(rt: HostRuntime) -> Result<(), Fail> {
     )?;
     assert!(rt; w.buffer().is_empty());
     assert!(rt; w.get_ref().get_ref().as_slice() == b"abc\n".as_slice());
-    Ok(())
-}
-
-// A record that is refused although there is memory for it, and one that takes a byte of the next.
-#[test]
-fn the_longest_record_is_read(rt: HostRuntime) -> Result<(), Fail> {
-    let mut bytes = [b'x'; 258];
-    bytes[0] = b'a';
-    bytes[1] = 255;
-    bytes[257] = b'y';
-    let mut r = BufReader::<_, 8>::new(&bytes[..]);
-    let payload = read_record(rt.alloc(), &mut r, b'a')?.ok_or("another record")?;
-    assert!(rt; payload.as_slice() == &bytes[2..257]);
-    let mut next = [0u8; 2];
-    assert!(rt; r.read(&mut next)? == 1);
-    assert!(rt; next == *b"y\0");
     Ok(())
 }

@@ -4,8 +4,7 @@
 // The columns after a call are its result, for a read the bytes that it gave, the bytes behind, the held bytes, and the
 // calls that reached the device.
 use crate::devices::Devices;
-use examples::records::{peek_header, read_record};
-use no_std_io2::io::BufReader;
+use no_std_io2::io::{BufRead, BufReader, Error, ErrorKind, Read, Result};
 use rows_play::calls::{Call, make_seek};
 use rows_play::line::Line;
 use rows_play::player::{Player, Stream};
@@ -15,6 +14,27 @@ use rows_play::unplayed::{Played, Unplayed};
 use std::alloc::Global;
 
 type Reader = BufReader<Recorder, 8>;
+
+// Returns the tag and the length of the next record, and takes nothing. A record is a tag, a length, and that many bytes.
+fn peek_header(r: &mut Reader) -> Result<(u8, u8)> {
+    if !r.fill_to(2)? {
+        return Err(Error::new(ErrorKind::UnexpectedEof, "failed to fill whole buffer"));
+    }
+    let held = r.buffer();
+    Ok((held[0], held[1]))
+}
+
+// Returns the payload of the next record if it has this tag, and else `None`; the record then stays to be read.
+fn read_record(alloc: Global, r: &mut Reader, wanted: u8) -> Result<Option<Vec<u8>>> {
+    let (tag, len) = peek_header(r)?;
+    if tag != wanted {
+        return Ok(None);
+    }
+    let mut payload = Vec::from_elem(alloc, 0u8, usize::from(len))?;
+    r.consume(2);
+    r.read_exact(&mut payload)?;
+    Ok(Some(payload))
+}
 
 fn call_peek(r: &mut Reader, line: &mut Line) {
     match peek_header(r) {
