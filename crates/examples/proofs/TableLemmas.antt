@@ -1,14 +1,14 @@
 -- One row more, and what became of a text that was printed to an object.
 use Rattle.no_std_io2.proofs.Words.{◌≡◌, ℕ, ◌+◌, ◌<◌, ◌≤◌, ◌^◌, List, [], ◌++◌, length, take, get_or, Some, Ok, Err, inl, inr, ⊎_elim}
-use Rattle.no_std_io2.proofs.Words.{subst, arith, take_more, Option, Result, ◌∷◌}
+use Rattle.no_std_io2.proofs.Words.{subst, arith, take_more, Option, Result}
 use Rattle.no_std_io2.proofs.Words.{WriterState, Moves, MovesFront, sym, append-nil, length-append, told_out, with_buffer}
 use Rattle.std.proofs.lemmas.Fmt.{length-decimal-le}
 use Rattle.no_std_io2.specs.{declared.io.Error.{Error}, inner.Text.{PrintsOrRefuses, PrintsShort}}
 use Rattle.no_std_io2.proofs.{MovesLemmas.{MovesFront-whole, MovesFront-all, MovesFront-next, MovesFront-stop}, TextLemmas.{prints_fitting}}
-use Rattle.no_std_io2.proofs.{Forwards.{row_back, array}, ObjectRules.{buffered, by_lines}}
+use Rattle.no_std_io2.proofs.{Forwards.{row_back, array}, ObjectRules.{buffered}}
 use Rattle.no_std_io2.specs.contracts.io.Cursor.{the_row as cursor-row}
-use Rattle.no_std_io2.specs.declared.io.{Cursor.{Cursor}, BufWriter.{BufWriter}, LineWriter.{LineWriter}}
-use Rattle.no_std_io2.specs.{Cursor.{cursor_out}, BufWriter.{writer_inner, writer_buffer}, LineWriter.{line_inner, line_buffer}}
+use Rattle.no_std_io2.specs.declared.io.{Cursor.{Cursor}, BufWriter.{BufWriter}}
+use Rattle.no_std_io2.specs.{Cursor.{cursor_out}, BufWriter.{writer_inner, writer_buffer}}
 use Rattle.no_std_io2.specs.{Writers.{Writer}, inner.Writers.{OfObject, PrintsByOne}}
 use Rattle.examples.specs.Tables.{row_text, table, ArePrinted, PrintsRows, StopsTable, and_row}
 
@@ -85,19 +85,6 @@ pub buffer_held : (n S : ℕ) (w y : BufWriter (Cursor (List ℕ)) S)
     → writer_buffer y ≡ writer_buffer w
 buffer_held n S w y codes =
     row_back (buffered (cursor-row (array n)) S) (λ (v : BufWriter (Cursor (List ℕ)) S). writer_buffer v) w y codes
-
--- the same of one that sends whole lines
-pub lines_out : (n S : ℕ) (w y : LineWriter (Cursor (List ℕ)) S)
-    → (by_lines (cursor-row (array n)) S).coded.code w ≡ (by_lines (cursor-row (array n)) S).coded.code y
-    → cursor_out (λ (a : List ℕ). a) (line_inner y) ≡ cursor_out (λ (a : List ℕ). a) (line_inner w)
-lines_out n S w y codes = row_back (by_lines (cursor-row (array n)) S)
-    (λ (v : LineWriter (Cursor (List ℕ)) S). cursor_out (λ (a : List ℕ). a) (line_inner v)) w y codes
-
-pub lines_held : (n S : ℕ) (w y : LineWriter (Cursor (List ℕ)) S)
-    → (by_lines (cursor-row (array n)) S).coded.code w ≡ (by_lines (cursor-row (array n)) S).coded.code y
-    → line_buffer y ≡ line_buffer w
-lines_held n S w y codes =
-    row_back (by_lines (cursor-row (array n)) S) (λ (v : LineWriter (Cursor (List ℕ)) S). line_buffer v) w y codes
 
 -- a buffer that is taken off
 pub taken_off : {x y z : List ℕ} → Moves (with_buffer (told_out x) y) [] [] (told_out z) → z ≡ x ++ y

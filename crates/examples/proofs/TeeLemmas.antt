@@ -1,9 +1,9 @@
 -- What a tee tells, from what its two writers tell.
 use Rattle.no_std_io2.proofs.Words.{◌≡◌}
-use Rattle.std.proofs.Common.{ℕ, ◌+◌, ◌≤◌, List, [], ◌∷◌, ◌++◌, length, take, refl, ap, append_assoc, arith, sym, ◌∙◌, subst}
-use Rattle.std.specs.Prelude.{None, count_by, Result, Ok, Err}
+use Rattle.std.proofs.Common.{ℕ, ◌+◌, ◌≤◌, List, [], ◌∷◌, ◌++◌, length, take, arith, sym, subst}
+use Rattle.std.specs.Prelude.{None, count_by, Ok, Err}
 use Rattle.std.proofs.lemmas.List.{append-nil}
-use Rattle.no_std_io2.specs.{Moves.{WriterState, Moves, IsFront}, inner.Kinds.{is_interruption}}
+use Rattle.no_std_io2.specs.{Moves.{WriterState, Moves}, inner.Kinds.{is_interruption}}
 use Rattle.no_std_io2.specs.declared.io.{ErrorKind.{ErrorKind}}
 use Rattle.no_std_io2.specs.{Write.{WriteLaw, CallAdds}, inner.Write.{zero_write}}
 use Rattle.no_std_io2.proofs.{MovesLemmas.{Moves-trans}, CallsAdd.{write_law_by, zero_none}}

@@ -1,4 +1,4 @@
-//! A checksum of all that a reader gives, whose type is known only at run time.
+//! A loop over a reader whose type is known only at run time: the checksum of all that it gives.
 ghost use Rattle.std.specs.Prelude.{◌<◌, length};
 ghost use Rattle.no_std_io2.specs.inner.Writers.{OfObject};
 ghost use Rattle.examples.specs.Checksum.{SumsAll};

@@ -1,7 +1,7 @@
-//! [`head`], a loop over lines: the first lines of a reader go to a writer.
+//! [`head`], a loop over lines, also before a fault: the first lines of a reader go to a writer.
 ghost use Rattle.std.specs.Prelude.{◌⊎◌, IfOk, IfErr};
 ghost use Rattle.no_std_io2.specs.Takes.{tells};
-ghost use Rattle.examples.specs.Lines.{every_line, PassesLines, StopsAtPart, StopsWriting};
+ghost use Rattle.examples.specs.Lines.{PassesLines, StopsAtPart, StopsWriting};
 
 use no_std_io2::io::{BufRead, Result, Write};
 use std::alloc::Global;
@@ -16,10 +16,10 @@ use std::alloc::Global;
 /// byte; the writer has then accepted the lines before and some first bytes of one more, whose other bytes are lost. If
 /// the writer fails at the part of a line before the reader's fault, that fault is lost too.
 pub fn head<B: BufRead, W: Write>(alloc: Global, r: &mut B, w: &mut W, wanted: u64) -> Result<u64>
-    ensures passes { IfOk result (PassesLines every_line wanted (tells B.Read r.old) (tells B.Read r.new)
+    ensures passes { IfOk result (PassesLines wanted (tells B.Read r.old) (tells B.Read r.new)
         (W.told w.old) (W.told w.new)) }
     ensures stops { IfErr result (λ e. StopsAtPart e (tells B.Read r.old) (tells B.Read r.new) (W.told w.old) (W.told w.new)
-        ⊎ StopsWriting every_line e (tells B.Read r.old) (tells B.Read r.new) (W.told w.old) (W.told w.new)) }
+        ⊎ StopsWriting e (tells B.Read r.old) (tells B.Read r.new) (W.told w.old) (W.told w.new)) }
 {
     let mut line = Vec::<u8>::new(alloc);
     let mut count = 0;

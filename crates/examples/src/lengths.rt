@@ -1,4 +1,4 @@
-//! A loop over records. Each record is a length, in one byte, followed by that many bytes.
+//! A loop over `fill_buf` and `consume`. Each record is a length, in one byte, followed by that many bytes.
 ghost use Rattle.examples.specs.Lengths.{SkipsRecords};
 
 use no_std_io2::io::{BufRead, Result, skip};

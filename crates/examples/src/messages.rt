@@ -1,4 +1,5 @@
-//! Messages: the length of the payload, as a big-endian `u16`, followed by the payload. Long ones have a `u32`.
+//! What was sent as a message comes back. It is the length of the payload, as a big-endian `u16`, followed by the payload.
+//! Long ones have a `u32`, by which no memory is asked for.
 ghost use Rattle.std.specs.Prelude.{◌≡◌, ◌<◌, ◌^◌, ◌++◌, ◌⊎◌, ℕ, List, Some, length, IfErr, IfOk, IsErrAnd};
 ghost use Rattle.std.specs.Int.{w32, to_be_bytes};
 ghost use Rattle.no_std_io2.specs.Errors.{IsOutOfMemory};

@@ -1,4 +1,4 @@
-//! Functions over objects, and their callers.
+//! Functions over objects without a loop, and their callers, which know what became of the value that they lent.
 ghost use Rattle.std.specs.Prelude.{◌≡◌, ◌++◌, IfOk, OnOk};
 ghost use Rattle.no_std_io2.specs.Reads.{TakesBytes};
 ghost use Rattle.no_std_io2.specs.Moves.{MovesFront};

@@ -1,4 +1,4 @@
-//! [`send_with_one_retry`], a caller over any device.
+//! [`send_with_one_retry`], two calls over any device, of which the second continues the first.
 ghost use Rattle.std.specs.Prelude.{◌≡◌, [], OnOk};
 ghost use Rattle.no_std_io2.specs.Retries.{Tries};
 ghost use Rattle.no_std_io2.specs.Moves.{Sends};

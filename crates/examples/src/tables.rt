@@ -1,13 +1,11 @@
-//! [`print_table`], a loop over a writer whose type is known only at run time, and its callers, each over a writer of
-//! another type.
+//! [`print_table`], a loop over a writer whose type is known only at run time, and its callers over an array and a buffer.
 ghost use Rattle.std.specs.Prelude.{◌≡◌, [], ◌++◌, IfOk, IfErr, OnOk};
 ghost use Rattle.no_std_io2.specs.Cursor.{cursor_out};
 ghost use Rattle.no_std_io2.specs.Moves.{Moves, told_out};
 ghost use Rattle.no_std_io2.specs.inner.Writers.{OfObject};
 ghost use Rattle.examples.specs.Tables.{table, PrintsRows, StopsTable};
 
-use no_std_io2::io::{BufWriter, Cursor, LineWriter, Result, Write, print_to_object};
-use std::alloc::Global;
+use no_std_io2::io::{BufWriter, Cursor, Result, Write, print_to_object};
 
 /// Prints a line `ID=VALUE` for each of these rows, each by one `write_all`, and makes no other call. It allocates nothing.
 ///
@@ -24,19 +22,6 @@ pub fn print_table(w: &mut dyn Write, rows: &[(u32, u32)]) -> Result<()>
         print_to_object::<_, _, 32>(w, format_args!("{id}={value}\n"))?;
     }
     Ok(())
-}
-
-/// Returns a new vector that has a table.
-///
-/// # Errors
-/// Returns `OutOfMemory` if the vector cannot grow.
-#[tactic(auto, using(no_std_io2::proofs::ObjectRules::lent_writer))]
-pub fn table_of(alloc: Global, rows: &[(u32, u32)]) -> Result<Vec<u8>>
-    ensures { IfOk result (λ v. v.items ≡ table rows.now) }
-{
-    let mut v = Vec::new(alloc);
-    print_table(&mut v, rows)?;
-    Ok(v)
 }
 
 /// Prints a table behind what a page has. It allocates nothing.
@@ -59,21 +44,6 @@ pub fn add_table(page: Cursor<[u8; 64]>, rows: &[(u32, u32)]) -> Result<Cursor<[
     ensures { IfOk result (λ new. cursor_out (λ a. a) new ≡ cursor_out (λ a. a) page ++ table rows.now) }
 {
     let mut w = BufWriter::<_, 32>::new(page);
-    print_table(&mut w, rows)?;
-    match w.into_inner() {
-        Ok(page) => Ok(page),
-        Err(e) => Err(e.into()),
-    }
-}
-
-/// Prints a table behind what a page has, through a buffer of 32 bytes that sends whole lines.
-///
-/// # Errors
-/// Returns `WriteZero` if the page has too little room. It is then dropped.
-pub fn add_lines(page: Cursor<[u8; 64]>, rows: &[(u32, u32)]) -> Result<Cursor<[u8; 64]>>
-    ensures { IfOk result (λ new. cursor_out (λ a. a) new ≡ cursor_out (λ a. a) page ++ table rows.now) }
-{
-    let mut w = LineWriter::<_, 32>::new(page);
     print_table(&mut w, rows)?;
     match w.into_inner() {
         Ok(page) => Ok(page),

@@ -1,5 +1,5 @@
 -- The law of a call of an object is named whole; the search does not join its turns of the loop.
-use Rattle.no_std_io2.proofs.Words.{common_steps, ◌+◌, ◌%◌, ◌^◌, ◌∙◌, ap, arith, refl, ◌++◌, returned_err, sum, event_bytes, sym}
+use Rattle.no_std_io2.proofs.Words.{common_steps, ◌+◌, ◌%◌, ◌^◌, ◌∙◌, ap, arith, refl, ◌++◌, returned_err, sum, event_bytes}
 use Rattle.no_std_io2.proofs.{GivenPieces.{piece_spends}, TakesLemmas.{reader}}
 use Rattle.examples.proofs.SumLemmas.{fetched_end, fetched_fault, fetched_full, sums_none, sums_more, then_fetched}
 use Rattle.examples.proofs.checksum.checksum_of.Goals as goal

@@ -1,9 +1,9 @@
 -- Room was made in the second, the first took some bytes, and the second takes these; the search does not join the three.
-use Rattle.std.proofs.Common.{◌≡◌, ◌≤◌, ◌<◌, ◌+◌, length, take, refl, arith, sym, ap, subst}
+use Rattle.std.proofs.Common.{◌≤◌, ◌<◌, ◌+◌, length, take, refl, arith, subst}
 use Rattle.std.specs.Prelude.{Result, IsOk}
 use Rattle.no_std_io2.specs.declared.io.Error.{Error}
-use Rattle.no_std_io2.proofs.{Words.{returned_err}, MovesLemmas.{Moves-refl, MovesFront-whole}}
-use Rattle.no_std_io2.specs.BufWriter.{writer_told, writer_buffer}
+use Rattle.no_std_io2.proofs.{Words.{returned_err}, MovesLemmas.{MovesFront-whole}}
+use Rattle.no_std_io2.specs.BufWriter.{writer_buffer}
 use Rattle.std.proofs.lemmas.List.{length-take}
 use Rattle.examples.proofs.tee.TeeWrite.write.Goals as goal
 use Rattle.examples.proofs.TeeLemmas.{tee_wrote, tee_full}

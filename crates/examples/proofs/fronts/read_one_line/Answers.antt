@@ -3,7 +3,7 @@ use Rattle.no_std_io2.proofs.Words.{◌∙◌, ap, sym, arith, length, reader_in
 use Rattle.no_std_io2.proofs.{BufferedReads.{reader_keeps}, Forwards.{calls_keep, keeps_name}}
 use Rattle.std.proofs.Common.{MutBor}
 use Rattle.no_std_io2.specs.declared.io.BufReader.{BufReader}
-use Rattle.examples.proofs.parcels.read_one_line.Goals as goal
+use Rattle.examples.proofs.fronts.read_one_line.Goals as goal
 
 pub returns : goal.returns
 returns g c =

@@ -4,7 +4,7 @@ use Rattle.no_std_io2.proofs.Words.{◌∙◌, ap, sym}
 use Rattle.no_std_io2.proofs.{KnownBytes.{limit_known}, LimitLemmas.{limit_keeps}, Forwards.{calls_keep, keeps_name}}
 use Rattle.no_std_io2.specs.inner.Take.{limit_inner}
 use Rattle.std.proofs.Common.{MutBor}
-use Rattle.examples.proofs.parcels.read_front.Goals as goal
+use Rattle.examples.proofs.fronts.read_front.Goals as goal
 
 pub returns : goal.returns
 returns g c = record {
