@@ -2,10 +2,9 @@
 ghost use Rattle.std.specs.Prelude.{ℕ, List, [], ◌∷◌, ◌≡◌, ◌<◌, ◌≤◌, ◌++◌, None, IsErr, Ok, OnOk, Some, drop, length, map};
 ghost use Rattle.io_bench.specs.Appended.{appended};
 ghost use Rattle.no_std_io2.specs.BufWriter.{writer_inner};
-ghost use Rattle.no_std_io2.specs.Takes.{answered, gave_front, tells};
+ghost use Rattle.no_std_io2.specs.Takes.{answered, gave_front, tells, Takes, to_come};
 ghost use Rattle.no_std_io2.specs.Meter.{FillsRoom};
 ghost use Rattle.no_std_io2.specs.inner.InMemory.{sink_taken};
-ghost use Rattle.no_std_io2.specs.Takes.{Takes, to_come};
 ghost use Rattle.io_bench.specs.Faulty.{WritesBehind, act_mishaps, acts_left, faulty_inner, next_act};
 ghost use Rattle.io_bench.specs.Feed.{all_to_come, feed_answer, feed_left, feed_piece};
 ghost use Rattle.io_bench.specs.declared.feed.Event.TheVariants.{Byte, Fail};

@@ -37,11 +37,9 @@ pub use calls::{
     stops_at_a_fault_of_a_write,
 };
 pub use delivery::{empties_a_tower, hands_back_the_device, holds_nothing_after_a_flush};
-pub use lines::{
-    holds_no_newline, holds_no_newline_in_a_box, holds_no_newline_in_a_tower, keeps_a_line_state,
-};
+pub use lines::{holds_no_newline, holds_no_newline_in_a_box, keeps_a_line_state};
 pub use reads::{
     gives_the_next_piece, gives_what_comes_next, gives_what_comes_next_in_a_tower,
     goes_to_its_target, moves_inside_its_buffer,
 };
-pub use runs::{accepts_by_its_replies, fails_at_most, succeeds_at_a_steady_device};
+pub use runs::accepts_by_its_replies;

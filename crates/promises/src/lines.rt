@@ -6,9 +6,9 @@ ghost use Rattle.no_std_io2.specs.Pieces.{newline};
 ghost use Rattle.no_std_io2.specs.Moves.{Moves, MovesFront};
 ghost use Rattle.no_std_io2.specs.Write.{accepted_of, write_mishap};
 ghost use Rattle.no_std_io2.specs.LineWriter.{line_buffer};
-ghost use Rattle.promises.specs.Promises.{in_lines, in_tower};
+ghost use Rattle.promises.specs.Promises.{in_lines};
 
-use no_std_io2::io::{BufWriter, LineWriter, Result, Write};
+use no_std_io2::io::{LineWriter, Result, Write};
 
 /// After `write_all` returns `Ok` every complete line has been passed on. Some first bytes of the text were accepted,
 /// all of them after `Ok`, and an error is a mishap of the device.
@@ -18,17 +18,6 @@ pub fn holds_no_newline<W: Write + Drop, const S: usize>(
 ) -> Result<()>
     ensures line { OnOk result (Lacks newline (line_buffer w.new)) }
     ensures moves { MovesFront (in_lines W.told w.old) x.now result (in_lines W.told w.new) }
-{
-    w.write_all(x)
-}
-
-/// The same holds over a buffer, which then has the line.
-pub fn holds_no_newline_in_a_tower<W: Write + Drop, const S: usize, const T: usize>(
-    w: &mut LineWriter<BufWriter<W, S>, T>,
-    x: &[u8],
-) -> Result<()>
-    ensures line { OnOk result (Lacks newline (line_buffer w.new)) }
-    ensures moves { MovesFront (in_tower W.told w.old) x.now result (in_tower W.told w.new) }
 {
     w.write_all(x)
 }

@@ -1,14 +1,11 @@
 // What readers and writers in memory do.
-ghost use Rattle.std.specs.Prelude.{List, ℕ, ◌≡◌, ◌-◌, ◌++◌, drop, length, min, IsOkAnd, None, OnOk, Some};
+ghost use Rattle.std.specs.Prelude.{List, ℕ, ◌≡◌, ◌-◌, ◌++◌, drop, length, IsOkAnd, OnOk, Some};
 ghost use Rattle.std.specs.Box.{boxed_slice_items};
 ghost use Rattle.no_std_io2.specs.Cursor.{cursor_inner, cursor_out, cursor_position};
-ghost use Rattle.no_std_io2.specs.Events.{Event, event_bytes, events_of};
+ghost use Rattle.no_std_io2.specs.Events.{Event, event_bytes};
 ghost use Rattle.no_std_io2.specs.inner.Events.{cut};
 ghost use Rattle.no_std_io2.specs.inner.Pieces.{ArePieces, pieces_of};
-ghost use Rattle.no_std_io2.specs.Takes.{answered, gave_front, tells};
-ghost use Rattle.no_std_io2.specs.Moves.{Moves, told_out};
-ghost use Rattle.no_std_io2.specs.Write.{accepted_of, write_mishap};
-ghost use Rattle.no_std_io2.specs.Takes.{Takes, to_come};
+ghost use Rattle.no_std_io2.specs.Takes.{Takes, answered, gave_front, tells, to_come};
 ghost use Rattle.promises.specs.Promises.{in_cursor};
 
 use crate::bytes::keeps_every_byte_of_a_write_all;
@@ -31,50 +28,18 @@ fn joins_readers<R: Read + Drop, T: AsSlice<u8> + Drop, A: Allocator>(
     r.take(limit).chain(q).chain(c).read_to_end(buf)
 }
 
-// A read of a slice takes its first bytes.
-fn takes_the_front_of_a_slice<'a>(s: &mut &'a [u8], buf: &mut [u8]) -> Result<usize>
-    ensures { Takes (record { events = Some (events_of s.old.now); store = None; turns = length s.old.now })
-        (answered (gave_front result buf.new))
-        (record { events = Some (events_of s.new.now); store = None; turns = length s.new.now }) }
-{
-    s.read(buf)
-}
-
-// So it is for a queue and a cursor.
-fn takes_the_front_of_a_queue<A: Allocator>(
-    q: &mut VecDeque<u8, A>,
-    buf: &mut [u8],
-) -> Result<usize>
-    ensures { Takes (record { events = Some (events_of q.old.items); store = None; turns = length q.old.items })
-        (answered (gave_front result buf.new))
-        (record { events = Some (events_of q.new.items); store = None; turns = length q.new.items }) }
-{
-    q.read(buf)
-}
-
+// A read of a cursor takes its next bytes.
 fn takes_the_front_of_a_cursor<T: AsSlice<u8>>(c: &mut Cursor<T>, buf: &mut [u8]) -> Result<usize>
     ensures { Takes (in_cursor T.slice c.old) (answered (gave_front result buf.new)) (in_cursor T.slice c.new) }
 {
     c.read(buf)
 }
 
-// What is written to a queue is out.
-fn appends_to_a_queue<A: Allocator>(q: &mut VecDeque<u8, A>, x: &[u8]) -> Result<usize>
-    ensures { Moves (told_out q.old.items) (accepted_of result x.now) (write_mishap result x.now) (told_out q.new.items) }
+// A `fill_buf` of a cursor lends all bytes that are left, and does not fail.
+fn lends_all_of_a_cursor<T: AsSlice<u8>>(c: &mut Cursor<T>) -> Result<usize>
+    ensures { IsOkAnd result (λ n. n ≡ length (T.slice (cursor_inner c.old)) - cursor_position c.old) }
 {
-    q.write(x)
-}
-
-// A read of a slice or a cursor gives as many bytes as fit, a `fill_buf` lends all of them, and none of these fails.
-fn gives_as_many_as_fit<'a, T: AsSlice<u8>>(
-    s: &mut &'a [u8],
-    c: &mut Cursor<T>,
-    buf: &mut [u8],
-) -> Result<(usize, usize)>
-    ensures { IsOkAnd result (λ n. (n.0 ≡ min (length buf.old) (length s.old.now))
-        × (n.1 ≡ length (T.slice (cursor_inner c.old)) - cursor_position c.old)) }
-{
-    Ok((s.read(buf)?, c.fill_buf()?.len()))
+    Ok(c.fill_buf()?.len())
 }
 
 // What is written over a cursor follows the bytes before its position, also if these are too few: zeros are

@@ -8,12 +8,11 @@ ghost use Rattle.no_std_io2.specs.Takes.{tells, answered, gave_front, IsAtEnd, K
 ghost use Rattle.no_std_io2.specs.inner.Buffer.{IsInBuffer, IsSuffix};
 ghost use Rattle.no_std_io2.specs.inner.Events.{BeginsWith};
 ghost use Rattle.no_std_io2.specs.Events.{Event, event_bytes, Store};
-ghost use Rattle.no_std_io2.specs.inner.Pieces.{EndsPiece};
+ghost use Rattle.no_std_io2.specs.inner.Pieces.{EndsPiece, PieceEnds};
 ghost use Rattle.no_std_io2.specs.Pieces.{newline};
 ghost use Rattle.no_std_io2.specs.Seek.{Seeks};
 ghost use Rattle.io_bench.specs.Tally.{tally_inner};
 ghost use Rattle.promises.specs.Promises.{in_chain, in_reader, in_take};
-ghost use Rattle.no_std_io2.specs.inner.Pieces.{PieceEnds};
 
 use io_bench::Tally;
 use no_std_io2::io::{BufRead, BufReader, Chain, Read, Result, Seek, SeekFrom, Take};

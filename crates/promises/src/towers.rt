@@ -56,6 +56,7 @@ fn seeks_in_a_content<T: AsSlice<u8>>(c: &mut Box<Cursor<T>>, target: SeekFrom) 
 }
 
 // A seek from the start through a buffer makes one seek of the device. After `Ok` the buffer is empty.
+#[tactic(auto, using(std::proofs::lemmas::Grind::common_steps))]
 fn seeks_once<R: Seek, const S: usize>(r: &mut BufReader<R, S>, place: u64) -> Result<u64>
     ensures store { KeepsContent (reader_store R.store r.old) (λ len was now. Seeks len was (SeekFrom.Start place) result now)
         (reader_store R.store r.new) }
