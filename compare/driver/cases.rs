@@ -6,6 +6,8 @@ use std::sync::OnceLock;
 /// The sum of a run in which a call failed.
 pub const FAILED: u64 = u64::MAX;
 
+// What compare/calls/lib.rt.txt has, for the sides in Rust.
+
 /// A sum of a slice's length and of some of its bytes, with the same work whatever the length.
 pub fn sample(bytes: &[u8]) -> u64 {
     let mut sum = bytes.len() as u64;
@@ -20,15 +22,27 @@ pub fn sample(bytes: &[u8]) -> u64 {
     sum
 }
 
+/// As many bytes of the source as the room has.
+pub fn front<'a>(source: &'a [u8], room: &[u8]) -> &'a [u8] {
+    &source[..room.len()]
+}
+
+/// An empty vector that has the room for so many bytes of each call.
+pub fn vector(each: usize, calls: u64) -> Vec<u8> {
+    Vec::with_capacity(each * calls as usize)
+}
+
 /// So many calls on one side, over a source and with a room: the answer is a sum that each side must give.
 type Call = fn(&[u8], &mut [u8], u64) -> u64;
 
 pub struct Case {
+    /// The name of the call in the list, and the words of the table.
+    pub call: &'static str,
     pub name: String,
     pub class: &'static str,
     pub size: usize,
     source: &'static [u8],
-    /// How many calls a run makes; where instructions are counted, also twice as many.
+    /// How many calls a timed run makes.
     pub calls: u64,
     /// This library's, std's, the original crate's and the toolchain's.
     sides: [Option<Call>; SIDES],
@@ -124,29 +138,22 @@ fn size_text(size: usize) -> String {
     }
 }
 
-// This library's side and the toolchain's: the symbol of each call is its name behind `speed_` and `kit_`.
+// This library's side and the toolchain's: the symbol of each call is its name behind `io_` and `kit_`.
 macro_rules! declare {
     ($($name:ident: $source:ident $class:ident $text:literal $sizes:tt $(| $missing:ident)?;)*) => {
-        mod ours {$(
-            pub fn $name(source: &[u8], room: &mut [u8], calls: u64) -> u64 {
-                unsafe extern "C" {
-                    #[link_name = concat!("speed_", stringify!($name))]
-                    fn speed(source: *const u8, len: usize, room: *mut u8, size: usize, calls: u64) -> u64;
-                }
-                unsafe { speed(source.as_ptr(), source.len(), room.as_mut_ptr(), room.len(), calls) }
-            }
-        )*}
+        mod ours {$(declare!("io_" $name);)*}
         // A call that the toolchain does not have is declared too.
         #[allow(dead_code)]
-        mod kit {$(
-            pub fn $name(source: &[u8], room: &mut [u8], calls: u64) -> u64 {
-                unsafe extern "C" {
-                    #[link_name = concat!("kit_", stringify!($name))]
-                    fn kit(source: *const u8, len: usize, room: *mut u8, size: usize, calls: u64) -> u64;
-                }
-                unsafe { kit(source.as_ptr(), source.len(), room.as_mut_ptr(), room.len(), calls) }
+        mod kit {$(declare!("kit_" $name);)*}
+    };
+    ($side:literal $name:ident) => {
+        pub fn $name(source: &[u8], room: &mut [u8], calls: u64) -> u64 {
+            unsafe extern "C" {
+                #[link_name = concat!($side, stringify!($name))]
+                fn call(source: *const u8, len: usize, room: *mut u8, size: usize, calls: u64) -> u64;
             }
-        )*}
+            unsafe { call(source.as_ptr(), source.len(), room.as_mut_ptr(), room.len(), calls) }
+        }
     };
 }
 
@@ -164,9 +171,6 @@ macro_rules! sides {
     };
     ($name:ident original_kit) => {
         [Some(ours::$name), Some(crate::std_side::$name), None, None]
-    };
-    ($name:ident std_kit) => {
-        [Some(ours::$name), None, crate::original!($name), None]
     };
     ($name:ident none) => {
         [Some(ours::$name), Some(crate::clients::$name), None, None]
@@ -203,6 +207,7 @@ pub fn with(word: &str) -> Vec<Case> {
                     _ => source(),
                 };
                 let case = Case {
+                    call: stringify!($name),
                     name,
                     class: stringify!($class),
                     size,

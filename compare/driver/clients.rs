@@ -1,17 +1,9 @@
 //! The crates beside which the clients of this library are measured, over the streams of the standard library. A crate
 //! whose text is not there has no module here, and its cases are skipped.
-use super::std_side::often::*;
-use super::std_side::until_often;
+use super::std_side::*;
+use crate::calls;
 use crate::cases::{FAILED, sample};
 use std::io::{BufReader, BufWriter, LineWriter, Read, Result, Write};
-
-macro_rules! calls {
-    ($($name:ident($source:ident, $room:ident, $calls:ident) $body:block)*) => {$(
-        #[inline(never)]
-        #[allow(unused_variables, unused_mut)]
-        pub fn $name(mut $source: &[u8], $room: &mut [u8], $calls: u64) -> u64 $body
-    )*};
-}
 
 // What a vector has after some calls that must not fail.
 fn written<const N: usize>(calls: u64, write: impl Fn(&mut Vec<u8>) -> Result<()>) -> u64 {
@@ -53,7 +45,6 @@ mod numbers {
     }
 
     calls! {
-        numbers_slice(source, room, calls) { sum_of(calls, || Ok(u64::from(source.read_u32::<BigEndian>()?))) }
         numbers_reader(source, room, calls) {
             let mut r = BufReader::with_capacity(1024, source);
             sum_of(calls, || read_mixed(&mut r))
@@ -70,7 +61,7 @@ mod numbers {
         numbers_vec(source, room, calls) {
             written::<15>(calls, |content| (0..calls).try_for_each(|n| write_mixed(content, n)))
         }
-        numbers_writer(source, room, calls) {
+        numbers_buf(source, room, calls) {
             written::<15>(calls, |content| {
                 let mut w = BufWriter::with_capacity(1024, content);
                 (0..calls).try_for_each(|n| write_mixed(&mut w, n))?;
@@ -106,10 +97,6 @@ mod texts {
             sum
         }
         base64_exact(source, room, calls) { exact_often(&mut DecoderReader::new(&mut source, STANDARD), room, calls) }
-        base64_until(source, room, calls) {
-            let mut r = BufReader::with_capacity(512, DecoderReader::new(&mut source, STANDARD));
-            until_often(&mut r, calls)
-        }
     }
 }
 #[cfg(base64)]
@@ -151,9 +138,6 @@ mod archives {
             }
             let content = builder.into_inner().map(|w| w.into_inner());
             content.map_or(FAILED, |content| content.map_or(FAILED, |it| it.len() as u64))
-        }
-        tar_next(source, room, calls) {
-            members(source, calls, |entry| Ok(entry.size() + sample(&entry.path_bytes())))
         }
         tar_read(source, room, calls) {
             members(source, calls, |mut entry| {

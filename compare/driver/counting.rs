@@ -30,6 +30,11 @@ fn request(code: usize, argument: usize) {
     }
 }
 
+// How many calls the shorter run makes: fewer than a timed one.
+fn calls_of(case: &Case) -> u64 {
+    (case.calls / 8).max(1)
+}
+
 /// Runs each case on each side twice, below callgrind, and has it dump the count of each run under
 /// a name of three numbers.
 pub fn count_below_callgrind(cases: &[Case]) {
@@ -38,7 +43,7 @@ pub fn count_below_callgrind(cases: &[Case]) {
             for times in [1, 2] {
                 let name = CString::new(format!("{at} {side} {times}")).unwrap();
                 request(ZERO, 0);
-                std::hint::black_box(case.run(side, case.calls * times));
+                std::hint::black_box(case.run(side, calls_of(case) * times));
                 request(DUMP, name.as_ptr() as usize);
             }
         }
@@ -76,7 +81,7 @@ fn read_dumps(folder: &Path, cases: &[Case]) -> std::io::Result<Measured> {
             totals[at][side][times - 1] = Some(total);
         }
     }
-    let each = |case: &Case, [once, twice]: [Option<f64>; 2]| Some((twice? - once?) / case.calls as f64);
+    let each = |case: &Case, [once, twice]: [Option<f64>; 2]| Some((twice? - once?) / calls_of(case) as f64);
     let counts = cases.iter().zip(totals);
     Ok(counts.map(|(case, sides)| sides.map(|totals| each(case, totals))).collect())
 }

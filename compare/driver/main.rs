@@ -9,17 +9,62 @@ mod counting;
 mod list;
 mod table;
 
+// What `dialect` made of compare/calls, over Rust's std::io and over the original crate.
+#[allow(unused, clippy::all)]
+mod std_side {
+    include!(concat!(env!("SIDES"), "/std.rs"));
+    include!("apart.rs");
+    use std::io::*;
+
+    fn reader<const S: usize>(source: &[u8]) -> BufReader<&[u8]> {
+        BufReader::with_capacity(S, source)
+    }
+
+    fn writer(device: Counter) -> BufWriter<Counter> {
+        BufWriter::with_capacity(8192, device)
+    }
+
+    // Its buffer has 8192 bytes.
+    fn pass<R: Read, W: Write>(reader: &mut R, writer: &mut W) -> Result<u64> {
+        copy(reader, writer)
+    }
+}
+
 #[cfg(original)]
-#[path = "original.rs"]
-mod original_side;
-#[path = "std.rs"]
-mod std_side;
+#[allow(unused, clippy::all)]
+mod original_side {
+    include!(concat!(env!("SIDES"), "/original.rs"));
+    include!("apart.rs");
+    use no_std_io2::io::*;
+
+    fn reader<const S: usize>(source: &[u8]) -> BufReader<&[u8], S> {
+        BufReader::new(source)
+    }
+
+    fn writer(device: Counter) -> BufWriter<Counter, 8192> {
+        BufWriter::new(device)
+    }
+
+    fn pass<R: Read, W: Write>(reader: &mut R, writer: &mut W) -> Result<u64> {
+        copy::<_, _, 8192>(reader, writer)
+    }
+}
 
 use cases::Case;
 use std::process::ExitCode;
 use std::time::Instant;
 
-// The original crate's side of a call, where its text was given.
+// Functions of one signature: a source, a room whose length is the case's size, and how many calls.
+macro_rules! calls {
+    ($($name:ident($source:ident, $room:ident, $calls:ident) $body:block)*) => {$(
+        #[inline(never)]
+        #[allow(unused_variables, unused_mut)]
+        pub fn $name(mut $source: &[u8], $room: &mut [u8], $calls: u64) -> u64 $body
+    )*};
+}
+pub(crate) use calls;
+
+// The original crate's side of a call, if its text was given.
 #[cfg(original)]
 macro_rules! original {
     ($name:ident) => {

@@ -1,8 +1,9 @@
-//! The same programs over Rust's `std::io`, with its usual buffers; `list` and `extract`, which are `tar_list`'s two;
-//! and `cat`. With `at` behind the word its buffers have the size of ours if that is another.
+//! The same programs over Rust's `std::io`, with its usual buffers; `list` and `extract`, which are `tar_list`'s two; and
+//! `cat`. `encode` and `decode` use the crate `base64`, and `make` the crate `tar`.
 use std::fmt::Write as _;
 use std::fs::File;
 use std::io::{self, BufRead, BufReader, BufWriter, Error, ErrorKind, Result, Write};
+use std::os::unix::fs::{MetadataExt as _, PermissionsExt as _};
 
 const RECORDS: u64 = 1_000_000;
 
@@ -139,6 +140,45 @@ fn cat(names: &[String], mut output: impl Write) -> Result<u64> {
     output.flush().map(|()| sum)
 }
 
+#[cfg(base64)]
+fn encode(mut input: impl BufRead, output: impl Write) -> Result<u64> {
+    let mut encoder = base64::write::EncoderWriter::new(output, base64::STANDARD);
+    io::copy(&mut input, &mut encoder)?;
+    encoder.finish()?.flush().map(|()| 0)
+}
+
+#[cfg(base64)]
+fn decode(mut input: impl BufRead, mut output: impl Write) -> Result<u64> {
+    io::copy(&mut base64::read::DecoderReader::new(&mut input, base64::STANDARD), &mut output)?;
+    output.flush().map(|()| 0)
+}
+
+// What `tar_make` keeps of a file: its name, its size, its permissions and its time.
+#[cfg(tar)]
+fn make(names: &[String], output: impl Write) -> Result<u64> {
+    let mut builder = tar::Builder::new(output);
+    for name in names {
+        let file = File::open(name)?;
+        let found = file.metadata()?;
+        let mut header = tar::Header::new_ustar();
+        header.set_path(name)?;
+        header.set_size(found.len());
+        header.set_mode(found.permissions().mode() & 0o7777);
+        header.set_entry_type(tar::EntryType::Regular);
+        header.set_uid(0);
+        header.set_gid(0);
+        header.set_device_major(0)?;
+        header.set_device_minor(0)?;
+        header.set_mtime(found.mtime() as u64);
+        header.set_cksum();
+        // Six digits, as tar_make and GNU tar write them.
+        let sum = format!("{:06o}\0 ", header.cksum()?);
+        header.as_old_mut().cksum.copy_from_slice(sum.as_bytes());
+        builder.append(&header, file)?;
+    }
+    builder.into_inner()?.flush().map(|()| 0)
+}
+
 fn main() -> Result<()> {
     let words: Vec<String> = std::env::args().collect();
     let word = words[1].as_str();
@@ -154,6 +194,12 @@ fn main() -> Result<()> {
         "log" => log(io::stdout().lock())?,
         "log_text" => log_text(io::stdout().lock())?,
         "cat" => cat(&words[2..], io::stdout().lock())?,
+        #[cfg(base64)]
+        "encode" => encode(input, stdout())?,
+        #[cfg(base64)]
+        "decode" => decode(input, stdout())?,
+        #[cfg(tar)]
+        "make" => make(&words[2..], stdout())?,
         "list" => list(input, stdout(), None)?,
         "extract" => list(input, stdout(), words.get(2).map(String::as_str))?,
         _ => return Err(Error::new(ErrorKind::InvalidInput, "no such program")),

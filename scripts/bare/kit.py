@@ -31,12 +31,15 @@ def folder():
     page = subprocess.run(["rt", "doc"], stdout=subprocess.PIPE, encoding="utf-8", check=True).stdout
     return os.path.dirname(page.strip())
 
-def words(verb, name, root, libraries):
-    """The command that does this with the crate of this name, whose root file is below the folder that it is run in."""
-    kit = folder()
+def words(verb, name, root, used):
+    """The command that does this with the crate of this name, whose root file is below the folder that it is run in,
+    and which uses these libraries."""
+    kit, here = folder(), below(used)
     made = [f"{kit}/bin/rattle", verb, "--crate-name", name, root, "--jobs", "1"]
-    made += ["--extern", f"std={kit}/rlibs/std.rlib", "-L", f"dependency={kit}/rlibs"]
-    for it in libraries:
+    made += ["-L", f"dependency={kit}/rlibs"]
+    for it in ["std", *(it for it in used if it not in here)]:
+        made += ["--extern", f"{it}={kit}/rlibs/{it}.rlib"]
+    for it in here:
         made += ["--extern", f"{it}={rlib(it)}", "-L", f"dependency={os.path.dirname(rlib(it))}"]
     return [*made, "--antt-project", f"{kit}/rattle/logic/antt-project.json", "--logic-built", f"{kit}/logic_built"]
 
@@ -45,7 +48,4 @@ def crate_words(name):
     with open(f"{TOP}/crates.txt", encoding="utf-8") as crates:
         kind = ["--crate-type", "staticlib"] if f"\n{name} staticlib:" in crates.read() else []
     root = "main" if os.path.exists(f"{TOP}/crates/{name}/src/main.rt") else "lib"
-    of_kit = [it for it in uses()[name] if it not in uses()]
-    externs = [f"{it}={folder()}/rlibs/{it}.rlib" for it in of_kit]
-    made = words("check", name, f"src/{root}.rt", below(uses()[name]))
-    return [*made, *kind, *[word for it in externs for word in ("--extern", it)]]
+    return [*words("check", name, f"src/{root}.rt", uses()[name]), *kind]

@@ -5,7 +5,7 @@ import os, re, subprocess
 
 FILES = os.path.dirname(os.path.abspath(__file__))
 TOP = os.path.dirname(os.path.dirname(FILES))
-TABLE = f"{TOP}/compare/bare/footprint.md"
+TABLE = f"{TOP}/compare/RESULTS.md"
 NAMES = {
     "REPORT": "a report by `write!`",
     "LOG": "a log through a port",
