@@ -18,7 +18,7 @@ CRATES = {
     "calls": ("calls", "base64_stream framing log_sink line_log numbers tar no_std_io2 base64 log".split()),
     "calls_kit": (None, []),
     "programs": ("programs", "base64_stream framing line_log system_streams no_std_io2 base64".split()),
-    "here": ("found", "base64_stream examples tar io_bench no_std_io2 base64".split()),
+    "here": ("found", "base64_stream examples numbers tar io_bench no_std_io2 base64".split()),
 }
 # Of each crate of Debian's packages its edition, a feature and what it uses. Clients are measured beside MEASURED.
 PEERS = {"byteorder": ("2018", "std"), "base64": ("2018", "std"), "libc": ("2015", "std"), "cfg_if": ("2018", ""),
