@@ -1,6 +1,5 @@
 -- The parts of the header of a chunk.
-use Rattle.no_std_io2.proofs.Words.{◌≡◌, ℕ, List, ◌++◌, ap, ◌∙◌, append_assoc, Event, events_of}
-use Rattle.no_std_io2.proofs.TakesLemmas.{events_of-append}
+use Rattle.no_std_io2.proofs.{Words.{◌≡◌, ℕ, List, ◌++◌, ap, ◌∙◌, append_assoc, Event, events_of}, TakesLemmas.{events_of-append}}
 use Rattle.byteorder.specs.Endian.{big_bytes}
 use Rattle.numbers.specs.ChunkHeaders.{chunk_header}
 

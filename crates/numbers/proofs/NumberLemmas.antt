@@ -1,22 +1,9 @@
 -- What a read of a number shows.
-use Rattle.no_std_io2.proofs.Words.{◌≡◌, ℕ, ◌+◌, ◌<◌, List, ◌++◌, length, take, drop, Some, Result, Ok, Err, refl, sym, ap, subst}
-use Rattle.no_std_io2.proofs.Words.{◌∙◌, arith, true≢false, append-nil, [], Event, events_of, Reader, tells, to_come}
-use Rattle.std.proofs.{Common.{set, take_all}, lemmas.List.{length-set, take_more_set, drop-set-lt, drop-drop}}
-use Rattle.no_std_io2.specs.declared.io.Error.{Error}
-use Rattle.no_std_io2.proofs.KnownBytes.{exact_known}
+use Rattle.no_std_io2.proofs.Words.{◌≡◌, ℕ, ◌+◌, ◌<◌, List, ◌++◌, length, take, drop, Ok, refl, sym, ap, subst, ◌∙◌, arith, append-nil, []}
+use Rattle.no_std_io2.proofs.Words.{Reader, to_z-of_z}
+use Rattle.std.proofs.{Common.{take_all}, lemmas.List.{length-set, take_more_set, drop-set-lt, drop-drop}}
+use Rattle.std.specs.{Prelude.{slice_set, FitsSigned, ℤ}, Int.{Width, cast_signed, cast_unsigned}}
 use Rattle.numbers.specs.Numbers.{ReadsValue, AreRead, no_number, one_more}
-
--- if its bytes are known to come next, the number is read
-pub value_back : {V X : Type 0} {R : Reader V} {value : List ℕ → X} {n : ℕ} {old new : V} (reply : Result X Error) (x : X)
-    (spelled : List ℕ) (rest : List Event) → ReadsValue R value n old reply new → length spelled ≡ n → value spelled ≡ x
-    → to_come (tells R old) ≡ Some (events_of spelled ++ rest)
-    → (reply ≡ Ok x) × (to_come (tells R new) ≡ Some rest)
-value_back {value = value} (Ok y) x spelled rest reads long is told =
-    let known = exact_known spelled rest reads.law (long ∙ sym reads.long) told in
-    (ap Ok (reads.spells ∙ ap value known.1 ∙ is), known.2)
-value_back (Err e) x spelled rest reads long is told =
-    let known = exact_known spelled rest reads.law (long ∙ sym reads.long) told in
-    absurd (true≢false (sym known.0))
 
 -- bytes that spell x with others behind them spell it alone
 pub spelled_back : (value : List ℕ → ℕ) (spelled : List ℕ) (x : ℕ) → value (spelled ++ []) ≡ x → value spelled ≡ x
@@ -36,7 +23,7 @@ module _ {V X : Type 0} {R : Reader V} {value : List ℕ → X} {n : ℕ} {old :
 
   -- one more
   pub into_more : (start dst : List X) (i : ℕ) (x : X) {mid new : V} → i < length dst → ReadSoFar R value n old start i dst mid
-      → ReadsValue R value n mid (Ok x) new → ReadSoFar R value n old start (i + 1) (set dst i x) new
+      → ReadsValue R value n mid (Ok x) new → ReadSoFar R value n old start (i + 1) (slice_set dst i x) new
   into_more start dst i x {new = new} within before reads = record {
     are = subst (λ l. AreRead R value n old l new) (sym (take_more_set dst i x within)) (one_more x before.are reads);
     rest = drop-set-lt (i + 1) dst i x (omega arith) ∙ sym (drop-drop 1 i dst) ∙ ap (drop 1) before.rest ∙ drop-drop 1 i start;
@@ -47,3 +34,12 @@ module _ {V X : Type 0} {R : Reader V} {value : List ℕ → X} {n : ℕ} {old :
   pub into_all : (start dst : List X) (i : ℕ) {now : V} → i ≡ length dst → ReadSoFar R value n old start i dst now
       → AreRead R value n old dst now
   into_all start dst i {now} all before = subst (λ l. AreRead R value n old l now) (take_all i dst (omega (arith, all))) before.are
+
+-- one more signed number of width w, which is stored as it is
+pub into_signed : {V : Type 0} {R : Reader V} {value : List ℕ → ℤ} {n : ℕ} {old : V} (w : Width) (start dst : List ℤ) (i : ℕ) (x : ℤ)
+    {mid new : V} → FitsSigned w x → i < length dst → ReadSoFar R value n old start i dst mid → ReadsValue R value n mid (Ok x) new
+    → ReadSoFar R value n old start (i + 1) (slice_set dst i (cast_signed w (cast_unsigned w x))) new
+into_signed w start dst i x fits within before reads = rw (to_z-of_z w x fits) (into_more start dst i x within before reads)
+
+-- how a loop that reads numbers into a slice begins and ends
+pub ruleset into_steps = (into_none, into_all)

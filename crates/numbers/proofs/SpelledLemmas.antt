@@ -1,14 +1,13 @@
 -- A number that was read spells the bytes that were taken: of bytes below 256 none is lost in it.
-use Rattle.no_std_io2.proofs.Words.{◌≡◌, ℕ, zero, suc, ◌+◌, ◌*◌, ◌/◌, ◌%◌, ◌^◌, ◌<◌, List, [], ◌∷◌, length, Ok, refl}
-use Rattle.no_std_io2.proofs.Words.{sym, ap, ap₂, ◌∙◌, subst, arith, Reader, tells}
-use Rattle.no_std_io2.proofs.TakesLemmas.{TakesBytes-fills}
+use Rattle.no_std_io2.proofs.Words.{◌≡◌, ℕ, zero, suc, ◌+◌, ◌*◌, ◌/◌, ◌%◌, ◌^◌, ◌<◌, List, [], ◌∷◌, length, Ok, refl, sym, ap, ap₂, ◌∙◌}
+use Rattle.no_std_io2.proofs.{Words.{subst, arith, Reader, tells}, TakesLemmas.{TakesBytes-fills}}
 use Rattle.no_std_io2.specs.Reads.{TakesBytes}
 use Rattle.std.proofs.{Math.Nat.{pow-suc, pow-succ', div-div-eq-div-mul, div-one, mul_assoc}, lemmas.Nat.{div-mul-add, mod-mul-add}}
-use Rattle.std.specs.{Int.{Width, byte_at, bytes_high_first, bytes_low_first, cast_unsigned}, Prelude.{ℤ}}
 use Rattle.std.proofs.lemmas.Int.{of_z-to_z}
+use Rattle.std.specs.{Int.{Width, byte_at, bytes_high_first, bytes_low_first, cast_unsigned}, Prelude.{ℤ}}
 use mir.Val.{bits}
 use Rattle.byteorder.specs.Endian.{big_number, big_bytes, little_number, little_bytes}
-use Rattle.byteorder.specs.Numbers.{big_from-cons, big_from-lt, little_from-cons, little_from-lt}
+use Rattle.byteorder.specs.Numbers.{big_from-cons, big_from-lt, little_from-cons}
 use Rattle.numbers.specs.Numbers.{AreBytes, ReadsValue, first_byte, signed_by}
 
 -- byte k of x, without the case of the lowest
@@ -88,11 +87,7 @@ takes_signed {R = R} {n} {x} {old} {new} w number spelled spells reads =
     ap (λ z. spelled (cast_unsigned w z)) reads.spells ∙ ap spelled (of_z-to_z w (number n reads.buf) small) ∙ is in
     subst (λ l. TakesBytes (tells R old) l (tells R new)) (sym whole) (TakesBytes-fills reads.law)
 
--- in each order
+-- in big-endian order
 pub big_spells : (n : ℕ) (bytes : List ℕ) → length bytes ≡ n → AreBytes bytes
     → (big_bytes n (big_number n bytes) ≡ bytes) × (big_number n bytes < 256 ^ n)
 big_spells n bytes long are = (big_spelled bytes n long are, big_from-lt 0 n bytes are)
-
-pub little_spells : (n : ℕ) (bytes : List ℕ) → length bytes ≡ n → AreBytes bytes
-    → (little_bytes n (little_number n bytes) ≡ bytes) × (little_number n bytes < 256 ^ n)
-little_spells n bytes long are = (little_spelled bytes n long are, little_from-lt 0 n bytes are)

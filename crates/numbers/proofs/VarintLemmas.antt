@@ -1,19 +1,14 @@
 -- What bytes of numbers of variable length spell, and what was read of them.
 use Rattle.no_std_io2.proofs.Words.{◌≡◌, ◌≢◌, ◌⊎◌, ℕ, zero, suc, ◌+◌, ◌*◌, ◌/◌, ◌%◌, ◌^◌, ◌<◌, ◌≤◌, List, [], ◌∷◌, ◌++◌, length, take, drop}
-use Rattle.no_std_io2.proofs.Words.{get_or}
-use Rattle.no_std_io2.proofs.Words.{Result, Ok, Err, Option, None, Some, refl, sym, ap, subst, ◌∙◌, arith, inl, inr, append-nil}
-use Rattle.no_std_io2.proofs.Words.{append_assoc}
-use Rattle.no_std_io2.proofs.Words.{length-append, length-take-le, nil_from_length, ap₂, ◌-◌, cases_lt, Event, events_of, Reader, tells}
-use Rattle.no_std_io2.proofs.Words.{to_come}
-use Rattle.std.proofs.Common.{set, add-one}
-use Rattle.std.proofs.{lemmas.List.{drop_more, length-set, take_more_set}, Math.Nat.{pow-suc}}
+use Rattle.no_std_io2.proofs.Words.{get_or, Result, Ok, Err, Option, None, Some, refl, sym, ap, subst, ◌∙◌, arith, inl, inr, append-nil}
+use Rattle.no_std_io2.proofs.Words.{append_assoc, length-append, length-take-le, nil_from_length, ap₂, ◌-◌, cases_lt, Event, events_of}
+use Rattle.no_std_io2.proofs.{Words.{Reader, tells, to_come}, TakesLemmas.{Took-then}, ReadsLemmas.{Took-none}}
+use Rattle.std.proofs.{Common.{set, add-one}, lemmas.List.{drop_more, length-set, take_more_set}, Math.Nat.{pow-suc}}
 use Rattle.std.specs.Prelude.{IfSome, IfNone}
 use Rattle.no_std_io2.specs.{declared.io.Error.{Error}, Reads.{TakesBytes}}
-use Rattle.no_std_io2.proofs.{TakesLemmas.{Took-then}, ReadsLemmas.{Took-none}}
 use Rattle.numbers.specs.Numbers.{AreRead, ReadsBack, ReadsValue, first_byte, no_number, one_more}
 use Rattle.numbers.specs.Varint.{varint_value, VarintContinues, NoneEnds, IsVarint, SpellsVarint, IsGathered, IsRefused, GathersBack}
-use Rattle.numbers.specs.Varint.{GathersVarint}
-use Rattle.numbers.specs.Varint.{ReadsVarintBack}
+use Rattle.numbers.specs.Varint.{GathersVarint, ReadsVarintBack}
 use Rattle.numbers.proofs.{NumberLemmas.{ReadSoFar, into_none, into_more}, SpelledLemmas.{takes_byte}}
 
 -- bytes that go on, and one more

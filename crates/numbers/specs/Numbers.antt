@@ -1,8 +1,7 @@
 -- What a read of a number does. A number is a value that some bytes spell; a `value` says which one.
 use Rattle.std.specs.Prelude.{◌≡◌, ℕ, ℤ, ◌<◌, List, [], ◌∷◌, ◌++◌, length, drop, replicate, slice_index, Result, Ok, Err, IfOk, Some}
 use Rattle.std.specs.Int.{Width, cast_signed}
-use Rattle.no_std_io2.specs.declared.io.Error.{Error}
-use Rattle.no_std_io2.specs.{Events.{Event, events_of}, Takes.{to_come, Reader, tells}, Read.{ReadExactLaw}}
+use Rattle.no_std_io2.specs.{declared.io.Error.{Error}, Events.{Event, events_of}, Takes.{to_come, Reader, tells}, Read.{ReadExactLaw}}
 
 -- the number that one byte is
 abbrev pub first_byte : List ℕ → ℕ

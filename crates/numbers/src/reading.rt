@@ -171,6 +171,7 @@ pub trait ReadBytesExt: Read {
     ///
     /// # Errors
     /// Returns the error of the first read that fails. The numbers before it are in `dst`, and the others are as they were.
+    #[tactic(auto, using(crate::proofs::NumberLemmas::into_steps))]
     final fn read_i8_into(&mut self, dst: &mut [i8]) -> Result<()>
     where
         Self: Sized,
@@ -186,6 +187,7 @@ pub trait ReadBytesExt: Read {
     ///
     /// # Errors
     /// Returns the error of the first read that fails. The numbers before it are in `dst`, and the others are as they were.
+    #[tactic(auto, using(crate::proofs::NumberLemmas::into_steps))]
     final fn read_u16_into<T: ByteOrder>(&mut self, dst: &mut [u16]) -> Result<()>
     where
         Self: Sized,
@@ -201,6 +203,7 @@ pub trait ReadBytesExt: Read {
     ///
     /// # Errors
     /// Returns the error of the first read that fails. The numbers before it are in `dst`, and the others are as they were.
+    #[tactic(auto, using(crate::proofs::NumberLemmas::into_steps))]
     final fn read_u32_into<T: ByteOrder>(&mut self, dst: &mut [u32]) -> Result<()>
     where
         Self: Sized,
@@ -216,6 +219,7 @@ pub trait ReadBytesExt: Read {
     ///
     /// # Errors
     /// Returns the error of the first read that fails. The numbers before it are in `dst`, and the others are as they were.
+    #[tactic(auto, using(crate::proofs::NumberLemmas::into_steps))]
     final fn read_u64_into<T: ByteOrder>(&mut self, dst: &mut [u64]) -> Result<()>
     where
         Self: Sized,
@@ -231,6 +235,7 @@ pub trait ReadBytesExt: Read {
     ///
     /// # Errors
     /// Returns the error of the first read that fails. The numbers before it are in `dst`, and the others are as they were.
+    #[tactic(auto, using(crate::proofs::NumberLemmas::into_steps))]
     final fn read_i16_into<T: ByteOrder>(&mut self, dst: &mut [i16]) -> Result<()>
     where
         Self: Sized,
@@ -246,6 +251,7 @@ pub trait ReadBytesExt: Read {
     ///
     /// # Errors
     /// Returns the error of the first read that fails. The numbers before it are in `dst`, and the others are as they were.
+    #[tactic(auto, using(crate::proofs::NumberLemmas::into_steps))]
     final fn read_i32_into<T: ByteOrder>(&mut self, dst: &mut [i32]) -> Result<()>
     where
         Self: Sized,
@@ -261,6 +267,7 @@ pub trait ReadBytesExt: Read {
     ///
     /// # Errors
     /// Returns the error of the first read that fails. The numbers before it are in `dst`, and the others are as they were.
+    #[tactic(auto, using(crate::proofs::NumberLemmas::into_steps))]
     final fn read_i64_into<T: ByteOrder>(&mut self, dst: &mut [i64]) -> Result<()>
     where
         Self: Sized,

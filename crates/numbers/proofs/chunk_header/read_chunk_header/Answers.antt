@@ -1,13 +1,12 @@
 -- Of a header that is known to come both numbers are read, also where an error would be returned.
-use Rattle.no_std_io2.proofs.Words.{Ok, Some, ap, ap₂, ◌∙◌, ◌≡◌, inl, inr, refl, err_from_is_err_and, returned_err}
+use Rattle.no_std_io2.proofs.Words.{Ok, Some, ap, ap₂, ◌∙◌, ◌≡◌, inl, inr, refl, returned_err}
 use Rattle.no_std_io2.proofs.TakesLemmas.{Took-then}
 use Rattle.numbers.proofs.{ChunkLemmas.{header_parts}, SpelledLemmas.{takes_big}}
 use Rattle.numbers.proofs.chunk_header.read_chunk_header.Goals as goal
 
 pub returns-in_err-kind : goal.returns-in_err-kind
 returns-in_err-kind g c = record {
-  reads = let p = err_from_is_err_and c.from_residual.result c.from_residual.ensures.1 in
-      rw (p.1, p.2) (inl (_, refl, c.in_err-kind.ensures.reads));
+  reads = rw (returned_err c.from_residual.ensures) (inl (_, refl, c.in_err-kind.ensures.reads));
   takes = rw (returned_err c.from_residual.ensures) tt;
   back = λ kind len rest small few told.
       let known = c.in_err-kind.ensures.back kind _ small (told ∙ ap Some (header_parts kind len rest)) in
@@ -17,8 +16,8 @@ returns-in_err-kind g c = record {
 
 pub returns-in_err-len : goal.returns-in_err-len
 returns-in_err-len g c = record {
-  reads = let p = err_from_is_err_and c.from_residual-in_err-len.result c.from_residual-in_err-len.ensures.1 in
-      rw (p.1, p.2) (inr (_, _, _, c.in_ok-kind.ensures.reads, c.in_err-len.ensures.reads, refl));
+  reads = rw (returned_err c.from_residual-in_err-len.ensures)
+      (inr (_, _, _, c.in_ok-kind.ensures.reads, c.in_err-len.ensures.reads, refl));
   takes = rw (returned_err c.from_residual-in_err-len.ensures) tt;
   back = λ kind len rest small few told.
       let first = c.in_ok-kind.ensures.back kind _ small (told ∙ ap Some (header_parts kind len rest)) in

@@ -1,6 +1,5 @@
 -- The bytes of both numbers were taken; the search does not join them, and does not see that a signed number is returned as it is.
-use Rattle.no_std_io2.proofs.Words.{rules, to_z-of_z}
-use Rattle.no_std_io2.proofs.TakesLemmas.{Took-then}
+use Rattle.no_std_io2.proofs.{Words.{rules, to_z-of_z}, TakesLemmas.{Took-then}}
 use Rattle.std.proofs.Common.{FitsSigned}
 use Rattle.byteorder.specs.Endian.{big_bytes, big_number}
 use Rattle.std.specs.Int.{w16}

@@ -1,5 +1,5 @@
 -- The bytes so far, and one more; the search does not join them.
-use Rattle.no_std_io2.proofs.Words.{arith, err_from_is_err_and}
+use Rattle.no_std_io2.proofs.Words.{arith, returned_err}
 use Rattle.numbers.proofs.VarintLemmas.{gather_none, gather_more, gather_last, gather_fails, gather_ten, last_back, fails_back, ten_back}
 use Rattle.numbers.proofs.varint.gather.Goals as goal
 
@@ -23,14 +23,13 @@ returns-then-b-lt128-clause-back g c =
 
 pub returns-in_err-b-clause-reads : goal.returns-in_err-b-clause-reads
 returns-in_err-b-clause-reads g c =
-    let p = err_from_is_err_and c.from_residual.result c.from_residual.ensures.1 in
-    rw (p.1, p.2) (gather_fails c.args.bytes.now c.bytes.bytes c.bytes.i (omega arith) c.bytes.invariant (omega arith)
+    rw (returned_err c.from_residual.ensures)
+    (gather_fails c.args.bytes.now c.bytes.bytes c.bytes.i (omega arith) c.bytes.invariant (omega arith)
     c.in_err-b.ensures.reads c.bytes.bytes)
 
 pub returns-in_err-b-clause-back : goal.returns-in_err-b-clause-back
 returns-in_err-b-clause-back g c =
-    let p = err_from_is_err_and c.from_residual.result c.from_residual.ensures.1 in
-    rw (p.1, p.2) (fails_back c.args.bytes.now c.bytes.bytes c.bytes.i (omega arith) c.bytes.invariant _
+    rw (returned_err c.from_residual.ensures) (fails_back c.args.bytes.now c.bytes.bytes c.bytes.i (omega arith) c.bytes.invariant _
     c.in_err-b.ensures.back c.bytes.bytes)
 
 pub returns-clause-reads : goal.returns-clause-reads

@@ -1,13 +1,12 @@
 -- What was gathered is read, or refused; the search does not join the two calls.
-use Rattle.no_std_io2.proofs.Words.{take, err_from_is_err_and}
-use Rattle.no_std_io2.proofs.TakesLemmas.{reader}
+use Rattle.no_std_io2.proofs.{Words.{take, returned_err}, TakesLemmas.{reader}}
 use Rattle.numbers.proofs.VarintLemmas.{back_fails, back_read, back_refused, read_takes}
 use Rattle.numbers.proofs.varint.read_varint.Goals as goal
 
 pub returns-in_err-len-clause-back : goal.returns-in_err-len-clause-back
 returns-in_err-len-clause-back g c =
-    let p = err_from_is_err_and c.from_residual.result c.from_residual.ensures.1 in
-    rw (p.1, p.2) (back_fails (reader g.R.Stored g.R.Read) c.args.r.now c.gather.new.r c.gather.new.bytes c.in_err-len.ensures.back)
+    rw (returned_err c.from_residual.ensures)
+    (back_fails (reader g.R.Stored g.R.Read) c.args.r.now c.gather.new.r c.gather.new.bytes c.in_err-len.ensures.back)
 
 pub returns-in-Some-clause-takes : goal.returns-in-Some-clause-takes
 returns-in-Some-clause-takes g c =

@@ -1,6 +1,5 @@
 -- A number that is known to come is read, also where an error would be returned; the search does not use what is known of it.
-use Rattle.no_std_io2.proofs.Words.{[], Ok, sym, ap, ◌∙◌, true≢false}
-use Rattle.no_std_io2.proofs.KnownBytes.{exact_known}
+use Rattle.no_std_io2.proofs.{Words.{[], Ok, sym, ap, ◌∙◌, true≢false}, KnownBytes.{exact_known}}
 use Rattle.numbers.proofs.NumberLemmas.{spelled_back}
 use Rattle.numbers.proofs.reading.ReadBytesExt.read_u128.Goals as goal
 

@@ -1,6 +1,5 @@
 -- A byte that is known to come is read, also where an error would be returned; the search does not use what is known of it.
-use Rattle.no_std_io2.proofs.Words.{[], ◌∷◌, Ok, sym, ap, ◌∙◌, true≢false}
-use Rattle.no_std_io2.proofs.KnownBytes.{exact_known}
+use Rattle.no_std_io2.proofs.{Words.{[], ◌∷◌, Ok, sym, ap, ◌∙◌, true≢false}, KnownBytes.{exact_known}}
 use Rattle.numbers.specs.Numbers.{first_byte}
 use Rattle.numbers.proofs.reading.ReadBytesExt.read_u8.Goals as goal
 
