@@ -1,23 +1,20 @@
 -- What a decoder gives, one step after another, and the law of its `read`.
 use Rattle.no_std_io2.proofs.Words.{◌≡◌, ℕ, ◌+◌, ◌-◌, ◌*◌, ◌/◌, ◌%◌, ◌<◌, ◌≤◌, min, Bool, true, false, List, [], ◌∷◌, ◌++◌, length, take}
-use Rattle.no_std_io2.proofs.Words.{drop}
-use Rattle.no_std_io2.proofs.Words.{Option, Some, None, Result, Ok, Err, refl, sym, ap, ap₂, subst, ◌∙◌, arith, inl, inr, append_assoc}
-use Rattle.no_std_io2.proofs.Words.{append-nil, length-append, length-take, length-drop, take-append-drop, nil_from_length, common_steps}
-use Rattle.no_std_io2.proofs.Words.{Event, byte, fails, events_of, event_bytes, HasNoFault, Reader, ReadLaw, tells, Takes, to_come}
-use Rattle.no_std_io2.proofs.Words.{IsAtEnd, AreTaken, nat_lt, cases_lt, length-take-le, Vec}
-use Rattle.no_std_io2.specs.declared.io.{Error.{Error}, ErrorKind.{ErrorKind, TheVariants.{InvalidData}}}
-use Rattle.no_std_io2.specs.{Errors.{error_kind}, inner.Kinds.{error_of, error_text}, inner.Events.{EndsInFault}}
-use Rattle.no_std_io2.specs.{Read.{ReadToEndLaw}, Reads.{Took}, inner.Buffer.{AsksOn, HasTo}, inner.Reads.{GathersTo, Reads}}
-use Rattle.base64.specs.{declared.engine.general_purpose.GeneralPurpose.{GeneralPurpose}}
+use Rattle.no_std_io2.proofs.Words.{drop, Option, Some, None, Result, Ok, Err, refl, sym, ap, ap₂, subst, ◌∙◌, arith, inl, inr}
+use Rattle.no_std_io2.proofs.Words.{append_assoc, append-nil, length-append, length-take, length-drop, take-append-drop, nil_from_length}
+use Rattle.no_std_io2.proofs.Words.{Event, byte, fails, events_of, event_bytes, HasNoFault, Reader, ReadLaw, tells, Takes, to_come, IsAtEnd}
+use Rattle.no_std_io2.proofs.{Words.{AreTaken, nat_lt, cases_lt, length-take-le}, TakesLemmas.{HasNoFault-append, HasNoFault-events_of}}
+use Rattle.no_std_io2.proofs.TakesLemmas.{bytes-append, bytes-behind, events_of-append, length-events_of, takes_none}
+use Rattle.no_std_io2.proofs.ReadsLemmas.{Reads-none, Reads-takes}
+use Rattle.no_std_io2.specs.{declared.io.{Error.{Error}, ErrorKind.TheVariants.{InvalidData}}, inner.Kinds.{error_of}, Reads.{Took}}
+use Rattle.no_std_io2.specs.inner.{Events.{EndsInFault}, Buffer.{AsksOn, HasTo}, Reads.{GathersTo, Reads}}
+use Rattle.base64.specs.declared.engine.general_purpose.GeneralPurpose.{GeneralPurpose}
 use Rattle.std.specs.Option.{IfSome, option_map}
-use Rattle.no_std_io2.proofs.{TakesLemmas.{bytes-append, bytes-behind, events_of-append, length-events_of, takes_none, left_of}}
-use Rattle.no_std_io2.proofs.{TakesLemmas.{HasNoFault-append, HasNoFault-events_of}, ReadsLemmas.{Reads-none, Reads-takes}}
-use Rattle.base64_stream.specs.declared.decoder.DecoderReader.{DecoderReader}
+use Rattle.base64_stream.specs.{declared.decoder.DecoderReader.{DecoderReader}, Waiting.{text_items}}
 use Rattle.base64_stream.specs.Decoding.{closed_after, decoded_events, decoded_group, group_events}
-use Rattle.base64_stream.specs.Waiting.{text_items}
 use Rattle.base64_stream.specs.Decoder.{Decodes, goes_on, cut_off, DecoderMay, DecodesFront, FillsWaiting, GathersText, TakesText, said}
-use Rattle.base64_stream.specs.Decoder.{decoder_closed, decoder_engine}
-use Rattle.base64_stream.specs.Decoder.{decoder_events, decoder_gives, decoder_inner, decoder_text, decoder_turns, decoder_waiting}
+use Rattle.base64_stream.specs.Decoder.{decoder_closed, decoder_engine, decoder_events, decoder_gives, decoder_inner, decoder_text}
+use Rattle.base64_stream.specs.Decoder.{decoder_turns, decoder_waiting}
 use Rattle.base64_stream.proofs.DecodingLemmas.{passes_fault, last_group_given, group_given, group_in_front, groups_in_front, text_first}
 use Rattle.base64_stream.proofs.{DecodingLemmas.{without_interruptions}, GroupsLemmas.{decodes_some}}
 
@@ -399,16 +396,3 @@ module _ {R : Type 0} (I : Reader R) where
       ap (option_map (decoder_gives r)) told
       ∙ ap Some (text_next I r E idle ∙ ap (λ t. decoded_events r.engine r.closed [] (events_of t ++ E)) no_text
       ∙ ap₂ (λ e c. decoded_events e c [] E) is opened)
-
--- all that was told was read, without a fault
-pub drained_whole : {X A : Type 0} {R : Reader X} {old new : X} {buf buf' : Vec ℕ A} {n : ℕ} (E : List Event)
-    → ReadToEndLaw R old buf (Ok n) buf' new → to_come (tells R old) ≡ Some E → HasNoFault E × (buf'.items ≡ buf.items ++ event_bytes E)
-drained_whole {buf = buf} E law told =
-    let (after, still, split) = left_of law.takes told in
-    let none : after ≡ [] = subst (λ o. IfSome o (λ l. l ≡ [])) still law.ends.1 in
-    let all : E ≡ law.taken = split ∙ ap (λ l. law.taken ++ l) none ∙ append-nil law.taken in
-    (subst HasNoFault (sym all) law.ends.0, law.appends.0 ∙ ap (λ l. buf.items ++ event_bytes l) (sym all))
-
--- an error that has only a kind
-pub only_kind : (e : Error) (kind : ErrorKind) → error_kind e ≡ kind → error_text e ≡ None → e ≡ error_of kind
-only_kind e kind is no_text = grind (arith, common_steps)

@@ -1,14 +1,11 @@
 -- What is decoded of events that are characters of a group, then others.
-use Rattle.no_std_io2.proofs.Words.{◌≡◌, ℕ, suc, ◌+◌, ◌*◌, ◌/◌, ◌%◌, ◌<◌, ◌≤◌, Bool, true, false, List, [], ◌∷◌, ◌++◌, length, Ok}
-use Rattle.no_std_io2.proofs.Words.{nat_lt}
-use Rattle.no_std_io2.proofs.Words.{refl, sym, ap, ◌∙◌, arith, inl, inr, append_assoc, append-nil, length-append, cases_lt}
-use Rattle.no_std_io2.proofs.Words.{nat_tests}
-use Rattle.no_std_io2.proofs.Words.{nil_from_length, Event, byte, fails, events_of, event_bytes, HasNoFault, IsFault}
+use Rattle.no_std_io2.proofs.Words.{common_steps, ◌≡◌, ℕ, suc, ◌+◌, ◌*◌, ◌/◌, ◌%◌, ◌<◌, ◌≤◌, Bool, true, false, List, [], ◌∷◌, ◌++◌, length}
+use Rattle.no_std_io2.proofs.Words.{Ok, nat_lt, refl, sym, ap, ◌∙◌, arith, inl, inr, append_assoc, append-nil, length-append, cases_lt}
+use Rattle.no_std_io2.proofs.Words.{nat_tests, nil_from_length, Event, byte, fails, events_of, event_bytes, HasNoFault, IsFault}
 use Rattle.no_std_io2.proofs.TakesLemmas.{events_of-append, bytes-events_of, HasNoFault-events_of}
 use Rattle.no_std_io2.specs.declared.io.Error.{Error}
-use Rattle.base64.specs.declared.engine.general_purpose.GeneralPurpose.{GeneralPurpose}
+use Rattle.base64.specs.{declared.engine.general_purpose.GeneralPurpose.{GeneralPurpose}, Rfc4648.{encode, encode_symbols}}
 use Rattle.base64.specs.GeneralPurpose.{IsBytes, IsConsistent, decode_of, encode_of}
-use Rattle.base64.specs.Rfc4648.{encode, encode_symbols}
 use Rattle.base64.proofs.EngineFacts.{decode_of-encode_of, encode_of-append, encode_of-nil, front_bytes}
 use Rattle.base64_stream.specs.Decoding.{closed_after, decoded_events, decoded_group, group_events}
 use Rattle.base64_stream.proofs.GroupsLemmas.{decodes_some, first_decoded}
@@ -29,9 +26,7 @@ same_test a b c d first second = elim (cases_lt a b) [
 
 -- the bytes of the first group, and the others
 in_one : (first rest x : List ℕ) (E : List Event) → x ≡ first ++ rest → events_of first ++ (events_of rest ++ E) ≡ events_of x ++ E
-in_one first rest x E split =
-    sym (append_assoc (events_of first) (events_of rest) E)
-    ∙ ap (λ l. l ++ E) (sym (events_of-append first rest) ∙ ap events_of (sym split))
+in_one first rest x E split = grind (arith, common_steps, append_assoc, events_of-append)
 
 -- some bytes give themselves
 pub group_given : (x : List ℕ) → 0 < length x → group_events x ≡ events_of x
@@ -83,9 +78,7 @@ module _ (engine : GeneralPurpose) where
   pub passes_fault : (closed : Bool) (text : List ℕ) (Q E : List Event) {e : Error} → HasNoFault Q → IsFault e
       → length text + length (event_bytes Q) < 4
       → decoded_events engine closed text ((Q ++ fails e ∷ []) ++ E) ≡ fails e ∷ decoded_events engine closed (text ++ event_bytes Q) E
-  passes_fault closed text Q E {e} no_fault fault short =
-      ap (decoded_events engine closed text) (append_assoc Q (fails e ∷ []) E) ∙ collects closed text Q (fails e ∷ E) no_fault short
-      ∙ rw fault refl
+  passes_fault closed text Q E {e} no_fault fault short = grind (arith, common_steps, append_assoc, collects)
 
   -- one group alone
   pub group_alone : (text x : List ℕ) → 0 < length text → length text ≤ 4 → decode_of engine text ≡ Ok x → 0 < length x

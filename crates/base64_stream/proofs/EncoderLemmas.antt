@@ -1,20 +1,17 @@
 -- What an encoder will have passed on, one call after another.
-use Rattle.no_std_io2.proofs.Words.{◌≡◌, ℕ, ◌+◌, ◌%◌, ◌≤◌, List, [], ◌∷◌, ◌++◌, length, take, true}
-use Rattle.no_std_io2.proofs.Words.{◌≢◌, Result, Ok, Err, IfOk, OnOk, refl, sym, ap, ap₂, subst, ◌∙◌, arith, inl, inr}
-use Rattle.no_std_io2.proofs.Words.{append_assoc, append-nil, length-append, length-take-le}
-use Rattle.no_std_io2.proofs.Words.{Writer, Moves, writer_told, writer_inner, error_kind}
+use Rattle.no_std_io2.proofs.Words.{common_steps, ◌≡◌, ℕ, ◌+◌, ◌%◌, ◌≤◌, List, [], ◌∷◌, ◌++◌, length, take, true, ◌≢◌, Result, Ok, Err}
+use Rattle.no_std_io2.proofs.Words.{IfOk, OnOk, refl, sym, ap, ◌∙◌, arith, inl, inr, append_assoc, append-nil, length-append}
+use Rattle.no_std_io2.proofs.Words.{length-take-le, Writer, Moves, writer_told, error_kind, Vec, WriterState, told_out}
+use Rattle.no_std_io2.proofs.CallsAdd.{write_law, flush_law, err_turns, zero_none, Joins}
 use Rattle.std.proofs.Common.{count_by, take_all, Global}
-use Rattle.no_std_io2.proofs.Words.{Vec, WriterState, told_out}
 use Rattle.std.specs.Prelude.{OnErr}
 use Rattle.base64.specs.GeneralPurpose.{encode_of}
 use Rattle.base64.proofs.EngineFacts.{encode_of-append, encode_of-nil}
-use Rattle.no_std_io2.specs.{declared.io.Error.{Error}, declared.io.ErrorKind.{ErrorKind}, declared.io.BufWriter.{BufWriter}}
-use Rattle.no_std_io2.specs.{inner.Kinds.{is_interruption}, Write.{CallAdds, WriteLaw, FlushLaw, accepted_of, write_mishap}}
-use Rattle.no_std_io2.specs.Moves.{call_mishap}
-use Rattle.no_std_io2.proofs.CallsAdd.{write_law, flush_law, err_turns, zero_none, Joins}
-use Rattle.base64_stream.specs.{declared.encoder.EncoderWriter.{EncoderWriter}, Encoder.{Encodes64, KeepsGroup, PutsText, encoder_accepted}}
-use Rattle.base64_stream.specs.Encoder.{encoder_engine, encoder_held, encoder_inner, encoder_told, encoder_writer, is_closed, passed_on}
-use Rattle.base64_stream.specs.{Encoder.{told_below, unfinished, will_have}, Finish.{HasFinished, LastPut, SaysClosed}}
+use Rattle.no_std_io2.specs.{declared.io.{Error.{Error}, ErrorKind.{ErrorKind}, BufWriter.{BufWriter}}, inner.Kinds.{is_interruption}}
+use Rattle.no_std_io2.specs.{Write.{CallAdds, WriteLaw, FlushLaw, accepted_of, write_mishap}, Moves.{call_mishap}}
+use Rattle.base64_stream.specs.{declared.encoder.EncoderWriter.{EncoderWriter}, Finish.{HasFinished, LastPut, SaysClosed}}
+use Rattle.base64_stream.specs.Encoder.{Encodes64, KeepsGroup, PutsText, encoder_accepted, encoder_engine, encoder_held, encoder_inner}
+use Rattle.base64_stream.specs.Encoder.{encoder_told, encoder_writer, is_closed, passed_on, told_below, unfinished, will_have}
 
 module _ {W : Type 0} {S : ℕ} (I : Writer W) where
   -- nothing of the state has changed
@@ -65,8 +62,7 @@ both_nil (x ∷ xs) ys is = cc is
 module _ {W : Type 0} {S : ℕ} (I : Writer W) where
   -- with no unfinished group the device will have what was passed on
   no_rest : (w : EncoderWriter W S) → unfinished w ≡ [] → will_have I.told w [] ≡ passed_on I.told w
-  no_rest w none =
-      rw none (ap (λ l. passed_on I.told w ++ l) (encode_of-nil (encoder_engine w)) ∙ append-nil (passed_on I.told w))
+  no_rest w none = grind (arith, common_steps, encode_of-nil, append-nil)
 
   -- the last group is in the buffer: the device will have the same
   pub last_keeps : (old mid : EncoderWriter W S) → LastPut I old mid → unfinished mid ≡ []
@@ -100,13 +96,7 @@ module _ {W : Type 0} {S : ℕ} (I : Writer W) where
   pub law_kept : (old new : EncoderWriter W S) (x : List ℕ) → unfinished new ≡ unfinished old ++ x → encoder_writer new ≡ encoder_writer old
       → encoder_engine new ≡ encoder_engine old → encoder_accepted new ≡ encoder_accepted old ++ x
       → WriteLaw (encoder_told I.told) (λ _. ⊥) (CallAdds (Encodes64 I.told)) old x (Ok (length x)) new
-  law_kept old new x group same engine accepted =
-      let all : take (length x) x ≡ x = take_all (length x) x (omega arith) in
-      let turns : (I.told (encoder_inner new)).turns ≡ (I.told (encoder_inner old)).turns =
-      ap (λ (b : BufWriter W S). (I.told (writer_inner b)).turns) same in
-      write_of I {reply = Ok (length x)} (omega arith) (accepted ∙ ap (λ l. encoder_accepted old ++ l) (sym all))
-      (omega (arith, turns, zero_none (length x) x))
-      (subst (λ l. Encodes64 I.told old l new) (sym all) (adds_kept I old new x group same engine))
+  law_kept old new x group same engine accepted = grind (arith, common_steps, take_all, write_of, zero_none, adds_kept)
 
   -- of one that put whole groups into the buffer,
   pub law_put : (old new : EncoderWriter W S) (x : List ℕ) (n : ℕ) → n ≤ length x → length (unfinished old ++ take n x) % 3 ≡ 0
@@ -168,6 +158,4 @@ encodes64_join told = record {
 -- a new encoder over an empty vector will have the encoding of what comes
 pub starts : {S : ℕ} (w : EncoderWriter (Vec ℕ Global) S) (x : List ℕ) → (encoder_inner w).items ≡ [] → encoder_held w ≡ []
     → unfinished w ≡ [] → will_have (λ v. told_out v.items) w x ≡ encode_of (encoder_engine w) x
-starts w x out waits none =
-    let front : passed_on (λ v. told_out v.items) w ≡ [] = ap₂ (λ l m. l ++ m) out waits in
-    ap₂ (λ l m. l ++ encode_of (encoder_engine w) (m ++ x)) front none
+starts w x out waits none = grind (arith, common_steps)

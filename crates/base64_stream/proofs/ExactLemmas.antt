@@ -1,16 +1,14 @@
 -- Under a strict engine only the encoding of bytes is decoded to them.
-use Rattle.no_std_io2.proofs.Words.{◌≡◌, ℕ, suc, ◌+◌, ◌%◌, ◌<◌, ◌≤◌, true, false, List, [], ◌∷◌, ◌++◌, length, Result, Ok}
-use Rattle.no_std_io2.proofs.Words.{Err}
-use Rattle.no_std_io2.proofs.Words.{refl, sym, ap, ap₂, subst, ◌∙◌, arith, inl, inr, nat_lt, true≢false, append-nil, length-append}
-use Rattle.no_std_io2.proofs.Words.{cases_lt}
-use Rattle.no_std_io2.proofs.Words.{nil_from_length, events_of, event_bytes, HasNoFault}
+use Rattle.no_std_io2.proofs.Words.{common_steps, ◌≡◌, ℕ, suc, ◌+◌, ◌%◌, ◌<◌, ◌≤◌, true, false, List, [], ◌∷◌, ◌++◌, length, Result, Ok}
+use Rattle.no_std_io2.proofs.Words.{Err, refl, sym, ap, ap₂, subst, ◌∙◌, arith, inl, inr, nat_lt, true≢false, append-nil, length-append}
+use Rattle.no_std_io2.proofs.Words.{cases_lt, nil_from_length, events_of, event_bytes, HasNoFault, ⊤, ◌⊎◌, Bool, Event, byte, fails, Some}
+use Rattle.no_std_io2.proofs.Words.{Vec, append_assoc, Reader, tells, to_come, IsOutOfMemory}
 use Rattle.no_std_io2.proofs.TakesLemmas.{bytes-events_of, bytes-behind, HasNoFault-front, HasNoFault-behind, left_of}
-use Rattle.base64.specs.{declared.decode.DecodeError.{DecodeError}, declared.engine.general_purpose.GeneralPurpose.{GeneralPurpose}}
+use Rattle.base64.specs.declared.{decode.DecodeError.{DecodeError}, engine.general_purpose.GeneralPurpose.{GeneralPurpose}}
 use Rattle.base64.specs.{GeneralPurpose.{IsBytes, IsStrict, decode_of, encode_of}, Rfc4648.{encode_symbols}}
 use Rattle.base64.proofs.{EngineFacts.{decode_of_strict, encode_of-append, encode_of-nil, front_bytes}, RoundTrip.{length-encode_symbols}}
-use Rattle.no_std_io2.proofs.Words.{⊤, ◌⊎◌, Bool, Event, byte, fails, Some, Vec, append_assoc, Reader, tells, to_come, IsOutOfMemory}
-use Rattle.no_std_io2.specs.{declared.io.Error.{Error}, declared.io.ErrorKind.TheVariants.{InvalidData}, inner.Kinds.{error_of}}
-use Rattle.no_std_io2.specs.Read.{ReadToEndLaw}
+use Rattle.no_std_io2.specs.{declared.io.{Error.{Error}, ErrorKind.TheVariants.{InvalidData}}, inner.Kinds.{error_of}, Read.{ReadToEndLaw}}
+use Rattle.std.specs.Option.{IfSome}
 use Rattle.base64_stream.specs.Decoding.{closed_after, decoded_events, decoded_group, group_events, or_no_bytes}
 use Rattle.base64_stream.proofs.DecodingLemmas.{below_is_true, above_is_false, closed_by}
 
@@ -48,10 +46,7 @@ module _ (engine : GeneralPurpose) (strict : IsStrict engine) where
   -- of a text that is one group
   group_exact : (s : List ℕ) → IsBytes s → HasNoFault (group_events (decoded_group engine false s))
       → s ≡ encode_of engine (event_bytes (group_events (decoded_group engine false s)))
-  group_exact s all free =
-      let (ok, given, some) = group_clean (decode_of engine s) free in
-      decode_of_strict engine s (decoded_group engine false s) strict all ok
-      ∙ ap (encode_of engine) (sym (ap event_bytes given ∙ bytes-events_of (decoded_group engine false s)))
+  group_exact s all free = grind (arith, common_steps, group_clean, decode_of_strict, bytes-events_of)
 
   -- Text that is decoded without an error is the encoding of these bytes.
   pub only_encoding : (s : List ℕ) → IsBytes s → HasNoFault (decoded_events engine false [] (events_of s))
@@ -138,3 +133,12 @@ drained_error {e = e} E law told all = elim law.ends [
       inr (refusal_at Q after (subst Refusals whole all))
   | inr refused ↦ inl refused.1
 ]
+
+-- all that was told was read, without a fault
+pub drained_whole : {X A : Type 0} {R : Reader X} {old new : X} {buf buf' : Vec ℕ A} {n : ℕ} (E : List Event)
+    → ReadToEndLaw R old buf (Ok n) buf' new → to_come (tells R old) ≡ Some E → HasNoFault E × (buf'.items ≡ buf.items ++ event_bytes E)
+drained_whole {buf = buf} E law told =
+    let (after, still, split) = left_of law.takes told in
+    let none : after ≡ [] = subst (λ o. IfSome o (λ l. l ≡ [])) still law.ends.1 in
+    let all : E ≡ law.taken = split ∙ ap (λ l. law.taken ++ l) none ∙ append-nil law.taken in
+    (subst HasNoFault (sym all) law.ends.0, law.appends.0 ∙ ap (λ l. buf.items ++ event_bytes l) (sym all))

@@ -1,10 +1,8 @@
 -- Reads that go on until a group is whole.
-use Rattle.no_std_io2.proofs.Words.{common_steps, ◌≡◌, ℕ, ◌-◌, ◌<◌, ◌≤◌, List, [], ◌++◌, length, true, false, Ok, Err}
-use Rattle.no_std_io2.proofs.Words.{refl, sym, ap, subst, ◌∙◌, arith, append_assoc, append-nil, length-append, nil_from_length, Reader}
-use Rattle.no_std_io2.proofs.Words.{GaveLaw, bytes_given}
-use Rattle.no_std_io2.proofs.Words.{IsFault, IsInterruption}
-use Rattle.no_std_io2.specs.{declared.io.Error.{Error}, inner.Buffer.{ReadsOn, AsksOn}, inner.Reads.{Reads}}
-use Rattle.no_std_io2.proofs.ReadsLemmas.{Reads-none, Reads-more, Reads-again, Reads-end, Reads-fault}
+use Rattle.no_std_io2.proofs.Words.{common_steps, ◌≡◌, ℕ, ◌-◌, ◌<◌, ◌≤◌, List, [], ◌++◌, length, true, false, Ok, Err, refl, sym, ap, subst}
+use Rattle.no_std_io2.proofs.Words.{◌∙◌, arith, append_assoc, append-nil, length-append, nil_from_length, Reader, GaveLaw, bytes_given}
+use Rattle.no_std_io2.proofs.{Words.{IsFault, IsInterruption}, ReadsLemmas.{Reads-none, Reads-more, Reads-again, Reads-end, Reads-fault}}
+use Rattle.no_std_io2.specs.{declared.io.Error.{Error}, inner.{Buffer.{ReadsOn, AsksOn}, Reads.{Reads}}}
 use Rattle.base64_stream.specs.declared.decoder.DecoderReader.{DecoderReader}
 use Rattle.base64_stream.specs.Decoder.{GathersText, KeepsState, decoder_inner, decoder_text}
 

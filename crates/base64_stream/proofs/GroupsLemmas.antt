@@ -1,15 +1,14 @@
 -- What an engine decodes of several groups at once is what it decodes of each of them.
-use Rattle.no_std_io2.proofs.Words.{◌≡◌, ◌⊎◌, ℕ, zero, suc, ◌+◌, ◌*◌, ◌%◌, ◌==◌, ◌<◌, nat_lt, Bool, true, false, List, [], ◌∷◌}
-use Rattle.no_std_io2.proofs.Words.{◌++◌, length, drop, Option, Some, None, Result, Ok, Err, refl, sym, ap, ap₂, ◌∙◌, arith, inl, inr}
+use Rattle.no_std_io2.proofs.Words.{◌≡◌, ◌⊎◌, ℕ, zero, suc, ◌+◌, ◌*◌, ◌%◌, ◌==◌, ◌<◌, nat_lt, Bool, true, false, List, [], ◌∷◌, ◌++◌}
+use Rattle.no_std_io2.proofs.Words.{length, drop, Option, Some, None, Result, Ok, Err, refl, sym, ap, ap₂, ◌∙◌, arith, inl, inr}
 use Rattle.no_std_io2.proofs.Words.{append_assoc, common_steps, length-append, length-take}
 use Rattle.std.specs.Prelude.{slice_index}
 use Rattle.std.proofs.lemmas.Bool.{cases_Bool, eqb-true, ltb-false, ne_eqb}
 use Rattle.base64.specs.declared.{decode.DecodeError.{DecodeError}, engine.DecodePaddingMode.{DecodePaddingMode}}
 use Rattle.base64.specs.declared.engine.DecodePaddingMode.TheVariants.{Indifferent, RequireCanonical, RequireNone}
-use Rattle.base64.specs.declared.engine.general_purpose.GeneralPurpose.{GeneralPurpose}
-use Rattle.base64.specs.{GeneralPurpose.{decode_of}, Decode.{or_else, symbol_error, group_error, group_bytes, groups_error, groups_bytes}}
-use Rattle.base64.specs.Decode.{no_leftover, groups_before_last, lone_error, push_leftover, scan_steps, scan_last, leftover_error}
-use Rattle.base64.specs.Decode.{leftover_bytes}
+use Rattle.base64.specs.{declared.engine.general_purpose.GeneralPurpose.{GeneralPurpose}, GeneralPurpose.{decode_of}}
+use Rattle.base64.specs.Decode.{or_else, symbol_error, group_error, group_bytes, groups_error, groups_bytes, no_leftover}
+use Rattle.base64.specs.Decode.{groups_before_last, lone_error, push_leftover, scan_steps, scan_last, leftover_error, leftover_bytes}
 use Rattle.base64.specs.Decode.{suffix_error, suffix_bytes, decode_error, decoded_bytes, decode_outcome}
 use Rattle.base64.proofs.{Tables.{are_tables_padding}, Decoding.{scan-cons_ok, scan-cons_err, suffix_error_of, suffix_bytes_of}}
 
@@ -52,11 +51,7 @@ module _ (dec : List ℕ) where
   AreSymbols s i = IsSymbol s i × IsSymbol s (i + 1) × IsSymbol s (i + 2) × IsSymbol s (i + 3)
 
   are_symbols : (s : List ℕ) (i : ℕ) → group_error dec s i ≡ None → AreSymbols s i
-  are_symbols s i none =
-      let a = no_error (symbol_error dec s i) _ none in
-      let b = no_error (symbol_error dec s (i + 1)) _ a.1 in
-      let c = no_error (symbol_error dec s (i + 2)) (symbol_error dec s (i + 3)) b.1 in
-      (is_symbol s i a.0, is_symbol s (i + 1) b.0, is_symbol s (i + 2) c.0, is_symbol s (i + 3) c.1)
+  are_symbols s i none = grind (arith, common_steps, no_error, is_symbol)
 
   no_group_error : (s : List ℕ) (i : ℕ) → AreSymbols s i → group_error dec s i ≡ None
   no_group_error s i (a, b, c, d) = rw (a, b, c, d) refl

@@ -1,10 +1,9 @@
 -- What a decoder holds, tells and gives. I are the ghost members of the reader below.
-use Rattle.std.specs.Prelude.{◌≡◌, ℕ, ◌+◌, ◌*◌, ◌/◌, ◌<◌, ◌≤◌, nat_lt, Bool, true, false, List, [], ◌∷◌, ◌++◌, length, take, drop}
-use Rattle.std.specs.{Option.{option_map}, Prelude.{Option, Result, Ok, Err}}
+use Rattle.std.specs.Prelude.{◌≡◌, ℕ, ◌+◌, ◌*◌, ◌/◌, ◌<◌, ◌≤◌, nat_lt, Bool, true, false, List, [], ◌∷◌, ◌++◌, length, take, drop, Option}
+use Rattle.std.specs.{Prelude.{Result, Ok, Err}, Option.{option_map}}
 use Rattle.base64.specs.{declared.engine.general_purpose.GeneralPurpose.{GeneralPurpose}, GeneralPurpose.{decode_of}}
-use Rattle.no_std_io2.specs.{declared.io.Error.{Error}, Events.{Event, fails, events_of, event_bytes}}
-use Rattle.no_std_io2.specs.{Takes.{ReaderState, Takes, to_come, IsAtEnd, Reader, tells, answered}, Calls.{ReadCall, Gave}}
-use Rattle.no_std_io2.specs.inner.Buffer.{AsksOn, HasTo}
+use Rattle.no_std_io2.specs.{declared.io.Error.{Error}, Events.{Event, fails, events_of, event_bytes}, Calls.{ReadCall, Gave}}
+use Rattle.no_std_io2.specs.{Takes.{ReaderState, Takes, to_come, IsAtEnd, Reader, tells, answered}, inner.Buffer.{AsksOn, HasTo}}
 use Rattle.no_std_io2.specs.inner.Reads.{GathersTo, Reads}
 use Rattle.base64_stream.specs.{declared.decoder.DecoderReader.{DecoderReader}, Waiting.{text_items, waiting_items}}
 use Rattle.base64_stream.specs.Decoding.{decoded_events, decoded_group}

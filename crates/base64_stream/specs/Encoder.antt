@@ -1,8 +1,7 @@
 -- What an encoder holds, tells and passes on. I are the ghost members of the writer below.
 use Rattle.std.specs.Prelude.{◌≡◌, ℕ, Bool, List, [], ◌++◌, Result}
 use Rattle.base64.specs.{declared.engine.general_purpose.GeneralPurpose.{GeneralPurpose}, GeneralPurpose.{encode_of}}
-use Rattle.no_std_io2.specs.{declared.io.Error.{Error}, declared.io.BufWriter.{BufWriter}, Moves.{WriterState, told_out}}
-use Rattle.no_std_io2.specs.inner.Write.{told_over}
+use Rattle.no_std_io2.specs.{declared.io.{Error.{Error}, BufWriter.{BufWriter}}, Moves.{WriterState, told_out}, inner.Write.{told_over}}
 use Rattle.no_std_io2.specs.{Writers.{Writer}, BufWriter.{writer_inner, writer_buffer, writer_told, Puts}}
 use Rattle.base64_stream.specs.{declared.encoder.EncoderWriter.{EncoderWriter}, Group.{group_items}}
 

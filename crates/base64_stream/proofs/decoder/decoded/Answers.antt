@@ -1,16 +1,15 @@
 -- The vector has what the decoder tells, which is the decoding of the text; the search does not find that.
-use Rattle.no_std_io2.proofs.Words.{[], false, Some, ◌++◌, sym, ap, subst, refl, ◌∙◌, arith, event_bytes, events_of, err_from_is_err_and}
+use Rattle.no_std_io2.proofs.Words.{[], false, Some, ◌++◌, sym, ap, subst, refl, ◌∙◌, arith, event_bytes, events_of, returned_err}
 use Rattle.no_std_io2.proofs.{InMemoryReads.{slice_reader}, KnownBytes.{to_end_known}}
 use Rattle.base64.specs.GeneralPurpose.{IsStrict, encode_of}
 use Rattle.base64_stream.specs.{Decoder.{decoder_engine}, Decoding.{decoded_events}}
-use Rattle.base64_stream.proofs.{DecoderLemmas.{drained_whole, starts_decoding}, ExactLemmas.{drained_error, only_encoding, text_refuses}}
+use Rattle.base64_stream.proofs.{DecoderLemmas.{starts_decoding}, ExactLemmas.{drained_error, drained_whole, only_encoding, text_refuses}}
 use Rattle.base64_stream.proofs.decoder.decoded.Goals as goal
 
 pub returns-in_err-read_to_end-clause-back : goal.returns-in_err-read_to_end-clause-back
 returns-in_err-read_to_end-clause-back c = λ x all is.
-    let p = err_from_is_err_and c.from_residual.result c.from_residual.ensures.1 in
     let told = c.new-r.ensures.decodes x refl all (ap (λ l. Some (events_of l)) is) in
-    rw (p.1, p.2) (tt, (to_end_known _ x c.in_err-read_to_end.ensures.law told).1)
+    rw (returned_err c.from_residual.ensures) (tt, (to_end_known _ x c.in_err-read_to_end.ensures.law told).1)
 
 pub returns-clause-back : goal.returns-clause-back
 returns-clause-back c = λ x all is.
@@ -35,9 +34,8 @@ returns-clause-exact c =
 pub returns-in_err-read_to_end-clause-err : goal.returns-in_err-read_to_end-clause-err
 returns-in_err-read_to_end-clause-err c =
     let s = c.args.text.now in
-    let p = err_from_is_err_and c.from_residual.result c.from_residual.ensures.1 in
     let new = c.new-r.ensures in
     let engine = decoder_engine c.new-r.result in
     let told = starts_decoding slice_reader c.new-r.result engine (events_of s) refl new.closed new.text new.waiting
     (ap (λ r. Some (events_of r.now)) new.inner) in
-    rw (p.1, p.2) (drained_error _ c.in_err-read_to_end.ensures.law told (text_refuses engine false [] s))
+    rw (returned_err c.from_residual.ensures) (drained_error _ c.in_err-read_to_end.ensures.law told (text_refuses engine false [] s))

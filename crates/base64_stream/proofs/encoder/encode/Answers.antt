@@ -1,6 +1,5 @@
 -- Without a group the other bytes are all; the search does not use that.
-use Rattle.no_std_io2.proofs.Words.{◌≡◌, [], ◌++◌, sym, ap, ◌∙◌}
-use Rattle.no_std_io2.proofs.TextLemmas.{is_empty}
+use Rattle.no_std_io2.proofs.{Words.{◌≡◌, [], ◌++◌, sym, ap, ◌∙◌}, TextLemmas.{is_empty}}
 use Rattle.base64.specs.GeneralPurpose.{encode_of}
 use Rattle.base64_stream.proofs.encoder.encode.Goals as goal
 

@@ -1,6 +1,5 @@
 -- Reads that go on until a group is whole: after each read, and at the three ends.
-use Rattle.no_std_io2.proofs.Words.{refl, sym, ◌∙◌, arith}
-use Rattle.no_std_io2.proofs.FillToLemmas.{spends_more, spends_again}
+use Rattle.no_std_io2.proofs.{Words.{refl, sym, ◌∙◌, arith}, FillToLemmas.{spends_more}}
 use Rattle.base64_stream.proofs.GatherLemmas.{gathered_none, gathered_more, gathered_again, gathers_fault, gathers_end, gathers_enough}
 use Rattle.base64_stream.proofs.decoder.DecoderReader.gather.Goals as goal
 
@@ -18,9 +17,6 @@ reads-preserved g c =
 
 pub reads-smaller-in-Ok : goal.reads-smaller-in-Ok
 reads-smaller-in-Ok g c = spends_more c.in-Ok.ensures c.in-Ok.field-0-test.1
-
-pub reads-smaller : goal.reads-smaller
-reads-smaller g c = spends_again c.in-Err.ensures
 
 pub returns-in-Err-2 : goal.returns-in-Err-2
 returns-in-Err-2 g c =

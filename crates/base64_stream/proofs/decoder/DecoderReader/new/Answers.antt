@@ -1,6 +1,5 @@
 -- The search does not find that a new decoder decodes all that the reader below tells (`decodes_encoding`).
-use Rattle.no_std_io2.proofs.Words.{Some, false, ap, refl, events_of, ◌∙◌}
-use Rattle.no_std_io2.proofs.TakesLemmas.{reader}
+use Rattle.no_std_io2.proofs.{Words.{Some, false, ap, refl, events_of, ◌∙◌}, TakesLemmas.{reader}}
 use Rattle.base64_stream.proofs.{DecodingLemmas.{decodes_encoding}, DecoderLemmas.{starts_decoding}}
 use Rattle.base64.specs.GeneralPurpose.{encode_of}
 use Rattle.base64_stream.specs.declared.decoder.DecoderReader.{DecoderReader}

@@ -1,16 +1,19 @@
 -- A fault came, or the end, or groups that are refused or decoded; the search does not find what each gives.
-use Rattle.no_std_io2.proofs.Words.{◌≡◌, length, drop, min, ap, sym, ◌∙◌, arith, err_from_is_err_and}
-use Rattle.no_std_io2.proofs.TakesLemmas.{reader}
+use Rattle.no_std_io2.proofs.{Words.{◌≡◌, None, length, drop, min, ap, sym, ◌∙◌, arith, common_steps, returned_err}, TakesLemmas.{reader}}
 use Rattle.base64_stream.specs.{Decoder.{decoder_text}, Waiting.{text_items}}
-use Rattle.no_std_io2.specs.declared.io.ErrorKind.TheVariants.{InvalidData}
-use Rattle.base64_stream.proofs.DecoderLemmas.{AreGroups, only_kind, refill_ends, refill_fails, refill_gives, refill_refuses}
-use Rattle.base64_stream.proofs.DecoderLemmas.{still_gathered}
+use Rattle.no_std_io2.specs.{declared.io.{Error.{Error}, ErrorKind.{ErrorKind, TheVariants.{InvalidData}}}, Errors.{error_kind}}
+use Rattle.no_std_io2.specs.inner.Kinds.{error_of, error_text}
+use Rattle.base64_stream.proofs.DecoderLemmas.{AreGroups, refill_ends, refill_fails, refill_gives, refill_refuses, still_gathered}
 use Rattle.base64_stream.proofs.decoder.DecoderReader.refill.Goals as goal
+
+-- an error that has only a kind
+only_kind : (e : Error) (kind : ErrorKind) → error_kind e ≡ kind → error_text e ≡ None → e ≡ error_of kind
+only_kind e kind is no_text = grind (arith, common_steps)
 
 pub returns-in_err-gather : goal.returns-in_err-gather
 returns-in_err-gather g c =
-    let p = err_from_is_err_and c.from_residual.result c.from_residual.ensures.1 in
-    rw (p.1, p.2) (refill_fails (reader g.R.Stored g.R.Read) c.args.self.now c.gather.new.self c.in_err-gather.ensures c.requires)
+    rw (returned_err c.from_residual.ensures)
+    (refill_fails (reader g.R.Stored g.R.Read) c.args.self.now c.gather.new.self c.in_err-gather.ensures c.requires)
 
 pub returns-then-held-eq0 : goal.returns-then-held-eq0
 returns-then-held-eq0 g c =

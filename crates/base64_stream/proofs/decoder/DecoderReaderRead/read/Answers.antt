@@ -1,6 +1,5 @@
 -- The search does not make the law of a decoder of what was filled and given.
-use Rattle.no_std_io2.proofs.Words.{length, ap, refl, arith, err_from_is_err_and}
-use Rattle.no_std_io2.proofs.{TakesLemmas.{reader}, TextLemmas.{is_empty}}
+use Rattle.no_std_io2.proofs.{Words.{length, ap, refl, arith, returned_err}, TakesLemmas.{reader}, TextLemmas.{is_empty}}
 use Rattle.base64_stream.proofs.DecoderLemmas.{gave_error, gave_nothing, gave_waiting}
 use Rattle.base64_stream.proofs.decoder.DecoderReaderRead.read.Goals as goal
 
@@ -11,8 +10,7 @@ returns-then-is_empty-clause-law g c =
 
 pub returns-in_err-fill-clause-law : goal.returns-in_err-fill-clause-law
 returns-in_err-fill-clause-law g c =
-    let p = err_from_is_err_and c.from_residual.result c.from_residual.ensures.1 in
-    rw (p.1, p.2) (gave_error (reader g.R.Stored g.R.Read) _ _ c.in_err-fill.ensures.fills)
+    rw (returned_err c.from_residual.ensures) (gave_error (reader g.R.Stored g.R.Read) _ _ c.in_err-fill.ensures.fills)
 
 pub returns-clause-law : goal.returns-clause-law
 returns-clause-law g c =

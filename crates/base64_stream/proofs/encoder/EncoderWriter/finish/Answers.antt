@@ -1,5 +1,5 @@
 -- The last group was put and then all was sent, or one of them failed; the search does not join the two.
-use Rattle.no_std_io2.proofs.Words.{[], refl, ◌∙◌, err_from_is_err_and}
+use Rattle.no_std_io2.proofs.Words.{[], refl, ◌∙◌, returned_err}
 use Rattle.base64_stream.specs.Finish.{group_stopped, text_flushed}
 use Rattle.base64_stream.proofs.EncoderLemmas.{adds_sent, last_keeps, finished_if}
 use Rattle.base64_stream.proofs.encoder.EncoderWriter.finish.Goals as goal
@@ -11,9 +11,8 @@ returns-in_err-close-clause-keeps g c =
 
 pub returns-in_err-close-clause-finishes : goal.returns-in_err-close-clause-finishes
 returns-in_err-close-clause-finishes g c =
-    let p = err_from_is_err_and c.from_residual.result c.from_residual.ensures.1 in
     let (some, keeps, puts) = c.in_err-close.ensures.err in
-    rw (p.1, p.2) (group_stopped some puts keeps)
+    rw (returned_err c.from_residual.ensures) (group_stopped some puts keeps)
 
 pub returns-clause-keeps : goal.returns-clause-keeps
 returns-clause-keeps g c =

@@ -1,11 +1,10 @@
 -- The text was put, or not; the search does not use the clause of the call.
-use Rattle.no_std_io2.proofs.Words.{err_from_is_err_and}
+use Rattle.no_std_io2.proofs.Words.{returned_err}
 use Rattle.base64_stream.proofs.encoder.EncoderWriter.put.Goals as goal
 
 pub returns-in_err-put_text-clause-puts : goal.returns-in_err-put_text-clause-puts
 returns-in_err-put_text-clause-puts g c =
-    let p = err_from_is_err_and c.from_residual.result c.from_residual.ensures.1 in
-    rw (p.1, p.2) c.in_err-put_text.ensures.puts
+    rw (returned_err c.from_residual.ensures) c.in_err-put_text.ensures.puts
 
 pub returns-clause-puts : goal.returns-clause-puts
 returns-clause-puts g c = c.in_ok-put_text.ensures.puts

@@ -1,5 +1,5 @@
 -- A write is refused, kept, or puts whole groups into the buffer; the search does not make the law of an encoder of that.
-use Rattle.no_std_io2.proofs.Words.{◌<◌, ◌++◌, length, refl, ap, arith, inl, inr, length-append, err_from_is_err_and}
+use Rattle.no_std_io2.proofs.Words.{◌<◌, ◌++◌, length, refl, ap, arith, inl, inr, length-append, returned_err}
 use Rattle.base64_stream.specs.{Encoder.{unfinished}, Finish.{closed_refused, all_kept, groups_put}}
 use Rattle.base64_stream.proofs.EncoderLemmas.{law_refused, law_kept, law_put, law_failed, whole_of}
 use Rattle.base64_stream.proofs.encoder.EncoderWriterWrite.write.Goals as goal
@@ -24,15 +24,15 @@ returns-then-held-buf-lt3-clause-puts g c =
 
 pub returns-in_err-put-clause-law : goal.returns-in_err-put-clause-law
 returns-in_err-put-clause-law g c =
-    let p = err_from_is_err_and c.from_residual.result c.from_residual.ensures.1 in
-    rw (p.1, p.2) (law_failed g.W.Write c.args.self.now c.put.new.self c.args.buf.now c.in_err-put.ensures.puts c.in_err-put.ensures.err)
+    rw (returned_err c.from_residual.ensures)
+    (law_failed g.W.Write c.args.self.now c.put.new.self c.args.buf.now c.in_err-put.ensures.puts c.in_err-put.ensures.err)
 
 pub returns-in_err-put-clause-puts : goal.returns-in_err-put-clause-puts
 returns-in_err-put-clause-puts g c =
-    let p = err_from_is_err_and c.from_residual.result c.from_residual.ensures.1 in
     let fits = c.fitting-n.ensures in
     let whole = whole_of (unfinished c.args.self.now) c.args.buf.now c.fitting-n.result fits.within fits.whole in
-    rw (p.1, p.2) (groups_put c.fitting-n.result fits.some fits.within whole c.in_err-put.ensures.puts (inr c.in_err-put.ensures.err))
+    rw (returned_err c.from_residual.ensures)
+    (groups_put c.fitting-n.result fits.some fits.within whole c.in_err-put.ensures.puts (inr c.in_err-put.ensures.err))
 
 pub returns-in_err-put-clause-end : goal.returns-in_err-put-clause-end
 returns-in_err-put-clause-end g c closed some = absurd (omega (arith, some, c.refuses.ensures.no c.if-refuses.false closed))

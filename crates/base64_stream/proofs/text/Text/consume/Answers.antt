@@ -1,6 +1,5 @@
 -- A later start drops the first characters.
-use Rattle.no_std_io2.proofs.Words.{common_steps, arith, length-take}
-use Rattle.no_std_io2.proofs.BufferedReads.{range_rest}
+use Rattle.no_std_io2.proofs.{Words.{common_steps, arith, length-take}, BufferedReads.{range_rest}}
 use Rattle.base64_stream.proofs.text.Text.consume.Goals as goal
 
 pub returns : goal.returns

@@ -1,6 +1,6 @@
 -- The characters that were read lie behind the others, which are at the front.
 use Rattle.no_std_io2.proofs.Words.{common_steps, ◌≡◌, ℕ, ◌+◌, ◌-◌, ◌≤◌, List, ◌++◌, Ok, length, take, drop, sym, ap, subst, ◌∙◌, arith}
-use Rattle.no_std_io2.proofs.Words.{length-take, length-drop, length-take-le, append-nil, refl, Err, GaveLaw}
+use Rattle.no_std_io2.proofs.Words.{length-take, length-drop, length-take-le, GaveLaw}
 use Rattle.std.proofs.Common.{slice_range}
 use borrow.Rule.Slice.PartMut.{put_mid}
 use Rattle.no_std_io2.proofs.{ReadLoops.{take-put_mid}, TakesLemmas.{reader, read_law}}
@@ -15,13 +15,6 @@ held_on xs ys start end n k zero within fits = grind (arith, common_steps, slice
 room_on : (xs ys : List ℕ) (start end size : ℕ) → start ≡ 0 → end ≤ size → length xs ≡ size
     → length ys ≡ length (take (length xs - end) (drop end xs)) → length ys ≡ size - length (slice_range xs start end)
 room_on xs ys start end size zero within long room = grind (arith, common_steps, length-take, length-drop)
-
--- after a read that gave none, they are as they were
-held_same : (xs ys : List ℕ) (start end k : ℕ) → start ≡ 0 → end ≤ length xs
-    → slice_range (put_mid end k xs ys) start end ≡ slice_range xs start end
-held_same xs ys start end k zero within =
-    let none : end + 0 ≡ end = omega arith in
-    rw (none, append-nil (slice_range xs start end)) at (held_on xs ys start end 0 k zero within (omega arith))
 
 pub returns-in-Ok : goal.returns-in-Ok
 returns-in-Ok g c =
@@ -40,22 +33,4 @@ returns-in-Ok g c =
           (read_law (Ok n) law);
       number = ap Ok (sym (length-take-le n c.read.new.buf law.bound));
       holds = on ∙ ap (λ l. l ++ take n c.read.new.buf) first.same;
-    }
-
-pub returns-in-Err : goal.returns-in-Err
-returns-in-Err g c =
-    let was = c.move_down.new.self in
-    let first = c.move_down.ensures in
-    let law = c.in-Err.ensures.law in
-    let e = c.in-Err.e in
-    let long : length was.bytes ≡ 256 = omega arith in
-    record {
-      answer = Err e;
-      read = subst (λ k. GaveLaw (reader g.R.Stored g.R.Read) c.args.from.now k (Err e) c.read.new.self)
-          (room_on was.bytes c.read.new.buf was.start was.end 256 first.start was.in_range long c.read.auto.buf
-          ∙ ap (λ l. 256 - length l) first.same)
-          (read_law (Err e) law);
-      number = refl;
-      holds = held_same was.bytes c.read.new.buf was.start was.end (length was.bytes - was.end) first.start
-          (omega (arith, long, was.in_range)) ∙ first.same ∙ sym (append-nil _);
     }
