@@ -5,18 +5,16 @@ use Rattle.no_std_io2.proofs.Words.{tells, ◌≡◌, ◌+◌, ◌-◌, ◌*◌,
 use Rattle.no_std_io2.proofs.Words.{take, drop, Some, Ok, Err, refl, sym, ap, ap₂, subst, ◌∙◌, inl, inr, length-append, length-drop}
 use Rattle.no_std_io2.proofs.Words.{length-take-le, le_refl, drop-append_seam, nil_from_length, nat_tests, fails, events_of, event_bytes}
 use Rattle.no_std_io2.proofs.Words.{AreTaken, to_come, IsAtEnd, ReadCall, bytes_given, GaveLaw, ReadCallLaw, Gathers, no_read, and_gave}
-use Rattle.no_std_io2.proofs.Words.{and_again, ExactCalls, FillsRoom, IsReadMeter, bytes_left, Made, reader_held, reader_behind}
+use Rattle.no_std_io2.proofs.Words.{and_again, ExactCalls, FillsRoom, IsReadMeter, bytes_left, Made, reader_held, reader_behind, lent_read}
 use Rattle.no_std_io2.proofs.Words.{reader_inner, behind_held, PassesOn, ReadsBelow, of_held, went_past, was_filled, FillsBelow, lent_held}
-use Rattle.no_std_io2.proofs.{Words.{lent_read}, TakesLemmas.{takes_none, takes_then, made_takes, stays_at_end, left_of, bytes-append}}
-use Rattle.no_std_io2.proofs.{TakesLemmas.{bytes-events_of, events_of-append}, CallsLemmas.{made_split}}
-use Rattle.no_std_io2.proofs.BufferedReads.{reader_has_room, held-le}
-use Rattle.no_std_io2.proofs.{BufferedReads.{told_behind, buf_reader}, InMemoryReads.{drawn, fills_told}}
-use Rattle.no_std_io2.specs.{declared.io.Error.{Error}, declared.buffered.buf_reader.BufReader.{BufReader}, inner.Read.{FilledLaw}}
-use Rattle.no_std_io2.specs.Read.{ConsumeLaw}
-use Rattle.no_std_io2.specs.Read.{ReadExactLaw}
-use Rattle.io_bench.specs.{declared.asks.Ask.{Ask}, Asks.{Fits, AllFit, Answered, CameTo, no_ask, next_ask, read_answer, end_or_error}}
-use Rattle.io_bench.specs.Asks.{exact_answer, fill_answer, fill_calls, left_behind, DropsFront, AskStep, meets_end, Steps, no_step}
-use Rattle.io_bench.specs.{Asks.{next_step}, declared.asks.Ask.TheVariants.{Read, Exact, Fill}}
+use Rattle.no_std_io2.proofs.TakesLemmas.{takes_none, takes_then, made_takes, stays_at_end, left_of, bytes-append, bytes-events_of}
+use Rattle.no_std_io2.proofs.{TakesLemmas.{events_of-append}, CallsLemmas.{made_split}, InMemoryReads.{drawn, fills_told}}
+use Rattle.no_std_io2.proofs.BufferedReads.{reader_has_room, held-le, told_behind, buf_reader}
+use Rattle.no_std_io2.specs.{declared.{io.Error.{Error}, buffered.buf_reader.BufReader.{BufReader}}, inner.Read.{FilledLaw}}
+use Rattle.no_std_io2.specs.Read.{ConsumeLaw, ReadExactLaw}
+use Rattle.io_bench.specs.declared.asks.Ask.{Ask, TheVariants.{Read, Exact, Fill}}
+use Rattle.io_bench.specs.Asks.{Fits, AllFit, Answered, CameTo, no_ask, next_ask, read_answer, end_or_error, exact_answer, fill_answer}
+use Rattle.io_bench.specs.Asks.{fill_calls, left_behind, DropsFront, AskStep, meets_end, Steps, no_step, next_step}
 use Rattle.io_bench.proofs.RunLemmas.{made_one}
 
 -- For `run_reads`: asks in a row, and what they take.

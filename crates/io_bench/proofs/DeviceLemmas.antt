@@ -6,14 +6,13 @@ use Rattle.no_std_io2.proofs.Words.{events_of, Reader, ReadLaw, map, answered, F
 use Rattle.no_std_io2.proofs.{MovesLemmas.{Moves-refl, Moves-forget, count_by-append}, TakesLemmas.{length-events_of}}
 use Rattle.no_std_io2.proofs.InMemoryReads.{fills_by, drawn, fills_told}
 use Rattle.std.proofs.{Common.{take-take, take_all, set, IsOkAnd}, Math.Seq.{take-add}, lemmas.List.{take_more_set, drop-drop}}
-use Rattle.no_std_io2.specs.{declared.io.Error.{Error}, declared.io.ErrorKind.TheVariants.{WriteZero}, declared.io.ErrorKind.{ErrorKind}}
-use Rattle.no_std_io2.specs.{inner.Moves.{HasSpent}, Write.{accepted_of, write_mishap}, inner.Write.{zero_write}}
+use Rattle.no_std_io2.specs.{declared.io.{Error.{Error}, ErrorKind.{TheVariants.{WriteZero}, ErrorKind}}, inner.Moves.{HasSpent}}
+use Rattle.no_std_io2.specs.{Write.{accepted_of, write_mishap}, inner.Write.{zero_write}}
 use Rattle.std.specs.Option.{option_map}
-use Rattle.io_bench.specs.{declared.faulty.{Act.{Act, TheVariants.{Take}}, Faulty.{Faulty}}, Faulty.{act_mishap, act_mishaps, acts_left}}
-use Rattle.io_bench.specs.{Faulty.{faulty_inner, faulty_told, first_act, with_acts, WritesBehind}, declared.feed.Event.{Event}}
-use Rattle.io_bench.specs.{declared.feed.{Event.TheVariants.{Byte}, Feed.{Feed}}, Feed.{all_to_come, leading_bytes, first_failure}}
-use Rattle.io_bench.specs.{Feed.{feed_left, feed_piece, feed_gives, FeedMay, feed_answer}, declared.tally.Tally.{Tally}}
-use Rattle.io_bench.specs.Tally.{tally_inner, tally_reads, ReadsCounted}
+use Rattle.io_bench.specs.declared.{faulty.{Act.{Act, TheVariants.{Take}}, Faulty.{Faulty}}, feed.Event.{Event, TheVariants.{Byte}}}
+use Rattle.io_bench.specs.Faulty.{act_mishap, act_mishaps, acts_left, faulty_inner, faulty_told, first_act, with_acts, WritesBehind}
+use Rattle.io_bench.specs.{declared.{feed.Feed.{Feed}, tally.Tally.{Tally}}, Tally.{tally_inner, tally_reads, ReadsCounted}}
+use Rattle.io_bench.specs.Feed.{all_to_come, leading_bytes, first_failure, feed_left, feed_piece, feed_gives, FeedMay, feed_answer}
 
 -- For `Faulty`: what a call does with its act, and the acts that are left.
 
@@ -27,18 +26,9 @@ moves_act : (a b : WriterState) (x : List ℕ) (k : List ErrorKind) (act : Act) 
     → Moves (with_acts a (act ∷ acts)) x (k ++ act_mishap act) (with_acts b acts)
 moves_act a b x k act acts m = grind (arith, common_steps, spent_mishaps, count_by-append)
 
--- no act was spent
-moves_behind : (a b : WriterState) (x : List ℕ) (k : List ErrorKind) (acts : List Act) → Moves a x k b
-    → Moves (with_acts a acts) x k (with_acts b acts)
-moves_behind a b x k acts m = grind (arith, common_steps, append-nil, spent_mishaps)
-
 -- the acts after the first
 acts_are : (acts : List Act) (act : Act) → first_act acts ≡ Some act → acts ≡ act ∷ drop 1 acts
 acts_are acts act is = grind (arith, common_steps)
-
--- no act was left
-pub acts_none : (acts : List Act) → first_act acts ≡ None → acts ≡ []
-acts_none acts is = grind (arith, common_steps)
 
 -- the writer tells the same
 moves_from : {a a' b : WriterState} {x : List ℕ} {k : List ErrorKind} → a ≡ a' → Moves a x k b → Moves a' x k b
@@ -66,7 +56,7 @@ moves_through {a} {b} {x} {k} {act} acts {acts'} same m none is left =
 pub moves_past : {a a' b : WriterState} {x : List ℕ} {k : List ErrorKind} (acts : List Act) {acts' : List Act} → a' ≡ a → Moves a' x k b
     → first_act acts ≡ None
     → acts' ≡ drop 1 acts → Moves (with_acts a acts) x k (with_acts b acts')
-moves_past {a} {b} {x} {k} acts {acts'} same m is left = grind (arith, common_steps, acts_none, moves_behind, moves_from)
+moves_past {a} {b} {x} {k} acts {acts'} same m is left = grind (arith, common_steps, append-nil, moves_from, spent_mishaps)
 
 -- a writer that was given a front of some bytes took a front of these
 pub taken_of_front : {a b : WriterState} (reply : Result ℕ Error) (n : ℕ) {most : ℕ} (buf : List ℕ) → 0 < n → most ≡ min n (length buf)

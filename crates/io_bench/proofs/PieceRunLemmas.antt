@@ -1,16 +1,13 @@
 -- For `run_split` and `run_lines`: how the items of a run come to be all pieces, by what each `next` says.
 use Rattle.no_std_io2.proofs.Words.{◌≡◌, ℕ, true, false, Bool, Option, Some, None, Result, Ok, Err, List, [], ◌∷◌, ◌++◌, map, refl, ap, ap₂}
 use Rattle.no_std_io2.proofs.Words.{◌∙◌, subst, sym, inl, inr, ◌<◌, ◌⊎◌, length, arith, length-append, append-nil, append_assoc, IfErr}
-use Rattle.no_std_io2.proofs.Words.{concat, common_steps, IsFault, IsOutOfMemory, Event, byte, fails, event_bytes, HasNoFault}
-use Rattle.no_std_io2.proofs.Words.{bytes_to_fault}
-use Rattle.no_std_io2.proofs.Words.{first_fault, to_come, Reader, tells, Made, newline, strip_last, split_reader, split_delim}
+use Rattle.no_std_io2.proofs.Words.{concat, common_steps, IsFault, IsOutOfMemory, Event, byte, fails, event_bytes, HasNoFault, split_delim}
+use Rattle.no_std_io2.proofs.Words.{bytes_to_fault, first_fault, to_come, Reader, tells, Made, newline, strip_last, split_reader}
 use Rattle.no_std_io2.proofs.{GivenPieces.{next_error, next_fault, next_item, next_none}, CallsLemmas.{made_more}}
 use Rattle.std.proofs.Common.{IfSome}
-use Rattle.no_std_io2.specs.{declared.io.Error.{Error}, inner.Kinds.{is_interruption}, inner.Pieces.{pieces_given, GivesNext, GivesNone}}
-use Rattle.no_std_io2.specs.inner.Lines.{RefusesLine, line_text}
+use Rattle.no_std_io2.specs.{declared.io.Error.{Error}, inner.{Kinds.{is_interruption}, Pieces.{pieces_given, GivesNext, GivesNone}}}
+use Rattle.no_std_io2.specs.{inner.Lines.{RefusesLine, line_text}, declared.io.{Split.{Split}, Lines.{Lines}}}
 use Rattle.no_std_io2.specs.inner.Iterators.{ends_at, split_is_ended, lines_reader, lines_is_ended, NextPieceLaw}
-use Rattle.no_std_io2.specs.declared.io.Split.{Split}
-use Rattle.no_std_io2.specs.declared.io.Lines.{Lines}
 use Rattle.io_bench.specs.{Appended.{appended}, PieceRuns.{AllPieces, GathersPieces, RunsNexts}}
 use Rattle.io_bench.proofs.RunLemmas.{appended-one}
 

@@ -3,18 +3,17 @@ use Rattle.no_std_io2.proofs.Words.{◌≡◌, ◌+◌, ℕ, ◌<◌, List, Resu
 use Rattle.no_std_io2.proofs.Words.{WriterState, writing_calls, common_steps, ◌*◌, ◌/◌, ◌≤◌, min, length, ⊎_elim, buffer_after, calls_for}
 use Rattle.no_std_io2.proofs.Words.{cases_lt, [], ◌∷◌, Ok, OnOk, length-drop, refl, sym, subst, inl, inr, WriteCall, Wrote, Made, Writes}
 use Rattle.no_std_io2.proofs.Words.{no_write, write_took, write_again, BufferMay, SendCalls, Stepped, InnerCalls, ◌++◌, ap, ◌∙◌, CallOf}
-use Rattle.no_std_io2.proofs.Words.{Moves}
-use Rattle.no_std_io2.proofs.{Words.{writer_buffer, writer_inner, writer_told}, BufWriterLemmas.{Always, effect_of, Exactly, Moves-device}}
-use Rattle.no_std_io2.proofs.{BufWriterLemmas.{buffer-le}, BufWriterCalls.{writing_all_calls, send_does, write_does, write_all_does}}
-use Rattle.no_std_io2.proofs.{BufWriterCalls.{flush_does, write_takes}, MovesLemmas.{meter_made, Moves-ends}, CallsLemmas.{made_split}}
-use Rattle.no_std_io2.proofs.CallsLemmas.{made_map, law_may}
-use Rattle.no_std_io2.specs.{declared.io.Error.{Error}, declared.buffered.buf_writer.BufWriter.{BufWriter}, inner.Meter.{CostsAtMost}}
+use Rattle.no_std_io2.proofs.{Words.{Moves, writer_buffer, writer_inner, writer_told}, MovesLemmas.{meter_made, Moves-ends}}
+use Rattle.no_std_io2.proofs.BufWriterLemmas.{Always, effect_of, Exactly, Moves-device, buffer-le}
+use Rattle.no_std_io2.proofs.BufWriterCalls.{writing_all_calls, send_does, write_does, write_all_does, flush_does, write_takes}
+use Rattle.no_std_io2.proofs.CallsLemmas.{made_split, made_map, law_may}
+use Rattle.no_std_io2.specs.{declared.{io.Error.{Error}, buffered.buf_writer.BufWriter.{BufWriter}}, inner.Meter.{CostsAtMost}}
 use Rattle.no_std_io2.specs.BufWriter.{Unwraps}
 use Rattle.std.proofs.{lemmas.{Nat.{le-div}, List.{length-append}}, Common.{take_all}}
 use Rattle.io_bench.proofs.RunLemmas.{made_one}
 use Rattle.io_bench.specs.declared.runs.{Op.{Op, TheVariants.{Write, WriteAll, Flush}}, Reply.{Reply, TheVariants.{Took, Done}}}
-use Rattle.io_bench.specs.{Runs.{OpCalls, JoinsEach, IsWhole, AreWhole, Accepts, Ran, Run, RunCalls}, Closed.{op_bytes, given_bytes}}
-use Rattle.io_bench.specs.{Closed.{op_flushes, flush_count}, declared.tally.Tally.{Tally}, Tally.{TallyMay, tally_inner, tally_writes}}
+use Rattle.io_bench.specs.{Runs.{OpCalls, JoinsEach, IsWhole, AreWhole, Accepts, Ran, Run, RunCalls}, declared.tally.Tally.{Tally}}
+use Rattle.io_bench.specs.{Closed.{op_bytes, given_bytes, op_flushes, flush_count}, Tally.{TallyMay, tally_inner, tally_writes}}
 
 -- What the calls of a buffered writer cost, by each number that counts the calls of the inner writer, if
 -- that takes all.
@@ -50,10 +49,6 @@ pub data BufferStep (S h x h' k g : ℕ) : Type 0 where
   past : k ≡ min h 1 + 1 → g ≡ 0 → 0 < S → S ≤ x → h' ≡ 0 → BufferStep S h x h' k g
   flushed : k ≡ min h 1 → g ≡ 1 → h' ≡ 0 → BufferStep S h x h' k g
 
--- at the start no write was made and no byte given
-pub Paid-start : (S : ℕ) → Paid S 0 0 0 0
-Paid-start S = pairs 0 (omega arith) (omega arith)
-
 -- one call more
 pub paid_call : {S c f n h x h' k g : ℕ} → BufferStep S h x h' k g → Paid S c f n h → Paid S (c + k) (f + g) (n + x) h'
 paid_call (held k g is) (pairs p a b) = pairs p (omega arith) (omega arith)
@@ -74,11 +69,6 @@ paid_call (flushed k g is) (open_one p a b) = open_one p (omega arith) (omega ar
 -- the bound, with the last sending
 pub Paid-bound : (S c f n h : ℕ) → Paid S c f n h → c + min h 1 ≤ 2 * (n / (S + 1)) + f + 1
 Paid-bound S c f n h is = grind (arith, common_steps, le-div)
-
--- the count holds for equal numbers too
-pub Paid-same : {S c f n h d g m k : ℕ} → c ≡ d → f ≡ g → n ≡ m → h ≡ k → Paid S c f n h → Paid S d g m k
-Paid-same c f n h (pairs p a b) = pairs p (omega arith) (omega arith)
-Paid-same c f n h (open_one p a b) = open_one p (omega arith) (omega arith)
 
 -- a write of x is one of them
 pub write_call : (S : ℕ) (buffer x : List ℕ) → 0 < S → length buffer ≤ S
@@ -106,7 +96,7 @@ module _ {W B : Type 0} (I : Writer W) (cost : W → ℕ) (meter : IsMeter I.may
 
   -- so they are for equal numbers
   paid_at : {f f' n n' : ℕ} (b : B) → f ≡ f' → n ≡ n' → PaidTo f n b → PaidTo f' n' b
-  paid_at b f n (all, c, is, paid) = (all, c, is, Paid-same refl f n refl paid)
+  paid_at {f} {n' = n'} b flushes bytes paid = subst (λ k. PaidTo k n' b) flushes (subst (λ k. PaidTo f k b) bytes paid)
 
   -- a call of x bytes that leaves this in the buffer
   step_paid : {A : Type 0} {step : Step A} {R : WriterState → Result A Error → WriterState → Type 0} {k : List ℕ → ℕ}
@@ -169,7 +159,7 @@ module _ {W B : Type 0} (I : Writer W) (cost : W → ℕ) (meter : IsMeter I.may
       → Stepped I SendCalls (inner last) (buffer last) (Ok tt) [] w
       → cost w ≤ cost (inner old) + (2 * (length (given_bytes ops) / (S + 1)) + flush_count ops + 1)
   closed_bound last w ops replies C joined whole made empty takes send =
-      let start : PaidTo 0 0 old = (takes, 0, omega arith, rw empty (Paid-start S)) in
+      let start : PaidTo 0 0 old = (takes, 0, omega arith, rw empty (pairs 0 (omega arith) (omega arith))) in
       let run : PaidTo (flush_count ops) (length (given_bytes ops)) last =
       paid_at last (omega arith) (omega arith) (ops_paid ops replies C joined whole old last made start) in
       let bound = Paid-bound S run.1 (flush_count ops) (length (given_bytes ops)) (length (buffer last)) run.3 in

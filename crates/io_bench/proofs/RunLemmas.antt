@@ -4,8 +4,8 @@ use Rattle.no_std_io2.proofs.Words.{Moves, WriterState, CallOf, TakesAll, Writer
 use Rattle.no_std_io2.proofs.Words.{ByCalls, LevelCalls, take, zero, suc, ◌+◌, ◌<◌, ◌≤◌, get_or, ap₂, subst, inl, inr, take_more}
 use Rattle.no_std_io2.proofs.{Words.{nil_from_length}, MovesLemmas.{all_calls, Moves-refl, Moves-steady, Moves-trans}, CallsLemmas.{by_are}}
 use Rattle.no_std_io2.proofs.{CallsLemmas.{by_then, made_split}, BufWriterLemmas.{level_by_level}}
-use Rattle.io_bench.specs.{Appended.{appended}, declared.runs.{Op.{Op}, Reply.{Reply}}, Runs.{EndsFlushed, HasFewer, IsShorterBy, Ran, Run}}
-use Rattle.io_bench.specs.Runs.{failures, failures_of, is_failure, mishap_of, mishaps_of, Accepts, AreWhole, IsFlushed, IsWhole, JoinsEach}
+use Rattle.io_bench.specs.{Appended.{appended}, declared.runs.{Op.{Op}, Reply.{Reply}}, Runs.{EndsFlushed, IsShorterBy, Ran, Run}}
+use Rattle.io_bench.specs.Runs.{failures, is_failure, mishap_of, mishaps_of, Accepts, AreWhole, IsFlushed, IsWhole, JoinsEach}
 use Rattle.io_bench.specs.{Runs.{OpCalls, RunBelow, RunCalls, RunLaw}, declared.runs.Op.TheVariants.{Write, WriteAll, Flush}}
 use Rattle.io_bench.specs.{declared.runs.Reply.TheVariants.{Took, Done, Failed}, Joined.{IsClear, AreClear, IsJoined, HasIdleFailure}}
 use Rattle.std.proofs.{Common.{count_by, take_all}, lemmas.List.{length-append, append_cancel_left, Sums.{sum_by-cons}}}
@@ -50,25 +50,14 @@ shorter : (old : Option (List ErrorKind)) (happened : List ErrorKind) (new : Opt
     → HasSpent old happened new → IsShorterBy (length happened) old new
 shorter old happened new h = grind (arith, common_steps, count_by-all)
 
--- so there are fewer of them by at least as many as calls of a run failed
-failures_told : (ops : List Op) (replies : List Reply) (old new : Option (List ErrorKind))
-    → HasSpent old (mishaps_of ops replies) new → IsShorterBy (failures ops replies) old new
-failures_told ops replies old new h = grind (arith, common_steps, failures-length, shorter)
-
 -- an empty list of mishaps can become shorter by 0 only
 none_left : (n : ℕ) (new : Option (List ErrorKind)) → IsShorterBy n (Some []) new → n ≡ 0
 none_left n new h = grind (arith, common_steps)
 
--- and of each kind there are fewer to come by those that failed with it
-fewer_of : (kind : ErrorKind) (ops : List Op) (replies : List Reply) (old new : Option (List ErrorKind))
-    → HasSpent old (mishaps_of ops replies) new
-    → HasFewer kind (failures_of kind ops replies) old new
-fewer_of kind ops replies old new h = grind (arith, common_steps)
-
 -- these facts are enough for a run
 pub ran_by : {old new : WriterState} {ops : List Op} {replies : List Reply} (accepted : List ℕ) → Run ops replies accepted
     → Moves old accepted (mishaps_of ops replies) new → (EndsFlushed ops replies → new.held ≡ []) → Ran old ops replies new
-ran_by accepted run moves flushed = grind (arith, common_steps, failures_told, fewer_of)
+ran_by accepted run moves flushed = grind (arith, common_steps, failures-length, shorter)
 
 -- over no mishap to come no call fails
 pub none_failed : {old new : WriterState} {ops : List Op} {replies : List Reply} → Ran old ops replies new → old.mishaps ≡ Some []

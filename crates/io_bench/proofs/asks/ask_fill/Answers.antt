@@ -1,12 +1,11 @@
 -- The prover does not find how an ask was answered by the law of its call.
-use Rattle.no_std_io2.proofs.{Words.{◌≡◌, min, length, Ok, Err, ap, arith, refl, err_from_is_err_and}, PieceLoops.{filled_law}}
+use Rattle.no_std_io2.proofs.{Words.{◌≡◌, min, length, Ok, Err, ap, arith, refl, returned_err}, PieceLoops.{filled_law}}
 use Rattle.io_bench.proofs.asks.ask_fill.Goals as goal
 
 pub returns-in_err-lent : goal.returns-in_err-lent
 returns-in_err-lent g c =
-    let p = err_from_is_err_and c.from_residual.result c.from_residual.ensures.1 in
     let filled = filled_law c.in_err-lent.was c.fill_buf.ensures.law c.fill_buf.follows.holds-at-none in
-    rw (p.1, p.2) (Err c.in_err-lent.field-0.0, refl, (_, filled, refl))
+    rw (returned_err c.from_residual.ensures) (Err c.in_err-lent.field-0.0, refl, (_, filled, refl))
 
 pub returns : goal.returns
 returns g c =

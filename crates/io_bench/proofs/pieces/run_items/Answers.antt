@@ -1,5 +1,5 @@
 -- The prover does not find that one more item was yielded, nor the state before the `next` that ended the run.
-use Rattle.no_std_io2.proofs.Words.{◌≡◌, ◌∙◌, ◌<◌, ap, [], ◌∷◌, ◌++◌, Some, Ok, inl, inr, refl, subst, err_from_is_err_and}
+use Rattle.no_std_io2.proofs.Words.{◌≡◌, ◌∙◌, ◌<◌, ap, [], ◌∷◌, ◌++◌, Some, Ok, inl, inr, refl, subst, returned_err}
 use Rattle.std.proofs.Common.{OnSome}
 use Rattle.std.specs.Iterator.{IsFinite, size}
 use Rattle.io_bench.proofs.{RunLemmas.{appended-more}, PieceRunLemmas.{one_yielded, still_yielded}}
@@ -40,8 +40,7 @@ returns-in-Some-Err-clause-calls g c = (
 
 pub returns-in_err-reserve_one-clause-calls : goal.returns-in_err-reserve_one-clause-calls
 returns-in_err-reserve_one-clause-calls g c =
-    let p = err_from_is_err_and c.from_residual.result c.from_residual.ensures.1 in
-    rw (p.1, p.2) (
+    rw (returned_err c.from_residual.ensures) (
       c.items.iter,
       still_yielded g.I.Iterator.next_gives _ _ _ c.reserve_one.ensures.items c.items.invariant.calls,
       inr (c.in_err-reserve_one.ensures.refused, c.in_err-reserve_one.ensures.full, refl),
