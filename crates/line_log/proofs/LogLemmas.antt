@@ -1,10 +1,9 @@
 -- A line is put into a buffer, and then all is sent.
 use Rattle.no_std_io2.proofs.Words.{Some, nil_from_length, ◌≡◌, ℕ, ◌+◌, ◌≤◌, List, [], length, Result, Ok, Err, OnOk, refl, arith, inl, inr}
-use Rattle.no_std_io2.proofs.Words.{Writer, error_kind, Moves, WriteCall, call_mishap, no_write, writer_inner, writer_buffer}
-use Rattle.no_std_io2.proofs.Words.{writer_told, TakesStep, RoomCalls, SendCalls}
-use Rattle.no_std_io2.specs.{declared.io.Error.{Error}, declared.io.BufWriter.{BufWriter}, BufWriter.{Puts}}
-use Rattle.no_std_io2.proofs.{CallsLemmas.{by_are}, MovesLemmas.{Moves-ends, Moves-steady, writes_left}, BufWriterLemmas.{then_stops}}
-use Rattle.no_std_io2.proofs.BufWriterLemmas.{then_goes_on}
+use Rattle.no_std_io2.proofs.Words.{Writer, error_kind, Moves, WriteCall, call_mishap, no_write, writer_inner, writer_buffer, writer_told}
+use Rattle.no_std_io2.proofs.{Words.{TakesStep, RoomCalls, SendCalls}, CallsLemmas.{by_are}, BufWriterLemmas.{then_stops, then_goes_on}}
+use Rattle.no_std_io2.proofs.MovesLemmas.{Moves-ends, Moves-steady, writes_left}
+use Rattle.no_std_io2.specs.{declared.io.{Error.{Error}, BufWriter.{BufWriter}}, BufWriter.{Puts}}
 use Rattle.line_log.specs.Log.{Logs, IsLogged}
 
 -- to make room for a whole buffer is to send

@@ -1,17 +1,11 @@
 -- What a line of a log is, and what a log holds, tells and does.
-use Rattle.std.specs.Prelude.{◌≡◌, ◌⊎◌, ℕ, ◌+◌, ◌<◌, ◌≤◌, List, [], ◌∷◌, ◌++◌, length, codes, Result, Ok, IfErr, OnOk, IsErrAnd}
-use Rattle.std.specs.Prelude.{Option, IfSome, Contains}
-use Rattle.no_std_io2.specs.Errors.{IsNoInterruption, SaysError, error_kind}
-use Rattle.no_std_io2.specs.{inner.Pieces.{Lacks}, Pieces.{newline}, Moves.{WriterState, Moves}}
-use Rattle.no_std_io2.specs.inner.BufWriter.{Step, Then, TakesStep, SendCalls, WriteAllCalls}
-use Rattle.no_std_io2.specs.BufWriter.{writer_inner, writer_buffer, writer_told}
-use Rattle.no_std_io2.specs.Writers.{Writer}
-use Rattle.no_std_io2.specs.declared.io.BufWriter.{BufWriter}
-use Rattle.no_std_io2.specs.declared.io.Error.{Error}
-use Rattle.no_std_io2.specs.declared.io.ErrorKind.{ErrorKind}
-use Rattle.no_std_io2.specs.declared.io.ErrorKind.TheVariants.{InvalidInput}
-use Rattle.line_log.specs.Text.{SaysLong, IsPrintRefusal}
-use Rattle.line_log.specs.declared.LineLog.{LineLog}
+use Rattle.std.specs.Prelude.{◌≡◌, ◌⊎◌, ℕ, ◌+◌, ◌<◌, ◌≤◌, List, [], ◌∷◌, ◌++◌, length, codes, Result, Ok, IfErr, OnOk, IsErrAnd, Option}
+use Rattle.std.specs.Prelude.{IfSome, Contains}
+use Rattle.no_std_io2.specs.{Errors.{IsNoInterruption, SaysError, error_kind}, inner.Pieces.{Lacks}, Pieces.{newline}, Writers.{Writer}}
+use Rattle.no_std_io2.specs.{Moves.{WriterState, Moves}, inner.BufWriter.{Step, Then, TakesStep, SendCalls, WriteAllCalls}}
+use Rattle.no_std_io2.specs.{BufWriter.{writer_inner, writer_buffer, writer_told}, declared.io.{BufWriter.{BufWriter}, Error.{Error}}}
+use Rattle.no_std_io2.specs.declared.io.ErrorKind.{ErrorKind, TheVariants.{InvalidInput}}
+use Rattle.line_log.specs.{Text.{SaysLong, IsPrintRefusal}, declared.LineLog.{LineLog}}
 
 -- the bytes of a line: its text and a newline
 abbrev pub line_of : List ℕ → List ℕ

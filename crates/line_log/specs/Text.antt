@@ -1,8 +1,6 @@
 -- The printing of a text into an array.
 use Rattle.std.specs.Prelude.{◌≡◌, ◌⊎◌, ℕ, ◌<◌, List, length, take, true, false, codes, Option, IfSome}
-use Rattle.no_std_io2.specs.Errors.{SaysError}
-use Rattle.no_std_io2.specs.declared.io.Error.{Error}
-use Rattle.no_std_io2.specs.declared.io.ErrorKind.TheVariants.{InvalidInput, Other}
+use Rattle.no_std_io2.specs.{Errors.{SaysError}, declared.io.{Error.{Error}, ErrorKind.TheVariants.{InvalidInput, Other}}}
 use Rattle.line_log.specs.declared.printed.Printed.{Printed}
 
 -- the bytes that were printed

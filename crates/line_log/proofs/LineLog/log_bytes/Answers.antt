@@ -1,5 +1,5 @@
 -- The prover does not find the step of the buffer, whose error is ignored (`log_goes`), nor that a text has no newline.
-use Rattle.no_std_io2.proofs.Words.{refl, le_refl, inl, inr, arith, common_steps, err_from_is_err_and, newline}
+use Rattle.no_std_io2.proofs.Words.{refl, le_refl, inl, inr, arith, common_steps, returned_err, newline}
 use Rattle.std.proofs.Common.{Contains}
 use Rattle.no_std_io2.proofs.LineLemmas.{contains_lacks}
 use Rattle.line_log.proofs.LogLemmas.{log_stops, log_goes}
@@ -12,9 +12,8 @@ returns-then-contains g c =
 
 pub returns-in_err-write_whole : goal.returns-in_err-write_whole
 returns-in_err-write_whole g c =
-    let p = err_from_is_err_and c.from_residual.result c.from_residual.ensures.1 in
     let plain = contains_lacks newline c.args.line.now (grind (arith, common_steps, c.contains.ensures, c.if-contains.false)) in
-    rw (p.1, p.2)
+    rw (returned_err c.from_residual.ensures)
     (record { logs = inl ((plain, omega (arith, c.if-line.false)), log_stops g.W.Write _ _ c.in_err-write_whole.ensures.puts) })
 
 pub returns : goal.returns
