@@ -3,16 +3,14 @@ use Rattle.no_std_io2.proofs.Words.{◌≡◌, ℕ, ◌+◌, ◌<◌, ◌≤◌,
 use Rattle.no_std_io2.proofs.Words.{Bool, false, Result, Ok, Err, IsSomeAnd, refl, sym, ap, subst, ◌∙◌, inl, inr, arith, append_assoc}
 use Rattle.no_std_io2.proofs.Words.{append-nil, length-append, length-take, take-append_seam, drop-append_seam, take-append-le, IsFault}
 use Rattle.no_std_io2.proofs.Words.{Event, fails, event_bytes, events_of, HasNoFault, first_fault, AreTaken, to_come, IsAtEnd, Reader}
-use Rattle.no_std_io2.proofs.Words.{tells}
-use Rattle.no_std_io2.proofs.Words.{WriterState, behind_held}
-use Rattle.std.proofs.{Common.{All}, lemmas.{List.{append_cancel_left}, List.Elements.{All-head}}}
+use Rattle.no_std_io2.proofs.{Words.{tells, WriterState, behind_held}, GivenPieces.{first_fault-append}, MovesLemmas.{device_empty}}
+use Rattle.no_std_io2.proofs.{TakesLemmas.{bytes-append, bytes-behind, HasNoFault-append, HasNoFault-events_of}, ReadsLemmas.{Reads-takes}}
+use Rattle.std.proofs.{Common.{All}, lemmas.List.{append_cancel_left, Elements.{All-head}}}
 use Rattle.std.specs.Int.{w32, to_le_bytes, from_le_bytes}
 use Rattle.no_std_io2.specs.{declared.io.Error.{Error}, inner.Reads.{GathersTo}, Reads.{Took}}
-use Rattle.no_std_io2.proofs.TakesLemmas.{bytes-append, bytes-behind, HasNoFault-append, HasNoFault-events_of}
-use Rattle.no_std_io2.proofs.{GivenPieces.{first_fault-append}, MovesLemmas.{device_empty}, ReadsLemmas.{Reads-takes}}
-use Rattle.framing.specs.{Frames.{frame, frames, told_length, IsPart}}
-use Rattle.framing.specs.{Taking.{seen_bytes, reads_from, frame_to_come, given_frame, EndsFrame, TakesFrame}}
-use Rattle.framing.specs.{Back.{AreToCome, GivesBack, WentOut}, declared.reader.FrameReader.{FrameReader}}
+use Rattle.framing.specs.{Frames.{frame, frames, told_length, IsPart}, Back.{AreToCome, GivesBack, WentOut}}
+use Rattle.framing.specs.Taking.{seen_bytes, reads_from, frame_to_come, given_frame, EndsFrame, TakesFrame}
+use Rattle.framing.specs.declared.reader.FrameReader.{FrameReader}
 use Rattle.framing.proofs.SeenLemmas.{told_header, some_room}
 
 -- the first bytes of a frame say the length of its payload

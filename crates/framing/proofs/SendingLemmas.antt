@@ -1,11 +1,10 @@
 -- Frames are sent one after another.
-use Rattle.no_std_io2.proofs.Words.{◌==◌, ◌<◌, ◌-◌, Bool, true, false, length, take, drop, get_or, arith, ◌≡◌, ℕ, List, [], ◌∷◌}
-use Rattle.no_std_io2.proofs.Words.{◌++◌, Ok, map, refl, sym, ap, subst, ◌∙◌, append_assoc, append-nil, nil_from_length, Writer}
-use Rattle.no_std_io2.proofs.Words.{Moves, common_steps}
-use Rattle.std.proofs.{Common.{take_all, Bor, eqb-true}, lemmas.{List.{map-append}, List.Folds.{concat-append}}}
+use Rattle.no_std_io2.proofs.Words.{◌==◌, ◌<◌, ◌-◌, Bool, true, false, length, take, drop, get_or, arith, ◌≡◌, ℕ, List, [], ◌∷◌, ◌++◌, Ok}
+use Rattle.no_std_io2.proofs.Words.{map, refl, sym, ap, subst, ◌∙◌, append_assoc, append-nil, nil_from_length, Writer, Moves, common_steps}
 use Rattle.no_std_io2.proofs.MovesLemmas.{Moves-refl, Moves-trans}
+use Rattle.std.proofs.{Common.{take_all, Bor, eqb-true}, lemmas.List.{map-append, Folds.{concat-append}}}
 use Rattle.framing.specs.{declared.writer.FrameWriter.{FrameWriter}, Frames.{frame, frames}}
-use Rattle.framing.specs.{Sending.{writer_tells, PutsEach, SendsFrame, SentSoFar}}
+use Rattle.framing.specs.Sending.{writer_tells, PutsEach, SendsFrame, SentSoFar}
 
 -- one frame more
 frames_more : (ps : List (List ℕ)) (p : List ℕ) → frames (ps ++ p ∷ []) ≡ frames ps ++ frame p

@@ -1,6 +1,5 @@
 -- The prover does not find the account of a call, which joins the reads for the header and those for the payload (`takes_then`).
-use Rattle.no_std_io2.proofs.Words.{arith, err_from_is_err_and}
-use Rattle.no_std_io2.proofs.TextLemmas.{not_empty, is_empty}
+use Rattle.no_std_io2.proofs.{Words.{arith, err_from_is_err_and}, TextLemmas.{not_empty, is_empty}}
 use Rattle.framing.proofs.{SeenLemmas.{seen_between, held_seen}, TakingLemmas.{sees_header, takes_seen, takes_then, spends_after}}
 use Rattle.framing.proofs.reader.FrameReader.take_first.Goals as goal
 

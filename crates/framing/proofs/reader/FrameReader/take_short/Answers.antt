@@ -1,5 +1,5 @@
 -- The prover does not find the account of a call, whose reads are for the payload (`sees_payload`).
-use Rattle.no_std_io2.proofs.Words.{◌≤◌, Ok, Some, length, refl, inl, arith, err_from_is_err_and}
+use Rattle.no_std_io2.proofs.Words.{◌≤◌, Ok, Some, length, refl, inl, arith, returned_err}
 use Rattle.framing.specs.Taking.{seen_bytes}
 use Rattle.framing.proofs.SeenLemmas.{held_header, held_seen}
 use Rattle.framing.proofs.TakingLemmas.{sees_payload, takes, takes_none, takes_fault, takes_end, header_after}
@@ -10,12 +10,11 @@ returns-then-len-room-clause-takes g c = grind (arith, held_header, takes_none)
 
 pub returns-in_err-see_held-clause-takes : goal.returns-in_err-see_held-clause-takes
 returns-in_err-see_held-clause-takes g c =
-    let p = err_from_is_err_and c.from_residual.result c.from_residual.ensures.1 in
     let room = c.args.room.now in
     let has = held_header c.args.self.now room c.args.len c.requires.between c.requires.header in
     let see = c.in_err-see_held.ensures in
     let rest = held_seen c.args.self.now c.see_held.new.self room c.requires.between see.between see.sees in
-    rw (p.1, p.2)
+    rw (returned_err c.from_residual.ensures)
     (takes_fault c.args.self.now c.see_held.new.self room room c.args.len has (omega (arith, c.if-len-room.false)) (inl refl) _ rest)
 
 pub returns-then-not-branch-clause-takes : goal.returns-then-not-branch-clause-takes

@@ -1,5 +1,5 @@
 -- The prover does not find which payloads were sent before the last call (`sent_more`).
-use Rattle.no_std_io2.proofs.Words.{map, ap, refl, err_from_is_err_and}
+use Rattle.no_std_io2.proofs.Words.{map, ap, refl, returned_err}
 use Rattle.framing.proofs.SendingLemmas.{sent_none, sent_more, some_there, none_there, first_there}
 use Rattle.framing.proofs.writer.FrameWriter.send_all.Goals as goal
 
@@ -13,9 +13,8 @@ frames-preserved g c =
 
 pub returns-in_err-send : goal.returns-in_err-send
 returns-in_err-send g c =
-    let p = err_from_is_err_and c.from_residual.result c.from_residual.ensures.1 in
     let first = first_there c.frames.rest.now _ (some_there _ c.frames.rest.now c.is_empty.ensures c.frames-test.true) in
-    rw (p.1, p.2) (record { sends = (_, c.frames.invariant, rw first c.in_err-send.ensures.sends) })
+    rw (returned_err c.from_residual.ensures) (record { sends = (_, c.frames.invariant, rw first c.in_err-send.ensures.sends) })
 
 pub returns : goal.returns
 returns g c = record {
