@@ -134,11 +134,10 @@ enum Repr {
 /// The result of a stream's call. Follows `std::io::Result`.
 ///
 /// ```rust
-/// fn read(&mut self, _buf: &mut [u8]) -> Result<usize> {
-///     match self.fault.take() {
-///         None => Ok(0),
-///         Some(e) => Err(e),
-///     }
+/// fn write(&mut self, buf: &[u8]) -> Result<usize> {
+///     let n = buf.len().min(self.most);
+///     self.taken.extend_from_slice(&buf[..n])?;
+///     Ok(n)
 /// }
 /// ```
 pub type Result<T> = std::result::Result<T, Error>;

@@ -8,7 +8,7 @@ ghost use Rattle.no_std_io2_base.specs.Events.{Store};
 /// It has no calls. A stream without a store, such as a socket, defines nothing.
 ///
 /// ```rust
-/// impl Stored for Broken {}
+/// impl<S> Stored for Inbox<S> {}
 /// ```
 pub trait Stored {
     // The content of the stream and the position in it, if it tells them.
