@@ -21,6 +21,7 @@ fn copy_and_flush<R: Read, W: Write, const S: usize>(reader: &mut R, writer: &mu
 }
 
 // Through no buffer a copy leaves the writer as it was.
+#[tactic(auto, using(no_std_io2::proofs::CopyLoop::copied_none))]
 fn copies_nothing<R: Read, W: Write>(reader: &mut R, writer: &mut W) -> Result<u64>
     ensures { writer.new ≡ writer.old }
 {

@@ -67,6 +67,7 @@ fn seeks_once<R: Seek, const S: usize>(r: &mut BufReader<R, S>, place: u64) -> R
 }
 
 // A seek of a `BufWriter` sends its bytes first. If it is empty, the seek goes to the target in the device's store.
+#[tactic(auto, using(no_std_io2::proofs::BufWriterCalls::seek_empties))]
 fn sends_before_a_seek<W: Write + Seek + Drop, const S: usize>(
     w: &mut BufWriter<W, S>,
     target: SeekFrom,
