@@ -13,16 +13,8 @@ fn saved(rt: HostRuntime) -> Result<(), Fail> {
     Ok(())
 }
 
-// The example of PROVING.md on objects. The last piece left out, or what stands behind it in the buffer summed too.
-#[test]
-fn checksum(rt: HostRuntime) -> Result<(), Fail> {
-    let mut r = Cursor::new(vec![in rt.alloc(); b'a', b'b', b'c', b'd', b'e']?);
-    let mut piece = [0u8; 2];
-    assert!(rt; checksum_of(&mut r, &mut piece)? == 495);
-    Ok(())
-}
-
-// A read behind the end: two full pieces are two reads, and the last one, and the end after it, are two more.
+// The example of PROVING.md on objects. The last piece left out, or what stands behind it in the buffer summed too. A read
+// behind the end: two full pieces are two reads, and the last one, and the end after it, are two more.
 #[test]
 fn a_checksum_asks_for_one_end(rt: HostRuntime) -> Result<(), Fail> {
     let mut r = Tally::new(Cursor::new(*b"abcde"));

@@ -92,10 +92,8 @@ fn a_text_is_printed_to_each_writer(rt: HostRuntime) -> Result<(), Fail> {
 
     // A text that fits to the last byte is printed whole, and a longer one not at all.
     print_to_object::<_, _, 4>(&mut bytes, format_args!("{}", 1234))?;
-    match print_to_object::<_, _, 4>(&mut bytes, format_args!("{}", 12345)) {
-        Ok(()) => return Err(Fail::new("printed")),
-        Err(e) => assert!(rt; e.kind() == ErrorKind::WriteZero),
-    }
+    let long = print_to_object::<_, _, 4>(&mut bytes, format_args!("{}", 12345));
+    assert!(rt; long.err().ok_or("printed")?.kind() == ErrorKind::WriteZero);
     assert!(rt; bytes.as_slice() == b"10\n1234".as_slice());
     Ok(())
 }
@@ -113,10 +111,8 @@ fn a_text_is_printed_to_an_object(rt: HostRuntime) -> Result<(), Fail> {
     print_to_object::<_, _, 17>(&mut bytes, format_args!("t: {id:>4}, {point}\n"))?;
     assert!(rt; bytes.as_slice() == b"7\n7=-21\nt:    7, (1, -2)\n".as_slice());
     let mut lent: &mut dyn Write = &mut bytes;
-    match print_to_object::<_, _, 16>(lent, format_args!("[{}]", Broken)) {
-        Ok(()) => return Err(Fail::new("printed")),
-        Err(e) => assert!(rt; e.get_ref().copied() == Some("formatter error")),
-    }
+    let broken = print_to_object::<_, _, 16>(lent, format_args!("[{}]", Broken));
+    assert!(rt; broken.err().ok_or("printed")?.get_ref().copied() == Some("formatter error"));
     assert!(rt; bytes.len() == 25);
     Ok(())
 }
@@ -153,10 +149,8 @@ fn a_device_that_fails_at_a_piece_has_the_front_before_it(rt: HostRuntime) -> Re
 fn a_text_that_passes_over_errors_hides_none(rt: HostRuntime) -> Result<(), Fail> {
     let mut room = [0u8; 4];
     let mut device = Cursor::new(&mut room[..]);
-    match write!(device, "{Deaf}!") {
-        Ok(()) => assert!(rt; false),
-        Err(e) => assert!(rt; e.kind() == ErrorKind::WriteZero),
-    }
+    let e = write!(device, "{Deaf}!").err().ok_or("printed")?;
+    assert!(rt; e.kind() == ErrorKind::WriteZero);
     assert!(rt; room == *b"abcd");
     Ok(())
 }
@@ -165,22 +159,14 @@ fn a_text_that_passes_over_errors_hides_none(rt: HostRuntime) -> Result<(), Fail
 #[test]
 fn a_text_that_fails_is_told(rt: HostRuntime) -> Result<(), Fail> {
     let mut device = Vec::<u8>::new(rt.alloc());
-    match write!(device, "<{Broken}>") {
-        Ok(()) => assert!(rt; false),
-        Err(e) => {
-            assert!(rt; e.kind() == ErrorKind::Other);
-            assert!(rt; e.get_ref().copied() == Some("formatter error"));
-        }
-    }
+    let e = write!(device, "<{Broken}>").err().ok_or("printed")?;
+    assert!(rt; e.kind() == ErrorKind::Other);
+    assert!(rt; e.get_ref().copied() == Some("formatter error"));
     assert!(rt; device.as_slice() == b"<ab".as_slice());
     let mut room = [0u8; 2];
     let mut full = Cursor::new(&mut room[..]);
-    match write!(full, "<{Broken}>") {
-        Ok(()) => assert!(rt; false),
-        Err(e) => {
-            assert!(rt; e.kind() == ErrorKind::WriteZero);
-            assert!(rt; e.get_ref().copied() == Some("formatter error"));
-        }
-    }
+    let e = write!(full, "<{Broken}>").err().ok_or("printed")?;
+    assert!(rt; e.kind() == ErrorKind::WriteZero);
+    assert!(rt; e.get_ref().copied() == Some("formatter error"));
     Ok(())
 }

@@ -1,6 +1,6 @@
-// What the `Debug` of each type that std also has prints, and of a tally, on one line and on several, as Rust's derived
-// ones do.
-use crate::printing::Narrow;
+// What the `Debug` of each type that std also has prints, and of a tally, as Rust's derived ones do. A derived one is tried
+// on one line, and one that is written here on several too.
+use crate::errors::Narrow;
 use io_bench::{Act, Faulty, Sink, Tally};
 use no_std_io2::io::{
     BufRead, BufReader, BufWriter, Cursor, Error, ErrorKind, LineWriter, Read, SeekFrom, Write,
@@ -9,58 +9,50 @@ use std::alloc::Global;
 use std::fmt::{Debug, Write as _};
 use std::test::Fail;
 
-// Returns whether a value prints this, and reports the error of a writer without room for it.
-fn prints<T: Debug>(alloc: Global, value: &T, short: &str, long: &str) -> Result<bool, Fail> {
+// Returns whether a value prints this on one line, and reports the error of a writer without room for it.
+fn prints<T: Debug>(alloc: Global, value: &T, short: &str) -> Result<bool, Fail> {
     let text = format!(in alloc; "{value:?}")?;
-    let lines = format!(in alloc; "{value:#?}")?;
     let mut is_told = true;
     'rooms: for left in 0..short.len() {
         is_told = is_told && write!(&mut Narrow { left }, "{value:?}").is_err();
     }
-    Ok(is_told && text.as_str() == short && lines.as_str() == long)
+    Ok(is_told && text.as_str() == short)
 }
 
-// A text in place of the kind's name, or none.
+// Returns whether a value prints this on one line, and that on several.
+fn prints_both<T: Debug>(alloc: Global, value: &T, short: &str, long: &str) -> Result<bool, Fail> {
+    let lines = format!(in alloc; "{value:#?}")?;
+    Ok(prints(alloc, value, short)? && lines.as_str() == long)
+}
+
+// A text in place of the kind's name, or none. A field that is left out or has another name; a target of a seek under
+// another name, or without its number.
 #[test]
-fn errors_print_their_kind_and_their_text(rt: HostRuntime) -> Result<(), Fail> {
+fn derived_ones_print_their_fields(rt: HostRuntime) -> Result<(), Fail> {
     let alloc = rt.alloc();
     let error = Error::new(ErrorKind::TimedOut, "late");
-    let short = "Custom { kind: TimedOut, error: \"late\" }";
-    let long = "Custom {\n    kind: TimedOut,\n    error: \"late\",\n}";
-    assert!(rt; prints(alloc, &error, short, long)?);
-    let error = Error::from(ErrorKind::NotFound);
-    assert!(rt; prints(alloc, &error, "Kind(NotFound)", "Kind(\n    NotFound,\n)")?);
-    Ok(())
-}
-
-// A target of a seek under another name, or without its number.
-#[test]
-fn places_print_their_number(rt: HostRuntime) -> Result<(), Fail> {
-    let alloc = rt.alloc();
-    let short = "Cursor { inner: [1], pos: 0 }";
-    let long = "Cursor {\n    inner: [\n        1,\n    ],\n    pos: 0,\n}";
-    assert!(rt; prints(alloc, &Cursor::new([1u8]), short, long)?);
+    assert!(rt; prints(alloc, &error, "Custom { kind: TimedOut, error: \"late\" }")?);
+    assert!(rt; prints(alloc, &Error::from(ErrorKind::NotFound), "Kind(NotFound)")?);
+    assert!(rt; prints(alloc, &Cursor::new([1u8]), "Cursor { inner: [1], pos: 0 }")?);
     let places = [SeekFrom::Start(3), SeekFrom::End(-3), SeekFrom::Current(-3)];
-    let long =
-        "[\n    Start(\n        3,\n    ),\n    End(\n        -3,\n    ),\n    Current(\n        -3,\n    ),\n]";
-    assert!(rt; prints(alloc, &places, "[Start(3), End(-3), Current(-3)]", long)?);
-    Ok(())
-}
-
-// A field that is left out, under another name, or all on one line.
-#[test]
-fn streams_in_memory_print_their_fields(rt: HostRuntime) -> Result<(), Fail> {
-    let alloc = rt.alloc();
+    assert!(rt; prints(alloc, &places, "[Start(3), End(-3), Current(-3)]")?);
     let text = b"A".as_slice();
-    let short = "Chain { first: [65], second: [], done_first: false }";
-    let long =
-        "Chain {\n    first: [\n        65,\n    ],\n    second: [],\n    done_first: false,\n}";
-    assert!(rt; prints(alloc, &text.chain(b"".as_slice()), short, long)?);
-    let short = "Take { inner: [65], len: 2, limit: 2 }";
-    let long = "Take {\n    inner: [\n        65,\n    ],\n    len: 2,\n    limit: 2,\n}";
-    assert!(rt; prints(alloc, &text.take(2), short, long)?);
-    let long = "Bytes {\n    inner: [\n        65,\n    ],\n}";
-    assert!(rt; prints(alloc, &text.bytes(), "Bytes { inner: [65] }", long)?);
+    let chain = text.chain(b"".as_slice());
+    assert!(rt;
+        prints(
+            alloc,
+            &chain,
+            "Chain { first: [65], second: [], done_first: false }"
+        )?
+    );
+    assert!(rt;
+        prints(
+            alloc,
+            &text.take(2),
+            "Take { inner: [65], len: 2, limit: 2 }"
+        )?
+    );
+    assert!(rt; prints(alloc, &text.bytes(), "Bytes { inner: [65] }")?);
     Ok(())
 }
 
@@ -74,13 +66,11 @@ fn a_buffered_reader_prints_how_much_it_holds(rt: HostRuntime) -> Result<(), Fai
     r.consume(1);
     let short = "BufReader { reader: [], buffer: 3/4 }";
     let long = "BufReader {\n    reader: [],\n    buffer: 3/4,\n}";
-    assert!(rt; prints(alloc, &r, short, long)?);
+    assert!(rt; prints_both(alloc, &r, short, long)?);
     let long = [b'a'; 300];
     let mut r = BufReader::<&[u8], 300>::new(&long);
     let _lent = r.fill_buf()?;
-    let short = "BufReader { reader: [], buffer: 300/300 }";
-    let long = "BufReader {\n    reader: [],\n    buffer: 300/300,\n}";
-    assert!(rt; prints(alloc, &r, short, long)?);
+    assert!(rt; prints(alloc, &r, "BufReader { reader: [], buffer: 300/300 }")?);
     Ok(())
 }
 
@@ -92,7 +82,7 @@ fn a_buffered_writer_prints_how_much_it_holds(rt: HostRuntime) -> Result<(), Fai
     w.write_all(&[7; 270])?;
     let short = "BufWriter { writer: Sink, buffer: 270/300 }";
     let long = "BufWriter {\n    writer: Sink,\n    buffer: 270/300,\n}";
-    assert!(rt; prints(alloc, &w, short, long)?);
+    assert!(rt; prints_both(alloc, &w, short, long)?);
     Ok(())
 }
 
@@ -109,7 +99,7 @@ fn a_line_writer_prints_how_much_it_holds(rt: HostRuntime) -> Result<(), Fail> {
         "LineWriter {\n    writer: Faulty {\n        inner: Sink,\n        acts: [\n            Zero,\n",
         "        ],\n        at: 1,\n    },\n    buffer: 4/8,\n}",
     );
-    assert!(rt; prints(alloc, &w, short, long)?);
+    assert!(rt; prints_both(alloc, &w, short, long)?);
     Ok(())
 }
 
@@ -120,9 +110,7 @@ fn a_refusal_prints_its_writer_and_its_error(rt: HostRuntime) -> Result<(), Fail
     let acts = vec![in alloc; Act::Fail(ErrorKind::BrokenPipe)]?;
     let mut w = BufWriter::<Faulty<Sink>, 8>::new(Faulty::new(Sink::new(), acts));
     w.write_all(b"ab")?;
-    let Err(e) = w.into_inner() else {
-        return Err(Fail::new("sent"));
-    };
+    let e = w.into_inner().err().ok_or("sent")?;
     let short = concat!(
         "IntoInnerError { writer: BufWriter { writer: Faulty { inner: Sink, acts: [Fail(BrokenPipe)], at: 1 }, ",
         "buffer: 2/8 }, error: Kind(BrokenPipe) }",
@@ -132,7 +120,7 @@ fn a_refusal_prints_its_writer_and_its_error(rt: HostRuntime) -> Result<(), Fail
         "            acts: [\n                Fail(\n                    BrokenPipe,\n                ),\n            ],\n",
         "            at: 1,\n        },\n        buffer: 2/8,\n    },\n    error: Kind(\n        BrokenPipe,\n    ),\n}",
     );
-    assert!(rt; prints(alloc, &e, short, long)?);
+    assert!(rt; prints_both(alloc, &e, short, long)?);
     Ok(())
 }
 
@@ -143,6 +131,6 @@ fn a_tally_prints_its_counts(rt: HostRuntime) -> Result<(), Fail> {
     r.read_exact(&mut [0; 2])?;
     let short = "Tally { inner: [], writes: 0, reads: 1 }";
     let long = "Tally {\n    inner: [],\n    writes: 0,\n    reads: 1,\n}";
-    assert!(rt; prints(rt.alloc(), &r, short, long)?);
+    assert!(rt; prints_both(rt.alloc(), &r, short, long)?);
     Ok(())
 }

@@ -93,15 +93,13 @@ fn a_bad_output_stops_the_run(rt: HostRuntime) -> Result<(), Fail> {
     ]?;
     let mut work = make_run(rt.alloc(), acts)?;
     let names = names(rt.alloc())?;
-    match each_file(&mut work, names.as_slice()) {
-        Ok(_whole) => return Err(Fail::new("the output failed")),
-        Err(e) => assert!(rt; e.kind() == ErrorKind::WouldBlock),
-    }
+    let e = each_file(&mut work, names.as_slice())
+        .err()
+        .ok_or("the output failed")?;
+    assert!(rt; e.kind() == ErrorKind::WouldBlock);
     assert!(rt; work.out.get_ref().as_slice() == b"abcdef".as_slice());
     assert!(rt; work.told.is_empty());
-    let Some(third) = work.inputs.as_slice().get(2) else {
-        return Err(Fail::new("the inputs are gone"));
-    };
+    let third = work.inputs.as_slice().get(2).ok_or("the inputs are gone")?;
     assert!(rt; third.left().len() == 2);
     Ok(())
 }

@@ -3,7 +3,7 @@ use Rattle.std.proofs.Common.{◌++◌, [], ap, ap₂, ◌∙◌, append-nil}
 use Rattle.std.proofs.lemmas.Option.{same_Some}
 use Rattle.base64.specs.{Engines.{standard}, GeneralPurpose.{encode_of}}
 use Rattle.system_streams.specs.ToStd.{accepted_so_far}
-use Rattle.client_tests.proofs.texts.write_encoded.Goals as goal
+use Rattle.tests.proofs.texts.write_encoded.Goals as goal
 
 pub returns : goal.returns
 returns g c =

@@ -4,8 +4,8 @@ use Rattle.base64.specs.{Engines.{standard}, GeneralPurpose.{decoded_of}}
 use Rattle.no_std_io2.proofs.TakesLemmas.{reader}
 use Rattle.no_std_io2.specs.Takes.{tells}
 use Rattle.system_streams.specs.ToStd.{bytes_to_come}
-use Rattle.client_tests.proofs.TextLemmas.{read_decoded}
-use Rattle.client_tests.proofs.texts.read_encoded.Goals as goal
+use Rattle.tests.proofs.TextLemmas.{read_decoded}
+use Rattle.tests.proofs.texts.read_encoded.Goals as goal
 
 pub returns : goal.returns
 unfolding decoded_of

@@ -52,10 +52,8 @@ fn serial(looks: u32) -> Serial<Uart<Chip>> {
 fn a_serial_line_sends_each_byte_once(rt: HostRuntime) -> Result<(), Fail> {
     let mut line = serial(2);
     let mut rest = b"abcd".as_slice();
-    match line.write_rest(&mut rest) {
-        Ok(()) => assert!(rt; false),
-        Err(e) => assert!(rt; e.kind() == ErrorKind::WouldBlock),
-    }
+    let e = line.write_rest(&mut rest).err().ok_or("sent")?;
+    assert!(rt; e.kind() == ErrorKind::WouldBlock);
     assert!(rt; rest == b"d".as_slice());
     assert!(rt; line.port.registers.bytes == *b"abc");
 
@@ -111,17 +109,13 @@ fn an_inbox_gives_what_its_source_gave(rt: HostRuntime) -> Result<(), Fail> {
     let mut buf = [b'-'; 4];
     assert!(rt; inbox.read(&mut buf)? == 1);
     assert!(rt; buf == *b"a---");
-    match inbox.read(&mut buf) {
-        Ok(_n) => assert!(rt; false),
-        Err(e) => assert!(rt; e.kind() == ErrorKind::WouldBlock),
-    }
+    let e = inbox.read(&mut buf).err().ok_or("read")?;
+    assert!(rt; e.kind() == ErrorKind::WouldBlock);
     let mut two = [0u8; 2];
     inbox.read_exact(&mut two)?;
     assert!(rt; two == *b"bc");
-    match inbox.read(&mut buf) {
-        Ok(_n) => assert!(rt; false),
-        Err(e) => assert!(rt; e.kind() == ErrorKind::TimedOut),
-    }
+    let e = inbox.read(&mut buf).err().ok_or("read")?;
+    assert!(rt; e.kind() == ErrorKind::TimedOut);
     assert!(rt; inbox.read(&mut buf)? == 0);
     Ok(())
 }
