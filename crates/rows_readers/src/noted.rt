@@ -56,24 +56,16 @@ fn lend_box(
     let tower = Box::new(player.alloc, device)?;
     match name {
         "Box Device" => play_seeking(tower, 0, devices, player),
-        "Box dyn Read" => lend_read(tower, devices, player),
-        "Box dyn BufRead" => lend_buf_read(tower, devices, player),
+        "Box dyn Read" => {
+            let object: Box<dyn Read + Drop> = tower;
+            play_reading(object, devices, player)
+        }
+        "Box dyn BufRead" => {
+            let object: Box<dyn BufRead + Drop> = tower;
+            play_lending(object, devices, player)
+        }
         _ => Err(Unplayed::NoStream),
     }
-}
-
-fn lend_read(tower: Box<Device>, devices: &Devices<'_>, player: &mut Player<'_, '_>) -> Played<()> {
-    let object: Box<dyn Read + Drop> = tower;
-    play_reading(object, devices, player)
-}
-
-fn lend_buf_read(
-    tower: Box<Device>,
-    devices: &Devices<'_>,
-    player: &mut Player<'_, '_>,
-) -> Played<()> {
-    let object: Box<dyn BufRead + Drop> = tower;
-    play_lending(object, devices, player)
 }
 
 // A device that is called through a reference to an object.

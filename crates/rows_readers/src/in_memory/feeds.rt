@@ -1,35 +1,14 @@
 // Feeds of bytes and failures, `4: x, Interrupted, y`, in pieces of at most 4 bytes.
-use io_bench::{Event, Feed, kind_of_name};
+use io_bench::{Event, Feed};
 use rows_play::line::{Line, cut};
+use rows_play::script::parse_list;
 use rows_play::unplayed::{Played, Unplayed};
 use std::alloc::Global;
-
-fn parse_event(word: &str) -> Option<Event> {
-    match word.as_bytes() {
-        [byte] => Some(Event::Byte(*byte)),
-        b"\\n" => Some(Event::Byte(b'\n')),
-        _ => Some(Event::Fail(kind_of_name(word)?)),
-    }
-}
-
-fn parse_events(alloc: Global, words: &str) -> Played<Vec<Event>> {
-    let mut events = Vec::new(alloc);
-    if words.is_empty() {
-        return Ok(events);
-    }
-    'events: for word in words.split(", ") {
-        match parse_event(word) {
-            Some(event) => events.push(event)?,
-            None => return Err(Unplayed::NoWord),
-        }
-    }
-    Ok(events)
-}
 
 /// Makes the feed that these words say.
 pub fn new_feed(alloc: Global, words: &str) -> Played<Feed> {
     let (piece, events) = cut(words, ": ");
-    let events = parse_events(alloc, events)?;
+    let events = parse_list(alloc, events)?;
     match piece.parse::<usize>() {
         Ok(n) if n > 0 => Ok(Feed::new(events, n)),
         _ => Err(Unplayed::NoNumber),

@@ -5,7 +5,7 @@ use super::wrapped::{Held, Slice};
 use crate::devices::Devices;
 use crate::streams::{play_buffered, play_chain, play_lending, play_limited, play_reading};
 use io_bench::Feed;
-use no_std_io2::io::{BufRead, BufReader, Chain, Cursor, Read, repeat};
+use no_std_io2::io::{BufRead, BufReader, Chain, Read, repeat};
 use rows_play::line::{cut_last, unescape};
 use rows_play::player::Player;
 use rows_play::unplayed::{Played, Unplayed};
@@ -30,31 +30,19 @@ fn lend_text(tower: &str, devices: &Devices<'_>, player: &mut Player<'_, '_>) ->
         "" => play_lending(second, devices, player),
         "Take" => play_limited(second, 2, devices, player),
         "Chain Cursor" => play_chain(new_text(player.alloc, first)?, second, devices, player),
-        "Chain Box &[u8] Box" => lend_boxes(second, devices, player),
-        "Box BufReader 4" => lend_boxed_buffer(second, devices, player),
+        // a boxed slice, which is `ab`
+        "Chain Box &[u8] Box" => {
+            let first: Box<dyn Read + Drop> = Box::new(player.alloc, Slice { bytes: b"ab" })?;
+            let second: Box<dyn Read + Drop> = Box::new(player.alloc, second)?;
+            play_reading(first.chain(second), devices, player)
+        }
+        "Box BufReader 4" => {
+            let reader = BufReader::new(second);
+            let object: Box<dyn BufRead + Drop> = Box::new(player.alloc, Held { reader })?;
+            play_lending(object, devices, player)
+        }
         _ => Err(Unplayed::NoStream),
     }
-}
-
-// Lends a boxed text behind a boxed slice, which is `ab`.
-fn lend_boxes(
-    text: Cursor<Vec<u8>>,
-    devices: &Devices<'_>,
-    player: &mut Player<'_, '_>,
-) -> Played<()> {
-    let first: Box<dyn Read + Drop> = Box::new(player.alloc, Slice { bytes: b"ab" })?;
-    let second: Box<dyn Read + Drop> = Box::new(player.alloc, text)?;
-    play_reading(first.chain(second), devices, player)
-}
-
-fn lend_boxed_buffer(
-    text: Cursor<Vec<u8>>,
-    devices: &Devices<'_>,
-    player: &mut Player<'_, '_>,
-) -> Played<()> {
-    let reader = BufReader::new(text);
-    let object: Box<dyn BufRead + Drop> = Box::new(player.alloc, Held { reader })?;
-    play_lending(object, devices, player)
 }
 
 // Lends a feed, below a limit that stands before its words: `2 of 4: x, Interrupted`.
