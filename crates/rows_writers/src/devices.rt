@@ -104,9 +104,15 @@ pub fn lend_device(name: &str, words: &str, player: &mut Player<'_, '_>) -> Play
             let seeker = Box::new(player.alloc, device)?;
             player.play(&mut Boxed { seeker, journal })
         }
-        "Box dyn Write" => {
-            let object: Object = Box::new(player.alloc, device)?;
-            play(object, Columns::Calls(journal), player)
+        "Box dyn Write" => lend_object(
+            "",
+            Box::new(player.alloc, device)?,
+            Columns::Calls(journal),
+            player,
+        ),
+        "BufWriter 4 Box dyn Write" => {
+            let object = Box::new(player.alloc, device)?;
+            lend_object("BufWriter 4", object, Columns::Calls(journal), player)
         }
         "Box Device" => {
             let boxed = Box::new(player.alloc, device)?;

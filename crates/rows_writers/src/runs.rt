@@ -5,11 +5,12 @@
 // many that it may make, and the inner calls with the lengths of their bytes.
 ghost use Rattle.std.specs.Prelude.{⊤};
 
-use io_bench::{Op, Reply, Tally, joined, kind_of_name, run_closed, run_writes};
-use no_std_io2::io::{Error, Result, Sink, Write};
+use io_bench::{Op, Reply, Tally, joined, run_closed, run_writes};
+use no_std_io2::io::{Result, Sink, Write};
 use rows_play::calls::Call;
 use rows_play::line::Line;
 use rows_play::player::{Player, Stream};
+use rows_play::script::parse_list;
 use rows_play::unplayed::{Played, Unplayed};
 use std::alloc::Global;
 
@@ -87,29 +88,12 @@ pub fn call_run<W: Write>(alloc: Global, w: &mut W, call: &Call<'_>, line: &mut 
     show_replies(&replies, line);
 }
 
-fn parse_reply(word: &str) -> Option<Reply> {
-    if word == "ok" {
-        return Some(Reply::Done);
+fn show_joined(alloc: Global, ops: &[Op<'_>], replies: &[Reply], line: &mut Line) {
+    match joined(alloc, ops, replies) {
+        Ok(Some(bytes)) => line.bytes(&bytes),
+        Ok(None) => line.word("none"),
+        Err(_refused) => line.cut(),
     }
-    match word.strip_prefix("!") {
-        Some(name) => Some(Reply::Failed(Error::from(kind_of_name(name)?))),
-        None => Some(Reply::Took(word.parse::<usize>().ok()?)),
-    }
-}
-
-// Returns the replies of a printed list.
-fn parse_replies(alloc: Global, words: &str, line: &mut Line) -> Vec<Reply> {
-    let mut replies = Vec::new(alloc);
-    if words.is_empty() {
-        return replies;
-    }
-    'replies: for word in words.split(", ") {
-        match parse_reply(word) {
-            Some(reply) => push(&mut replies, reply, line),
-            None => line.tell(Unplayed::NoWord),
-        }
-    }
-    replies
 }
 
 // What a run accepted, by its replies. It has no state: its rows say everything.
@@ -124,11 +108,9 @@ impl Stream for Joining {
         };
         let calls = parse_calls(alloc, words.trim(), line);
         let ops = ops_of(alloc, &calls, line);
-        let replies = parse_replies(alloc, told.trim(), line);
-        match joined(alloc, &ops, &replies) {
-            Ok(Some(bytes)) => line.bytes(&bytes),
-            Ok(None) => line.word("none"),
-            Err(_refused) => line.cut(),
+        match parse_list(alloc, told.trim()) {
+            Ok(replies) => show_joined(alloc, &ops, &replies, line),
+            Err(fault) => line.tell(fault),
         }
     }
 }
