@@ -5,6 +5,7 @@ ghost use Rattle.std.specs.Prelude.{◌≡◌, ◌++◌, IfOk};
 
 pub mod ar;
 mod checksum;
+mod commands;
 mod flash;
 mod fronts;
 mod heads;
@@ -23,6 +24,7 @@ mod tee;
 mod uart;
 
 pub use checksum::checksum_of;
+pub use commands::{read_command, read_text, read_whole};
 pub use flash::{Flash, FlashFile};
 pub use fronts::{read_front, read_one_line};
 pub use heads::head;

@@ -214,15 +214,6 @@ module _ {R : Type 0} {S : ℕ} {inner : Reader R} {old new : BufReader R S} {x 
       read_whole past
       (subst (λ l. ReadsThrough inner old (length buf) l (Ok true) new) is (whole (rw (le-leb (length buf') at all) at through)))
 
--- a `read_exact` of no more than the held bytes gave them, and made no inner call
-pub gives_held : {R : Type 0} {S : ℕ} {inner : Reader R} {old new : BufReader R S} {room : ℕ} {reply : Result (Unit {0}) Error}
-    {buf : List ℕ} → LeavesExact inner old room reply buf new → room ≤ length (reader_held old)
-    → GivesHeld old room (gave_whole reply buf) new
-gives_held (only_held fits gives) enough = gives
-gives_held (read_whole past through) enough = absurd (omega (arith, past, enough))
-gives_held (read_to_end past end front through) enough = absurd (omega (arith, past, enough))
-gives_held (read_to_fault past front through) enough = absurd (omega (arith, past, enough))
-
 -- only held bytes were given
 pub exact_held : {R : Type 0} {S : ℕ} {inner : Reader R} {old new : BufReader R S} {buf buf' : List ℕ}
     → length buf ≤ length (reader_held old)

@@ -55,29 +55,10 @@ pub Moves-device : {W : Type 0} {S : ℕ} {a : WriterState} {b : WriterState} {x
     → writer_inner w ≡ device → writer_buffer w ≡ [] → a ≡ writer_told told w → Moves a x k b → Moves (told device) x k b
 Moves-device {b = b} {x = x} {k = k} told w device inner none is m = grind (arith, common_steps)
 
--- with nothing in its buffer a writer tells what its device tells
-bare : (t : WriterState) → with_buffer t [] ≡ t
-bare t = ap (λ held. record t { held = held }) (append-nil t.held)
-
 -- if nothing is held below and in a buffer, nothing is in the buffer
 pub buffer_none : (r : Result (Unit {0}) Error) (below buffer : List ℕ) → OnOk r (below ++ buffer ≡ []) → OnOk r (buffer ≡ [])
 buffer_none (Ok u) below buffer none = nil_from_length buffer (omega (arith, ap length none, length-append below buffer))
 buffer_none (Err e) below buffer none = tt
-
--- the bytes that an empty buffer accepted after `Ok`, if it is empty again, are what its device accepted
-pub device_moves : (a b : WriterState) {x : List ℕ} (r : Result (Unit {0}) Error) (held left : List ℕ) → held ≡ [] → OnOk r (left ≡ [])
-    → MovesFront (with_buffer a held) x r (with_buffer b left) → OnOk r (Moves a x [] b)
-device_moves a b {x} (Ok u) held left none sent f =
-    subst (λ t. Moves a x [] t) (ap (λ l. with_buffer b l) sent ∙ bare b)
-    (subst (λ t. Moves t x [] (with_buffer b left)) (ap (λ l. with_buffer a l) none ∙ bare a) (MovesFront-whole x u f))
-device_moves a b (Err e) held left none sent f = tt
-
--- a `BufWriter` held nothing, and after `Ok` nothing is held at any level: what it accepted then, its device accepted
-pub MovesFront-device : {W : Type 0} {S : ℕ} (told : W → WriterState) (w v : BufWriter W S) (x : List ℕ) (r : Result (Unit {0}) Error)
-    → MovesFront (writer_told told w) x r (writer_told told v) → writer_buffer w ≡ []
-    → OnOk r ((writer_told told v).held ≡ [])
-    → OnOk r (Moves (told (writer_inner w)) x [] (told (writer_inner v)))
-MovesFront-device told w v x r f none flushed = grind (arith, common_steps, device_moves, writer_buffer, buffer_none, writer_inner)
 
 -- Steps of a writer with a buffer: what two steps do, they do one after another. For the lemmas of both buffered writers.
 

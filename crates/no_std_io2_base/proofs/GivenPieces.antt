@@ -225,17 +225,6 @@ module _ {X A : Type 0} {R : Reader X} {d : ℕ} {a : ReaderState} {ps : List (L
       }
     ]
 
-    -- an allocation failed for what is made of a piece
-    pub stops_copying : {n : ℕ} {e : Error} (law : ReadUntilLaw R mid d buf (Ok n) buf' new) → IsOutOfMemory e
-        → StopsAfter d e a ps (event_bytes law.taken) (tells R new)
-    stops_copying law refused = record {
-      mid = tells R mid;
-      gives = gives;
-      how = Ok true;
-      took = record { taken = law.taken; takes = law.takes; are = refl; ends = law.ends.0 };
-      whose = inr (refl, refused);
-    }
-
 -- an empty vector has the piece that a `read_until` took
 pub piece_alone : {X A : Type 0} {R : Reader X} {d : ℕ} {mid new : X} {buf buf' : Vec ℕ A} {reply : Result ℕ Error}
     (law : ReadUntilLaw R mid d buf reply buf' new) {line : List ℕ} → buf.items ≡ [] → line ≡ buf'.items → line ≡ event_bytes law.taken

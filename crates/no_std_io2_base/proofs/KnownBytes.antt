@@ -5,8 +5,8 @@ use Rattle.std.proofs.Common.{inl, inr, sym, subst, append-nil, length-append, l
 use Rattle.std.proofs.{lemmas.{Grind.{common_steps}, List.{append_cancel_left}}, Math.Seq.{take-append_seam}}
 use Rattle.no_std_io2_base.specs.{Events.{Event, event_bytes, events_of, fails, HasNoFault, Store}, inner.Events.{cut, EndsInFault}}
 use Rattle.no_std_io2_base.specs.Reads.{TakesBytes}
-use Rattle.no_std_io2_base.specs.Takes.{ReaderState, Takes, to_come, KeepsContent, LosesFirst, Reader, tells, IsAtEnd}
-use Rattle.no_std_io2_base.specs.{inner.Takes.{AreTaken}, declared.error.Error.{Error}, Read.{ReadExactLaw, ReadAtMostLaw}}
+use Rattle.no_std_io2_base.specs.Takes.{ReaderState, Takes, to_come, KeepsContent, Reader, tells, IsAtEnd}
+use Rattle.no_std_io2_base.specs.{declared.error.Error.{Error}, Read.{ReadExactLaw, ReadAtMostLaw}}
 use Rattle.no_std_io2_base.specs.{inner.Read.{AllOrNone, gave_whole}, Seek.{Seeks, IsTarget}, inner.Reads.{ReadsAt, HasBytesAt}}
 use Rattle.no_std_io2_base.specs.{Read.{ReadFullLaw, ReadToEndLaw}, Errors.{IsOutOfMemory}, declared.traits.seek.SeekFrom.{SeekFrom}}
 use Rattle.no_std_io2_base.specs.declared.traits.seek.SeekFrom.TheVariants.{Start}
@@ -18,27 +18,6 @@ use Rattle.no_std_io2_base.specs.declared.traits.take.Take.{Take}
 use Rattle.no_std_io2_base.specs.inner.Read.{FillsOrEnds}
 
 -- Which bytes are gone from those to come, after one call and after two.
-
--- the bytes of the events that were taken are gone from the front
-pub takes_loses : {a b : ReaderState} {P : List Event} (x : List ℕ) → Takes a P b → event_bytes P ≡ x → LosesFirst a x b
-takes_loses {a} {b} {P} x takes are = by (to_come a) (to_come b) takes.events
-  where
-    by : (E E' : Option (List Event)) → AreTaken E P E' → IfSome E (λ F. IsSomeAnd E' (λ F'. event_bytes F ≡ x ++ event_bytes F'))
-    by None E' taken = tt
-    by (Some E) None taken = absurd taken
-    by (Some E) (Some E') taken = rw taken (bytes-append P E' ∙ ap (λ l. l ++ event_bytes E') are)
-
--- one call after the other lost these bytes
-pub loses_then : (a b c : ReaderState) (x y : List ℕ) → LosesFirst a x b → LosesFirst b y c → LosesFirst a (x ++ y) c
-loses_then a b c x y first next = by (to_come a) (to_come b) (to_come c) first next
-  where
-    by : (E F G : Option (List Event)) → IfSome E (λ l. IsSomeAnd F (λ m. event_bytes l ≡ x ++ event_bytes m))
-        → IfSome F (λ l. IsSomeAnd G (λ m. event_bytes l ≡ y ++ event_bytes m))
-        → IfSome E (λ l. IsSomeAnd G (λ m. event_bytes l ≡ (x ++ y) ++ event_bytes m))
-    by None F G first next = tt
-    by (Some E) None G first next = absurd first
-    by (Some E) (Some F) None first next = absurd next
-    by (Some E) (Some F) (Some G) first next = grind (arith, append_assoc, first, next)
 
 -- What a call gives if the bytes x are the next to come.
 

@@ -1,10 +1,10 @@
 -- Pieces of bytes, and what calls took of one.
 use Rattle.std.proofs.{lemmas.Grind.{common_steps}, Common.{◌≡◌, ◌≢◌, ℕ, ◌==◌, true, false, Bool, if◌then◌else◌, List, [], ◌∷◌, ◌++◌}}
-use Rattle.std.proofs.Common.{length, refl, sym, ap, ◌∙◌, arith, true≢false, eqb-true, eq-eqb, ne_eqb, suc-ne-zero, get_or, drop, count_by}
-use Rattle.std.proofs.Common.{ap₂, cond, ◌&&◌, length-append, inl, inr, ◌+◌, ◌<◌, ◌≤◌, take, All, Option, None, Some, IfSome}
+use Rattle.std.proofs.Common.{length, refl, sym, ap, ◌∙◌, arith, true≢false, eqb-true, eq-eqb, ne_eqb, suc-ne-zero, get_or, drop}
+use Rattle.std.proofs.Common.{ap₂, ◌&&◌, length-append, inl, inr, ◌+◌, ◌<◌, ◌≤◌, take, All, Option, None, Some, IfSome}
 use Rattle.std.proofs.Common.{append_assoc, append-nil, add-one}
 use Rattle.std.proofs.Common.{take-suc, slice_index, drop_of_length-le, take_all, le_refl, length-take, take-append-drop, rules, Result, Ok}
-use Rattle.std.proofs.{Common.{Err, Vec, vec_len, vec_capacity, subst, ⊎_elim, ◌-◌}, lemmas.List.Sums.{sum_by-cons}}
+use Rattle.std.proofs.{Common.{Err, Vec, vec_len, vec_capacity, subst, ⊎_elim, ◌-◌}}
 use Rattle.std.proofs.lemmas.{Bool.{lt-ltb}, List.{get_or-append-add, get_or_default, Elements.{recursion_from_All}}}
 use Rattle.no_std_io2_base.specs.inner.Pieces.{Lacks, in_front, pieces_of, ArePieces, EndsPiece, but_last, FindsPiece}
 use Rattle.no_std_io2_base.specs.inner.Pieces.{IsPiecePart, ComesBehind, PartCalls, no_part, and_part, part_interrupted, PieceCalls}
@@ -125,12 +125,6 @@ pieces-first d (b ∷ bs) cs h = pieces-other d b (bs ++ d ∷ cs) h.0 ∙ ap (i
 pub pieces-last : (d b : ℕ) (bs : List ℕ) → Lacks d (b ∷ bs) → pieces_of d (b ∷ bs) ≡ (b ∷ bs) ∷ []
 pieces-last d b [] h = pieces-other d b [] h.0
 pieces-last d b (c ∷ bs) h = pieces-other d b (c ∷ bs) h.0 ∙ ap (in_front b) (pieces-last d c bs h.1)
-
--- bytes without a d have none
-pub count-lacks : (d : ℕ) (bs : List ℕ) → Lacks d bs → count_by (λ b. b == d) bs ≡ 0
-count-lacks d [] none = refl
-count-lacks d (b ∷ bs) none =
-    omega (arith, sum_by-cons (λ b. cond (b == d) 1 0) b bs, ap {B = ℕ} (λ t. cond t 1 0) (ne_eqb b d none.0), count-lacks d bs none.1)
 
 -- Bytes that belong to one piece.
 

@@ -133,10 +133,6 @@ pub left_of : {a b : ReaderState} {P E : List Event} → Takes a P b → to_come
     × (E ≡ P ++ after)
 left_of {a} {b} {P} {E} takes told = grind (arith, common_steps)
 
--- if events were told, and all of them were taken, none are to come
-pub at_end_after : {a b : ReaderState} {P E : List Event} → Takes a P b → to_come a ≡ Some E → IsAll a P → IsAtEnd b
-at_end_after {a} {b} {P} {E} takes told all = grind (arith, common_steps)
-
 -- the events behind events that are only bytes are only bytes
 bytes_after : (bs : List ℕ) (P Q : List Event) → events_of bs ≡ P ++ Q → Q ≡ events_of (event_bytes Q)
 bytes_after bs [] Q is = sym is ∙ ap events_of (sym (bytes-events_of bs) ∙ ap event_bytes is)

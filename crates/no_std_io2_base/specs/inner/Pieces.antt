@@ -5,7 +5,7 @@ use Rattle.std.specs.{Prelude.{Option, None, Some, Result, Ok, Err, IfSome}, Lis
 use Rattle.no_std_io2_base.specs.{declared.error.Error.{Error}, Errors.{IsInterruption, IsFault, IsOutOfMemory}}
 use Rattle.no_std_io2_base.specs.Events.{Event, byte, events_of, event_bytes, HasNoFault}
 use Rattle.no_std_io2_base.specs.inner.Events.{bytes_to_fault, first_fault, EndsInFault}
-use Rattle.no_std_io2_base.specs.{Takes.{ReaderState, to_come}, Calls.{ReadCall, Filled, Consumed}, Moves.{IsFront}}
+use Rattle.no_std_io2_base.specs.{Takes.{ReaderState, to_come}, Calls.{ReadCall, Filled, Consumed}}
 
 -- d is not among these bytes
 abbrev pub Lacks : ℕ → List ℕ → Type 0
@@ -122,7 +122,3 @@ abbrev pub GivenRead : ℕ → List Event → List ℕ → Result ℕ Error → 
 GivenRead d E piece (Ok n) after = ((0 < length piece) × GivesNext d E piece after) ⊎ ((length piece ≡ 0) × GivesNone d E)
 GivenRead d E piece (Err e) after = ((pieces_given d E ≡ []) × (first_fault E ≡ Some e))
     ⊎ (IsOutOfMemory e × (0 < length (bytes_to_fault E)))
-
--- these bytes come first, before any fault, if the reader tells its events
-abbrev pub ComeFirst : ReaderState → List ℕ → Type 0
-ComeFirst t x = IfSome (to_come t) (λ E. IsFront x (bytes_to_fault E))
