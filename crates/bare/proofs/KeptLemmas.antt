@@ -1,13 +1,12 @@
 -- What a sending leaves, and the text of one value more.
 use Rattle.no_std_io2.proofs.Words.{common_steps, ◌≡◌, ℕ, ◌+◌, ◌-◌, ◌<◌, ◌⊎◌, List, [], ◌++◌, length, drop, Result, OnOk, sym, ap, ◌∙◌}
 use Rattle.no_std_io2.proofs.Words.{subst, arith, append_assoc, length-append, min, take, ◌∷◌, WriteCall, Made, Writes, CallOf, zero, suc}
-use Rattle.no_std_io2.proofs.{Words.{Ok, Err, inl, inr, WriterState, Moves, MovesFront, call_mishap}, MovesLemmas.{writes_left, Moves-then}}
-use Rattle.no_std_io2.proofs.MovesLemmas.{Moves-ends, MovesFront-whole}
+use Rattle.no_std_io2.proofs.Words.{Ok, Err, inl, inr, WriterState, Moves, MovesFront, call_mishap}
+use Rattle.no_std_io2.proofs.MovesLemmas.{writes_left, Moves-then, Moves-ends, MovesFront-whole}
 use Rattle.std.proofs.{lemmas.List.{length-take}, Common.{slice_index, IsErrAnd}}
 use Rattle.no_std_io2.specs.{declared.io.Error.{Error}, Writers.{WriteRestOf}, Errors.{IsTextError}}
-use Rattle.bare.specs.{declared.queue.Queue.{Queue}, Queue.{waiting, queue_capacity}, Status.{status_done, status_kept}}
-use Rattle.bare.specs.Kept.{Resumes, resume_status}
-use Rattle.bare.specs.{Log.{line}, Report.{texts_from}}
+use Rattle.bare.specs.{declared.queue.Queue.{Queue}, Queue.{waiting, queue_capacity}, Status.{status_done, status_kept}, Log.{line}}
+use Rattle.bare.specs.{Kept.{Resumes, resume_status}, Report.{texts_from}}
 use Rattle.bare.proofs.QueueLemmas.{queue, blocked}
 
 -- What a sending leaves.

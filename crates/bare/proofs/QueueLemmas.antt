@@ -2,17 +2,15 @@
 use Rattle.no_std_io2.proofs.Words.{◌≡◌, ℕ, ◌-◌, ◌≤◌, List, min, length, take, drop, arith, common_steps, ◌+◌, ◌<◌, [], ◌++◌, Result, Ok}
 use Rattle.no_std_io2.proofs.Words.{Err, sym, ap, subst, true≢false, length-append, inl, inr, refl, ◌∙◌, WriterState, WriteCall, Made}
 use Rattle.no_std_io2.proofs.Words.{Moves, Writes, write_took, write_again, write_stuck, write_fault, AllCalls, told_out, Writer, CallOf}
-use Rattle.no_std_io2.proofs.Words.{writer_inner}
-use Rattle.no_std_io2.proofs.Words.{writer_buffer, writer_told, BufferMay, InnerCalls, Buffered, FlushCalls, SendCalls, Step, TakesStep}
-use Rattle.no_std_io2.proofs.Words.{first_stops, first_goes_on, Some, events_of, event_bytes, HasNoFault, to_come, Reader, tells, Copied}
-use Rattle.no_std_io2.proofs.{CallsLemmas.{made_split}, CopyLoop.{out_after_flush as out_after, copied_ok, took_told, no_fault_at_end}}
-use Rattle.no_std_io2.proofs.{MovesLemmas.{writes_left}, TakesLemmas.{bytes-append, bytes-events_of, HasNoFault-events_of}}
-use Rattle.no_std_io2.proofs.TakesLemmas.{HasNoFault-front, left_of}
+use Rattle.no_std_io2.proofs.Words.{writer_inner, writer_buffer, writer_told, BufferMay, InnerCalls, Buffered, FlushCalls, SendCalls, Step}
+use Rattle.no_std_io2.proofs.Words.{TakesStep, first_stops, first_goes_on, Some, events_of, event_bytes, HasNoFault, to_come, Reader, tells}
+use Rattle.no_std_io2.proofs.{Words.{Copied}, CallsLemmas.{made_split}, MovesLemmas.{writes_left}}
+use Rattle.no_std_io2.proofs.CopyLoop.{out_after_flush as out_after, copied_ok, took_told, no_fault_at_end}
+use Rattle.no_std_io2.proofs.TakesLemmas.{bytes-append, bytes-events_of, HasNoFault-events_of, HasNoFault-front, left_of}
 use Rattle.std.specs.{List.{copy_within}, Prelude.{MatchResult, OnOk, OnErr}, Int.{w32, to_le_bytes}}
 use Rattle.std.proofs.lemmas.List.{drop-take, length-drop, take_min, drop_min, Edits.{take-paste}}
-use Rattle.no_std_io2.specs.{declared.io.Error.{Error}, declared.io.BufWriter.{BufWriter}, declared.io.ErrorKind.{ErrorKind}}
-use Rattle.no_std_io2.specs.{Writers.{FlushOf}, inner.Copy.{Handed, handed_piece}}
-use Rattle.no_std_io2.specs.declared.util.sides.CopyError.TheVariants.{Read, Write}
+use Rattle.no_std_io2.specs.{declared.io.{Error.{Error}, BufWriter.{BufWriter}, ErrorKind.{ErrorKind}}, Writers.{FlushOf}}
+use Rattle.no_std_io2.specs.{inner.Copy.{Handed, handed_piece}, declared.util.sides.CopyError.TheVariants.{Read, Write}}
 use Rattle.bare.specs.{declared.queue.Queue.{Queue}, Queue.{waiting, queue_capacity, QueueMay}}
 use Rattle.framing.specs.{Frames.{frame}, Sending.{frame_writer, SendsFrame}, declared.writer.FrameWriter.{FrameWriter}}
 

@@ -1,8 +1,7 @@
 -- What is cut off received bytes, if they are frames.
 use Rattle.std.specs.Prelude.{◌≡◌, ◌⊎◌, ℕ, ◌+◌, ◌-◌, ◌<◌, ◌≤◌, List, ◌++◌, length, take, drop}
 use Rattle.framing.specs.Frames.{frame, told_length, IsPart}
-use Rattle.bare.specs.Status.{status_done, status_full, status_partial, status_refused}
-use Rattle.bare.specs.Queue.{queue_capacity}
+use Rattle.bare.specs.{Status.{status_done, status_full, status_partial, status_refused}, Queue.{queue_capacity}}
 
 -- the length of a payload is there, and no queue can hold its frame
 abbrev IsTooBig : List ℕ → Type 0

@@ -1,8 +1,7 @@
 -- What goes to a port, behind what is kept.
 use Rattle.std.specs.Prelude.{◌≡◌, ◌⊎◌, ℕ, ◌+◌, ◌<◌, ◌≤◌, List, [], ◌++◌, length, Result, Ok, Err}
 use Rattle.no_std_io2.specs.Moves.{IsFront}
-use Rattle.bare.specs.Status.{status_done, status_kept, status_full, status_refused}
-use Rattle.bare.specs.declared.queue.Queue.{Queue}
+use Rattle.bare.specs.{Status.{status_done, status_kept, status_full, status_refused}, declared.queue.Queue.{Queue}}
 use Rattle.bare.specs.Queue.{waiting, queue_capacity}
 
 -- The waiting bytes went to the port, in order: all of them, or as many as the port took until it was full. The others

@@ -1,9 +1,7 @@
 -- What a log does.
 use Rattle.std.specs.Prelude.{◌≡◌, ◌⊎◌, ℕ, ◌+◌, ◌<◌, ◌≤◌, List, [], ◌∷◌, ◌++◌, length, Contains}
 use Rattle.no_std_io2.specs.{inner.Pieces.{Lacks}, Pieces.{newline}}
-use Rattle.bare.specs.Status.{status_kept, status_full, status_refused}
-use Rattle.bare.specs.Queue.{queue_capacity}
-use Rattle.bare.specs.Kept.{Resumes}
+use Rattle.bare.specs.{Status.{status_kept, status_full, status_refused}, Queue.{queue_capacity}, Kept.{Resumes}}
 
 -- the line of a text
 abbrev pub line : List ℕ → List ℕ

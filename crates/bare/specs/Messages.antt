@@ -1,7 +1,6 @@
 -- What is cut off received bytes.
 use Rattle.std.specs.Prelude.{◌≡◌, ◌⊎◌, ℕ, ◌<◌, ◌≤◌, List, [], ◌∷◌, ◌++◌, length, take, drop}
-use Rattle.bare.specs.Status.{status_done, status_full, status_partial, status_refused}
-use Rattle.bare.specs.Queue.{queue_capacity}
+use Rattle.bare.specs.{Status.{status_done, status_full, status_partial, status_refused}, Queue.{queue_capacity}}
 
 -- the bytes begin with a message of this length, of which some bytes may be missing
 abbrev Begins : ℕ → List ℕ → Type 0

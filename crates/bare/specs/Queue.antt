@@ -1,8 +1,6 @@
 -- What a queue holds, and what a call does to it.
 use Rattle.std.specs.Prelude.{◌≡◌, ℕ, ◌<◌, ◌-◌, min, List, length, take, Ok, Err, IsOk}
-use Rattle.no_std_io2.specs.Calls.{WriteCall, Wrote, Flushed}
-use Rattle.no_std_io2.specs.Errors.{error_kind}
-use Rattle.no_std_io2.specs.declared.io.ErrorKind.TheVariants.{WouldBlock}
+use Rattle.no_std_io2.specs.{Calls.{WriteCall, Wrote, Flushed}, Errors.{error_kind}, declared.io.ErrorKind.TheVariants.{WouldBlock}}
 use Rattle.bare.specs.declared.queue.Queue.{Queue}
 
 -- how many bytes a queue has room for

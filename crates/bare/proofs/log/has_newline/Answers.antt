@@ -1,6 +1,5 @@
 -- No byte was a newline: the search does not turn places into a recursion over the bytes.
-use Rattle.no_std_io2.proofs.Words.{common_steps, arith, newline}
-use Rattle.no_std_io2.proofs.LineLemmas.{contains_lacks}
+use Rattle.no_std_io2.proofs.{Words.{common_steps, arith, newline}, LineLemmas.{contains_lacks}}
 use Rattle.bare.proofs.log.has_newline.Goals as goal
 
 pub returns-clause-lacks : goal.returns-clause-lacks

@@ -1,7 +1,6 @@
 -- The search does not join the next text with those that were printed, nor all of them with the flush.
-use Rattle.no_std_io2.proofs.Words.{common_steps, arith}
+use Rattle.no_std_io2.proofs.{Words.{common_steps, arith}, MovesLemmas.{Moves-refl}, TextLemmas.{MovesFront-text}}
 use Rattle.std.proofs.Common.{take_all}
-use Rattle.no_std_io2.proofs.{MovesLemmas.{Moves-refl}, TextLemmas.{MovesFront-text}}
 use Rattle.bare.specs.Report.{reading_line}
 use Rattle.bare.proofs.KeptLemmas.{printed_more, printed_all}
 use Rattle.bare.proofs.report.print.Goals as goal

@@ -1,6 +1,5 @@
 -- The digits are a text: the search does not find the lemma of ASCII.
-use Rattle.std.proofs.Common.{◌-◌, drop, length, arith, take_all, length-drop}
-use Rattle.std.proofs.lemmas.Str.{IsUtf8-from_ascii}
+use Rattle.std.proofs.{Common.{◌-◌, drop, length, arith, take_all, length-drop}, lemmas.Str.{IsUtf8-from_ascii}}
 use Rattle.bare.proofs.decimal.DecimalDisplay.fmt.Goals as goal
 
 pub from_utf8_unchecked-requires : goal.from_utf8_unchecked-requires
