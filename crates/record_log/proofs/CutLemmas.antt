@@ -1,24 +1,30 @@
 -- What a list of calls leaves of a log at any moment.
 use Rattle.no_std_io2.proofs.Words.{◌≡◌, ℕ, List, [], ◌∷◌, ◌++◌, length, drop, refl, sym, ap, subst, ◌∙◌, Bool}
 use Rattle.no_std_io2.proofs.Words.{arith, append_assoc, append-nil, length-append, inl, inr, Result, Ok, Err, OnOk, Writer}
-use Rattle.std.proofs.lemmas.List.{drop-drop}
-use Rattle.std.specs.Prelude.{is_ok, OnErr}
+use Rattle.std.proofs.{Math.Seq.{drop-nil}, lemmas.List.{drop-drop}}
+use Rattle.std.specs.Prelude.{is_ok, OnErr, IsOk, IfOk, IfSome, IsOkAnd, IsSomeAnd, ◌<◌, ◌^◌, Option, Some, None, true, false}
+use Rattle.no_std_io2.proofs.Words.{nat_tests, Store}
+use Rattle.no_std_io2.specs.{inner.Takes.{fits_u64, fits_by, store_by}, Takes.{store_at}}
+use Rattle.record_log.specs.{Opening.{Opens}, declared.opening.Opened.{Opened}}
 use Rattle.no_std_io2.specs.declared.io.Error.{Error}
-use Rattle.record_log.specs.{Placed.{PutsAt, Stands}, Log.{Appends, log_inner, log_held}}
-use Rattle.record_log.specs.Records.{record_of, log_of, AreShort, HasRecords}
-use Rattle.record_log.specs.Cuts.{DidStep, Counted, count_step, outcome, StandsAtEnd, Survives}
+use Rattle.record_log.specs.{Placed.{PutsAt}, Log.{Appends, log_inner, log_held}}
+use Rattle.record_log.specs.Records.{record_of, log_of, AreShort, HasRecords, NoneByChance}
+use Rattle.record_log.specs.Cuts.{DidStep, Counted, count_step, outcome, StandsAtEnd, HasConfirmed, Survives}
 use Rattle.record_log.specs.declared.{log.RecordLog.{RecordLog}, cuts.Step.{Step, TheVariants.{Append, Sync}}}
-use Rattle.record_log.proofs.RecordLemmas.{log-append, AreShort-append, cut_log}
-use Rattle.record_log.proofs.PlacedLemmas.{all_there, flush_there, begins_anew, front_there}
+use Rattle.record_log.proofs.RecordLemmas.{log-append, AreShort-append, cut_log, same_records, none_at_end}
+use Rattle.record_log.proofs.PlacedLemmas.{Stands, stands_held, all_there, flush_there, begins_anew, front_there}
+
+-- These records are being written over old bytes, behind others, by a log.
+abbrev StandsBehind : {W : Type 0} {S : ℕ} → (W → List ℕ) → (W → ℕ) → List (List ℕ) → List ℕ → List (List ℕ) → RecordLog W S → Type 0
+StandsBehind content place done tail pending l =
+    Stands (length (log_of done)) (log_of pending) (log_of done ++ tail) (content (log_inner l)) (place (log_inner l)) (log_held l)
 
 -- The device has the records before, and the confirmed ones; those that were appended since are out, or held.
 pub record Keeps {W : Type 0} {S : ℕ} (content : W → List ℕ) (place : W → ℕ) (before : List (List ℕ)) (tail : List ℕ) (c : Counted)
     (l : RecordLog W S) : Type 0 where
-  pub old : AreShort before
-  pub confirmed : AreShort c.0
+  pub short : AreShort (before ++ c.0)
   pub pending : AreShort c.1
-  pub stands : Stands (log_of before ++ log_of c.0) (log_of c.1) (drop (length (log_of c.0)) tail) (content (log_inner l))
-      (place (log_inner l)) (log_held l)
+  pub stands : StandsBehind content place (before ++ c.0) (drop (length (log_of c.0)) tail) c.1 l
 
 -- these records, and then those of some bytes
 records_after : (ps ks : List (List ℕ)) (x rest : List ℕ) → AreShort ps → HasRecords x ks rest → HasRecords (log_of ps ++ x) (ps ++ ks) rest
@@ -40,19 +46,15 @@ outcome-more c (s ∷ steps) (e ∷ done) step d long = outcome-more (count_step
 module _ {W : Type 0} {S : ℕ} (content : W → List ℕ) (place : W → ℕ) {before : List (List ℕ)} {tail : List ℕ} where
   -- at the start
   pub keeps_none : (l : RecordLog W S) → StandsAtEnd content place before tail l → Keeps content place before tail ([], []) l
-  keeps_none l at = record {
-    old = at.0;
-    confirmed = tt;
-    pending = tt;
-    stands = record {
-      out = [];
-      torn = [];
-      all = sym at.1;
-      front = (log_held l, refl);
-      content = at.2 ∙ ap (λ b. b ++ tail) (sym (append-nil (log_of before)));
-      stands = omega (arith, at.3, length-append (log_of before) []);
-    };
-  }
+  keeps_none l at =
+      let all = subst (λ done. AreShort done × StandsBehind content place done tail [] l) (sym (append-nil before)) (
+        at.0,
+        subst (λ h. Stands (length (log_of before)) [] (log_of before ++ tail) (content (log_inner l)) (place (log_inner l)) h) (sym at.1)
+            (subst (λ p. Stands (length (log_of before)) [] (log_of before ++ tail) (content (log_inner l)) p []) (sym at.3)
+            (subst (λ m. Stands (length (log_of before)) [] m (content (log_inner l)) (length (log_of before)) []) at.2
+            (stands_held (length (log_of before)) [] (content (log_inner l))))),
+      ) in
+      record { short = all.0; pending = tt; stands = all.1 }
 
   module _ (I : Writer W) (puts : PutsAt I content place) where
     -- one `append`
@@ -62,15 +64,14 @@ module _ {W : Type 0} {S : ℕ} (content : W → List ℕ) (place : W → ℕ) {
         × OnErr reply (Keeps content place before tail c new)
     appended c payload (Ok u) old new k (inl put) =
         let there = all_there I content place puts S (record_of payload) (Ok u) _ _
-        (omega (arith, put.0.0)) put.1.calls.are put.1.calls.made
-        k.stands in
+        (omega (arith, put.0.0)) put.1.calls.are put.1.calls.made k.stands in
         let same : log_of c.1 ++ record_of payload ≡ log_of (c.1 ++ payload ∷ []) =
-        ap (λ l. log_of c.1 ++ l) (sym (append-nil (record_of payload))) ∙ sym (log-append c.1 (payload ∷ [])) in (
+        ap (λ l. log_of c.1 ++ l) (sym (append-nil (record_of payload))) ∙ sym (log-append c.1 (payload ∷ [])) in
+        let base = log_of (before ++ c.0) in (
           record {
-            old = k.old;
-            confirmed = k.confirmed;
+            short = k.short;
             pending = AreShort-append c.1 (payload ∷ []) k.pending (put.0.1, tt);
-            stands = subst (λ l. Stands (log_of before ++ log_of c.0) l (drop (length (log_of c.0)) tail) (content (log_inner new))
+            stands = subst (λ l. Stands (length base) l (base ++ drop (length (log_of c.0)) tail) (content (log_inner new))
                 (place (log_inner new)) (log_held new)) same there;
           },
           tt,
@@ -78,8 +79,7 @@ module _ {W : Type 0} {S : ℕ} (content : W → List ℕ) (place : W → ℕ) {
     appended c payload (Err e) old new k (inl put) = (
       tt,
       record {
-        old = k.old;
-        confirmed = k.confirmed;
+        short = k.short;
         pending = k.pending;
         stands = all_there I content place puts S (record_of payload) (Err e) _ _ (omega (arith, put.0.0)) put.1.calls.are
             put.1.calls.made k.stands;
@@ -105,36 +105,73 @@ module _ {W : Type 0} {S : ℕ} (content : W → List ℕ) (place : W → ℕ) {
         (by reply (flush_there I content place puts reply _ _ did.are did.made k.stands))
       where
         by : (r : Result (Unit {0}) Error)
-            → Stands (log_of before ++ log_of c.0) (log_of c.1) (drop (length (log_of c.0)) tail) (content (log_inner new))
-            (place (log_inner new)) (log_held new) × OnOk r (log_held new ≡ [])
+            → StandsBehind content place (before ++ c.0) (drop (length (log_of c.0)) tail) c.1 new × OnOk r (log_held new ≡ [])
             → Keeps content place before tail (count_step c Sync (is_ok r)) new
         by (Ok u) both =
-            let anew = begins_anew (subst (λ h. Stands (log_of before ++ log_of c.0) (log_of c.1) (drop (length (log_of c.0)) tail)
-            (content (log_inner new)) (place (log_inner new)) h) both.1 both.0) in
-            let front : (log_of before ++ log_of c.0) ++ log_of c.1 ≡ log_of before ++ log_of (c.0 ++ c.1) =
-            append_assoc (log_of before) (log_of c.0) (log_of c.1) ∙ ap (λ l. log_of before ++ l) (sym (log-append c.0 c.1)) in
-            let behind : drop (length (log_of c.1)) (drop (length (log_of c.0)) tail) ≡ drop (length (log_of (c.0 ++ c.1))) tail =
+            let base = log_of (before ++ c.0) in
+            let behind = drop (length (log_of c.0)) tail in
+            let now = content (log_inner new) in
+            let at = place (log_inner new) in
+            let anew = begins_anew base behind (subst (λ h. Stands (length base) (log_of c.1) (base ++ behind) now at h) both.1 both.0) in
+            let front : base ++ log_of c.1 ≡ log_of (before ++ (c.0 ++ c.1)) =
+            sym (log-append (before ++ c.0) c.1) ∙ ap log_of (append_assoc before c.0 c.1) in
+            let rest : drop (length (log_of c.1)) behind ≡ drop (length (log_of (c.0 ++ c.1))) tail =
             drop-drop (length (log_of c.1)) (length (log_of c.0)) tail
             ∙ ap (λ n. drop n tail) (sym (length-append (log_of c.0) (log_of c.1)) ∙ ap length (sym (log-append c.0 c.1))) in record {
-              old = k.old;
-              confirmed = AreShort-append c.0 c.1 k.confirmed k.pending;
+              short = subst AreShort (append_assoc before c.0 c.1) (AreShort-append (before ++ c.0) c.1 k.short k.pending);
               pending = tt;
-              stands = subst (λ h. Stands (log_of before ++ log_of (c.0 ++ c.1)) [] (drop (length (log_of (c.0 ++ c.1))) tail)
-                  (content (log_inner new)) (place (log_inner new)) h) (sym both.1)
-                  (subst (λ b. Stands b [] (drop (length (log_of (c.0 ++ c.1))) tail) (content (log_inner new)) (place (log_inner new)) [])
-                  front
-                  (subst (λ t. Stands ((log_of before ++ log_of c.0) ++ log_of c.1) [] t (content (log_inner new))
-                  (place (log_inner new)) []) behind anew));
+              stands = subst (λ h. Stands (length (log_of (before ++ (c.0 ++ c.1)))) []
+                  (log_of (before ++ (c.0 ++ c.1)) ++ drop (length (log_of (c.0 ++ c.1))) tail) now at h) (sym both.1)
+                  (subst (λ b. Stands (length b) [] (b ++ drop (length (log_of (c.0 ++ c.1))) tail) now at []) front
+                  (subst (λ t. Stands (length (base ++ log_of c.1)) [] ((base ++ log_of c.1) ++ t) now at []) rest anew));
             }
-        by (Err e) both = record { old = k.old; confirmed = k.confirmed; pending = k.pending; stands = both.0 }
+        by (Err e) both = record { short = k.short; pending = k.pending; stands = both.0 }
 
   -- what is there at any moment
   pub keeps_survives : (c : Counted) (l : RecordLog W S) → Keeps content place before tail c l
       → Survives before tail c (content (log_inner l))
   keeps_survives c l k none =
-      let front = front_there k.stands in
-      let cut = cut_log c.1 front.0 front.1 (drop (length (log_of c.0)) tail) k.pending front.2 none in
-      let x = front.0 ++ drop (length front.0) (drop (length (log_of c.0)) tail) in
-      let has = records_after before (c.0 ++ cut.0) (log_of c.0 ++ x) cut.2 k.old (records_after c.0 cut.0 x cut.2 k.confirmed cut.4) in
-      let is : content (log_inner l) ≡ log_of before ++ (log_of c.0 ++ x) = front.3 ∙ append_assoc (log_of before) (log_of c.0) x in
-      (cut.0, cut.1, cut.2, cut.3, subst (λ m. HasRecords m (before ++ (c.0 ++ cut.0)) cut.2) (sym is) has)
+      let behind = drop (length (log_of c.0)) tail in
+      let front = front_there (log_of (before ++ c.0)) behind k.stands in
+      let cut = cut_log c.1 front.0 front.1 behind k.pending front.2 (none k.pending) in
+      let has = records_after (before ++ c.0) cut.0 (front.0 ++ drop (length front.0) behind) cut.2 k.short cut.4 in (
+        cut.0,
+        cut.1,
+        cut.2,
+        cut.3,
+        subst (λ ps. HasRecords (content (log_inner l)) ps cut.2) (append_assoc before c.0 cut.0)
+            (subst (λ m. HasRecords m ((before ++ c.0) ++ cut.0) cut.2) (sym front.3) has),
+      )
+
+-- what `open` says of a content in memory
+pub opened : (u : Option Store) (content items : List ℕ) (pos : ℕ) (r : Result Opened Error) → items ≡ content → pos ≡ 0
+    → length content < 2 ^ 64 → IfSome (store_at items pos) (λ s. IsSomeAnd u (λ t. (t.content ≡ s.content)
+    × IsOk r × IfOk r (λ o. Opens s.content o.end o.torn × (t.position ≡ o.end)))) → IsOkAnd r (λ o. Opens content o.end o.torn)
+opened u content items pos r is zero small says =
+    let told = subst (λ p. IfSome (store_at content p) (λ s. IsSomeAnd u (λ t. (t.content ≡ s.content)
+    × IsOk r × IfOk r (λ o. Opens s.content o.end o.torn × (t.position ≡ o.end))))) zero
+    (subst (λ l. IfSome (store_at l pos) (λ s. IsSomeAnd u (λ t. (t.content ≡ s.content)
+    × IsOk r × IfOk r (λ o. Opens s.content o.end o.torn × (t.position ≡ o.end))))) is says) in
+    by u r (fits_u64 content 0) (fits_by content 0) (grind (arith, nat_tests)) told
+  where
+    by : (v : Option Store) (r : Result Opened Error) (t : Bool) (fits : t ≡ true → (length content < 2 ^ 64) × (0 < 2 ^ 64)) → t ≡ true
+        → IfSome (store_by t content 0 fits) (λ s. IsSomeAnd v (λ t. (t.content ≡ s.content)
+        × IsOk r × IfOk r (λ o. Opens s.content o.end o.torn × (t.position ≡ o.end)))) → IsOkAnd r (λ o. Opens content o.end o.torn)
+    by (Some t) (Ok o) true fits is told = told.2.0
+    by (Some t) (Err e) true fits is told = absurd (let no : ⊥ = cc (told.1) in no)
+    by None r true fits is told = absurd told
+    by v r false fits is told = absurd (let no : ⊥ = cc in no)
+
+-- Behind the records that are there, a log stands as one that is new.
+pub stands_anew : {W : Type 0} {S : ℕ} (content : W → List ℕ) (place : W → ℕ) (payloads : List (List ℕ)) (rest : List ℕ) (l : RecordLog W S)
+    (end torn : ℕ) → HasRecords (content (log_inner l)) payloads rest → Opens (content (log_inner l)) end torn
+    → place (log_inner l) ≡ end → log_held l ≡ [] → StandsAtEnd content place payloads rest l
+stands_anew content place payloads rest l end torn has (found, behind, finds, ends, many) at none =
+    let same = (same_records _ payloads found rest behind has finds).0 in
+    (has.short, none, has.bytes, at ∙ ends ∙ ap (λ ps. length (log_of ps)) (sym same))
+
+-- A log at the end of its content survives, since nothing is behind it.
+pub survives_at_end : (before : List (List ℕ)) (c : Counted) (content : List ℕ) → Survives before [] c content
+    → HasConfirmed before c content
+survives_at_end before c content survives =
+    survives (λ short. subst (λ t. NoneByChance t c.1) (sym (drop-nil (length (log_of c.0)))) (none_at_end c.1 short))

@@ -1,8 +1,8 @@
 -- Cursors and disks put their bytes at their position.
-use Rattle.no_std_io2.proofs.Words.{◌≡◌, ℕ, ◌+◌, ◌-◌, ◌≤◌, List, [], ◌++◌, length, take, drop, refl, sym, ap, ◌∙◌, arith, inl, inr}
+use Rattle.no_std_io2.proofs.Words.{◌≡◌, ℕ, ◌+◌, ◌-◌, ◌≤◌, List, ◌++◌, length, take, drop, refl, sym, ap, ◌∙◌, arith, inl, inr}
 use Rattle.no_std_io2.proofs.Words.{append-nil, length-append, cases_lt, nil_from_length, take-append_seam, Ok, Err}
 use Rattle.no_std_io2.proofs.Words.{Wrote, WroteAll, Flushed, WriteCall, common_steps, length-take-le, length-take, subst, append_assoc}
-use Rattle.std.specs.Prelude.{replicate, count_by}
+use Rattle.std.specs.Prelude.{count_by}
 use Rattle.no_std_io2.proofs.Words.{nat_tests, Moves, told_out}
 use Rattle.no_std_io2.specs.{inner.Kinds.{is_interruption}, inner.Write.{zero_write}}
 use Rattle.std.proofs.Common.{take_all, take-append-drop}
@@ -33,21 +33,7 @@ module _ {T : Type 0} (items : T → List ℕ) (capacity : T → ℕ) where
 -- bytes that fit are put
 fits_put : (bs : List ℕ) (place : ℕ) (x new : List ℕ) (place' : ℕ) → PutsFitting bs place x new place'
     → IsPutAt place (fitting place x bs) bs new
-fits_put bs place x new place' did = elim (cases_lt (length bs) place) [
-  | inl past ↦
-      let none : length bs - place ≡ 0 = omega (arith, past) in
-      let nil : fitting place x bs ≡ [] = ap (λ n. take n x) none in
-      let same : place + 0 ≡ place = omega arith in
-      inr (
-        nil,
-        did.0 ∙ ap (λ l. take place bs ++ (l ++ drop (place + length l) bs)) nil
-            ∙ ap (λ n. take place bs ++ drop n bs) same ∙ take-append-drop place bs,
-      )
-  | inr within ↦
-      let gap : place - length bs ≡ 0 = omega (arith, within) in
-      let same : bs ++ replicate (place - length bs) 0 ≡ bs = ap (λ n. bs ++ replicate n 0) gap ∙ append-nil bs in
-      inl (did.0 ∙ ap (λ l. take place l ++ (fitting place x bs ++ drop (place + length (fitting place x bs)) l)) (sym same))
-]
+fits_put bs place x new place' did = grind (arith, common_steps, append-nil, take-append-drop)
 
 module _ {T : Type 0} (items : T → List ℕ) where
   -- a call of a cursor over a slice
@@ -61,13 +47,7 @@ module _ {T : Type 0} (items : T → List ℕ) where
         omega (arith, did.1.1, did.0, length-take (length bs - place) x),
       )
   slice_puts old new (Wrote x (Err e)) did = absurd did.0
-  slice_puts old new (WroteAll x (Ok u)) did =
-      let bs = items (cursor_inner old) in
-      let place = cursor_position old in
-      let whole : fitting place x bs ≡ x = take_all (length bs - place) x (did.variant.0 refl) in (
-        subst (λ l. IsPutAt place l bs (items (cursor_inner new))) whole (fits_put bs place x _ _ did.puts),
-        did.puts.1 ∙ ap (λ l. place + length l) whole,
-      )
+  slice_puts old new (WroteAll x (Ok u)) did = grind (arith, common_steps, fits_put, take_all)
   slice_puts old new (WroteAll x (Err e)) did =
       let bs = items (cursor_inner old) in
       let place = cursor_position old in (
@@ -82,10 +62,7 @@ module _ {T : Type 0} (items : T → List ℕ) where
 -- a place within a content
 pub put_there : (place : ℕ) (x old new : List ℕ) → place + length x ≤ length old
     → new ≡ take place old ++ (x ++ drop (place + length x) old) → new ≡ put_at place x old
-put_there place x old new fits is =
-    let gap : place - length old ≡ 0 = omega (arith, fits) in
-    let same : old ++ replicate (place - length old) 0 ≡ old = ap (λ n. old ++ replicate n 0) gap ∙ append-nil old in
-    is ∙ ap (λ l. take place l ++ (x ++ drop (place + length x) l)) (sym same)
+put_there place x old new fits is = grind (arith, common_steps, append-nil)
 
 -- what is before the place stays, and what was put goes out
 pub put_before : (place : ℕ) (x old new : List ℕ) → place ≤ length old → new ≡ take place old ++ (x ++ drop (place + length x) old)
@@ -106,10 +83,4 @@ no_wait n x = grind (arith, nat_tests)
 
 -- what a write accepted is out
 pub writes_out : (n : ℕ) (x old new : List ℕ) → new ≡ old ++ take n x → Moves (told_out old) (take n x) (zero_write n x) (told_out new)
-writes_out n x old new is =
-    let none = no_wait n x in record {
-      front = (take n x, is);
-      bytes = append-nil new ∙ is ∙ ap (λ l. l ++ take n x) (sym (append-nil old));
-      mishaps = tt;
-      turns = omega (arith, none);
-    }
+writes_out n x old new is = grind (arith, common_steps, no_wait n x, append-nil)

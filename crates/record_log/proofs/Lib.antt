@@ -3,3 +3,4 @@ pub mod PlacedLemmas
 pub mod CutLemmas
 pub mod PieceLemmas
 pub mod DeviceLemmas
+pub mod BufferLemmas

@@ -1,7 +1,7 @@
 -- What the reads of `open` give of known bytes.
 use Rattle.no_std_io2.proofs.Words.{◌≡◌, ℕ, ◌+◌, ◌<◌, ◌≤◌, ◌^◌, List, [], ◌∷◌, ◌++◌, length, take, drop, refl, sym, ap, subst, ◌∙◌}
 use Rattle.no_std_io2.proofs.Words.{arith, append_assoc, append-nil, length-append, length-drop, length-take-le, take-append-drop, Some}
-use Rattle.no_std_io2.proofs.Words.{ap₂}
+use Rattle.no_std_io2.proofs.Words.{ap₂, common_steps}
 use Rattle.no_std_io2.proofs.Words.{cases_lt, inl, inr, Result, Err, Event, event_bytes, events_of, HasNoFault, fails, to_come}
 use Rattle.no_std_io2.proofs.Words.{Reader, tells, ReaderState, Takes, Option, take-append_seam}
 use Rattle.std.proofs.Math.Seq.{take-length, take-add}
@@ -27,13 +27,7 @@ module _ {a b : ReaderState} (x : List ℕ) (told : to_come a ≡ Some (events_o
 
   -- no more bytes were taken than these
   few_in : length (event_bytes P) ≤ length x
-  few_in =
-      let (after, still, split) = left_of takes told in
-      omega (
-        arith,
-        ap length (sym (bytes-events_of x) ∙ ap event_bytes split ∙ bytes-append P after),
-        length-append (event_bytes P) (event_bytes after),
-      )
+  few_in = grind (arith, common_steps, left_of takes told, bytes-events_of x, bytes-append P, length-append (event_bytes P))
 
 module _ {X : Type 0} {R : Reader X} {old new : X} {buf buf' : List ℕ} {filled : ℕ} (bytes : List ℕ)
     (told : to_come (tells R old) ≡ Some (events_of bytes)) where
@@ -73,13 +67,8 @@ some_then first next = (first.0 ++ next.0, takes_then first.1 next.1)
 -- one piece, and then the next
 pub adds_more : (bytes : List ℕ) (k n m check sum next : ℕ) {o p : Option (List Event)} → AddsPiece bytes k check (Some sum) o
     → AddsPiece (drop k bytes) n sum (Some next) p → m ≡ k + n → AddsPiece bytes m check (Some next) p
-adds_more bytes k n m check sum next {p = p} first more is = subst (λ l. AddsPiece bytes l check (Some next) p) (sym is) (
-  omega (arith, first.0, more.0, length-drop k bytes),
-  more.1 ∙ ap (λ s. fold add_number s (take n (drop k bytes))) first.1
-      ∙ sym (fold-append add_number check (take k bytes) (take n (drop k bytes)))
-      ∙ ap (λ l. fold add_number check l) (sym (take-add k n bytes)),
-  more.2 ∙ ap (λ l. Some (events_of l)) (drop-drop n k bytes),
-)
+adds_more bytes k n m check sum next {p = p} first more is =
+    grind (arith, common_steps, length-drop k bytes, fold-append add_number check, take-add k n bytes, drop-drop n k bytes)
 
 module _ (bytes head p rest : List ℕ) (is : head ≡ take 8 bytes) (begins : bytes ≡ record_of p ++ rest) where
   -- what is at the front of a record
@@ -99,24 +88,20 @@ none_short bytes few = λ p rest small is. omega (arith, few, ap length is, leng
 module _ (bytes head : List ℕ) (len : ℕ) (is : head ≡ take 8 bytes) (says : len ≡ from_le_bytes w32 (take 4 head)) where
   -- nor is a header with fewer bytes behind it than it says
   pub none_behind : length (drop 8 bytes) < len → HasNoRecord bytes
-  none_behind few = λ p rest small begins. omega (
-    arith,
-    few,
-    says,
-    head_len bytes head p rest is begins small,
-    ap length (behind_head bytes head p rest is begins),
-    length-append p rest,
-  )
+  none_behind few = λ p rest small begins.
+      grind (arith, common_steps, head_len bytes head p rest is begins small, behind_head bytes head p rest is begins, length-append p rest)
 
   module _ (check : ℕ) (sum : check ≡ fold add_number (start len) (take len (drop 8 bytes))) where
     -- nor one whose check is another
     pub none_checked : (head ≡ header len check → ⊥) → HasNoRecord bytes
-    none_checked other = λ p rest small begins.
-        let long : len ≡ length p = says ∙ head_len bytes head p rest is begins small in
-        let same : take len (drop 8 bytes) ≡ p =
-        ap₂ take long (behind_head bytes head p rest is begins) ∙ take-append_seam p rest in
-        let checks : check ≡ check_of p = sum ∙ ap₂ (λ n l. fold add_number (start n) l) long same in
-        other (head_is bytes head p rest is begins ∙ sym (ap₂ header long checks))
+    none_checked other = λ p rest small begins. grind (
+      arith,
+      common_steps,
+      head_len bytes head p rest is begins small,
+      behind_head bytes head p rest is begins,
+      head_is bytes head p rest is begins,
+      take-append_seam p rest,
+    )
 
     -- and else it is one
     pub one_checked : {o : Option (List Event)} (n : ℕ) → len < 2 ^ 32 → len ≤ length (drop 8 bytes) → head ≡ header len check → n ≡ 8 + len

@@ -1,7 +1,7 @@
 -- A list of records is read back from its bytes, also from a front of them.
 use Rattle.no_std_io2.proofs.Words.{◌≡◌, ℕ, ◌+◌, ◌<◌, ◌≤◌, ◌^◌, List, [], ◌∷◌, ◌++◌, length, take, drop, refl, sym, ap, subst, ◌∙◌}
 use Rattle.no_std_io2.proofs.Words.{arith, append_assoc, append-nil, length-append, length-drop, take-append_seam, drop-append_seam}
-use Rattle.no_std_io2.proofs.Words.{take-append-le}
+use Rattle.no_std_io2.proofs.Words.{common_steps, take-append-le}
 use Rattle.no_std_io2.proofs.Words.{take-append-drop, cases_lt, inl, inr, nil_from_length}
 use Rattle.std.proofs.{Math.Seq.{drop-nil}, lemmas.List.{drop-drop}}
 use Rattle.std.proofs.lemmas.{List.{append_cancel_left}, Nat.{from_le_bytes-to_le_bytes_4}}
@@ -34,16 +34,11 @@ same_record p q rest more small small' e =
 -- no front of a record that is cut short has a record
 pub cut_short : (p front lost : List ℕ) → length p < 2 ^ 32 → record_of p ≡ front ++ lost → 0 < length lost → HasNoRecord front
 cut_short p front lost small is some = λ q rest short same.
-    let whole : record_of p ++ [] ≡ record_of q ++ (rest ++ lost) =
-    append-nil (record_of p) ∙ is ∙ ap (λ l. l ++ lost) same ∙ append_assoc (record_of q) rest lost in
-    omega (arith, some, ap length (same_record p q [] (rest ++ lost) small short whole).1, length-append rest lost)
+    grind (arith, common_steps, same_record p q [] (rest ++ lost), append-nil, append_assoc, length-append)
 
 -- a list whose front is c, and that is no longer than a, is a front of a
 pub front_of : (a b c d : List ℕ) → a ++ b ≡ c ++ d → length c ≤ length a → a ≡ c ++ drop (length c) a
-front_of a b c d same le =
-    let is : take (length c) a ≡ c =
-    sym (take-append-le (length c) a b le) ∙ ap (take (length c)) same ∙ take-append_seam c d in
-    sym (take-append-drop (length c) a) ∙ ap (λ l. l ++ drop (length c) a) is
+front_of a b c d same le = grind (arith, common_steps, take-append-le (length c) a b, take-append_seam c d, take-append-drop (length c) a)
 
 -- records, and then others
 pub log-append : (ps qs : List (List ℕ)) → log_of (ps ++ qs) ≡ log_of ps ++ log_of qs

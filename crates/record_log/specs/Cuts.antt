@@ -32,9 +32,19 @@ abbrev pub StandsAtEnd : {W : Type 0} {S : ℕ} → (W → List ℕ) → (W → 
 StandsAtEnd content place before tail l = AreShort before × (log_held l ≡ [])
     × (content (log_inner l) ≡ log_of before ++ tail) × (place (log_inner l) ≡ length (log_of before))
 
--- The content has exactly these records: those before, the confirmed ones, and none or some first ones of those that were appended since;
--- if the old bytes behind it complete no record by chance.
-abbrev pub Survives : List (List ℕ) → List ℕ → Counted → List ℕ → Type 0
-Survives before tail c content = NoneByChance (drop (length (log_of c.0)) tail) c.1
-    → (kept : List (List ℕ)) × (gone : List (List ℕ)) × (rest : List ℕ)
+-- The content has exactly these records: those before, the confirmed ones, and none or some first ones of those that were appended since.
+abbrev pub HasConfirmed : List (List ℕ) → Counted → List ℕ → Type 0
+HasConfirmed before c content = (kept : List (List ℕ)) × (gone : List (List ℕ)) × (rest : List ℕ)
     × (c.1 ≡ kept ++ gone) × HasRecords content (before ++ (c.0 ++ kept)) rest
+
+-- So it has, if the old bytes behind it complete no record by chance.
+abbrev pub Survives : List (List ℕ) → List ℕ → Counted → List ℕ → Type 0
+Survives before tail c content =
+    (AreShort c.1 → NoneByChance (drop (length (log_of c.0)) tail) c.1) → HasConfirmed before c content
+
+-- Calls led to c, the power was cut, the log was opened again, calls led to d, and the power was cut again. The content has the records
+-- before, the confirmed ones of c and some first ones of the others, and then the same of d. The first cut left `rest` behind them.
+abbrev pub SurvivesTwice : List (List ℕ) → List ℕ → Counted → Counted → List ℕ → Type 0
+SurvivesTwice before tail c d content = (AreShort c.1 → NoneByChance (drop (length (log_of c.0)) tail) c.1)
+    → (kept : List (List ℕ)) × (gone : List (List ℕ)) × (rest : List ℕ)
+    × (c.1 ≡ kept ++ gone) × Survives (before ++ (c.0 ++ kept)) rest d content

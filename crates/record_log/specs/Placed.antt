@@ -1,6 +1,6 @@
 -- Writers that put their bytes into a content, at a place.
-use Rattle.std.specs.Prelude.{◌≡◌, ◌⊎◌, ℕ, ◌+◌, ◌≤◌, List, [], ◌++◌, length, take, drop, Ok, Err}
-use Rattle.no_std_io2.specs.{Calls.{WriteCall, Wrote, WroteAll, Flushed}, Moves.{IsFront}, Writers.{Writer}}
+use Rattle.std.specs.Prelude.{◌≡◌, ◌⊎◌, ℕ, ◌+◌, ◌≤◌, List, [], ◌∷◌, length, take, Ok, Err}
+use Rattle.no_std_io2.specs.{declared.io.Error.{Error}, Calls.{WriteCall, Wrote, WroteAll, Flushed}, Writers.{Writer}}
 use Rattle.no_std_io2.specs.{inner.Cursor.{put_at}, inner.Writers.{CallOf}}
 
 -- A content became another: x was put at a place, with zeros before it if the content ended before the place. An x of no byte may leave
@@ -23,12 +23,20 @@ abbrev pub PutsAt : {W : Type 0} → Writer W → (W → List ℕ) → (W → �
 PutsAt {W} I content place = (old new : W) (call : WriteCall) → CallOf I old call new
     → PutsCall (content old) (place old) call (content new) (place new)
 
--- Of the bytes that were accepted, `held` are still in a buffer, and the others are in the content, behind `base`, up to the place. Behind
--- the place are some first bytes of `held`, of a write that failed, and then the old bytes, of which `tail` began behind `base`.
-pub record Stands (base accepted tail now : List ℕ) (place : ℕ) (held : List ℕ) : Type 0 where
-  pub out : List ℕ
-  pub torn : List ℕ
-  pub all : accepted ≡ out ++ held
-  pub front : IsFront torn held
-  pub content : now ≡ base ++ (out ++ (torn ++ drop (length out + length torn) tail))
-  pub stands : place ≡ length base + length out
+-- a `write_all` of this writer that fails goes no further than its bytes
+abbrev pub GoesNoFurther : {W : Type 0} → Writer W → (W → ℕ) → Type 0
+GoesNoFurther {W} I place =
+    (old new : W) (x : List ℕ) (e : Error) → CallOf I old (WroteAll x (Err e)) new → place new ≤ place old + length x
+
+-- a content once the bytes that a buffer holds are put at a place of it
+abbrev pub held_over : List ℕ → ℕ → List ℕ → List ℕ
+held_over content place [] = content
+held_over content place (b ∷ held) = put_at place (b ∷ held) content
+
+-- the content of a writer B with a buffer, by that of its inner writer: with the held bytes at their place
+abbrev pub content_through : {W B : Type 0} → (B → W) → (B → List ℕ) → (W → List ℕ) → (W → ℕ) → B → List ℕ
+content_through inner buffer content place b = held_over (content (inner b)) (place (inner b)) (buffer b)
+
+-- and its place, which is behind them
+abbrev pub place_through : {W B : Type 0} → (B → W) → (B → List ℕ) → (W → ℕ) → B → ℕ
+place_through inner buffer place b = place (inner b) + length (buffer b)

@@ -31,6 +31,15 @@ impl Disk {
         }
     }
 
+    /// Returns the disk with its power back: writes begin at `place`, and `left` bytes fit before the next cut.
+    pub fn restart(self, place: usize, left: usize) -> Disk
+        requires { place ≤ length (disk_content self) }
+        ensures content { disk_content result ≡ disk_content self }
+        ensures place { disk_place result ≡ place }
+    {
+        Disk::new(self.content, place, left)
+    }
+
     /// Returns the content, which is what is left after the cut.
     pub fn content(&self) -> &[u8]
         ensures { result.now ≡ disk_content self.now }

@@ -17,12 +17,17 @@ mod placed;
 mod records;
 #[cfg(test)]
 mod tests;
+mod twice;
 mod walk;
 
 pub use cuts::{Step, run_log};
 pub use disk::Disk;
 pub use log::RecordLog;
 pub use opening::{Opened, open};
-pub use placed::{disk_is_placed, slices_are_placed, vectors_are_placed};
+pub use placed::{
+    buffers_are_placed, disk_is_placed, line_buffers_are_placed, slices_are_placed,
+    vectors_are_placed,
+};
 pub use records::{HEADER, first_record};
+pub use twice::{reopen, run_twice};
 pub use walk::{Record, Records};

@@ -65,6 +65,14 @@ impl<W: Write + Drop, const S: usize> RecordLog<W, S> {
         self.inner.flush()
     }
 
+    /// Returns the writer below, as a power cut leaves it: the held bytes are lost.
+    pub fn cut(self) -> W
+        ensures { result ≡ log_inner self }
+    {
+        let RecordLog { inner } = self;
+        inner.into_parts().0
+    }
+
     /// Sends the held bytes and returns the writer below, which is not flushed. If nothing is held, it makes no call.
     ///
     /// # Errors

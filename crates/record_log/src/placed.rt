@@ -1,11 +1,15 @@
-// Which streams put their bytes at a place: cursors over vectors, slices, arrays and boxed slices, and a `Disk`.
+// Which streams put their bytes at a place: cursors over vectors, slices, arrays and boxed slices, a `Disk`, and a
+// buffer in front of a stream that does.
 ghost use Rattle.std.specs.Box.{boxed_slice_items};
 ghost use Rattle.no_std_io2.specs.Cursor.{cursor_inner, cursor_position};
-ghost use Rattle.record_log.specs.Placed.{PutsAt};
+ghost use Rattle.std.specs.Prelude.{ℕ, List};
+ghost use Rattle.no_std_io2.specs.BufWriter.{writer_inner, writer_buffer};
+ghost use Rattle.no_std_io2.specs.LineWriter.{line_inner, line_buffer};
+ghost use Rattle.record_log.specs.Placed.{PutsAt, GoesNoFurther, content_through, place_through};
 ghost use Rattle.record_log.specs.Disk.{disk_content, disk_place};
 
 use crate::disk::Disk;
-use no_std_io2::io::{Cursor, Write};
+use no_std_io2::io::{BufWriter, Cursor, LineWriter, Write};
 use std::alloc::Allocator;
 use std::boxed::BoxedSlice;
 
@@ -38,4 +42,23 @@ pub fn disk_is_placed(disk: &Disk) -> usize
     ensures { PutsAt ⟦<Disk as Write>⟧ disk_content disk_place }
 {
     disk.content().len()
+}
+
+/// Through a buffer too: its content is that of the stream with the held bytes at their place, and its place is behind
+/// them. After a failed call the stream may have some first held bytes behind its place, over which the others go.
+pub fn buffers_are_placed<W: Write + Drop, const S: usize>(buffer: &BufWriter<W, S>) -> usize
+    ensures { (content : W → List ℕ) (place : W → ℕ) → PutsAt W.Write content place
+        → PutsAt ⟦<BufWriter<W, S> as Write>⟧ (content_through writer_inner writer_buffer content place)
+        (place_through writer_inner writer_buffer place) }
+{
+    buffer.buffer().len()
+}
+
+/// And through a buffer that is sent line by line, if a failed `write_all` of the stream goes no further than its bytes.
+pub fn line_buffers_are_placed<W: Write + Drop, const S: usize>(buffer: &LineWriter<W, S>) -> usize
+    ensures { (content : W → List ℕ) (place : W → ℕ) → PutsAt W.Write content place → GoesNoFurther W.Write place
+        → PutsAt ⟦<LineWriter<W, S> as Write>⟧ (content_through line_inner line_buffer content place)
+        (place_through line_inner line_buffer place) }
+{
+    buffer.buffer().len()
 }

@@ -1,8 +1,7 @@
 // Calls on a disk whose power is cut at each byte, once and twice, and what `open` and `Records` find then. `run_log` is
 // proved for every disk and every list of calls; these would show a `Records` or an `open` that finds too little.
-ghost use Rattle.std.specs.Prelude.{◌≡◌, ◌≤◌, length, IfSome};
 
-use crate::{Disk, RecordLog, Records, Step, open, run_log};
+use crate::{Disk, RecordLog, Records, Step, open, reopen, run_log};
 use no_std_io2::io::Cursor;
 use std::alloc::{AllocError, Global};
 use std::test::Fail;
@@ -10,38 +9,8 @@ use std::test::Fail;
 // Five records, of 58 bytes.
 const PAYLOADS: [&[u8]; 5] = [b"", b"one", b"twenty-two", b"3", b"four"];
 
-// Makes these calls at a place of a disk that takes so many bytes more, and returns what the disk then has. The held
-// bytes are lost.
-fn cut_at(
-    alloc: Global,
-    content: &[u8],
-    place: usize,
-    left: usize,
-    steps: &[Step<'_>],
-    done: &mut [bool],
-) -> Result<Vec<u8>, AllocError>
-    requires within { place ≤ length content.now }
-    requires one_each { length done.old ≡ length steps.now }
-{
-    let mut disk = Vec::new(alloc);
-    disk.extend_from_slice(content)?;
-    let mut log = RecordLog::<Disk, 32>::new(Disk::new(disk, place, left));
-    run_log(&mut log, steps, done);
-    let mut rest = Vec::new(alloc);
-    rest.extend_from_slice(log.get_ref().content())?;
-    Ok(rest)
-}
-
-// Writes all five records over a content of which the log has `place` bytes. Returns what is then there, and how many
-// records a `sync` confirmed.
-fn write_five(
-    alloc: Global,
-    content: &[u8],
-    place: usize,
-    left: usize,
-) -> Result<(Vec<u8>, usize), AllocError>
-    requires within { place ≤ length content.now }
-{
+// Writes all five records by a log, cuts its power, and returns its disk and how many records a `sync` confirmed.
+fn write_five(log: RecordLog<Disk, 32>) -> (Disk, usize) {
     let [a, b, c, d, e] = PAYLOADS;
     let steps = [
         Step::Append(a),
@@ -54,14 +23,15 @@ fn write_five(
         Step::Sync,
     ];
     let mut done = [false; 8];
-    let after = cut_at(alloc, content, place, left, &steps, &mut done)?;
+    let mut log = log;
+    run_log(&mut log, &steps, &mut done);
     let confirmed = match (done[2], done[5], done[7]) {
         (_, _, true) => 5,
         (_, true, _) => 4,
         (true, _, _) => 2,
         _ => 0,
     };
-    Ok((after, confirmed))
+    (log.cut(), confirmed)
 }
 
 // Returns how many records a content has, if they are the first of these payloads.
@@ -81,20 +51,6 @@ fn count(content: &[u8], payloads: &[&[u8]]) -> Option<usize> {
     }
 }
 
-// Returns where `open` says that the records end.
-fn end_of(content: &[u8]) -> Option<usize>
-    ensures { IfSome result (λ end. end ≤ length content.now) }
-{
-    let mut room = [0u8; 3];
-    let mut cursor = Cursor::new(content);
-    let opened = open(&mut cursor, &mut room).ok()?;
-    let end = opened.end as usize;
-    if end > content.len() || opened.torn as usize != content.len() - end {
-        return None;
-    }
-    Some(end)
-}
-
 // Cuts the power twice, at these bytes, and returns whether both times what is left is right.
 fn is_right(
     alloc: Global,
@@ -102,18 +58,20 @@ fn is_right(
     first: usize,
     second: usize,
 ) -> Result<bool, AllocError> {
-    let (once, confirmed) = write_five(alloc, content, 0, first)?;
-    let Some(kept) = count(&once, &PAYLOADS) else {
+    let mut disk = Vec::new(alloc);
+    disk.extend_from_slice(content)?;
+    let (once, confirmed) = write_five(RecordLog::new(Disk::new(disk, 0, first)));
+    let Some(kept) = count(once.content(), &PAYLOADS) else {
         return Ok(false);
     };
-    let Some(end) = end_of(&once) else {
+    let Ok(log) = reopen(RecordLog::new(once), second) else {
         return Ok(false);
     };
-    let (twice, more) = write_five(alloc, &once, end, second)?;
+    let (twice, more) = write_five(log);
     let mut wanted = Vec::new(alloc);
     wanted.extend_from_slice(&PAYLOADS[..kept.min(5)])?;
     wanted.extend_from_slice(&PAYLOADS)?;
-    let Some(all) = count(&twice, &wanted) else {
+    let Some(all) = count(twice.content(), &wanted) else {
         return Ok(false);
     };
     Ok(confirmed <= kept && kept <= 5 && more <= all.saturating_sub(kept) && kept <= all)
@@ -158,6 +116,7 @@ fn also_over_old_bytes_and_on_a_full_disk(rt: HostRuntime) -> Result<(), Fail> {
 #[test]
 fn zeros_have_no_record(rt: HostRuntime) -> Result<(), Fail> {
     assert!(rt; count(&[0; 64], &PAYLOADS) == Some(0));
-    assert!(rt; end_of(&[0; 64]) == Some(0));
+    let opened = open(&mut Cursor::new([0; 64].as_slice()), &mut [0; 3])?;
+    assert!(rt; opened.end == 0 && opened.torn == 64);
     Ok(())
 }

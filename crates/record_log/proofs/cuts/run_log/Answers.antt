@@ -1,9 +1,15 @@
--- The prover does not find that one more call keeps the records, nor what these say of the content.
+-- The prover does not find what no call keeps, that one more call keeps the records, nor what these say of the content.
 use Rattle.no_std_io2.proofs.Words.{[], arith, length-take, take, get_or, sym, ap₂, subst, ◌∙◌, common_steps}
 use Rattle.std.proofs.lemmas.List.{take_more_set, take_more, take_all}
 use Rattle.record_log.specs.{Cuts.{outcome, Survives}, Log.{log_inner}, declared.cuts.Step.TheVariants.{Append}}
-use Rattle.record_log.proofs.CutLemmas.{Keeps, keeps_more, keeps_survives, outcome-more}
+use Rattle.record_log.proofs.CutLemmas.{Keeps, keeps_none, keeps_more, keeps_survives, outcome-more}
 use Rattle.record_log.proofs.cuts.run_log.Goals as goal
+
+pub steps-init : goal.steps-init
+steps-init g c = record {
+  one_each = omega arith;
+  keeps = λ content place before tail puts at. keeps_none content place c.args.log.now at;
+}
 
 pub steps-preserved : goal.steps-preserved
 steps-preserved g c =
