@@ -6,3 +6,4 @@ mod LoopCounts
 mod AtLimit
 mod ExactCounts
 mod RoomLemmas
+pub mod FaultyPuts

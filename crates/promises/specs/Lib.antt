@@ -3,3 +3,4 @@ pub mod Loops
 pub mod Fails
 pub mod Counts
 pub mod Patience
+pub mod Survival

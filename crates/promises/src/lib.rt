@@ -20,6 +20,7 @@ mod reads;
 mod rooms;
 mod runs;
 mod steady;
+mod survival;
 mod system;
 mod towers;
 mod values;
@@ -43,3 +44,4 @@ pub use reads::{
     goes_to_its_target, moves_inside_its_buffer,
 };
 pub use runs::accepts_by_its_replies;
+pub use survival::survives_its_cut;
