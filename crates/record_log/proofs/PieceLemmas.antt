@@ -11,9 +11,11 @@ use Rattle.no_std_io2.specs.{declared.io.Error.{Error}, inner.Events.{EndsInFaul
 use Rattle.no_std_io2.proofs.{KnownBytes.{full_known}, TakesLemmas.{left_of, HasNoFault-front, HasNoFault-behind, HasNoFault-events_of}}
 use Rattle.no_std_io2.proofs.TakesLemmas.{bytes-append, bytes-events_of, events_of-append}
 use Rattle.std.specs.Int.{w32, from_le_bytes}
-use Rattle.no_std_io2.proofs.TakesLemmas.{takes_then}
+use Rattle.no_std_io2.proofs.Words.{Ok, true, false, Bool}
+use Rattle.no_std_io2.proofs.ReadsLemmas.{fetches_none, fetches_then, fetches_reads, fetches_until, fetches_end, fetches_fault}
+use Rattle.no_std_io2.specs.Reads.{Fetches}
 use Rattle.record_log.specs.Records.{add_number, start, header, check_of, record_of, log_of, AreShort, HasNoRecord}
-use Rattle.record_log.specs.Opening.{GivesPiece, AddsPiece, PassesRecord, PassesRecords, TakesSome}
+use Rattle.record_log.specs.Opening.{GivesPiece, AddsPiece, PassesRecord, PassesRecords, FetchesSome}
 use Rattle.record_log.proofs.RecordLemmas.{told_record, log-append, AreShort-append}
 
 module _ {a b : ReaderState} (x : List ℕ) (told : to_come a ≡ Some (events_of x)) {P : List Event} (takes : Takes a P b) where
@@ -60,9 +62,34 @@ module _ {X : Type 0} {R : Reader X} {old new : X} {buf buf' : List ℕ} {filled
     | inr le ↦ absurd (omega (arith, less, (enough reply law same le).0))
   ]
 
--- one call after another took some events
-pub some_then : {a b c : ReaderState} → TakesSome a b → TakesSome b c → TakesSome a c
-some_then first next = (first.0 ++ next.0, takes_then first.1 next.1)
+module _ {X : Type 0} {R : Reader X} where
+  -- nothing was read yet
+  pub some_none : {a b : X} → b ≡ a → FetchesSome R a (Ok true) b
+  some_none same = ([], fetches_none same)
+
+  -- one read after another
+  pub some_then : {a b c : X} {how : Result Bool Error} → FetchesSome R a (Ok true) b → FetchesSome R b how c → FetchesSome R a how c
+  some_then first next = (first.0 ++ next.0, fetches_then first.1 next.1)
+
+  module _ {a b : X} {buf buf' : List ℕ} {n : ℕ} where
+    -- a `read_full` that filled a piece
+    pub some_full : {u : Unit {0}} (law : ReadFullLaw R a buf 0 (Ok u) buf' n b) → length buf ≤ n → FetchesSome R a (Ok true) b
+    some_full law full = elim law.calls.are [
+      | inl whole ↦ (_, fetches_reads whole.0 b law.calls.made)
+      | inr end ↦ absurd (omega (arith, law.counts, full, end.3.0, end.3.1))
+    ]
+
+    -- one that met the end
+    pub some_short : {u : Unit {0}} (law : ReadFullLaw R a buf 0 (Ok u) buf' n b) → n < length buf → FetchesSome R a (Ok false) b
+    some_short law few = elim law.calls.are [
+      | inl whole ↦ absurd (omega (arith, law.counts, few, whole.1))
+      | inr end ↦ (_, fetches_until (Ok false) b (λ c at room into read. fetches_end room read into.1) end law.calls.made)
+    ]
+
+    -- and one that met a fault
+    pub some_fault : {e : Error} → ReadFullLaw R a buf 0 (Err e) buf' n b → FetchesSome R a (Err e) b
+    some_fault {e} law =
+        (_, fetches_until (Err e) b (λ c at room into read. fetches_fault room read law.calls.are.0) law.calls.are.1 law.calls.made)
 
 -- one piece, and then the next
 pub adds_more : (bytes : List ℕ) (k n m check sum next : ℕ) {o p : Option (List Event)} → AddsPiece bytes k check (Some sum) o

@@ -3,7 +3,8 @@ ghost use Rattle.std.specs.Prelude.{◌≡◌, ◌+◌, ◌<◌, ◌^◌, ℕ, L
 ghost use Rattle.std.specs.Bool.{OnTrue};
 ghost use Rattle.no_std_io2.specs.Events.{events_of};
 ghost use Rattle.no_std_io2.specs.Takes.{tells, to_come};
-ghost use Rattle.record_log.specs.Opening.{TakesSome, GivesPiece, AddsPiece, PassesRecord, PassesRecords, Opens};
+ghost use Rattle.record_log.specs.Opening.{FetchesSome, FetchesAll, FetchesRecord, how_ended};
+ghost use Rattle.record_log.specs.Opening.{GivesPiece, AddsPiece, PassesRecord, PassesRecords, Opens, OpensBy};
 
 use crate::records::{HEADER, add_bytes, header, start, told_len};
 use no_std_io2::io::{Read, Result, Seek, SeekFrom};
@@ -19,7 +20,7 @@ pub struct Opened {
 
 // Fills `piece`, and returns whether there were enough bytes.
 fn read_piece<R: Read>(r: &mut R, piece: &mut [u8]) -> Result<bool>
-    ensures takes { TakesSome (tells R.Read r.old) (tells R.Read r.new) }
+    ensures fetches { FetchesSome R.Read r.old result r.new }
     ensures known { (bytes : List ℕ) → to_come (tells R.Read r.old) ≡ Some (events_of bytes)
         → IsOk result × IfOk result (λ all. GivesPiece bytes all piece.new (to_come (tells R.Read r.new))) }
     ensures spends { IfOk result (λ all. OnTrue all (0 < length piece.old → R.turns r.new < R.turns r.old)) }
@@ -34,7 +35,7 @@ fn read_piece<R: Read>(r: &mut R, piece: &mut [u8]) -> Result<bool>
 
 // The same, and returns the check after these bytes if there were enough.
 fn add_piece<R: Read>(r: &mut R, piece: &mut [u8], check: u32) -> Result<Option<u32>>
-    ensures takes { TakesSome (tells R.Read r.old) (tells R.Read r.new) }
+    ensures fetches { FetchesSome R.Read r.old (how_ended result) r.new }
     ensures known { (bytes : List ℕ) → to_come (tells R.Read r.old) ≡ Some (events_of bytes)
         → IsOk result × IfOk result (λ o. AddsPiece bytes (length piece.old) check o (to_come (tells R.Read r.new))) }
 {
@@ -47,7 +48,7 @@ fn add_piece<R: Read>(r: &mut R, piece: &mut [u8], check: u32) -> Result<Option<
 // Passes a payload of this length piece by piece, and returns the check after it if there were enough bytes.
 fn pass_payload<R: Read>(r: &mut R, room: &mut [u8], len: u32, check: u32) -> Result<Option<u32>>
     requires some_room { 0 < length room.old }
-    ensures takes { TakesSome (tells R.Read r.old) (tells R.Read r.new) }
+    ensures fetches { FetchesSome R.Read r.old (how_ended result) r.new }
     ensures known { (bytes : List ℕ) → to_come (tells R.Read r.old) ≡ Some (events_of bytes)
         → IsOk result × IfOk result (λ o. AddsPiece bytes len check o (to_come (tells R.Read r.new))) }
 {
@@ -67,7 +68,7 @@ fn pass_payload<R: Read>(r: &mut R, room: &mut [u8], len: u32, check: u32) -> Re
 // Passes the next record, if one stands whole there, and returns its length with its header.
 fn pass_record<R: Read>(r: &mut R, room: &mut [u8]) -> Result<Option<u64>>
     requires some_room { 0 < length room.old }
-    ensures takes { TakesSome (tells R.Read r.old) (tells R.Read r.new) }
+    ensures fetches { FetchesRecord R.Read r.old result r.new }
     ensures known { (bytes : List ℕ) → to_come (tells R.Read r.old) ≡ Some (events_of bytes)
         → IsOk result × IfOk result (λ o. PassesRecord bytes o (to_come (tells R.Read r.new))) }
     ensures spends { IfOk result (λ o. IfSome o (λ _. R.turns r.new < R.turns r.old)) }
@@ -89,7 +90,7 @@ fn pass_record<R: Read>(r: &mut R, room: &mut [u8]) -> Result<Option<u64>>
 // Passes all whole records that come next, and returns the number of their bytes.
 fn pass_records<R: Read>(r: &mut R, room: &mut [u8]) -> Result<u64>
     requires some_room { 0 < length room.old }
-    ensures takes { TakesSome (tells R.Read r.old) (tells R.Read r.new) }
+    ensures fetches { FetchesAll R.Read r.old result r.new }
     ensures known { (bytes : List ℕ) → to_come (tells R.Read r.old) ≡ Some (events_of bytes) → length bytes < 2 ^ 64
         → IsOk result × IfOk result (PassesRecords bytes) }
 {
@@ -112,6 +113,8 @@ pub fn open<F: Read + Seek>(file: &mut F, room: &mut [u8]) -> Result<Opened>
     requires some_room { 0 < length room.old }
     ensures opens { IfSome (F.store file.old) (λ s. IsSomeAnd (F.store file.new) (λ t. (t.content ≡ s.content)
         × IsOk result × IfOk result (λ o. Opens s.content o.end o.torn × (t.position ≡ o.end)))) }
+    // Of any file it makes these calls, and no others. A fault is no end of the records.
+    ensures calls { OpensBy F.Seek F.Read file.old result file.new }
 {
     file.seek(SeekFrom::Start(0))?;
     let end = pass_records(file, room)?;

@@ -1,13 +1,15 @@
 -- The prover does not join one piece to those before it.
-use Rattle.no_std_io2.proofs.Words.{arith, length, length-append, length-take, ◌-◌, take, drop}
+use Rattle.no_std_io2.proofs.Words.{arith, length, length-append, length-take, ◌-◌, take, drop, returned_err}
 use Rattle.record_log.proofs.PieceLemmas.{some_then, adds_more}
 use Rattle.record_log.proofs.opening.pass_payload.Goals as goal
 
-pub returns-in_err-next-clause-takes : goal.returns-in_err-next-clause-takes
-returns-in_err-next-clause-takes g c = some_then c.pieces.invariant.takes c.add_piece.ensures.takes
+pub returns-in_err-next-clause-fetches : goal.returns-in_err-next-clause-fetches
+returns-in_err-next-clause-fetches g c =
+    rw (returned_err c.from_residual.ensures) (some_then c.pieces.invariant.fetches c.in_err-next.ensures.fetches)
 
-pub returns-in_default-clause-takes : goal.returns-in_default-clause-takes
-returns-in_default-clause-takes g c = some_then c.pieces.invariant.takes c.add_piece.ensures.takes
+pub returns-in_default-clause-fetches : goal.returns-in_default-clause-fetches
+returns-in_default-clause-fetches g c =
+    some_then c.pieces.invariant.fetches (rw c.in_default.is at c.in_ok-next.ensures.fetches)
 
 pub pieces-preserved : goal.pieces-preserved
 pieces-preserved g c =
@@ -24,7 +26,7 @@ pieces-preserved g c =
         length-take n room,
       );
       part = omega (arith, c.pieces.invariant.part);
-      takes = some_then c.pieces.invariant.takes c.add_piece.ensures.takes;
+      fetches = some_then c.pieces.invariant.fetches (rw c.in-Some.is at c.in_ok-next.ensures.fetches);
       known = λ bytes told.
           let first = c.pieces.invariant.known bytes told in
           let next = rw c.in-Some.is at (c.in_ok-next.ensures.known (drop k bytes) first.2).1 in

@@ -1,7 +1,7 @@
 -- The bytes so far are in the check, and the others are to come.
-use Rattle.no_std_io2.proofs.Words.{◌≡◌, ℕ, ◌-◌, ◌<◌, ◌≤◌, List, length, Some, events_of, to_come, tells}
+use Rattle.no_std_io2.proofs.Words.{◌≡◌, ℕ, ◌-◌, ◌<◌, ◌≤◌, List, length, Ok, true, Some, events_of, to_come, tells}
 use Rattle.no_std_io2.proofs.TakesLemmas.{reader}
-use Rattle.record_log.specs.Opening.{AddsPiece, TakesSome}
+use Rattle.record_log.specs.Opening.{AddsPiece, FetchesSome}
 use Rattle.record_log.proofs.opening.pass_payload.Given as goal
 
 abbrev pub invariant-pieces : goal.invariant-pieces
@@ -10,7 +10,7 @@ invariant-pieces g l =
     record {
       some_room : 0 < length l.room;
       part : l.left ≤ l.len;
-      takes : TakesSome (tells R l.fn.r) (tells R l.r);
+      fetches : FetchesSome R l.fn.r (Ok true) l.r;
       known : (bytes : List ℕ) → to_come (tells R l.fn.r) ≡ Some (events_of bytes)
           → AddsPiece bytes (l.len - l.left) l.check (Some l.sum) (to_come (tells R l.r));
     }

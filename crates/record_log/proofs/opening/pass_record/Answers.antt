@@ -1,21 +1,29 @@
 -- The prover does not find that no record begins with other bytes.
-use Rattle.no_std_io2.proofs.Words.{◌≡◌, refl, sym, ap, ◌∙◌, arith, common_steps, take, drop, Some, events_of}
+use Rattle.no_std_io2.proofs.Words.{◌≡◌, refl, sym, ap, ◌∙◌, arith, common_steps, take, drop, Some, events_of, false, returned_err, true}
 use Rattle.std.specs.List.{fold}
 use Rattle.record_log.specs.Records.{add_number}
 use Rattle.record_log.proofs.PieceLemmas.{some_then, none_behind, none_checked, one_checked}
 use Rattle.record_log.proofs.opening.pass_record.Goals as goal
 
-pub returns-in_err-check-clause-takes : goal.returns-in_err-check-clause-takes
-returns-in_err-check-clause-takes g c = some_then c.read_piece.ensures.takes c.pass_payload.ensures.takes
+pub returns-in_err-check-clause-fetches : goal.returns-in_err-check-clause-fetches
+returns-in_err-check-clause-fetches g c = rw (returned_err c.from_residual-in_err-check.ensures)
+    (some_then (rw c.if-not-branch.false at c.in_ok-read_piece.ensures.fetches) c.in_err-check.ensures.fetches)
 
-pub returns-in_default-clause-takes : goal.returns-in_default-clause-takes
-returns-in_default-clause-takes g c = some_then c.read_piece.ensures.takes c.pass_payload.ensures.takes
+pub returns-in_default-clause-fetches : goal.returns-in_default-clause-fetches
+returns-in_default-clause-fetches g c = (
+  false,
+  some_then (rw c.if-not-branch.false at c.in_ok-read_piece.ensures.fetches) (rw c.in_default.is at c.in_ok-check.ensures.fetches),
+)
 
-pub returns-then-ne-clause-takes : goal.returns-then-ne-clause-takes
-returns-then-ne-clause-takes g c = some_then c.read_piece.ensures.takes c.pass_payload.ensures.takes
+pub returns-then-ne-clause-fetches : goal.returns-then-ne-clause-fetches
+returns-then-ne-clause-fetches g c = (
+  true,
+  some_then (rw c.if-not-branch.false at c.in_ok-read_piece.ensures.fetches) (rw c.in-Some.is at c.in_ok-check.ensures.fetches),
+)
 
-pub returns-clause-takes : goal.returns-clause-takes
-returns-clause-takes g c = some_then c.read_piece.ensures.takes c.pass_payload.ensures.takes
+pub returns-clause-fetches : goal.returns-clause-fetches
+returns-clause-fetches g c =
+    some_then (rw c.if-not-branch.false at c.in_ok-read_piece.ensures.fetches) (rw c.in-Some.is at c.in_ok-check.ensures.fetches)
 
 pub returns-in_default-clause-known : goal.returns-in_default-clause-known
 returns-in_default-clause-known g c = λ bytes told.
