@@ -13,13 +13,17 @@ abbrev pub WritesChunkHeader : {W : Type 0} → Writer W → ℕ → ℕ → W �
 WritesChunkHeader {W} I kind len old reply new = ((e : Error) × (reply ≡ Err e) × WriteAllOf I old (big_bytes 2 kind) (Err e) new)
     ⊎ ((mid : W) × WriteAllOf I old (big_bytes 2 kind) (Ok tt) mid × WriteAllOf I mid (big_bytes 4 len) reply new)
 
--- this kind, with a length that was read behind it
-abbrev with_kind : ℕ → Result ℕ Error → Result (ℕ × ℕ) Error
-with_kind kind (Ok len) = Ok (kind, len)
-with_kind kind (Err e) = Err e
+-- this number, with one that was read behind it
+abbrev with_first : {A B : Type 0} → A → Result B Error → Result (A × B) Error
+with_first a (Ok b) = Ok (a, b)
+with_first a (Err e) = Err e
 
--- a header was read: the kind, and behind it the length; or the read of the kind failed
+-- two numbers were read: one of n bytes, and behind it one of m bytes; or the read of the first failed
+abbrev pub ReadsTwo : {V A B : Type 0} → Reader V → (List ℕ → A) → ℕ → (List ℕ → B) → ℕ → V → Result (A × B) Error → V → Type 0
+ReadsTwo {V} {A} {B} R first n second m old reply new = ((e : Error) × (reply ≡ Err e) × ReadsValue R first n old (Err e) new)
+    ⊎ ((a : A) × (mid : V) × (b : Result B Error) × ReadsValue R first n old (Ok a) mid × ReadsValue R second m mid b new
+    × (reply ≡ with_first a b))
+
+-- a header was read: the kind, and behind it the length
 abbrev pub ReadsChunkHeader : {V : Type 0} → Reader V → V → Result (ℕ × ℕ) Error → V → Type 0
-ReadsChunkHeader {V} R old reply new = ((e : Error) × (reply ≡ Err e) × ReadsValue R (big_number 2) 2 old (Err e) new)
-    ⊎ ((kind : ℕ) × (mid : V) × (len : Result ℕ Error) × ReadsValue R (big_number 2) 2 old (Ok kind) mid
-    × ReadsValue R (big_number 4) 4 mid len new × (reply ≡ with_kind kind len))
+ReadsChunkHeader R = ReadsTwo R (big_number 2) 2 (big_number 4) 4

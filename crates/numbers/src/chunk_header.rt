@@ -1,9 +1,10 @@
 //! Callers: headers of chunks, the kind in two bytes and the length in four, big-endian. What was written is read back. And
 //! steps, which have a sign.
-ghost use Rattle.byteorder.specs.Endian.{big_bytes};
+ghost use Rattle.byteorder.specs.Endian.{big_bytes, big_number};
 ghost use Rattle.std.specs.Int.{cast_unsigned, w16};
 ghost use Rattle.std.specs.Prelude.{◌≡◌, ◌<◌, ◌^◌, ◌++◌, ◌∷◌, ℕ, List, IfOk, Ok, Some};
-ghost use Rattle.numbers.specs.ChunkHeaders.{chunk_header, ReadsChunkHeader, WritesChunkHeader};
+ghost use Rattle.numbers.specs.ChunkHeaders.{chunk_header, ReadsChunkHeader, ReadsTwo, WritesChunkHeader};
+ghost use Rattle.numbers.specs.Numbers.{first_byte, signed_by};
 ghost use Rattle.no_std_io2.specs.Events.{Event, events_of};
 ghost use Rattle.no_std_io2.specs.Moves.{MovesFront};
 ghost use Rattle.no_std_io2.specs.Reads.{TakesBytes};
@@ -45,7 +46,8 @@ pub fn read_chunk_header<R: Read>(r: &mut R) -> Result<(u16, u32)>
 /// # Errors
 /// Returns the error of a `read_exact` that fails. The axis may be taken then.
 pub fn read_step<R: Read>(r: &mut R) -> Result<(u8, i16)>
-    ensures { IfOk result (λ s. TakesBytes (tells R.Read r.old) (s.0 ∷ big_bytes 2 (cast_unsigned w16 s.1)) (tells R.Read r.new)) }
+    ensures reads { ReadsTwo R.Read first_byte 1 (signed_by w16 big_number 2) 2 r.old result r.new }
+    ensures takes { IfOk result (λ s. TakesBytes (tells R.Read r.old) (s.0 ∷ big_bytes 2 (cast_unsigned w16 s.1)) (tells R.Read r.new)) }
 {
     let axis = r.read_u8()?;
     let length = r.read_i16::<BigEndian>()?;
