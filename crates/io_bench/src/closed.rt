@@ -1,12 +1,14 @@
 // [`run_closed`], a list of calls through one `BufWriter` that is then closed.
-ghost use Rattle.std.specs.Prelude.{◌≡◌, ◌+◌, ◌*◌, ◌/◌, ◌<◌, ◌≤◌, [], ◌++◌, IfErr, IfOk, OnErr, OnOk, length, vec_capacity, vec_len};
-ghost use Rattle.no_std_io2.specs.BufWriter.{BufWriterFits};
+ghost use Rattle.std.specs.Prelude.{◌≡◌, ◌+◌, ◌*◌, ◌/◌, ◌<◌, ◌≤◌, [], ◌++◌, Ok, IfErr, IfOk, OnErr, OnOk, length, vec_capacity, vec_len};
+ghost use Rattle.no_std_io2.specs.BufWriter.{BufWriterFits, Unwraps, writer_inner, writer_buffer};
+ghost use Rattle.no_std_io2.specs.declared.io.BufWriter.{BufWriter as Buffered};
 ghost use Rattle.no_std_io2.specs.Errors.{IsOutOfMemory};
 ghost use Rattle.no_std_io2.specs.Moves.{Moves};
 ghost use Rattle.no_std_io2.specs.Writers.{TakesAll};
 ghost use Rattle.io_bench.specs.Appended.{appended};
 ghost use Rattle.io_bench.specs.Closed.{flush_count, given_bytes};
-ghost use Rattle.io_bench.specs.Runs.{AreWhole};
+ghost use Rattle.io_bench.specs.Runs.{AreWhole, RunLaw};
+ghost use Rattle.io_bench.specs.declared.tally.Tally.{Tally as Counted};
 ghost use Rattle.io_bench.specs.Tally.{tally_inner, tally_writes};
 ghost use Rattle.io_bench.specs.contracts.tally.Tally.{the_row as tally-row};
 
@@ -37,6 +39,10 @@ pub fn run_closed<W: Write + Drop, const S: usize>(
     requires fits { BufWriterFits (tally-row W.row) S }
     ensures appends { OnOk result (replies.new.items
         ≡ replies.old.items ++ appended replies.old.items replies.new.items) }
+    // The calls were made of a new buffer, which was then closed, and no others.
+    ensures calls { IfOk result (λ t. (old now : Buffered (Counted W) S) × (writer_inner old ≡ w) × (writer_buffer old ≡ [])
+        × RunLaw ⟦<BufWriter<Tally<W>, S> as Write>⟧ old ops.now (appended replies.old.items replies.new.items) now
+        × Unwraps ⟦<Tally<W> as Write>⟧ writer_inner writer_buffer now (Ok t)) }
     // There is one reply for each call, and each is whole.
     ensures whole { OnOk result (AreWhole ops.now (appended replies.old.items replies.new.items)) }
     // No byte is lost, and no mishap came.

@@ -16,6 +16,7 @@ returns-in-Ok g c =
     c.run_writes.new.w start.inner start.empty c.requires.all run.law.ran all.1 run.law.calls c.in-Ok.ensures.law in
     record {
       appends = run.appends;
+      calls = (c.new-buffered.result, c.run_writes.new.w, start.inner, start.empty, run.law, c.in-Ok.ensures.law);
       whole = all.1;
       bytes = ends.bytes;
       all = c.in-Ok.ensures.law.all all.0;
