@@ -56,11 +56,11 @@ Opens content end torn = (payloads : List (List ℕ)) × (rest : List ℕ) × Ha
 -- The calls of an `open`, each after one that succeeded: a seek to the start, reads, a seek to the end, which gives the length, and one to
 -- the end of the records. If one fails, it is the last, and its error is the result.
 pub data OpensBy {X : Type 0} (S : Seeker X) (R : Reader X) (old : X) : Result Opened Error → X → Type 0 where
-  no_start : {e : Error} {new : X} → SeekLaw S old (Start 0) (Err e) new → OpensBy S R old (Err e) new
-  no_read : {e : Error} {a new : X} (i : ℕ) → SeekLaw S old (Start 0) (Ok i) a → FetchesSome R a (Err e) new → OpensBy S R old (Err e) new
-  no_end : {e : Error} {a b new : X} (i : ℕ) (more : Bool) → SeekLaw S old (Start 0) (Ok i) a → FetchesSome R a (Ok more) b
+  failed_start : {e : Error} {new : X} → SeekLaw S old (Start 0) (Err e) new → OpensBy S R old (Err e) new
+  failed_read : {e : Error} {a new : X} (i : ℕ) → SeekLaw S old (Start 0) (Ok i) a → FetchesSome R a (Err e) new → OpensBy S R old (Err e) new
+  failed_end : {e : Error} {a b new : X} (i : ℕ) (more : Bool) → SeekLaw S old (Start 0) (Ok i) a → FetchesSome R a (Ok more) b
       → SeekLaw S b (End (pos 0)) (Err e) new → OpensBy S R old (Err e) new
-  no_place : {e : Error} {a b c new : X} (i n end : ℕ) (more : Bool) → SeekLaw S old (Start 0) (Ok i) a → FetchesSome R a (Ok more) b
+  failed_place : {e : Error} {a b c new : X} (i n end : ℕ) (more : Bool) → SeekLaw S old (Start 0) (Ok i) a → FetchesSome R a (Ok more) b
       → SeekLaw S b (End (pos 0)) (Ok n) c → SeekLaw S c (Start end) (Err e) new → OpensBy S R old (Err e) new
   opened : {a b c new : X} {o : Opened} (i n j : ℕ) (more : Bool) → SeekLaw S old (Start 0) (Ok i) a → FetchesSome R a (Ok more) b
       → SeekLaw S b (End (pos 0)) (Ok n) c → SeekLaw S c (Start o.end) (Ok j) new → o.torn ≡ n - o.end → OpensBy S R old (Ok o) new
