@@ -8,6 +8,8 @@
 //! arguments.
 #![tactic(auto)]
 
+ghost use Rattle.std.specs.Prelude.{◌≡◌, ◌⊎◌, IsErr};
+ghost use Rattle.logcat.specs.Confirming.{Confirmed};
 ghost use Rattle.logcat.specs.Fits.{LogFits};
 
 use cli::{Reason, about, named, report, usage};
@@ -66,6 +68,9 @@ fn append_one<F: Write + Drop, W: Write>(
     out: &mut W,
 ) -> Result<()>
     requires { LogFits F.row }
+    // Nothing is printed before the record is confirmed.
+    ensures { (IsErr result × (out.new ≡ out.old))
+        ⊎ Confirmed F.Write ⟦<BufWriter<F, 4096> as Write>⟧ n log.old log.new }
 {
     let payload = format!(in alloc; "record {n}")?;
     log.append(payload.as_bytes())?;
