@@ -57,7 +57,8 @@ Opens content end torn = (payloads : List (List ℕ)) × (rest : List ℕ) × Ha
 -- the end of the records. If one fails, it is the last, and its error is the result.
 pub data OpensBy {X : Type 0} (S : Seeker X) (R : Reader X) (old : X) : Result Opened Error → X → Type 0 where
   failed_start : {e : Error} {new : X} → SeekLaw S old (Start 0) (Err e) new → OpensBy S R old (Err e) new
-  failed_read : {e : Error} {a new : X} (i : ℕ) → SeekLaw S old (Start 0) (Ok i) a → FetchesSome R a (Err e) new → OpensBy S R old (Err e) new
+  failed_read : {e : Error} {a new : X} (i : ℕ) → SeekLaw S old (Start 0) (Ok i) a → FetchesSome R a (Err e) new
+      → OpensBy S R old (Err e) new
   failed_end : {e : Error} {a b new : X} (i : ℕ) (more : Bool) → SeekLaw S old (Start 0) (Ok i) a → FetchesSome R a (Ok more) b
       → SeekLaw S b (End (pos 0)) (Err e) new → OpensBy S R old (Err e) new
   failed_place : {e : Error} {a b c new : X} (i n end : ℕ) (more : Bool) → SeekLaw S old (Start 0) (Ok i) a → FetchesSome R a (Ok more) b
