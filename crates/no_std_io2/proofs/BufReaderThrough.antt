@@ -9,7 +9,7 @@ use Rattle.no_std_io2.proofs.{Words.{OnOk, IfOk, IsOutOfMemory, Event, GaveAll},
 use Rattle.no_std_io2.proofs.BufferedReads.{takes_through, ends_unheld}
 use Rattle.std.proofs.{Common.{max, nat_le, take_all, le_trans, vec_capacity}, lemmas.{Bool.{le-leb, lt-leb}, List.{append_cancel_right}}}
 use Rattle.no_std_io2_base.specs.{declared.error.Error.{Error}, Errors.{IsUnexpectedEnd}}
-use Rattle.no_std_io2_base.specs.inner.Read.{gave_whole, FullCalls, least_room, without_number}
+use Rattle.no_std_io2_base.specs.inner.Read.{FullCalls, least_room, without_number}
 use Rattle.no_std_io2_base.specs.{Read.{ReadFullLaw, ReadExactLaw, ReadToEndLaw}, inner.Reads.{Reads}}
 use Rattle.no_std_io2_base.specs.inner.Cursor.{HasMoved}
 use Rattle.no_std_io2_base.proofs.{CallsLemmas.{made_split, exact_own, to_end_own}, TakesLemmas.{gives_whole, bytes-append}}

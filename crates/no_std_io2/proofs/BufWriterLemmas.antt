@@ -1,16 +1,15 @@
 -- What a buffer in front of a writer tells, and how its steps follow one another.
-use Rattle.std.proofs.Common.{take_all, inl, inr}
+use Rattle.std.proofs.Common.{inl, inr}
 use Rattle.no_std_io2.proofs.Words.{common_steps, nil_from_length, ◌≡◌, ℕ, ◌-◌, ◌≤◌, length-take, length-append, Result, Ok, Err, OnOk, []}
 use Rattle.no_std_io2.proofs.Words.{List, ◌++◌, length, drop, sym, ap, subst, ◌∙◌, arith, append_assoc, append-nil, WriterState, Moves}
-use Rattle.no_std_io2.proofs.Words.{MovesFront, with_buffer, writer_inner, writer_buffer, writer_told, line_inner, line_buffer, IsSuffix}
+use Rattle.no_std_io2.proofs.Words.{MovesFront, with_buffer, writer_inner, writer_buffer, writer_told, IsSuffix}
 use Rattle.no_std_io2.proofs.Words.{TakesAll, CallOf, Writer, WriteCall, Made, call_mishap, charges, false, true, ◌+◌, IsOk, Step, Stepped}
 use Rattle.no_std_io2.proofs.Words.{Then, first_stops, first_goes_on, nat_tests, FlushCalls, ◌∷◌, refl, LevelCalls}
 use Rattle.no_std_io2_base.specs.{declared.error.ErrorKind.{ErrorKind}, declared.error.Error.{Error}, Errors.{IsNoInterruption}}
-use Rattle.no_std_io2_base.specs.{Calls.{ByCalls, Wrote, WroteAll}, Write.{CallAdds, RestAdds, accepted_of}, inner.Write.{AllCalls}}
-use Rattle.no_std_io2.specs.inner.BufWriter.{WriteCalls, WriteAllCalls, RoomCalls, PutCalls, SingleCall}
-use Rattle.no_std_io2.specs.declared.buffered.{buf_writer.BufWriter.{BufWriter}, line_writer.LineWriter.{LineWriter}}
-use Rattle.no_std_io2.specs.inner.LineWriter.{line_told}
-use Rattle.no_std_io2_base.proofs.MovesLemmas.{MovesFront-whole, charges-append, after_ok, IsFront-refl}
+use Rattle.no_std_io2_base.specs.{Calls.{ByCalls, WroteAll}, Write.{CallAdds, RestAdds}, inner.Write.{AllCalls}}
+use Rattle.no_std_io2.specs.inner.BufWriter.{WriteAllCalls, RoomCalls, PutCalls}
+use Rattle.no_std_io2.specs.declared.buffered.{buf_writer.BufWriter.{BufWriter}}
+use Rattle.no_std_io2_base.proofs.MovesLemmas.{charges-append, after_ok, IsFront-refl}
 use Rattle.no_std_io2_base.proofs.{CallsLemmas.{by_are, by_then, made_split, law_may}, CallsAdd.{Joins, writes_add, all_adds}}
 
 -- What a buffer in front of a writer tells. For both buffered writers, and for callers with a new buffer in front of a device.
