@@ -63,10 +63,6 @@ module _ {X : Type 0} {R : Reader X} {old new : X} {buf buf' : List ℕ} {filled
   ]
 
 module _ {X : Type 0} {R : Reader X} where
-  -- nothing was read yet
-  pub some_none : {a b : X} → b ≡ a → FetchesSome R a (Ok true) b
-  some_none same = ([], fetches_none same)
-
   -- one read after another
   pub some_then : {a b c : X} {how : Result Bool Error} → FetchesSome R a (Ok true) b → FetchesSome R b how c → FetchesSome R a how c
   some_then first next = (first.0 ++ next.0, fetches_then first.1 next.1)
@@ -107,10 +103,6 @@ module _ (bytes head p rest : List ℕ) (is : head ≡ take 8 bytes) (begins : b
 
   behind_head : drop 8 bytes ≡ p ++ rest
   behind_head = ap (drop 8) begins
-
--- fewer bytes than a header are no record
-pub none_short : (bytes : List ℕ) → length bytes < 8 → HasNoRecord bytes
-none_short bytes few = λ p rest small is. omega (arith, few, ap length is, length-append (record_of p) rest)
 
 module _ (bytes head : List ℕ) (len : ℕ) (is : head ≡ take 8 bytes) (says : len ≡ from_le_bytes w32 (take 4 head)) where
   -- nor is a header with fewer bytes behind it than it says

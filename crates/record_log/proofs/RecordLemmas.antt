@@ -8,10 +8,6 @@ use Rattle.std.proofs.lemmas.{List.{append_cancel_left}, Nat.{from_le_bytes-to_l
 use Rattle.std.specs.{Int.{w32, from_le_bytes}}
 use Rattle.record_log.specs.Records.{record_of, log_of, AreShort, HasNoRecord, HasRecords, NoneByChance}
 
--- a record is eight bytes longer than its payload
-pub length-record : (p : List ℕ) → length (record_of p) ≡ 8 + length p
-length-record p = omega arith
-
 -- the first bytes of a record say the length of its payload
 pub told_record : (p rest : List ℕ) → length p < 2 ^ 32 → from_le_bytes w32 (take 4 (record_of p ++ rest)) ≡ length p
 told_record p rest small = from_le_bytes-to_le_bytes_4 (length p) small

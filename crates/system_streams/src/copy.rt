@@ -59,7 +59,8 @@ pub fn copy_through<R: Read + Drop, W: Write + Drop>(
     ensures err { IfErr result (IsFaultOf (tells R.Read input) (W.told output)) }
     ensures steady { IfSome (to_come (tells R.Read input)) (λ E. HasNoFault E → (W.told output).mishaps ≡ Some [] → IsOk result) }
 {
-    // Each side has a buffer. The reads of `copy` are as long as this one, so they go past it, and it holds no byte.
+    // This call was specified with a buffer at each side. The reads of `copy` are as long as this one, so they go past it,
+    // and it holds no byte.
     let input = BufReader::<R, ROOM>::new(input);
     if line {
         let (count, tower) = copy_and_flush(input, LineWriter::<W, ROOM>::new(output))?;
