@@ -1,5 +1,6 @@
 pub mod RecordLemmas
 pub mod PlacedLemmas
+pub mod PlaceLemmas
 pub mod CutLemmas
 pub mod PieceLemmas
 pub mod DeviceLemmas

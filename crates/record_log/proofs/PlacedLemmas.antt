@@ -20,13 +20,13 @@ put_within a b x now new place is at put =
 
 module _ (p : ℕ) (c : List ℕ) where
   -- the bytes before a place reach it
-  length-before : length (bytes_before p c) ≡ p
+  pub length-before : length (bytes_before p c) ≡ p
   length-before =
       let gap = p - length c in
       omega (arith, length-append (take p c) (replicate gap 0), length-take p c, length-replicate {A = ℕ} gap 0)
 
   -- what was put stands behind them, and what is behind that place stays
-  put_form : (x : List ℕ) → put_at p x c ≡ bytes_before p c ++ (x ++ drop (p + length x) c)
+  pub put_form : (x : List ℕ) → put_at p x c ≡ bytes_before p c ++ (x ++ drop (p + length x) c)
   put_form x = grind (arith, common_steps, append-nil, length-append, length-replicate {A = ℕ}, take_all, drop_all)
 
   -- bytes that are put behind others
@@ -42,7 +42,7 @@ module _ (p : ℕ) (c : List ℕ) where
       ∙ sym (put_form (x ++ y))
 
   -- bytes that are put over others
-  put_over : (x y : List ℕ) → put_at p y (put_at p x c) ≡ bytes_before p c ++ (y ++ drop (length y) (x ++ drop (p + length x) c))
+  pub put_over : (x y : List ℕ) → put_at p y (put_at p x c) ≡ bytes_before p c ++ (y ++ drop (length y) (x ++ drop (p + length x) c))
   put_over x y = put_within (bytes_before p c) _ y (put_at p x c) _ p (put_form x) (sym length-before) (inl refl)
 
 -- bytes and then more were put, one behind the other

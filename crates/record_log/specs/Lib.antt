@@ -1,6 +1,7 @@
 pub mod Records
 pub mod Walk
 pub mod Placed
+pub mod Places
 pub mod Disk
 pub mod Log
 pub mod Cuts
