@@ -3,8 +3,8 @@
 ghost use Rattle.std.specs.Prelude.{◌≡◌, ◌+◌, ◌≤◌, ◌<◌, ◌^◌, ◌++◌, ℕ, List, length, OnOk};
 ghost use Rattle.std.specs.Int.{w32, to_le_bytes};
 ghost use Rattle.no_std_io2.specs.Cursor.{cursor_inner, cursor_position};
-ghost use Rattle.record_log.specs.Placed.{IsPutAt, PutsAt};
-ghost use Rattle.record_log.specs.Places.{TellsStore, HasRoom, HasPut, PutsFront, StandsAt};
+ghost use Rattle.record_log.specs.Placed.{PutsAt};
+ghost use Rattle.record_log.specs.Places.{TellsStore, HasRoom, HasPut, StandsAt};
 
 use no_std_io2::io::{AsSlice, Cursor, Read, Result, Seek, SeekFrom, Write, read_exact_at};
 
@@ -18,11 +18,11 @@ pub fn cursors_tell_places<T: AsSlice<u8>>(cursor: &Cursor<T>) -> u64
 /// Writes `first`, and then `second` behind it. That puts both, joined, at the place of the writer.
 ///
 /// # Errors
-/// Returns the error of the first `write_all` that fails. Some first bytes of both, joined, may then be there.
+/// Returns the error of the first `write_all` that fails.
 pub fn put_two<W: Write>(writer: &mut W, first: &[u8], second: &[u8]) -> Result<()>
     ensures puts { (content : W → List ℕ) (place : W → ℕ) → PutsAt W.Write content place
-        → PutsFront (content writer.old) (place writer.old) (first.now ++ second.now) result
-        (content writer.new) (place writer.new) }
+        → OnOk result (HasPut (content writer.old) (place writer.old) (first.now ++ second.now)
+        (content writer.new) (place writer.new)) }
     ensures appends { (content : W → List ℕ) (place : W → ℕ) → PutsAt W.Write content place
         → place writer.old ≡ length (content writer.old)
         → OnOk result (content writer.new ≡ content writer.old ++ (first.now ++ second.now)) }
@@ -66,8 +66,8 @@ pub fn write_and_read<S: Read + Write + Seek>(
     requires as_many { length back.old ≡ length bytes.now }
     ensures { (content : S → List ℕ) (place : S → ℕ) → PutsAt S.Write content place → TellsStore S.Seek content place
         → HasRoom (content stream.old) (place stream.old) (length bytes.now)
-        → OnOk result ((back.new ≡ bytes.now) × IsPutAt (place stream.old) bytes.now (content stream.old) (content stream.new)
-        × (place stream.new ≡ place stream.old + length bytes.now)) }
+        → OnOk result ((back.new ≡ bytes.now)
+        × HasPut (content stream.old) (place stream.old) bytes.now (content stream.new) (place stream.new)) }
 {
     let start = stream.stream_position()?;
     stream.write_all(bytes)?;
