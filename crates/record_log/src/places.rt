@@ -8,7 +8,19 @@ ghost use Rattle.record_log.specs.Places.{TellsStore, HasRoom, HasPut, StandsAt}
 
 use no_std_io2::io::{AsSlice, Cursor, Read, Result, Seek, SeekFrom, Write, read_exact_at};
 
-/// A cursor tells its content and its position as its store.
+/// A cursor tells its content and its position as its store. So over one that puts its bytes at its position, what the
+/// functions below say is known.
+///
+/// ```rust
+/// let mut c = Cursor::new(Vec::<u8>::new(rt.alloc()));
+/// put_two(&mut c, b"a", b"b")?;
+/// patch_length(&mut c, b"cd")?;
+/// put_apart(&mut c, b"e", 10, b"f")?; // a zero is between them
+/// let mut back = [0u8; 1];
+/// write_and_read(&mut c, b"g", &mut back)?;
+/// assert!(rt; back == *b"g");
+/// assert!(rt; c.get_ref().as_slice() == b"ab\x02\0\0\0cde\0fg".as_slice());
+/// ```
 pub fn cursors_tell_places<T: AsSlice<u8>>(cursor: &Cursor<T>) -> u64
     ensures { TellsStore ⟦<Cursor<T> as Seek>⟧ (λ c. T.slice (cursor_inner c)) cursor_position }
 {

@@ -4,7 +4,5 @@ use Rattle.record_log.proofs.places.put_apart.Goals as goal
 
 pub returns : goal.returns
 returns g c = λ content place puts tells room behind.
-    ok_then _ (apart_stands _ _ _ _ _ _ _ _ _ _ _ room behind
-    (all_puts g.W.Write content place puts _ _ _ _ c.in_ok-write_all.ensures.law)
-    (sought _ content place tells _ _ _ _ c.in_ok-seek.ensures.law))
-    (all_puts g.W.Write content place puts _ _ _ _ c.write_all-2.ensures.law)
+    ok_then _ (apart_stands _ _ _ _ _ _ _ _ _ _ _ room behind (all_puts g.W.Write content place puts c.in_ok-write_all.ensures.law)
+    (sought _ content place tells c.in_ok-seek.ensures.law)) (all_puts g.W.Write content place puts c.write_all-2.ensures.law)

@@ -5,9 +5,9 @@ use Rattle.record_log.proofs.places.put_two.Goals as goal
 pub returns : goal.returns
 returns g c = record {
   puts = λ content place puts.
-      ok_then _ (then_puts _ _ _ _ _ _ _ _ (all_puts g.W.Write content place puts _ _ _ _ c.in_ok-write_all.ensures.law))
-      (all_puts g.W.Write content place puts _ _ _ _ c.write_all-2.ensures.law);
+      ok_then _ (then_puts _ _ _ _ _ _ _ _ (all_puts g.W.Write content place puts c.in_ok-write_all.ensures.law))
+      (all_puts g.W.Write content place puts c.write_all-2.ensures.law);
   appends = λ content place puts end.
-      ok_then _ (end_puts _ _ _ _ _ _ _ _ end (all_puts g.W.Write content place puts _ _ _ _ c.in_ok-write_all.ensures.law))
-      (all_puts g.W.Write content place puts _ _ _ _ c.write_all-2.ensures.law);
+      ok_then _ (end_puts _ _ _ _ _ _ _ _ end (all_puts g.W.Write content place puts c.in_ok-write_all.ensures.law))
+      (all_puts g.W.Write content place puts c.write_all-2.ensures.law);
 }

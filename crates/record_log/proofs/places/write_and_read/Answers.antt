@@ -6,6 +6,5 @@ use Rattle.record_log.proofs.places.write_and_read.Goals as goal
 pub returns : goal.returns
 returns g c = λ content place puts tells room.
     ok_then _ (comes_back _ _ _ _ _ _ _ _ _ _ _ room (omega (arith, c.read_exact_at.auto.buf, c.requires.as_many))
-    (stood _ content place tells _ _ _ c.in_ok-start.ensures.law)
-    (all_puts g.S.Write content place puts _ _ _ _ c.in_ok-write_all.ensures.law))
-    (read_told _ content place tells _ _ _ _ _ _ _ c.read_exact_at.ensures)
+    (stood _ content place tells c.in_ok-start.ensures.law) (all_puts g.S.Write content place puts c.in_ok-write_all.ensures.law))
+    (read_told _ content place tells c.read_exact_at.ensures)
