@@ -95,7 +95,7 @@ module _ {W : Type 0} (I : Writer W) (content : W → List ℕ) (place : W → �
       subst (λ w. Does old held call w left) (sym one.2) (passed call held left old one.0 none empty one.1)
 
   -- the calls of a `write_all` of the inner writer
-  passed_all : {C : List WriteCall} (x held left : List ℕ) (reply : Result (Unit {0}) Error) (old new : W) → held ≡ [] → left ≡ []
+  pub passed_all : {C : List WriteCall} (x held left : List ℕ) (reply : Result (Unit {0}) Error) (old new : W) → held ≡ [] → left ≡ []
       → AllCalls C x reply → Made (CallOf I) old C new → Does old held (WroteAll x reply) new left
   passed_all x held left reply old new none empty (inl one) made = passed_one (WroteAll x reply) held left old new none empty one made
   passed_all x held left reply old new none empty (inr loop) made =

@@ -1,15 +1,15 @@
 -- What several calls leave at a place, for the proofs of their callers.
-use Rattle.no_std_io2.proofs.Words.{◌≡◌, ℕ, ◌+◌, ◌-◌, ◌<◌, ◌≤◌, ◌^◌, List, [], ◌++◌, length, take, drop, refl, sym, ap, subst}
+use Rattle.no_std_io2.proofs.Words.{◌≡◌, ℕ, ◌+◌, ◌-◌, ◌<◌, ◌≤◌, ◌^◌, List, [], ◌++◌, length, take, drop, refl}
 use Rattle.no_std_io2.proofs.Words.{arith, append_assoc, append-nil, length-append, length-drop, take-append_seam, drop-append_seam}
-use Rattle.no_std_io2.proofs.Words.{OnOk, Result, Ok, Err, inl, inr, common_steps, WroteAll, Writer, CallOf, Made}
+use Rattle.no_std_io2.proofs.Words.{OnOk, Result, Ok, Err, common_steps, Writer}
 use Rattle.std.proofs.Math.Seq.{take-append-add, drop-nil}
-use Rattle.no_std_io2.proofs.{CallsLemmas.{writes_whole}, CursorLemmas.{fits_at}}
+use Rattle.no_std_io2.proofs.{CursorLemmas.{fits_at}}
 use Rattle.no_std_io2.specs.{declared.io.Error.{Error}, Writers.{WriteAllOf}, Seek.{Seeker, SeekLaw, StreamPositionLaw}}
 use Rattle.no_std_io2.specs.{Takes.{Reader}, Reads.{ReadAtLaw}, inner.Cursor.{bytes_before}}
 use Rattle.no_std_io2.specs.declared.io.SeekFrom.TheVariants.{Start}
 use Rattle.record_log.specs.{Placed.{IsPutAt, PutsAt}, Places.{TellsStore, HasRoom, HasPut, StandsAt}}
-use Rattle.record_log.proofs.PlacedLemmas.{put_within, put_form, put_over, length-before, put_then, writes_there, stands_held}
-use Rattle.record_log.proofs.PlacedLemmas.{whole_there, reaches_there}
+use Rattle.record_log.proofs.PlacedLemmas.{put_within, put_form, put_over, length-before, put_then}
+use Rattle.record_log.proofs.BufferLemmas.{passed_all}
 
 -- bytes and then more were put, one behind the other
 pub then_puts : (c mid c' : List ℕ) (p at p' : ℕ) (x y : List ℕ) → HasPut c p x mid at → HasPut mid at y c' p' → HasPut c p (x ++ y) c' p'
@@ -77,15 +77,9 @@ pub all_puts : {W : Type 0} (I : Writer W) (content : W → List ℕ) (place : W
     {reply : Result (Unit {0}) Error} → WriteAllOf I old x reply new
     → OnOk reply (HasPut (content old) (place old) x (content new) (place new))
 all_puts I content place puts {reply = Err e} law = tt
-all_puts I content place puts {old = old} {new = new} {x = x} {reply = Ok u} law = elim law.calls.are [
-  | inl one ↦
-      let did = subst (λ D. Made (CallOf I) old D new) one law.calls.made in
-      subst (λ w. HasPut (content old) (place old) x (content w) (place w)) (sym did.2) (puts old did.0 (WroteAll x (Ok tt)) did.1)
-  | inr loop ↦
-      let there = writes_there I content place puts old new loop.1 law.calls.made (stands_held (place old) x (content old)) in
-      let none = writes_whole loop.1 in
-      (whole_there there (content new) (inr (none, refl)), omega (arith, reaches_there there, ap length none))
-]
+all_puts I content place puts {old = old} {new = new} {x = x} {reply = Ok u} law =
+    let did = passed_all I content place puts x [] [] (Ok tt) old new refl refl law.calls.are law.calls.made in
+    grind (arith, common_steps, did)
 
 -- a write, a seek behind it, and a write
 pub apart_stands : (a b d e x y : List ℕ) (pa pb pd pe at : ℕ) → HasRoom a pa (length x) → pa + length x ≤ at → HasPut a pa x b pb

@@ -3,6 +3,7 @@
 ghost use Rattle.std.specs.Prelude.{◌≡◌, ◌+◌, ◌≤◌, ◌<◌, ◌^◌, ◌++◌, ℕ, List, length, OnOk};
 ghost use Rattle.std.specs.Int.{w32, to_le_bytes};
 ghost use Rattle.no_std_io2.specs.Cursor.{cursor_inner, cursor_position};
+ghost use Rattle.no_std_io2.specs.Moves.{MovesFront};
 ghost use Rattle.record_log.specs.Placed.{PutsAt};
 ghost use Rattle.record_log.specs.Places.{TellsStore, HasRoom, HasPut, StandsAt};
 
@@ -32,6 +33,7 @@ pub fn cursors_tell_places<T: AsSlice<u8>>(cursor: &Cursor<T>) -> u64
 /// # Errors
 /// Returns the error of the first `write_all` that fails.
 pub fn put_two<W: Write>(writer: &mut W, first: &[u8], second: &[u8]) -> Result<()>
+    ensures moves { MovesFront (W.told writer.old) (first.now ++ second.now) result (W.told writer.new) }
     ensures puts { (content : W → List ℕ) (place : W → ℕ) → PutsAt W.Write content place
         → OnOk result (HasPut (content writer.old) (place writer.old) (first.now ++ second.now)
         (content writer.new) (place writer.new)) }
