@@ -12,8 +12,7 @@ use Rattle.no_std_io2.proofs.{KnownBytes.{full_known}, TakesLemmas.{left_of, Has
 use Rattle.no_std_io2.proofs.TakesLemmas.{bytes-append, bytes-events_of, events_of-append}
 use Rattle.std.specs.Int.{w32, from_le_bytes}
 use Rattle.no_std_io2.proofs.Words.{Ok, true, false, Bool}
-use Rattle.no_std_io2.proofs.ReadsLemmas.{fetches_none, fetches_then, fetches_reads, fetches_until, fetches_end, fetches_fault}
-use Rattle.no_std_io2.specs.Reads.{Fetches}
+use Rattle.no_std_io2.proofs.ReadsLemmas.{fetches_then, fetches_reads, fetches_until, fetches_end, fetches_fault}
 use Rattle.record_log.specs.Records.{add_number, start, header, check_of, record_of, log_of, AreShort, HasNoRecord}
 use Rattle.record_log.specs.Opening.{GivesPiece, AddsPiece, PassesRecord, PassesRecords, FetchesSome}
 use Rattle.record_log.proofs.RecordLemmas.{told_record, log-append, AreShort-append}
