@@ -29,7 +29,7 @@ pub use placed::{
     buffers_are_placed, disk_is_placed, line_buffers_are_placed, slices_are_placed,
     vectors_are_placed,
 };
-pub use places::{cursors_tell_places, patch_length, put_apart, put_two, write_and_read};
+pub use places::{cursors_tell_places, patch_length, put_apart, put_two, read_back};
 pub use records::{HEADER, first_record};
 pub use twice::{reopen, run_twice};
 pub use walk::{Record, Records};

@@ -1,5 +1,4 @@
-// Calls of a writer that puts its bytes at a place: two writes, a length that is known only behind its bytes, bytes that
-// are read back, and writes that do not overlap.
+// What several calls of a writer that puts its bytes at a place leave there.
 ghost use Rattle.std.specs.Prelude.{◌≡◌, ◌+◌, ◌≤◌, ◌<◌, ◌^◌, ◌++◌, ℕ, List, length, OnOk};
 ghost use Rattle.std.specs.Int.{w32, to_le_bytes};
 ghost use Rattle.no_std_io2.specs.Cursor.{cursor_inner, cursor_position};
@@ -9,8 +8,7 @@ ghost use Rattle.record_log.specs.Places.{TellsStore, HasRoom, HasPut, StandsAt}
 
 use no_std_io2::io::{AsSlice, Cursor, Read, Result, Seek, SeekFrom, Write, read_exact_at};
 
-/// A cursor tells its content and its position as its store. So over one that puts its bytes at its position, what the
-/// functions below say is known.
+/// A cursor tells its content and its position as its store, as the functions below assume of a file.
 ///
 /// ```rust
 /// let mut c = Cursor::new(Vec::<u8>::new(rt.alloc()));
@@ -18,7 +16,7 @@ use no_std_io2::io::{AsSlice, Cursor, Read, Result, Seek, SeekFrom, Write, read_
 /// patch_length(&mut c, b"cd")?;
 /// put_apart(&mut c, b"e", 10, b"f")?; // a zero is between them
 /// let mut back = [0u8; 1];
-/// write_and_read(&mut c, b"g", &mut back)?;
+/// read_back(&mut c, b"g", &mut back)?;
 /// assert!(rt; back == *b"g");
 /// assert!(rt; c.get_ref().as_slice() == b"ab\x02\0\0\0cde\0fg".as_slice());
 /// ```
@@ -46,25 +44,24 @@ pub fn put_two<W: Write>(writer: &mut W, first: &[u8], second: &[u8]) -> Result<
 }
 
 /// Writes a message whose length is known only behind it: four bytes for the length, the message, and then the length
-/// over the four bytes. Afterwards the writer stands behind the message.
+/// over the four bytes. Afterwards the file stands behind the message.
 ///
 /// # Errors
-/// Returns the error of the first call that fails. What is then between the old place and the end of the message is not
-/// known.
-pub fn patch_length<W: Write + Seek>(writer: &mut W, message: &[u8]) -> Result<()>
+/// Returns the error of the first call that fails. What is then at the old place is not known.
+pub fn patch_length<W: Write + Seek>(file: &mut W, message: &[u8]) -> Result<()>
     requires short { length message.now < 2 ^ 32 }
     ensures { (content : W → List ℕ) (place : W → ℕ) → PutsAt W.Write content place → TellsStore W.Seek content place
-        → HasRoom (content writer.old) (place writer.old) (4 + length message.now)
-        → OnOk result (HasPut (content writer.old) (place writer.old) (to_le_bytes w32 (length message.now) ++ message.now)
-        (content writer.new) (place writer.new)) }
+        → HasRoom (content file.old) (place file.old) (4 + length message.now)
+        → OnOk result (HasPut (content file.old) (place file.old) (to_le_bytes w32 (length message.now) ++ message.now)
+        (content file.new) (place file.new)) }
 {
-    let start = writer.stream_position()?;
-    writer.write_all(&[0; 4])?;
-    writer.write_all(message)?;
-    let end = writer.stream_position()?;
-    writer.seek(SeekFrom::Start(start))?;
-    writer.write_all(&(message.len() as u32).to_le_bytes())?;
-    writer.seek(SeekFrom::Start(end))?;
+    let start = file.stream_position()?;
+    file.write_all(&[0; 4])?;
+    file.write_all(message)?;
+    let end = file.stream_position()?;
+    file.seek(SeekFrom::Start(start))?;
+    file.write_all(&(message.len() as u32).to_le_bytes())?;
+    file.seek(SeekFrom::Start(end))?;
     Ok(())
 }
 
@@ -72,38 +69,29 @@ pub fn patch_length<W: Write + Seek>(writer: &mut W, message: &[u8]) -> Result<(
 ///
 /// # Errors
 /// Returns the error of the first call that fails.
-pub fn write_and_read<S: Read + Write + Seek>(
-    stream: &mut S,
-    bytes: &[u8],
-    back: &mut [u8],
-) -> Result<()>
+pub fn read_back<F: Read + Write + Seek>(file: &mut F, bytes: &[u8], back: &mut [u8]) -> Result<()>
     requires as_many { length back.old ≡ length bytes.now }
-    ensures { (content : S → List ℕ) (place : S → ℕ) → PutsAt S.Write content place → TellsStore S.Seek content place
-        → HasRoom (content stream.old) (place stream.old) (length bytes.now)
+    ensures { (content : F → List ℕ) (place : F → ℕ) → PutsAt F.Write content place → TellsStore F.Seek content place
+        → HasRoom (content file.old) (place file.old) (length bytes.now)
         → OnOk result ((back.new ≡ bytes.now)
-        × HasPut (content stream.old) (place stream.old) bytes.now (content stream.new) (place stream.new)) }
+        × HasPut (content file.old) (place file.old) bytes.now (content file.new) (place file.new)) }
 {
-    let start = stream.stream_position()?;
-    stream.write_all(bytes)?;
-    read_exact_at(stream, SeekFrom::Start(start), back)
+    let start = file.stream_position()?;
+    file.write_all(bytes)?;
+    read_exact_at(file, SeekFrom::Start(start), back)
 }
 
-/// Writes `first`, seeks to `at`, and writes `second`. If that is not before the end of `first`, both are there.
+/// Writes `first`, seeks to `at`, and writes `second`. If `at` is not before the end of `first`, both are then there.
 ///
 /// # Errors
 /// Returns the error of the first call that fails.
-pub fn put_apart<W: Write + Seek>(
-    writer: &mut W,
-    first: &[u8],
-    at: u64,
-    second: &[u8],
-) -> Result<()>
+pub fn put_apart<W: Write + Seek>(file: &mut W, first: &[u8], at: u64, second: &[u8]) -> Result<()>
     ensures { (content : W → List ℕ) (place : W → ℕ) → PutsAt W.Write content place → TellsStore W.Seek content place
-        → HasRoom (content writer.old) (place writer.old) (length first.now)
-        → place writer.old + length first.now ≤ at
-        → OnOk result (StandsAt (place writer.old) first.now (content writer.new) × StandsAt at second.now (content writer.new)) }
+        → HasRoom (content file.old) (place file.old) (length first.now)
+        → place file.old + length first.now ≤ at
+        → OnOk result (StandsAt (place file.old) first.now (content file.new) × StandsAt at second.now (content file.new)) }
 {
-    writer.write_all(first)?;
-    writer.seek(SeekFrom::Start(at))?;
-    writer.write_all(second)
+    file.write_all(first)?;
+    file.seek(SeekFrom::Start(at))?;
+    file.write_all(second)
 }
