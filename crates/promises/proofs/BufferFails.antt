@@ -17,6 +17,11 @@ use Rattle.std.specs.Vec.{vec_len, vec_capacity}
 
 -- For `towers`: which errors the loops of a writer return, if each of its calls fails with such errors only.
 
+-- a vector fails by `OutOfMemory` only
+whole_fails : {A : Type 0} (old new x : List ℕ) (len capacity : ℕ) (reply : Result A Error) → AppendsWhole old len capacity x reply new
+    → IfErr reply IsOutOfMemory
+whole_fails old new x len capacity reply is = grind (arith, common_steps)
+
 pub appends_fails : {W : Type 0} (items : W → List ℕ) (len capacity : W → ℕ)
     → FailsOnly IsOutOfMemory (AppendsMay items len capacity)
 appends_fails items len capacity old new call made = grind (arith, common_steps)

@@ -116,6 +116,10 @@ write_ends {x = x} (first_stops way) = room_ends (length x) way
 write_ends {reply = Ok n} (first_goes_on way put) = tt
 write_ends {reply = Err e} (first_goes_on {C} way put) = put_ends C put
 
+-- what holds for each value holds for that of the result
+pub if_ok : {A E : Type 0} (reply : Result A E) {P Q : A → Type 0} → ((a : A) → P a → Q a) → IfOk reply P → IfOk reply Q
+if_ok reply each holds = grind (arith, common_steps)
+
 -- behind other calls
 pub ends_after_both : (C D : List WriteCall) (reply : Result (Unit {0}) Error) → IfErr reply (EndsIn D) → IfErr reply (EndsIn (C ++ D))
 ends_after_both C D reply ends = grind (arith, common_steps, ends_after)
