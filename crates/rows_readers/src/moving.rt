@@ -4,7 +4,7 @@
 // The columns after a call are its result, for a read the bytes that it gave, the bytes behind, the held bytes, and the
 // calls that reached the device.
 use crate::devices::Devices;
-use no_std_io2::io::{BufRead, BufReader, Error, ErrorKind, Read, Result};
+use no_std_io2::io::{BufReader, Error, ErrorKind, Read, Result};
 use rows_play::calls::{Call, make_seek};
 use rows_play::line::Line;
 use rows_play::player::{Player, Stream};
@@ -31,7 +31,8 @@ fn read_record(alloc: Global, r: &mut Reader, wanted: u8) -> Result<Option<Vec<u
         return Ok(None);
     }
     let mut payload = Vec::from_elem(alloc, 0u8, usize::from(len))?;
-    r.consume(2);
+    // The header is held, so this makes no call.
+    r.read_exact(&mut [0; 2])?;
     r.read_exact(&mut payload)?;
     Ok(Some(payload))
 }
