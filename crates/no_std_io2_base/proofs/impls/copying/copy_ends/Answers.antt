@@ -5,18 +5,4 @@ use Rattle.std.proofs.Math.ListN.{drop_of_length-le}
 use Rattle.no_std_io2_base.proofs.impls.copying.copy_ends.Goals as goal
 
 pub returns : goal.returns
-returns g c =
-    grind (
-      arith,
-      common_steps,
-      length-chunk,
-      length-put_chunk,
-      put_chunk_is,
-      take-append-le,
-      take-take,
-      drop_of_length-le,
-      length-drop,
-      append-nil,
-      take_all,
-      take-append-drop,
-    )
+returns g c = grind (arith, common_steps, length-chunk, length-put_chunk, put_chunk_is, take-append-le, take-take, drop_of_length-le)

@@ -1,8 +1,6 @@
 -- The boxed slice has the written bytes: the search does not find that its length stays.
-use Rattle.std.proofs.Common.{◌≡◌, ◌∙◌, subst, sym, take_at}
-use Rattle.std.specs.Box.{boxed_slice_items, boxed_slice_with_items}
-use Rattle.no_std_io2_base.specs.inner.Cursor.{PutsAllFitting}
-use Rattle.no_std_io2_base.proofs.{CallsLemmas.{own_law}, CursorLemmas.{fits_all}}
+use Rattle.std.{proofs.Common.{◌≡◌, ◌∙◌, subst, sym, take_at}, specs.Box.{boxed_slice_items, boxed_slice_with_items}}
+use Rattle.no_std_io2_base.{specs.inner.Cursor.{PutsAllFitting}, proofs.{CallsLemmas.{own_law}, CursorLemmas.{fits_all}}}
 use Rattle.no_std_io2_base.proofs.cursor.slices.CursorBoxedSliceU8Write.write_all.Goals as goal
 
 pub returns : goal.returns

@@ -1,11 +1,9 @@
 -- A line that is lent whole goes straight to the text. Any other is read into its memory: what was lent is lent once more.
-use Rattle.std.proofs.lemmas.Grind.{common_steps}
-use Rattle.std.proofs.Common.{◌≡◌, ◌≤◌, ◌∙◌, sym, ap, subst, arith, take, drop, length-take-le, string_len, string_bytes, vec_len}
-use Rattle.std.proofs.Common.{IsUtf8}
-use Rattle.std.specs.String.{string_vec}
-use Rattle.no_std_io2_base.specs.{BufRead.{ReadUntilLaw}, Pieces.{newline}, inner.Lines.{AnswersLine}}
-use Rattle.no_std_io2_base.proofs.LineLemmas.{line_law, line_at_once, line_faulted, line_some, memory_grows, memory_text}
-use Rattle.no_std_io2_base.proofs.{PieceLemmas.{until_lent, until_waited}, PieceLoops.{filled_law}, TakesLemmas.{reader}}
+use Rattle.std.proofs.{lemmas.Grind.{common_steps}, Common.{◌≡◌, ◌≤◌, ◌∙◌, sym, ap, subst, arith, take, drop, length-take-le, string_len}}
+use Rattle.std.{proofs.Common.{string_bytes, vec_len, IsUtf8}, specs.String.{string_vec}}
+use Rattle.no_std_io2_base.{specs.{BufRead.{ReadUntilLaw}, Pieces.{newline}, inner.Lines.{AnswersLine}}, proofs.LineLemmas.{line_law}}
+use Rattle.no_std_io2_base.proofs.{LineLemmas.{line_at_once, line_faulted, line_some, memory_grows, memory_text}, PieceLemmas.{until_lent}}
+use Rattle.no_std_io2_base.proofs.{PieceLemmas.{until_waited}, PieceLoops.{filled_law}, TakesLemmas.{reader}}
 use Rattle.no_std_io2_base.proofs.traits.buf_read.BufRead.read_line.Goals.{in-Ok+else-is_whole}
 use Rattle.no_std_io2_base.proofs.traits.buf_read.BufRead.read_line.Goals.{else-is_whole-via-then-is_whole+else-append_text}
 use Rattle.no_std_io2_base.proofs.traits.buf_read.BufRead.read_line.Goals.{else-is_whole-via-else-is_whole, in-Err}
@@ -56,10 +54,8 @@ returns g c =
     let until = subst (λ v. ReadUntilLaw R c.args.self.now newline v read.result read.new.buf read.new.self)
     (c.take_bytes-bytes.ensures ∙ ap string_vec both.0) both.1 in
     record {
-      law = line_law text read.new.buf until
-          (subst (λ n. AnswersLine (drop n read.new.buf.items) read.result c.put_back.result
-          (take n read.new.buf.items) (string_bytes c.put_back.new.buf)) start c.put_back.ensures.answers)
-          c.put_back.ensures.capacity;
+      law = line_law text read.new.buf until (subst (λ n. AnswersLine (drop n read.new.buf.items) read.result c.put_back.result
+          (take n read.new.buf.items) (string_bytes c.put_back.new.buf)) start c.put_back.ensures.answers) c.put_back.ensures.capacity;
     }
 
 pub put_back-requires-clause-within : goal.put_back-requires-clause-within

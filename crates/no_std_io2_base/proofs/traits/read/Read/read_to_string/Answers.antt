@@ -10,8 +10,7 @@ returns g c =
     let all = subst (λ v. ReadToEndLaw (reader g.Self.Stored g.Self.Read) c.args.self.now v read.result read.new.buf read.new.self)
     c.take_bytes-bytes.ensures read.ensures.law in
     record {
-      law = string_law c.args.buf.now read.new.buf all
-          (subst (λ n. AnswersLine (drop n read.new.buf.items) read.result c.put_back.result
+      law = string_law c.args.buf.now read.new.buf all (subst (λ n. AnswersLine (drop n read.new.buf.items) read.result c.put_back.result
           (take n read.new.buf.items) (string_bytes c.put_back.new.buf)) c.len-start.ensures c.put_back.ensures.answers)
           c.put_back.ensures.capacity;
     }
