@@ -11,7 +11,8 @@ returns c =
     let n = c.min-n.result in
     let within : (n ≤ length c.args.buf.now) × (n ≤ left) = omega (arith, c.min-n.ensures) in
     let part = c.fill.new.self in
-    let buf = part ++ drop n c.args.buf.now in
+    let rest = drop n c.args.buf.now in
+    let buf = part ++ rest in
     let is : part ≡ replicate n byte =
     c.fill.ensures.after (λ y same. same) ∙ ap (λ k. replicate k byte) (length-take-le n c.args.buf.now within.0) in
     let long : length part ≡ n = ap length is ∙ length-replicate n byte in
@@ -19,12 +20,6 @@ returns c =
     take_at part _ n long ∙ is ∙ sym (take-replicate n left byte within.1) in
     let split = split_at n (repeat_left c.args.self.now) front (sym (drop-replicate n left byte)) in
     let law = read_left {left = repeat_left} (λ old new call given. given) buf n
-    (record { split = split; takes = takes_left (repeat_left c.args.self.now) (take n buf) _ split; told = refl }) (omega (
-      arith,
-      c.min-n.ensures,
-      length-replicate left byte,
-      length-append part (drop n c.args.buf.now),
-      long,
-      length-drop n c.args.buf.now,
-    )) in
+    (record { split = split; takes = takes_left (repeat_left c.args.self.now) (take n buf) _ split; told = refl })
+    (omega (arith, c.min-n.ensures, length-replicate left byte, length-append part rest, long, length-drop n c.args.buf.now)) in
     record { law = law; gives = law.call }
