@@ -6,20 +6,16 @@ use Rattle.no_std_io2.proofs.Words.{IsInterruption, event_bytes, events_of, Take
 use Rattle.no_std_io2.proofs.Words.{and_again, IsRest, GathersUntil, tells, ReadCallLaw, GaveLaw, bytes_given, IsSuffix, reader_held}
 use Rattle.no_std_io2.proofs.Words.{reader_behind, reader_inner, ReadsBelow, AsksExact, of_held, went_past, was_filled, ◌+◌, Vec, vec_len}
 use Rattle.no_std_io2.proofs.{Words.{OnOk, IfOk, IsOutOfMemory, Event, GaveAll}, BufferedReads.{takes_held, buf_reader, held-le}}
-use Rattle.no_std_io2.proofs.BufferedReads.{takes_through, ends_unheld}
+use Rattle.no_std_io2.{proofs.BufferedReads.{takes_through, ends_unheld}, specs.inner.BufReader.{HasNoBuffer, LeavesThrough, ReadsThrough}}
+use Rattle.no_std_io2.specs.inner.BufReader.{full_ended, LeavesExact, only_held, read_whole, read_to_end, read_to_fault, GivesHeld}
+use Rattle.no_std_io2.specs.{inner.{BufReader.{ReaderMay}, Buffer.{HasTo}}, declared.buffered.buf_reader.BufReader.{BufReader}}
 use Rattle.std.proofs.{Common.{max, nat_le, take_all, le_trans, vec_capacity}, lemmas.{Bool.{le-leb, lt-leb}, List.{append_cancel_right}}}
-use Rattle.no_std_io2_base.specs.{declared.error.Error.{Error}, Errors.{IsUnexpectedEnd}}
-use Rattle.no_std_io2_base.specs.inner.Read.{FullCalls, least_room, without_number}
-use Rattle.no_std_io2_base.specs.{Read.{ReadFullLaw, ReadExactLaw, ReadToEndLaw}, inner.Reads.{Reads}}
-use Rattle.no_std_io2_base.specs.inner.Cursor.{HasMoved}
-use Rattle.no_std_io2_base.proofs.{CallsLemmas.{made_split, exact_own, to_end_own}, TakesLemmas.{gives_whole, bytes-append}}
-use Rattle.no_std_io2_base.proofs.TakesLemmas.{bytes-events_of, HasNoFault-append, HasNoFault-events_of, drains_ended}
-use Rattle.no_std_io2_base.proofs.{ReadsLemmas.{Reads-none, Reads-more, Reads-again, Reads-end, Reads-fault}, ToEndLemmas.{recount}}
-use Rattle.no_std_io2.specs.inner.BufReader.{HasNoBuffer, LeavesThrough, ReadsThrough, full_ended, LeavesExact, only_held, read_whole}
-use Rattle.no_std_io2.specs.declared.buffered.buf_reader.BufReader.{BufReader}
-use Rattle.no_std_io2.specs.{inner.BufReader.{read_to_end, read_to_fault, GivesHeld, ReaderMay}, inner.Buffer.{HasTo}}
-use Rattle.no_std_io2_base.specs.inner.Read.{FillsOrEnds}
-use Rattle.no_std_io2_base.specs.inner.Read.{DrainsOrStops}
+use Rattle.no_std_io2_base.specs.{declared.error.Error.{Error}, Errors.{IsUnexpectedEnd}, inner.Read.{FullCalls, least_room}}
+use Rattle.no_std_io2_base.specs.{inner.Read.{without_number, FillsOrEnds, DrainsOrStops}, Read.{ReadFullLaw, ReadExactLaw, ReadToEndLaw}}
+use Rattle.no_std_io2_base.{specs.inner.{Reads.{Reads}, Cursor.{HasMoved}}, proofs.CallsLemmas.{made_split, exact_own, to_end_own}}
+use Rattle.no_std_io2_base.proofs.TakesLemmas.{gives_whole, bytes-append, bytes-events_of, HasNoFault-append, HasNoFault-events_of}
+use Rattle.no_std_io2_base.proofs.{TakesLemmas.{drains_ended}, ReadsLemmas.{Reads-none, Reads-more, Reads-again, Reads-end, Reads-fault}}
+use Rattle.no_std_io2_base.proofs.ToEndLemmas.{recount}
 
 -- Which inner reads a `BufReader` makes for its reads, one after another, and what is in the buffer then: for `read_full` and `read_exact`.
 
@@ -88,15 +84,13 @@ module _ {R : Type 0} {S : ℕ} (inner : Reader R) (old : BufReader R S) (wanted
         × ReadCallLaw inner (reader_inner now) (Gave n answer) (reader_inner new)
     stops answer nothing (of_held some call) =
         absurd (omega (arith, some, into.1, ap length (sym nothing ∙ ap bytes_given call.1.0), length-take size (reader_held now)))
-    stops answer nothing (went_past none large law empty) =
-        (size, omega (arith, large), none, empty, law)
+    stops answer nothing (went_past none large law empty) = (size, omega (arith, large), none, empty, law)
     stops answer nothing (was_filled none small (Ok r) law passes) =
         let gone : take size r ≡ [] = sym (ap bytes_given passes.0) ∙ nothing in
         let unread : r ≡ [] = nil_from_length r (omega (arith, ap length gone, length-take size r, into.1)) in
         let rest : length (reader_held new) ≡ 0 = omega (arith, ap length passes.1.1, length-drop size r, ap length unread) in
         (S, omega (arith, small), none, (passes.1.0 ∙ gone, nil_from_length (reader_held new) rest), rw (passes.0, gone, ← unread) law)
-    stops answer nothing (was_filled none small (Err e) law passes) =
-        (S, omega (arith, small), none, passes.1, rw passes.0 law)
+    stops answer nothing (was_filled none small (Err e) law passes) = (S, omega (arith, small), none, passes.1, rw passes.0 law)
 
     -- a read was interrupted
     below_again : (e : Error) → IsInterruption e → ReadsBelow inner now size (Err e) new → Below x new
@@ -197,9 +191,8 @@ module _ {R : Type 0} {S : ℕ} {inner : Reader R} {old new : BufReader R S} {x 
       read_to_fault past (drop at buf', sym (take-append-drop at buf') ∙ ap (λ l. l ++ drop at buf') fills) (whole through)
 
   -- at the end
-  pub leaves_end : {u : Unit {0}} {e : Error} → length (reader_held old) < length buf → IsUnexpectedEnd e
-      → take at buf' ≡ take 0 buf ++ x → at < length buf'
-      → ReadsThrough inner old (length buf - 0) x (full_ended (Ok u) (nat_le (length buf') at)) new
+  pub leaves_end : {u : Unit {0}} {e : Error} → length (reader_held old) < length buf → IsUnexpectedEnd e → take at buf' ≡ take 0 buf ++ x
+      → at < length buf' → ReadsThrough inner old (length buf - 0) x (full_ended (Ok u) (nat_le (length buf') at)) new
       → LeavesExact inner old (length buf) (Err e) buf' new
   leaves_end past end fills short through =
       read_to_end past end (drop at buf', sym (take-append-drop at buf') ∙ ap (λ l. l ++ drop at buf') fills)
@@ -216,16 +209,13 @@ module _ {R : Type 0} {S : ℕ} {inner : Reader R} {old new : BufReader R S} {x 
 
 -- only held bytes were given
 pub exact_held : {R : Type 0} {S : ℕ} {inner : Reader R} {old new : BufReader R S} {buf buf' : List ℕ}
-    → length buf ≤ length (reader_held old)
-    → reader_inner new ≡ reader_inner old → buf' ≡ take (length buf) (reader_held old)
-    → reader_held new ≡ drop (length buf) (reader_held old)
-    → reader_behind new ≡ reader_behind old ++ buf' → (length buf ≡ 0 → new ≡ old)
+    → length buf ≤ length (reader_held old) → reader_inner new ≡ reader_inner old → buf' ≡ take (length buf) (reader_held old)
+    → reader_held new ≡ drop (length buf) (reader_held old) → reader_behind new ≡ reader_behind old ++ buf' → (length buf ≡ 0 → new ≡ old)
     → ReadExactLaw (buf_reader inner) old buf (Ok tt) buf' new × LeavesExact inner old (length buf) (Ok tt) buf' new
 exact_held {S = S} {inner} {old} {new} {buf} {buf'} fits same gave left front none =
     let held = reader_held old in
     let same_length : length buf' ≡ length buf = ap length gave ∙ length-take-le (length buf) held fits in
-    let gives : GivesHeld old (length buf) (Ok buf') new =
-    (same, (ap Ok gave, (front ∙ ap (λ l. reader_behind old ++ l) gave, left))) in
+    let gives : GivesHeld old (length buf) (Ok buf') new = (same, (ap Ok gave, (front ∙ ap (λ l. reader_behind old ++ l) gave, left))) in
     let takes : Takes (tells (buf_reader inner) old) (events_of buf') (tells (buf_reader inner) new) =
     rw same (takes_held S held _ buf' _ (sym (take-append-drop (length buf) held)
     ∙ ap (λ l. l ++ drop (length buf) held) (sym gave) ∙ ap (λ l. buf' ++ l) (sym left)) (held-le old)) in
@@ -339,11 +329,9 @@ module _ {R A : Type 0} {S : ℕ} {K : Reader R} {old new : BufReader R S} {buf 
   -- the vector had no room for all held bytes, and could not grow: a front of them was appended
   pub held_part : {e : Error} → IsOutOfMemory e → HasMoved (reader_held old) (reader_held new) buf.items buf'.items
       → reader_behind new ++ reader_held new ≡ reader_behind old ++ reader_held old → reader_inner new ≡ reader_inner old
-      → vec_capacity buf ≤ vec_capacity buf' → vec_capacity buf < vec_len buf' + least_room
-      → ToEndOwn K old buf (Err e) buf' new
+      → vec_capacity buf ≤ vec_capacity buf' → vec_capacity buf < vec_len buf' + least_room → ToEndOwn K old buf (Err e) buf' new
   held_part {e} refused (part, split, shown) kept same grown full =
-      let behind : reader_behind new ≡ reader_behind old ++ part =
-      append_cancel_right _ _ (reader_held new)
+      let behind : reader_behind new ≡ reader_behind old ++ part = append_cancel_right _ _ (reader_held new)
       (kept ∙ ap (λ l. reader_behind old ++ l) split ∙ sym (append_assoc (reader_behind old) part (reader_held new))) in
       let takes : Takes (tells (buf_reader K) old) (events_of part) (tells (buf_reader K) new) =
       rw same (takes_held S (reader_held old) _ part _ split (held-le old)) in

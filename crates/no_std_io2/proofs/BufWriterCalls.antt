@@ -1,25 +1,23 @@
 -- The calls of a buffered writer, by its steps.
 use Rattle.no_std_io2.proofs.Words.{TakesAll, CallOf, Writer, WriterState, Moves, MovesFront, WriteCall, Made, ByCalls, call_mishap, Wrote}
-use Rattle.no_std_io2.proofs.Words.{Flushed, AllCalls, calls_for, no_write, charges, [], ◌≡◌, ◌+◌, ℕ, ◌<◌, ◌≤◌, List, ◌∷◌, ◌++◌}
-use Rattle.no_std_io2.proofs.Words.{length, Result, Ok, OnOk, IfOk, refl, subst, arith, le_refl, append-nil, if◌then◌else◌, nat_lt, inl}
-use Rattle.no_std_io2.proofs.Words.{inr, common_steps, nil_from_length, cases_lt, nat_tests, first_stops, first_goes_on, Stepped, TakesStep}
+use Rattle.no_std_io2.proofs.Words.{Flushed, AllCalls, calls_for, no_write, charges, [], ◌≡◌, ◌+◌, ℕ, ◌<◌, ◌≤◌, List, ◌∷◌, ◌++◌, length}
+use Rattle.no_std_io2.proofs.Words.{Result, Ok, OnOk, IfOk, refl, subst, arith, le_refl, append-nil, if◌then◌else◌, nat_lt, inl, inr}
+use Rattle.no_std_io2.proofs.Words.{common_steps, nil_from_length, cases_lt, nat_tests, first_stops, first_goes_on, Stepped, TakesStep}
 use Rattle.no_std_io2.proofs.Words.{sender_inner, sender_buffer, SingleCall, SendCalls, RoomCalls, Buffered, WriteCalls, WriteAllCalls}
 use Rattle.no_std_io2.proofs.Words.{FlushCalls, writing_calls, buffer_after, Store, KeepsContent, Err, IsOk, Option, with_buffer}
+use Rattle.no_std_io2.proofs.Words.{length-append, error_kind, IsFault, writer_inner, writer_buffer, writer_told}
 use Rattle.no_std_io2.proofs.BufWriterLemmas.{Moves-kept, Moves-emptied, MovesFront-emptied, no_ok, then_goes_on, then_does, effect_by}
-use Rattle.no_std_io2.proofs.BufWriterLemmas.{effect_of, StepEffect, Effect, Always, Exactly, Emptied, Sending, StepsJoin}
+use Rattle.no_std_io2.proofs.BufWriterLemmas.{effect_of, StepEffect, Effect, Always, Exactly, Emptied, Sending, StepsJoin, then_stops}
+use Rattle.no_std_io2.specs.{declared.buffered.buf_writer.BufWriter.{BufWriter}, BufWriter.{Puts, Unwraps}, inner.BufWriter.{PutCalls}}
+use Rattle.no_std_io2.specs.inner.BufWriter.{WithNothingHeld, room_calls, Buffers, BuffersAll, store_unheld, into_inner_error_writer}
+use Rattle.no_std_io2.specs.{inner.{BufWriter.{into_inner_error_cause}, BufferSeeks.{SeeksSent}}, declared.buffered.sender.Sender.{Sender}}
+use Rattle.no_std_io2.specs.{inner.BufferSeeks.{sending_failed}, declared.buffered.into_inner_error.IntoInnerError.{IntoInnerError}}
 use Rattle.no_std_io2_base.specs.{declared.error.Error.{Error}, Errors.{IsNoInterruption}, Write.{accepted_of, write_mishap}}
 use Rattle.no_std_io2_base.specs.{declared.traits.seek.SeekFrom.{SeekFrom}, inner.Seek.{IsPosition}, Seek.{Seeker}}
-use Rattle.no_std_io2.proofs.Words.{append_assoc, length-append, error_kind, IsFault, writer_inner, writer_buffer, writer_told}
-use Rattle.no_std_io2.specs.{declared.buffered.buf_writer.BufWriter.{BufWriter}, BufWriter.{Puts}}
-use Rattle.no_std_io2.proofs.BufWriterLemmas.{then_stops}
-use Rattle.std.proofs.{Common.{take_all, nat_le, eq-zero-or-pos}, lemmas.Result.{on_ok_weaker}}
 use Rattle.no_std_io2_base.proofs.MovesLemmas.{IsFront-refl, Moves-then, zero_write-whole, writes_fault, writes_sends, all_calls}
 use Rattle.no_std_io2_base.proofs.MovesLemmas.{call_steady, writes_count, all_count, Moves-steady, after_ok, writes_left, writes_idle}
 use Rattle.no_std_io2_base.proofs.CallsLemmas.{by_are, by_call, made_split, writes_whole}
-use Rattle.no_std_io2.specs.inner.BufWriter.{PutCalls, WithNothingHeld, room_calls, Buffers, BuffersAll, store_unheld}
-use Rattle.no_std_io2.specs.{declared.buffered.sender.Sender.{Sender}, inner.BufWriter.{into_inner_error_writer, into_inner_error_cause}}
-use Rattle.no_std_io2.specs.{inner.BufferSeeks.{SeeksSent, sending_failed}, BufWriter.{Unwraps}}
-use Rattle.no_std_io2.specs.declared.buffered.into_inner_error.IntoInnerError.{IntoInnerError}
+use Rattle.std.proofs.{Common.{take_all, nat_le, eq-zero-or-pos}, lemmas.Result.{on_ok_weaker}}
 
 -- What the steps of a buffered writer do, and what follows for its calls. For `Sender` and `BufWriter`, and for counts of calls.
 
@@ -61,22 +59,10 @@ module _ {W : Type 0} {S : ℕ} (I : Writer W) {old : BufWriter W S} {n : ℕ} (
 
   -- there is room, and both parts of the record are held
   pub whole_held : (mid new : BufWriter W S) → n < S → TakesStep I writer_inner writer_buffer (RoomCalls S n) old (Ok tt) mid
-      → Moves (writer_told I.told old) [] [] (writer_told I.told mid)
-      → writer_inner new ≡ writer_inner mid → writer_buffer new ≡ (writer_buffer mid ++ head) ++ tail
-      → Puts I writer_inner writer_buffer S (head ++ tail) old (Ok tt) new
+      → Moves (writer_told I.told old) [] [] (writer_told I.told mid) → writer_inner new ≡ writer_inner mid
+      → writer_buffer new ≡ (writer_buffer mid ++ head) ++ tail → Puts I writer_inner writer_buffer S (head ++ tail) old (Ok tt) new
   whole_held mid new short way moves same put =
-      grind (
-        arith,
-        common_steps,
-        append_assoc,
-        writer_buffer,
-        Moves-then,
-        Moves-kept,
-        writer_inner,
-        then_goes_on,
-        length-append,
-        put_beside,
-      )
+      grind (arith, common_steps, writer_buffer, Moves-then, Moves-kept, writer_inner, then_goes_on, length-append, put_beside)
 
 -- a `write_all` of nothing, if nothing is held, makes no call
 pub nothing_put : {W : Type 0} {I : Writer W} (S : ℕ) (a : W) → Stepped I (WriteAllCalls S []) a [] (Ok tt) [] a
@@ -97,8 +83,7 @@ buffered_past {S} {I} {mid = mid} {inner = inner} x v past {reply = reply} same 
     (then_goes_on _ (room_empty (length x) none) (put_past x past long none none calls))
 
 -- one call
-pub one_made : {W : Type 0} {I : Writer W} (call : WriteCall) {a b : W} → CallOf I a call b
-    → ByCalls (CallOf I) a (λ C. C ≡ call ∷ []) b
+pub one_made : {W : Type 0} {I : Writer W} (call : WriteCall) {a b : W} → CallOf I a call b → ByCalls (CallOf I) a (λ C. C ≡ call ∷ []) b
 one_made call law = by_call call law refl
 
 -- if both fit, x is held and there is no inner call
@@ -290,8 +275,7 @@ store_refused Goes held s s' some = grind (arith, common_steps)
 
 -- if all was sent, it is what a seek made of the inner writer's, which without held bytes was the same before
 pub store_sought : (Goes : ℕ → ℕ → ℕ → Type 0) (held held' : List ℕ) (s s' : Option Store) → held' ≡ []
-    → (held ≡ [] → KeepsContent s Goes s')
-    → KeepsContent (store_unheld held s) Goes (store_unheld held' s')
+    → (held ≡ [] → KeepsContent s Goes s') → KeepsContent (store_unheld held s) Goes (store_unheld held' s')
 store_sought Goes held held' s s' none seek = grind (arith, common_steps)
 
 -- and so is its position

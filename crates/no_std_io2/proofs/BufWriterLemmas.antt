@@ -2,15 +2,13 @@
 use Rattle.std.proofs.Common.{inl, inr}
 use Rattle.no_std_io2.proofs.Words.{common_steps, nil_from_length, ◌≡◌, ℕ, ◌-◌, ◌≤◌, length-take, length-append, Result, Ok, Err, OnOk, []}
 use Rattle.no_std_io2.proofs.Words.{List, ◌++◌, length, drop, sym, ap, subst, ◌∙◌, arith, append_assoc, append-nil, WriterState, Moves}
-use Rattle.no_std_io2.proofs.Words.{MovesFront, with_buffer, writer_inner, writer_buffer, writer_told, IsSuffix}
-use Rattle.no_std_io2.proofs.Words.{TakesAll, CallOf, Writer, WriteCall, Made, call_mishap, charges, false, true, ◌+◌, IsOk, Step, Stepped}
-use Rattle.no_std_io2.proofs.Words.{Then, first_stops, first_goes_on, nat_tests, FlushCalls, ◌∷◌, refl, LevelCalls}
-use Rattle.no_std_io2_base.specs.{declared.error.ErrorKind.{ErrorKind}, declared.error.Error.{Error}, Errors.{IsNoInterruption}}
-use Rattle.no_std_io2_base.specs.{Calls.{ByCalls, WroteAll}, Write.{CallAdds, RestAdds}, inner.Write.{AllCalls}}
-use Rattle.no_std_io2.specs.inner.BufWriter.{WriteAllCalls, RoomCalls, PutCalls}
-use Rattle.no_std_io2.specs.declared.buffered.{buf_writer.BufWriter.{BufWriter}}
-use Rattle.no_std_io2_base.proofs.MovesLemmas.{charges-append, after_ok, IsFront-refl}
-use Rattle.no_std_io2_base.proofs.{CallsLemmas.{by_are, by_then, made_split, law_may}, CallsAdd.{Joins, writes_add, all_adds}}
+use Rattle.no_std_io2.proofs.Words.{MovesFront, with_buffer, writer_inner, writer_buffer, writer_told, IsSuffix, TakesAll, CallOf, Writer}
+use Rattle.no_std_io2.proofs.Words.{WriteCall, Made, call_mishap, charges, false, true, ◌+◌, IsOk, Step, Stepped, Then, first_stops}
+use Rattle.no_std_io2.{proofs.Words.{first_goes_on, nat_tests, FlushCalls, ◌∷◌, refl, LevelCalls}, specs.inner.BufWriter.{WriteAllCalls}}
+use Rattle.no_std_io2.specs.{inner.BufWriter.{RoomCalls, PutCalls}, declared.buffered.buf_writer.BufWriter.{BufWriter}}
+use Rattle.no_std_io2_base.proofs.{MovesLemmas.{charges-append, after_ok, IsFront-refl}, CallsLemmas.{by_are, by_then, made_split, law_may}}
+use Rattle.no_std_io2_base.{proofs.CallsAdd.{Joins, writes_add, all_adds}, specs.{Errors.{IsNoInterruption}, Write.{CallAdds, RestAdds}}}
+use Rattle.no_std_io2_base.specs.{Calls.{ByCalls, WroteAll}, declared.error.{ErrorKind.{ErrorKind}, Error.{Error}}, inner.Write.{AllCalls}}
 
 -- What a buffer in front of a writer tells. For both buffered writers, and for callers with a new buffer in front of a device.
 
@@ -50,8 +48,7 @@ Moves-kept told inner next old new x same e = grind (arith, common_steps)
 -- an empty buffer in front of a device, and afterwards a buffer with any bytes: its `Moves` is the `Moves` of the device
 pub Moves-device : {W : Type 0} {S : ℕ} {a : WriterState} {b : WriterState} {x : List ℕ} {k : List ErrorKind} (told : W → WriterState)
     (w : BufWriter W S)
-    (device : W)
-    → writer_inner w ≡ device → writer_buffer w ≡ [] → a ≡ writer_told told w → Moves a x k b → Moves (told device) x k b
+    (device : W) → writer_inner w ≡ device → writer_buffer w ≡ [] → a ≡ writer_told told w → Moves a x k b → Moves (told device) x k b
 Moves-device {b = b} {x = x} {k = k} told w device inner none is m = grind (arith, common_steps)
 
 -- if nothing is held below and in a buffer, nothing is in the buffer
@@ -91,8 +88,7 @@ pub record StepEffect {W A : Type 0} (I : Writer W) (R : Effect A) (F : List ℕ
   pub counts : TakesAll I a → TakesAll I b × IsOk reply × (charges C ≡ n held)
 
 -- however a step is taken, it does that
-abbrev pub Always : {W A : Type 0} → Writer W → Step A → Effect A → (List ℕ → List ℕ → Type 0)
-    → (List ℕ → ℕ) → Type 0
+abbrev pub Always : {W A : Type 0} → Writer W → Step A → Effect A → (List ℕ → List ℕ → Type 0) → (List ℕ → ℕ) → Type 0
 Always {W} {A} I step R F n = (a b : W) (held left : List ℕ) (C : List WriteCall) (reply : Result A Error) → step held C reply left
     → Made (CallOf I) a C b → StepEffect I R F n a held C reply left b
 
@@ -127,11 +123,9 @@ pub record StepsJoin {A : Type 0} (P : Effect (Unit {0})) (Q R : Effect A) : Typ
   pub joins : (s m t : WriterState) (reply : Result A Error) → P s (Ok tt) m → Q m reply t → R s reply t
 
 -- `first?; next`
-pub then_does : {W A : Type 0} {I : Writer W} {P : Effect (Unit {0})}
-    {Q R : Effect A} (first : Step (Unit {0})) (next : Step A) {f : List ℕ → List ℕ} {n : List ℕ → ℕ}
-    {G : List ℕ → List ℕ → Type 0} {k : List ℕ → ℕ}
-    → StepsJoin P Q R → Always I first P (Exactly f) n → Always I next Q G k
-    → Always I (Then first next) R (λ held. G (f held)) (λ held. n held + k (f held))
+pub then_does : {W A : Type 0} {I : Writer W} {P : Effect (Unit {0})} {Q R : Effect A} (first : Step (Unit {0})) (next : Step A)
+    {f : List ℕ → List ℕ} {n : List ℕ → ℕ} {G : List ℕ → List ℕ → Type 0} {k : List ℕ → ℕ} → StepsJoin P Q R
+    → Always I first P (Exactly f) n → Always I next Q G k → Always I (Then first next) R (λ held. G (f held)) (λ held. n held + k (f held))
 then_does first next follows one two a b held left _ _ (first_stops p) made =
     let x = effect_by one p made in
     record { told = follows.first_fails _ _ _ x.told; leaves = tt; counts = λ t. no_ok (x.counts t).1 }
@@ -208,8 +202,7 @@ module _ {W : Type 0} {may : W → WriteCall → W → Type 0} {Adds : W → Lis
 
 -- if each call makes such inner calls, calls one after another do
 pub level_by_level : {W B : Type 0} (I : Writer W) (K : Writer B) (inner : B → W) (buffer : B → List ℕ)
-    (level : List ℕ → WriteCall → List WriteCall → List ℕ → Type 0)
-    → ((a b : B) (call : WriteCall) → K.may a call b
+    (level : List ℕ → WriteCall → List WriteCall → List ℕ → Type 0) → ((a b : B) (call : WriteCall) → K.may a call b
     → ByCalls (CallOf I) (inner a) (λ D. level (buffer a) call D (buffer b)) (inner b))
     → (C : List WriteCall) (a b : B) → Made (CallOf K) a C b
     → ByCalls (CallOf I) (inner a) (λ D. LevelCalls level (buffer a) C D (buffer b)) (inner b)

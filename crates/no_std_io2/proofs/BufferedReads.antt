@@ -3,26 +3,20 @@ use Rattle.no_std_io2.proofs.Words.{◌≡◌, ℕ, ◌-◌, ◌<◌, ◌≤◌,
 use Rattle.no_std_io2.proofs.Words.{pos, ◌+◌, List, ◌++◌, take, sym, take-take, IsCutOn, negsuc, zero, suc, ◌*◌, min, Bool, true, false}
 use Rattle.no_std_io2.proofs.Words.{true≢false, [], refl, ap₂, subst, append_assoc, append-nil, length-append, take-append-drop, Option}
 use Rattle.no_std_io2.proofs.Words.{None, Some, Result, Ok, Err, IfOk, drop-append_seam, Event, events_of, event_bytes, Store, ReaderState}
-use Rattle.no_std_io2.proofs.Words.{Takes}
-use Rattle.no_std_io2.proofs.Words.{AreTaken, KeepsContent, to_come, IsAtEnd, answered, bytes_given, behind_held, step_back, store_if}
-use Rattle.no_std_io2.proofs.Words.{store_before, Reader, tells, ReadCallLaw, ReadLaw, Gave, reader_behind, reader_inner, PassesOn}
-use Rattle.no_std_io2.proofs.Words.{ReadsBelow, of_held, was_filled, went_past, lent_held, lent_read, ReadCall, GaveAll, Filled}
-use Rattle.no_std_io2.proofs.Words.{inl, inr, Consumed}
-use Rattle.no_std_io2_base.specs.Calls.{GaveExactly}
-use Rattle.no_std_io2_base.proofs.Forwards.{calls_keep}
+use Rattle.no_std_io2.proofs.Words.{Takes, AreTaken, KeepsContent, to_come, IsAtEnd, answered, bytes_given, behind_held, step_back}
+use Rattle.no_std_io2.proofs.Words.{store_if, store_before, Reader, tells, ReadCallLaw, ReadLaw, Gave, reader_behind, reader_inner}
+use Rattle.no_std_io2.proofs.Words.{PassesOn, ReadsBelow, of_held, was_filled, went_past, lent_held, lent_read, ReadCall, GaveAll, Filled}
+use Rattle.no_std_io2.{proofs.Words.{inl, inr, Consumed}, specs.inner.BufReader.{reader_told, reader_events, reader_turns, ReaderMay}}
+use Rattle.no_std_io2.specs.{inner.Buffer.{is_before, AreBefore, IsInBuffer}, BufReader.{reader_store}}
+use Rattle.no_std_io2.specs.{declared.buffered.{buf_reader.BufReader.{BufReader}, buffer.Buffer.{Buffer}}, inner.BufferSeeks.{TakesOver}}
+use Rattle.no_std_io2_base.{specs.{Calls.{GaveExactly}, inner.Seek.{IsAtOffset}}, proofs.Forwards.{calls_keep}}
+use Rattle.no_std_io2_base.specs.{declared.error.Error.{Error}, inner.{Events.{BeginsWith}, Takes.{events_by}, Read.{fault_of}}}
+use Rattle.no_std_io2_base.proofs.TakesLemmas.{bytes-append, bytes-events_of, length-events_of, events_of-append, takes_none}
 use Rattle.std.proofs.{Math.Bridge.{le_prop}, Common.{◌+ℤ◌, IfSome}, lemmas.List.{drop-take, drop-drop, drop-append-le, length-take-le}}
 use Rattle.std.proofs.{Math.{Seq.{take-add, drop-append-add}, Nat.{mul-le-mul_left, mul-suc}}, lemmas.Slice.{take-put_mid}}
-use Rattle.std.proofs.lemmas.Bool.{Decides.{Decides-and}, leb-true, le-leb}
-use Rattle.no_std_io2.specs.{declared.buffered.buffer.Buffer.{Buffer}, declared.buffered.buf_reader.BufReader.{BufReader}}
-use Rattle.no_std_io2.specs.inner.Buffer.{is_before, AreBefore, IsInBuffer}
-use Rattle.no_std_io2.specs.{inner.BufReader.{reader_told, reader_events, reader_turns, ReaderMay}, inner.BufferSeeks.{TakesOver}}
-use Rattle.no_std_io2.specs.BufReader.{reader_store}
-use Rattle.std.specs.{List.{slice_range}, Bool.{Decides}}
+use Rattle.std.{proofs.lemmas.Bool.{Decides.{Decides-and}, leb-true, le-leb}, specs.{List.{slice_range}, Bool.{Decides}}}
 use borrow.Rule.Slice.PartMut.{put_mid}
-use Rattle.no_std_io2_base.specs.{inner.Seek.{IsAtOffset}, declared.error.Error.{Error}, inner.Events.{BeginsWith}, inner.Takes.{events_by}}
-use Rattle.no_std_io2_base.specs.inner.Read.{fault_of}
 use lib.Pointwise.{pointwise, bytes_decides}
-use Rattle.no_std_io2_base.proofs.TakesLemmas.{bytes-append, bytes-events_of, length-events_of, events_of-append, takes_none}
 
 -- How much a `BufReader` holds.
 
@@ -64,8 +58,7 @@ pub range_rest : (l : List ℕ) (start end n : ℕ) → n ≤ end - start
     → take (end - (start + n)) (drop (start + n) l) ≡ drop n (take (end - start) (drop start l))
 range_rest l start end n fits =
     let split : end - start ≡ n + (end - (start + n)) = omega arith in
-    sym
-    (ap (λ k. drop n (take k (drop start l))) split ∙ drop-take n (end - (start + n)) (drop start l)
+    sym (ap (λ k. drop n (take k (drop start l))) split ∙ drop-take n (end - (start + n)) (drop start l)
     ∙ ap (take (end - (start + n))) (drop-drop n start l))
 
 -- these lie before it then, after those that did
@@ -167,10 +160,8 @@ goes_before whole whole' front Q {a} {b} takes stands = by a.store b.store takes
     by (Some s) None taken moved = absurd moved
     by (Some s) (Some s') taken moved =
         let on : IsBefore whole s → IsBefore whole' s' = stays_before s s' whole whole' front (event_bytes Q)
-        (sym (bytes-events_of (drop s.position s.content)) ∙ ap event_bytes taken
-        ∙ bytes-append Q (events_of (drop s'.position s'.content))
-        ∙ ap (λ l. event_bytes Q ++ l) (bytes-events_of (drop s'.position s'.content)))
-        moved.0 moved.1 stands in
+        (sym (bytes-events_of (drop s.position s.content)) ∙ ap event_bytes taken ∙ bytes-append Q (events_of (drop s'.position s'.content))
+        ∙ ap (λ l. event_bytes Q ++ l) (bytes-events_of (drop s'.position s'.content))) moved.0 moved.1 stands in
         let long : length whole + length (event_bytes Q) ≡ length front + length whole' =
         sym (length-append whole (event_bytes Q)) ∙ ap length stands ∙ length-append front whole' in (
           keeps_before (λ len was now. now ≡ was + length front) whole whole' s s' moved.0
@@ -193,8 +184,7 @@ taken_behind held held' P Q E E' taken is = grind (arith, common_steps, append_a
 
 -- The inner reader took Q. The held bytes and then Q are P and then the bytes that are now held. So P was taken.
 takes_behind : (room : ℕ) (held held' : List ℕ) (P Q : List Event) {a b : ReaderState} → Takes a Q b
-    → events_of held ++ Q ≡ P ++ events_of held' → length held' ≤ room
-    → Takes (reader_told room held a) P (reader_told room held' b)
+    → events_of held ++ Q ≡ P ++ events_of held' → length held' ≤ room → Takes (reader_told room held a) P (reader_told room held' b)
 takes_behind room held held' P Q {a} {b} takes is fits = record {
   events =
       subst (λ E. AreTaken (to_come (reader_told room held a)) P E) (sym (told_behind room held' b))
@@ -219,8 +209,7 @@ module _ (room : ℕ) (held : List ℕ) where
 
   -- a read into the buffer, in which nothing was held
   pub takes_fill : {held' : List ℕ} {a b : ReaderState} (answer : Result (List ℕ) Error) → Takes a (answered answer) b → held ≡ []
-      → held' ≡ bytes_given answer → length held' ≤ room
-      → Takes (reader_told room held a) (fault_of answer) (reader_told room held' b)
+      → held' ≡ bytes_given answer → length held' ≤ room → Takes (reader_told room held a) (fault_of answer) (reader_told room held' b)
   takes_fill {held'} (Ok x) takes none is fits =
       takes_behind room held held' [] (events_of x) takes (ap₂ (λ l m. events_of l ++ events_of m) none (sym is)) fits
   takes_fill {held'} (Err e) takes none is fits =
@@ -270,8 +259,7 @@ ends_unheld room held t none end = grind (arith, common_steps, end_behind, told_
 
 -- and so at the end of a read
 pub end_read : (a : ReaderState) (room : ℕ) (held buf : List ℕ) (reply : Result ℕ Error) → held ≡ []
-    → IfOk reply (λ n. n ≡ 0 → 0 < length buf → IsAtEnd a)
-    → IfOk reply (λ n. n ≡ 0 → 0 < length buf → IsAtEnd (reader_told room held a))
+    → IfOk reply (λ n. n ≡ 0 → 0 < length buf → IsAtEnd a) → IfOk reply (λ n. n ≡ 0 → 0 < length buf → IsAtEnd (reader_told room held a))
 end_read a room held buf reply none end = grind (arith, common_steps, ends_unheld)
 
 begins_by : (held : List ℕ) (E : Option (List Event)) → IfSome (behind_held held E) (λ l. BeginsWith l held)

@@ -2,16 +2,13 @@
 use Rattle.no_std_io2.proofs.Words.{common_steps, ◌≡◌, ℕ, ◌+◌, ◌-◌, ◌^◌, ◌<◌, ◌≤◌, min, List, [], ◌∷◌, ◌++◌, Result, Ok, Err, true, length}
 use Rattle.no_std_io2.proofs.Words.{take, refl, ap, ◌∙◌, arith, append_assoc, length-append, IsInterruption, IsFault, ReadCall, Filled}
 use Rattle.no_std_io2.proofs.Words.{Consumed, Reader, ReadCallLaw, tells, WriteCall, Made, Moves, Writer, CallOf, TakesAll}
-use Rattle.no_std_io2.proofs.CopyLoop.{Took-last}
+use Rattle.no_std_io2.{proofs.CopyLoop.{Took-last}, specs.inner.Copy.{counted, HandsLent, lends_none, lends_fault, again_lent, piece_lent}}
+use Rattle.no_std_io2.specs.{inner.Copy.{lends_refused}, Copy.{LentCopied}, declared.util.sides.CopyError.{TheVariants.{Read}, CopyError}}
+use Rattle.no_std_io2.specs.declared.util.sides.CopyError.TheVariants.{Write}
 use Rattle.no_std_io2_base.specs.{declared.error.Error.{Error}, inner.Read.{FilledLaw}, Read.{ConsumeLaw}, Reads.{Took}}
-use Rattle.no_std_io2_base.specs.Writers.{WriteAllOf}
+use Rattle.no_std_io2_base.{specs.Writers.{WriteAllOf}, proofs.{CallsLemmas.{made_then}, MovesLemmas.{Moves-refl, Moves-then}}}
+use Rattle.no_std_io2_base.proofs.{ReadsLemmas.{Took-none, Took-bytes, Took-again, Took-end, Took-fault}, TakesLemmas.{Took-then}}
 use Rattle.std.proofs.Common.{take_all}
-use Rattle.no_std_io2_base.proofs.{CallsLemmas.{made_then}, MovesLemmas.{Moves-refl, Moves-then}, ReadsLemmas.{Took-none}}
-use Rattle.no_std_io2_base.proofs.TakesLemmas.{Took-then}
-use Rattle.no_std_io2_base.proofs.ReadsLemmas.{Took-bytes, Took-again, Took-end, Took-fault}
-use Rattle.no_std_io2.specs.inner.Copy.{counted, HandsLent, lends_none, lends_fault, again_lent, piece_lent, lends_refused}
-use Rattle.no_std_io2.specs.{Copy.{LentCopied}, declared.util.sides.CopyError.{CopyError}}
-use Rattle.no_std_io2.specs.declared.util.sides.CopyError.TheVariants.{Read, Write}
 
 module _ {R W : Type 0} (K : Reader R) (I : Writer W) (from : R) (old : W) where
   -- These calls were made. Whatever calls follow, they follow these.
@@ -48,8 +45,7 @@ module _ {R W : Type 0} {K : Reader R} {I : Writer W} {from : R} {old : W} where
     -- some calls more
     calls_more : Made (ReadCallLaw K) mid asks after → Made (CallOf I) now calls new
         → ((C : List ReadCall) (D : List WriteCall) (reply : Result ℕ CopyError) → HandsLent C D reply
-        → HandsLent (asks ++ C) (calls ++ D) reply)
-        → LentCalls K I from old after new
+        → HandsLent (asks ++ C) (calls ++ D) reply) → LentCalls K I from old after new
     calls_more asked made on = grind (arith, common_steps, made_then, append_assoc)
 
     -- the last calls

@@ -1,19 +1,17 @@
 -- The loop of a copy, and what follows from its law.
-use Rattle.no_std_io2.proofs.Words.{common_steps, ◌≡◌, ℕ, ◌+◌, ◌-◌, ◌^◌, ◌<◌, min, List, [], ◌∷◌, ◌++◌, Result, Ok, Err, true, length}
-use Rattle.no_std_io2.proofs.Words.{take, refl, sym, ap, subst, ◌∙◌, arith, append_assoc, append-nil, length-append, length-take-le, concat}
+use Rattle.no_std_io2.proofs.Words.{common_steps, ◌≡◌, ℕ, ◌+◌, ◌-◌, ◌^◌, ◌<◌, min, List, [], ◌∷◌, ◌++◌, Result, Ok, Err, true, length, take}
+use Rattle.no_std_io2.proofs.Words.{refl, sym, ap, subst, ◌∙◌, arith, append_assoc, append-nil, length-append, length-take-le, concat}
 use Rattle.no_std_io2.proofs.Words.{IsInterruption, IsFault, event_bytes, ReaderState, Bool, Reader, Gave, ReadLaw, GaveLaw, ReadCallLaw}
-use Rattle.no_std_io2.proofs.Words.{tells}
-use Rattle.no_std_io2.proofs.Words.{no_read, and_gave, and_again, WriteCall, Made, Moves, Writer, CallOf, TakesAll, Option, None}
+use Rattle.no_std_io2.proofs.Words.{tells, no_read, and_gave, and_again, WriteCall, Made, Moves, Writer, CallOf, TakesAll, Option, None}
 use Rattle.no_std_io2.proofs.Words.{Some, Event, byte, fails, HasNoFault, ReadCall, Takes, to_come, IsAtEnd, WriterState, Copied}
-use Rattle.std.proofs.lemmas.List.{Folds.{concat-append}, Sums.{sum_by-cons}}
-use Rattle.no_std_io2_base.specs.{declared.error.Error.{Error}, declared.error.ErrorKind.{ErrorKind}, Takes.{gave_front}, Reads.{Took}}
-use Rattle.no_std_io2_base.specs.{Writers.{WriteAllOf}, inner.Events.{EndsInFault}, inner.Moves.{HasSpent}}
-use Rattle.no_std_io2_base.proofs.{CallsLemmas.{made_more, made_then}, TakesLemmas.{length-events_of, read_law, nothing_read}}
-use Rattle.no_std_io2_base.proofs.{TakesLemmas.{HasNoFault-front, left_of}, MovesLemmas.{Moves-refl, Moves-then, Moves-steady}}
-use Rattle.no_std_io2_base.proofs.{ReadLoops.{some_bytes}, ReadsLemmas.{Took-none, Took-bytes, Took-again, Took-fault}}
-use Rattle.no_std_io2_base.proofs.TakesLemmas.{Took-then}
 use Rattle.no_std_io2.specs.{inner.Copy.{Handed, handed_none, handed_piece, HandsOn, counted, CopyEnds, side_error}, Copy.{SidesCopied}}
 use Rattle.no_std_io2.specs.declared.util.sides.CopyError.{TheVariants.{Read, Write}, CopyError}
+use Rattle.std.proofs.lemmas.List.{Folds.{concat-append}, Sums.{sum_by-cons}}
+use Rattle.no_std_io2_base.specs.{declared.error.{Error.{Error}, ErrorKind.{ErrorKind}}, Takes.{gave_front}, Reads.{Took}}
+use Rattle.no_std_io2_base.{specs.{Writers.{WriteAllOf}, inner.{Events.{EndsInFault}, Moves.{HasSpent}}}, proofs.CallsLemmas.{made_more}}
+use Rattle.no_std_io2_base.proofs.{CallsLemmas.{made_then}, TakesLemmas.{length-events_of, read_law, nothing_read, HasNoFault-front}}
+use Rattle.no_std_io2_base.proofs.{TakesLemmas.{left_of, Took-then}, MovesLemmas.{Moves-refl, Moves-then, Moves-steady}}
+use Rattle.no_std_io2_base.proofs.{ReadLoops.{some_bytes}, ReadsLemmas.{Took-none, Took-bytes, Took-again, Took-fault}}
 
 -- The loop of `copy_with`, and so of `copy_sided` and `copy`: it passes on what it reads, piece by piece.
 
@@ -214,8 +212,7 @@ took_told {b = b} {P} takes told end = grind (arith, common_steps, append-nil, l
 
 -- a copy fails for a fault of the reader, or a mishap of the writer
 pub copies_steadily : (room : ℕ) {a b : ReaderState} {P E : List Event} (side : CopyError) (old new : WriterState) → Takes a P b
-    → to_come a ≡ Some E
-    → HasNoFault E → CopyEnds room (Err side) P b old new → old.mishaps ≡ Some [] → ⊥
+    → to_come a ≡ Some E → HasNoFault E → CopyEnds room (Err side) P b old new → old.mishaps ≡ Some [] → ⊥
 copies_steadily room {P = P} (Read e) old new takes told none ends steady =
     let left = left_of takes told in no_fault_at_end P e (HasNoFault-front P left.0 (subst HasNoFault left.2 none)) ends.fault
 copies_steadily room (Write e) old new takes told none ends steady = Moves-steady steady ends.moves

@@ -1,22 +1,20 @@
 -- What the calls of a line writer tell and count, by the calls of its inner writer. For `LineWriter`, and for counts of calls.
 use Rattle.no_std_io2.proofs.Words.{TakesAll, CallOf, Writer, WriteCall, Wrote, Made, calls_for, IsLineState, lines_of, lines_len}
 use Rattle.no_std_io2.proofs.Words.{unfinished_line, charges, [], ◌≡◌, ◌+◌, ℕ, ◌<◌, ◌≤◌, ◌==◌, List, ◌++◌, length, take, Result, Ok, Err}
-use Rattle.no_std_io2.proofs.Words.{OnOk, IsOk, IfOk, refl, subst, arith, if◌then◌else◌, inl, inr, common_steps, nat_lt}
-use Rattle.no_std_io2.proofs.Words.{nat_tests, first_stops, first_goes_on, with_buffer, Stepped, SendCalls, WriteCalls, WriteAllCalls}
-use Rattle.no_std_io2.proofs.Words.{buffer_after}
+use Rattle.no_std_io2.proofs.Words.{OnOk, IsOk, IfOk, refl, subst, arith, if◌then◌else◌, inl, inr, common_steps, nat_lt, nat_tests}
+use Rattle.no_std_io2.proofs.Words.{first_stops, first_goes_on, with_buffer, Stepped, SendCalls, WriteCalls, WriteAllCalls, buffer_after}
 use Rattle.no_std_io2.proofs.Words.{writing_calls, SendLinesCalls, LineWriteCalls, LineWriteAllCalls, Then}
-use Rattle.no_std_io2_base.specs.declared.error.Error.{Error}
-use lib.Seq.{take-take}
-use Rattle.std.proofs.lemmas.Result.{on_ok_weaker}
-use Rattle.no_std_io2_base.proofs.{CallsLemmas.{made_split}, MovesLemmas.{all_calls, all_count, MovesFront-ends, MovesFront-whole}}
-use Rattle.no_std_io2_base.proofs.MovesLemmas.{MovesFront-join, MovesFront-first, after_ok}
-use Rattle.no_std_io2_base.proofs.LineLemmas.{lines_some, lines_none, lines_split, take_lines, lines_bound, unfinished_all}
 use Rattle.no_std_io2.specs.inner.LineWriter.{SendLineCalls, HoldsTail, LinesCalls, line_buffer_after, line_buffer_filled}
 use Rattle.no_std_io2.proofs.BufWriterLemmas.{no_ok, then_does, effect_by, Always, Exactly, Emptied, Sending, StepsJoin, Moves-buffered}
 use Rattle.no_std_io2.proofs.{BufWriterLemmas.{Moves-emptied, MovesFront-emptied}, LineWriterStates.{line_left, line_left-is, tail_whole}}
-use Rattle.no_std_io2.proofs.LineWriterStates.{took_tail, tail_fits}
-use Rattle.no_std_io2.proofs.BufWriterCalls.{one_inner_call, send_does, kept_does, write_does, write_all_does, write_bound, Writing}
-use Rattle.no_std_io2.proofs.BufWriterCalls.{WritingAll, writing_joins, writing_all_joins, writing_all_calls}
+use Rattle.no_std_io2.proofs.{LineWriterStates.{took_tail, tail_fits}, BufWriterCalls.{one_inner_call, send_does, kept_does, write_does}}
+use Rattle.no_std_io2.proofs.BufWriterCalls.{write_all_does, write_bound, Writing, WritingAll, writing_joins, writing_all_joins}
+use Rattle.no_std_io2.proofs.BufWriterCalls.{writing_all_calls}
+use Rattle.no_std_io2_base.{specs.declared.error.Error.{Error}, proofs.{CallsLemmas.{made_split}, MovesLemmas.{all_calls, all_count}}}
+use Rattle.no_std_io2_base.proofs.MovesLemmas.{MovesFront-ends, MovesFront-whole, MovesFront-join, MovesFront-first, after_ok}
+use Rattle.no_std_io2_base.proofs.LineLemmas.{lines_some, lines_none, lines_split, take_lines, lines_bound, unfinished_all}
+use lib.Seq.{take-take}
+use Rattle.std.proofs.lemmas.Result.{on_ok_weaker}
 
 -- a sent line is one call at most
 abbrev line_calls : List ℕ → ℕ
@@ -24,8 +22,7 @@ line_calls held = if lines_len held == 0 then 0 else calls_for held
 
 -- how many calls pass lines on: one, or those of a `write_all` and a sending
 abbrev lines_calls : ℕ → List ℕ → List ℕ → ℕ
-lines_calls S y held =
-    if nat_lt 0 (length held) then writing_all_calls S y held + calls_for (buffer_after S held y) else calls_for y
+lines_calls S y held = if nat_lt 0 (length held) then writing_all_calls S y held + calls_for (buffer_after S held y) else calls_for y
 
 -- a `write` makes three at most: for a text without a newline,
 line_write_few : (S : ℕ) (held x : List ℕ) → line_calls held + writing_calls S (line_left held) x ≤ 3
@@ -109,13 +106,11 @@ module _ {W : Type 0} (I : Writer W) where
     -- one write of lines took n bytes, and then the next bytes t are held
     put_tells : 0 < lines_len x → (n : ℕ) (t : List ℕ) → take (n + length t) x ≡ take n x ++ t → (n ≡ 0 → t ≡ []) → (a b : W)
         → CallOf I a (Wrote (lines_of x) (Ok n)) b → Writing x (with_buffer (I.told a) []) (Ok (n + length t)) (with_buffer (I.told b) t)
-    put_tells some n t whole zero a b call =
-        grind (arith, common_steps, Moves-emptied, Moves-buffered, take-take, take_lines x refl)
+    put_tells some n t whole zero a b call = grind (arith, common_steps, Moves-emptied, Moves-buffered, take-take, take_lines x refl)
 
     -- the write had this answer, and the tail of x is held
     tail_tells : 0 < lines_len x → (answer reply : Result ℕ Error) (held left : List ℕ) → held ≡ [] → HoldsTail S x answer reply left
-        → (a b : W) → CallOf I a (Wrote (lines_of x) answer) b
-        → Writing x (with_buffer (I.told a) held) reply (with_buffer (I.told b) left)
+        → (a b : W) → CallOf I a (Wrote (lines_of x) answer) b → Writing x (with_buffer (I.told a) held) reply (with_buffer (I.told b) left)
     tail_tells some answer reply held left none tail a b call = grind (arith, common_steps, put_tells, took_tail, Moves-emptied)
 
     -- one write of lines
@@ -124,8 +119,7 @@ module _ {W : Type 0} (I : Writer W) where
 
     -- what is taken and held is no more than x
     tail_bound : (answer reply : Result ℕ Error) (left : List ℕ) → HoldsTail S x answer reply left
-        → IfOk answer (λ n. n ≤ length (lines_of x))
-        → IfOk reply (λ n. n ≤ length x)
+        → IfOk answer (λ n. n ≤ length (lines_of x)) → IfOk reply (λ n. n ≤ length x)
     tail_bound answer reply left tail few = grind (arith, common_steps, tail_fits S x, lines_bound x)
 
     -- over an inner writer that takes all, this is held after it

@@ -3,20 +3,17 @@ use Rattle.no_std_io2.proofs.Words.{common_steps, ◌≡◌, ℕ, ◌+◌, ◌-�
 use Rattle.no_std_io2.proofs.Words.{length-take, length-drop, length-append, subst, take-append-drop, nat_tests, newline, IsLineState}
 use Rattle.no_std_io2.proofs.Words.{lines_len, lines_of, unfinished_line, [], ◌⊎◌, Stepped, CallOf, Writer, WriteCall, Wrote, Writes}
 use Rattle.no_std_io2.proofs.Words.{no_write, write_took, write_again, write_stuck, write_fault, AllCalls, ◌==◌, Result, Ok, OnOk, IsOk}
-use Rattle.no_std_io2.proofs.Words.{IfOk, sym}
-use Rattle.no_std_io2.proofs.Words.{if◌then◌else◌, inl, inr, IsSuffix, Then, first_stops, first_goes_on, SendCalls, RoomCalls, Buffered}
-use Rattle.no_std_io2.proofs.Words.{WriteCalls}
-use Rattle.no_std_io2.proofs.Words.{WriteAllCalls, FlushCalls, SendLinesCalls, LineWriteCalls, LineWriteAllCalls}
+use Rattle.no_std_io2.proofs.Words.{IfOk, sym, if◌then◌else◌, inl, inr, IsSuffix, Then, first_stops, first_goes_on, SendCalls, RoomCalls}
+use Rattle.no_std_io2.proofs.Words.{Buffered, WriteCalls, WriteAllCalls, FlushCalls, SendLinesCalls, LineWriteCalls, LineWriteAllCalls}
 use Rattle.no_std_io2.proofs.{BufWriterLemmas.{IsSuffix-trans}, BufWriterCalls.{buffered_fits, write_whole}}
-use Rattle.std.proofs.lemmas.List.{take_min}
-use lib.Seq.{take-add}
-use Rattle.std.specs.Io.BufRead.{ends_with_byte}
-use Rattle.no_std_io2_base.specs.{inner.Pieces.{Lacks}, declared.error.Error.{Error}}
-use Rattle.no_std_io2_base.proofs.LineLemmas.{lines_split, lines_bound, lines_end, lacks_lines, unfinished_lacks, plain_state, state_rest}
-use Rattle.no_std_io2_base.proofs.LineLemmas.{take_lines, drop_lines, lines_some, unfinished_none, lacks_contains, contains_lines}
-use Rattle.no_std_io2_base.proofs.{LineLemmas.{lacks_rest}, CallsLemmas.{by_call, writes_whole}, MovesLemmas.{after_ok}}
-use Rattle.no_std_io2_base.proofs.PieceLemmas.{Lacks-append, ends_with_byte-append}
 use Rattle.no_std_io2.specs.inner.LineWriter.{held_tail, lines_or_all, SendLineCalls, HoldsTail, LinesCalls, IsShortText}
+use Rattle.std.{proofs.lemmas.List.{take_min}, specs.Io.BufRead.{ends_with_byte}}
+use lib.Seq.{take-add}
+use Rattle.no_std_io2_base.{specs.{inner.Pieces.{Lacks}, declared.error.Error.{Error}}, proofs.LineLemmas.{lines_split, lines_bound}}
+use Rattle.no_std_io2_base.proofs.LineLemmas.{lines_end, lacks_lines, unfinished_lacks, plain_state, state_rest, take_lines, drop_lines}
+use Rattle.no_std_io2_base.proofs.LineLemmas.{lines_some, unfinished_none, lacks_contains, contains_lines, lacks_rest}
+use Rattle.no_std_io2_base.proofs.{CallsLemmas.{by_call, writes_whole}, MovesLemmas.{after_ok}, PieceLemmas.{Lacks-append}}
+use Rattle.no_std_io2_base.proofs.PieceLemmas.{ends_with_byte-append}
 
 -- The bytes that a line writer holds of those that its inner writer left (`held_tail`). For the `write` of a `LineWriter`.
 
@@ -29,8 +26,7 @@ behind_state S x n all =
 
 -- the lines without their first n bytes
 pub lines_rest : (x : List ℕ) (n : ℕ) → n ≤ lines_len x → take (lines_len x - n) (drop n x) ≡ drop n (lines_of x)
-lines_rest x n within =
-    subst (λ l. take (lines_len x - n) (drop n l) ≡ drop n (lines_of x)) (lines_split x) (grind (arith, common_steps))
+lines_rest x n within = subst (λ l. take (lines_len x - n) (drop n l) ≡ drop n (lines_of x)) (lines_split x) (grind (arith, common_steps))
 
 -- what is left of the lines is a line state
 rest_state : (x : List ℕ) (n : ℕ) → 0 < lines_len x → IsLineState (drop n (lines_of x))
@@ -203,8 +199,7 @@ behind_lines_state : (S : ℕ) {y held left : List ℕ} {C : List WriteCall} {re
     → Then (WriteAllCalls S y) SendCalls held C reply left → IsLineState held → ((front : List ℕ) → IsLineState (front ++ y))
     → IsLineState left
 behind_lines_state S {y} (first_stops w) line ended = buffered_line S y tt (λ C. AllCalls C y) w line ended
-behind_lines_state S {y} (first_goes_on w s) line ended =
-    state_end (writes_end s) (buffered_line S y tt (λ C. AllCalls C y) w line ended)
+behind_lines_state S {y} (first_goes_on w s) line ended = state_end (writes_end s) (buffered_line S y tt (λ C. AllCalls C y) w line ended)
 
 -- lines that follow other bytes end in a newline
 lines_ended : (x : List ℕ) → 0 < lines_len x → (front : List ℕ) → IsLineState (front ++ lines_of x)
@@ -215,10 +210,7 @@ all_lines_state : (S : ℕ) (x : List ℕ) {held left : List ℕ} {C : List Writ
     → Then (SendLinesCalls S (lines_of x)) (WriteAllCalls S (unfinished_line x)) held C reply left → IsLineState held → 0 < lines_len x
     → IsLineState left × OnOk reply (Lacks newline left)
 all_lines_state S x (first_stops {left = left} p) line some = (
-  elim p [
-    | inl past ↦ nothing_state past.1
-    | inr behind ↦ behind_lines_state S behind.1 line (lines_ended x some)
-  ],
+  elim p [ inl past ↦ nothing_state past.1 | inr behind ↦ behind_lines_state S behind.1 line (lines_ended x some) ],
   tt,
 )
 all_lines_state S x (first_goes_on {mid = mid} {reply = reply} p q) line some =

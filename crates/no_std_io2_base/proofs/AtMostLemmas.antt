@@ -1,20 +1,15 @@
 -- Reads of at most so many bytes into a vector, and what a read to the end is by them.
-use Rattle.std.proofs.{Common.{◌≡◌, ℕ, ◌+◌, ◌-◌, ◌<◌, ◌≤◌, min, List, ◌++◌, Result, Ok, Err, length}}
-use Rattle.std.proofs.Common.{take, refl, sym, ◌∙◌, arith, le_trans, Vec, vec_len, vec_capacity, inl, inr}
-use Rattle.std.proofs.Common.{append-nil}
-use Rattle.std.proofs.Common.{take_all, OnOk, length-append, length-take-le}
-use Rattle.no_std_io2_base.specs.{declared.error.Error.{Error}, Errors.{IsInterruption, IsFault, IsOutOfMemory}}
-use Rattle.no_std_io2_base.specs.{Events.{event_bytes}, Calls.{ReadCall}, Takes.{Reader, tells}}
-use Rattle.no_std_io2_base.specs.Read.{ReadLaw, ReadAtMostLaw, ReadToEndLaw}
-use Rattle.no_std_io2_base.specs.inner.Read.{IsRoom, IsRoomWithin, Gathers, no_read, and_gave, and_again, GathersUntil, least_room}
-use Rattle.no_std_io2_base.specs.inner.Read.{AtMostCalls, ToEndCalls, DrainsOrStops, without_number}
-use Rattle.no_std_io2_base.specs.{inner.Reads.{Reads}, inner.Read.{EndsWithin}}
-use Rattle.no_std_io2_base.proofs.CallsLemmas.{by_are, by_then, to_end_then}
-use Rattle.no_std_io2_base.proofs.TakesLemmas.{bytes-append, takes_then, nothing_read, read_law}
-use Rattle.no_std_io2_base.proofs.ReadsLemmas.{Reads-none, Reads-end, Reads-fault, Reads-took, Reads-nothing, TookBy}
-use Rattle.no_std_io2_base.proofs.ToEndLemmas.{ToEndSoFar, PartWritten, to_end_none, to_end_read, to_end_interruption}
-use Rattle.no_std_io2_base.proofs.ToEndLemmas.{both_appended, both_counted, both_ended, recount, ended_recount}
-use Rattle.std.proofs.{lemmas.Grind.{common_steps}, Common.{Bool, true, false, IsOk, IsErrAnd, IfOk, ◌⊎◌}}
+use Rattle.std.proofs.Common.{◌≡◌, ℕ, ◌+◌, ◌-◌, ◌<◌, ◌≤◌, min, List, ◌++◌, Result, Ok, Err, length, take, refl, sym, ◌∙◌, arith, le_trans}
+use Rattle.std.proofs.Common.{Vec, vec_len, vec_capacity, inl, inr, append-nil, take_all, OnOk, length-append, length-take-le, Bool, true}
+use Rattle.std.proofs.{Common.{false, IsOk, IsErrAnd, IfOk, ◌⊎◌}, lemmas.Grind.{common_steps}}
+use Rattle.no_std_io2_base.specs.{declared.error.Error.{Error}, Errors.{IsInterruption, IsFault, IsOutOfMemory}, Events.{event_bytes}}
+use Rattle.no_std_io2_base.specs.{Calls.{ReadCall}, Takes.{Reader, tells}, Read.{ReadLaw, ReadAtMostLaw, ReadToEndLaw}, inner.Read.{IsRoom}}
+use Rattle.no_std_io2_base.specs.inner.Read.{IsRoomWithin, Gathers, no_read, and_gave, and_again, GathersUntil, least_room, AtMostCalls}
+use Rattle.no_std_io2_base.specs.inner.{Read.{ToEndCalls, DrainsOrStops, without_number, EndsWithin}, Reads.{Reads}}
+use Rattle.no_std_io2_base.proofs.{CallsLemmas.{by_are, by_then, to_end_then}, TakesLemmas.{bytes-append, takes_then, nothing_read}}
+use Rattle.no_std_io2_base.proofs.{TakesLemmas.{read_law}, ReadsLemmas.{Reads-none, Reads-end, Reads-fault, Reads-took, Reads-nothing}}
+use Rattle.no_std_io2_base.proofs.{ReadsLemmas.{TookBy}, ToEndLemmas.{ToEndSoFar, PartWritten, to_end_none, to_end_read}}
+use Rattle.no_std_io2_base.proofs.ToEndLemmas.{to_end_interruption, both_appended, both_counted, both_ended, recount, ended_recount}
 
 -- The bytes up to `filled` are what was given, `left` more may be, and the vector has room for no more than these.
 pub record AtMostSoFar {X A : Type 0} (R : Reader X) (limit : ℕ) (old : X) (buf : Vec ℕ A) (filled left : ℕ) (buf' : Vec ℕ A) (now : X)
@@ -29,8 +24,7 @@ pub at_most_none : {X A : Type 0} {R : Reader X} {limit : ℕ} {old : X} {buf mi
     → mid.items ≡ buf.items → vec_len mid ≡ vec_len buf → vec_capacity buf ≤ vec_capacity mid
     → AtMostSoFar R limit old buf start limit mid old
 unfolding to_end_none
-at_most_none is same len grown =
-    record { so_far = to_end_none is same len grown; falls = omega arith; fits = omega (arith, is, len) }
+at_most_none is same len grown = record { so_far = to_end_none is same len grown; falls = omega arith; fits = omega (arith, is, len) }
 
 -- how a `read_at_most` that gave x answers, by how its reads ended
 abbrev AtMostAnswers : ℕ → Type 0 → List ℕ → Result Bool Error → Result ℕ Error → Type 0
@@ -212,7 +206,6 @@ module _ {X A : Type 0} {R : Reader X} {limit : ℕ} {old now : X} {buf mid : Ve
         );
         ends = both_ended buf mid P Q first.appends.0 reply k _ first.ends.0 first.capacity last.ends;
         capacity = le_trans first.capacity last.capacity;
-        calls = by_then first.calls last.calls (λ C D limited all.
-            rw (bytes-append P Q, ended_recount reply k)
+        calls = by_then first.calls last.calls (λ C D limited all. rw (bytes-append P Q, ended_recount reply k)
             (to_end_then (without_number reply) (until_limit (event_bytes P) limited (omega (arith, past, first.appends.1))) all));
       }

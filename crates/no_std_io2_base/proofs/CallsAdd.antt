@@ -2,16 +2,14 @@
 use Rattle.std.proofs.{lemmas.Grind.{common_steps}, Common.{arith, ℕ, List, [], ◌++◌, Result, Ok, Err, refl, sym, ap, subst, ◌∙◌, take}}
 use Rattle.std.proofs.Common.{append_assoc, append-nil, take-append-drop, ◌≡◌, ◌+◌, ◌%◌, ◌∷◌, OnOk, IfOk, ◌≤◌, length, le_refl, inl, inr}
 use Rattle.std.proofs.{Common.{false, count_by}, Math.Nat.{mod-add-mod}, lemmas.{List.{take_all}, Bool.Decides.{nat_tests}}}
-use Rattle.no_std_io2_base.specs.declared.error.Error.{Error}
-use Rattle.no_std_io2_base.specs.Calls.{WriteCall, Wrote, WroteAll, Made, ByCalls, ReadCall, Gave, GaveExactly, GaveAll, Filled, Consumed}
-use Rattle.no_std_io2_base.specs.Write.{CallAdds, RestAdds, WriteLaw, FlushLaw, accepted_of, write_mishap}
-use Rattle.no_std_io2_base.specs.inner.Write.{Writes, no_write, write_took, write_again, write_stuck, write_fault, AllCalls, zero_write}
-use Rattle.no_std_io2_base.specs.inner.Write.{told_over, SpendsMishaps}
-use Rattle.no_std_io2_base.specs.inner.Read.{Gathers, no_read, and_gave, and_again, bytes_given, gave_whole, FillCalls, GathersUntil}
-use Rattle.no_std_io2_base.specs.{Moves.{WriterState, IsFront, Moves, call_mishap}, inner.Read.{ExactCalls, ToEndCalls}}
-use Rattle.no_std_io2_base.specs.{inner.Pieces.{PartCalls, no_part, and_part, part_interrupted, PieceCalls}, inner.Lines.{AnswersLine}}
-use Rattle.no_std_io2_base.specs.{declared.error.ErrorKind.{ErrorKind}, inner.Kinds.{is_interruption}}
-use Rattle.no_std_io2_base.proofs.{CallsLemmas.{made_split}, MovesLemmas.{after_ok}}
+use Rattle.no_std_io2_base.specs.{declared.error.Error.{Error}, Calls.{WriteCall, Wrote, WroteAll, Made, ByCalls, ReadCall, Gave}}
+use Rattle.no_std_io2_base.specs.{Calls.{GaveExactly, GaveAll, Filled, Consumed}, Write.{CallAdds, RestAdds, WriteLaw, FlushLaw}}
+use Rattle.no_std_io2_base.specs.{Write.{accepted_of, write_mishap}, inner.Write.{Writes, no_write, write_took, write_again, write_stuck}}
+use Rattle.no_std_io2_base.specs.inner.{Write.{write_fault, AllCalls, zero_write, told_over, SpendsMishaps}, Read.{Gathers, no_read}}
+use Rattle.no_std_io2_base.specs.inner.Read.{and_gave, and_again, bytes_given, gave_whole, FillCalls, GathersUntil, ExactCalls, ToEndCalls}
+use Rattle.no_std_io2_base.specs.{Moves.{WriterState, IsFront, Moves, call_mishap}, inner.Pieces.{PartCalls, no_part, and_part}}
+use Rattle.no_std_io2_base.specs.{inner.{Pieces.{part_interrupted, PieceCalls}, Lines.{AnswersLine}}, declared.error.ErrorKind.{ErrorKind}}
+use Rattle.no_std_io2_base.{specs.inner.Kinds.{is_interruption}, proofs.{CallsLemmas.{made_split}, MovesLemmas.{after_ok}}}
 
 -- What each call adds to a writer's own state, the calls of a `write_all` or a `write_rest` add together.
 
@@ -22,8 +20,7 @@ pub record Joins {W : Type 0} (Adds : W → List ℕ → W → Type 0) : Type 0 
 
 -- A total modulo m joins, if bytes and then others weigh what both weigh: `sum`, or `length`.
 pub joins_modulo : {W : Type 0} (total : W → ℕ) (weight : List ℕ → ℕ) (m : ℕ) → weight [] ≡ 0
-    → ((x y : List ℕ) → weight (x ++ y) ≡ weight x + weight y)
-    → Joins {W = W} (λ a x b. total b % m ≡ (total a + weight x) % m)
+    → ((x y : List ℕ) → weight (x ++ y) ≡ weight x + weight y) → Joins {W = W} (λ a x b. total b % m ≡ (total a + weight x) % m)
 joins_modulo total weight m nothing both = record {
   none = λ a. ap (λ n. n % m) (omega (arith, nothing));
   more = λ a b c x y first next. grind (arith, mod-add-mod (total b) m (weight y), mod-add-mod (total a + weight x) m (weight y), both);
@@ -97,10 +94,8 @@ module _ {R : Type 0} {may : R → ReadCall → R → Type 0} {Adds : R → List
   until_add : {asks : ℕ → ℕ → Type 0} {C : List ReadCall} {x : List ℕ} (answer : Result (List ℕ) Error) → bytes_given answer ≡ []
       → GathersUntil asks C x answer → (a b : R) → Made may a C b → Adds a x b
   until_add {x = x} answer nothing until a b made =
-      subst (λ l. Adds a l b) (append-nil x)
-      (and_last until.0 (Gave until.1 answer) a b (λ mid m. gathers_add until.2 a mid m)
-      (λ c d call. subst (λ l. Adds c l d) nothing (each.gave c d until.1 answer call))
-      (subst (λ K. Made may a K b) until.4 made))
+      subst (λ l. Adds a l b) (append-nil x) (and_last until.0 (Gave until.1 answer) a b (λ mid m. gathers_add until.2 a mid m)
+      (λ c d call. subst (λ l. Adds c l d) nothing (each.gave c d until.1 answer call)) (subst (λ K. Made may a K b) until.4 made))
 
   -- one `read_exact` of a type with a body of its own for it
   exactly_adds : (buf : List ℕ) (reply : Result (Unit {0}) Error) (a b : R) → may a (GaveExactly (length buf) (gave_whole reply buf)) b
@@ -166,28 +161,24 @@ err_turns t k other = grind (arith, common_steps)
 
 -- what a wrapper tells after it accepted x: what was out stays out, and x comes last
 pub moves_over : (out held out' held' : List ℕ) (a b : WriterState) {x : List ℕ} {happened : List ErrorKind} → IsFront out out'
-    → out' ++ held' ≡ out ++ held ++ x → SpendsMishaps a happened b
-    → Moves (told_over out held a) x happened (told_over out' held' b)
+    → out' ++ held' ≡ out ++ held ++ x → SpendsMishaps a happened b → Moves (told_over out held a) x happened (told_over out' held' b)
 moves_over out held out' held' a b front bytes spent = record { front = front; bytes = bytes; mishaps = spent.0; turns = spent.1 }
 
 -- the same of a wrapper that holds nothing
 pub moves_out : (out out' : List ℕ) (a b : WriterState) {x : List ℕ} {happened : List ErrorKind} → out' ≡ out ++ x
-    → SpendsMishaps a happened b
-    → Moves (told_over out [] a) x happened (told_over out' [] b)
+    → SpendsMishaps a happened b → Moves (told_over out [] a) x happened (told_over out' [] b)
 moves_out out out' a b {x} more spent = moves_over out [] out' [] a b {x = x} (x, more) (rw (append-nil out', append-nil out) more) spent
 
 module _ {W : Type 0} {Adds : W → List ℕ → W → Type 0} where
   module _ {told : W → WriterState} {a b : W} where
     -- `write(x)` of a wrapper that never tells that it takes all
-    pub write_law_by : {x : List ℕ} {reply : Result ℕ Error} → IfOk reply (λ n. n ≤ length x)
-        → Moves (told a) (accepted_of reply x) (write_mishap reply x) (told b) → Adds a (accepted_of reply x) b
-        → WriteLaw told (λ _. ⊥) (CallAdds Adds) a x reply b
+    pub write_law_by : {x : List ℕ} {reply : Result ℕ Error} → IfOk reply (λ n. n ≤ length x) → Moves (told a) (accepted_of reply x)
+        (write_mishap reply x) (told b) → Adds a (accepted_of reply x) b → WriteLaw told (λ _. ⊥) (CallAdds Adds) a x reply b
     write_law_by bound moves adds = record { bound = bound; moves = moves; all = λ both. absurd both.0; call = adds }
 
     -- its `flush()`
     pub flush_law_by : {reply : Result (Unit {0}) Error} → OnOk reply ((told b).held ≡ [])
-        → Moves (told a) [] (call_mishap reply) (told b) → Adds a [] b
-        → FlushLaw told (λ _. ⊥) (CallAdds Adds) a reply b
+        → Moves (told a) [] (call_mishap reply) (told b) → Adds a [] b → FlushLaw told (λ _. ⊥) (CallAdds Adds) a reply b
     flush_law_by empty moves adds = record { empty = empty; moves = moves; all = λ both. absurd both.0; call = adds }
 
   -- A wrapper that counts every accepted byte as out, also one that waits in its state, over a writer that tells `below`.
@@ -200,8 +191,7 @@ module _ {W : Type 0} {Adds : W → List ℕ → W → Type 0} where
 
     -- its `flush()`
     pub flush_law : {reply : Result (Unit {0}) Error} → accepted b ≡ accepted a → SpendsMishaps (below a) (call_mishap reply) (below b)
-        → Adds a [] b
-        → FlushLaw (λ w. told_over (accepted w) [] (below w)) (λ _. ⊥) (CallAdds Adds) a reply b
+        → Adds a [] b → FlushLaw (λ w. told_over (accepted w) [] (below w)) (λ _. ⊥) (CallAdds Adds) a reply b
     flush_law {reply} same spent adds =
         let moves = moves_out (accepted a) (accepted b) (below a) (below b) (same ∙ sym (append-nil (accepted a))) spent in
         flush_law_by (after_ok reply refl) moves adds

@@ -1,13 +1,10 @@
 -- Calls one after another, also those of the reads.
-use Rattle.std.proofs.{lemmas.Grind.{common_steps}, Common.{arith, ◌≡◌, ℕ, List, [], ◌∷◌, ◌++◌, Result, OnOk, refl, ap, subst}}
-use Rattle.std.proofs.Common.{append_assoc, inl, ◌+◌, ◌%◌, length, sym, ◌∙◌, Ok, Err, length-append, append-nil, inr}
-use Rattle.std.proofs.Math.Nat.{mod-add-mod}
-use Rattle.no_std_io2_base.specs.declared.error.Error.{Error}
-use Rattle.no_std_io2_base.specs.Calls.{WriteCall, Made, ByCalls, WroteAll, ReadCall, Gave, GaveExactly, GaveAll}
-use Rattle.no_std_io2_base.specs.{inner.Write.{Writes, no_write, write_took, write_again, write_stuck, write_fault}, Moves.{WriterState}}
-use Rattle.no_std_io2_base.specs.Write.{CallLaw, WriteAllLaw}
-use Rattle.no_std_io2_base.specs.inner.Read.{gave_whole, Gathers, no_read, and_gave, and_again, GathersUntil, IsRoom, ToEndCalls}
-use Rattle.no_std_io2_base.specs.{Writers.{Writer}, inner.Writers.{CallOf}, inner.Read.{ExactCalls}}
+use Rattle.std.proofs.Common.{arith, ◌≡◌, ℕ, List, [], ◌∷◌, ◌++◌, Result, OnOk, refl, ap, subst, append_assoc, inl, ◌+◌, ◌%◌, length, sym}
+use Rattle.std.proofs.{Common.{◌∙◌, Ok, Err, length-append, append-nil, inr}, Math.Nat.{mod-add-mod}, lemmas.Grind.{common_steps}}
+use Rattle.no_std_io2_base.specs.{Calls.{WriteCall, Made, ByCalls, WroteAll, ReadCall, Gave, GaveExactly, GaveAll}, Moves.{WriterState}}
+use Rattle.no_std_io2_base.specs.{Write.{CallLaw, WriteAllLaw}, Writers.{Writer}, declared.error.Error.{Error}, inner.Read.{gave_whole}}
+use Rattle.no_std_io2_base.specs.inner.Read.{Gathers, no_read, and_gave, and_again, GathersUntil, IsRoom, ToEndCalls, ExactCalls}
+use Rattle.no_std_io2_base.specs.inner.{Write.{Writes, no_write, write_took, write_again, write_stuck, write_fault}, Writers.{CallOf}}
 
 -- Calls one after another.
 
@@ -28,8 +25,7 @@ pub made_map : {W V A : Type 0} (may : W → A → W → Type 0) (may' : V → A
     → ((a b : W) (call : A) → may a call b → may' (put a) call (put b))
     → (C : List A) (a b : W) → Made may a C b → Made may' (put a) C (put b)
 made_map may may' put each [] a b made = ap put made
-made_map may may' put each (call ∷ C) a b made =
-    (put made.0, each _ _ _ made.1, made_map may may' put each C made.0 b made.2)
+made_map may may' put each (call ∷ C) a b made = (put made.0, each _ _ _ made.1, made_map may may' put each C made.0 b made.2)
 
 -- what each call keeps, the calls keep
 pub made_keeps : {W V A : Type 0} (may : W → A → W → Type 0) (of : W → V) → ((a b : W) (call : A) → may a call b → of b ≡ of a)
@@ -41,8 +37,7 @@ made_keeps may of each (call ∷ C) a b made = made_keeps may of each C made.0 b
 pub made_split : {W A : Type 0} (may : W → A → W → Type 0) (C : List A) (a : W) (D : List A) (c : W)
     → Made may a (C ++ D) c → (b : W) × Made may a C b × Made may b D c
 made_split may [] a D c made = (a, refl, made)
-made_split may (call ∷ C) a D c made =
-    let rest = made_split may C made.0 D c made.2 in (rest.0, (made.0, made.1, rest.1), rest.2)
+made_split may (call ∷ C) a D c made = let rest = made_split may C made.0 D c made.2 in (rest.0, (made.0, made.1, rest.1), rest.2)
 
 module _ {X A : Type 0} {may : X → A → X → Type 0} {a b : X} {P : List A → Type 0} where
   -- one call
@@ -125,15 +120,13 @@ module _ {W : Type 0} {may : W → WriteCall → W → Type 0} {text : List ℕ}
     -- one more
     pub calls_more : {new : W} {call : WriteCall} {rest : List ℕ} → may now call new
         → ((D : List WriteCall) (reply : Result (Unit {0}) Error) (end : List ℕ) → Writes text D rest reply end
-        → Writes text (call ∷ D) left reply end)
-        → CallsSoFar may text old start rest new
+        → Writes text (call ∷ D) left reply end) → CallsSoFar may text old start rest new
     calls_more {call = call} {rest} last on = by_more before call last (λ C before D r e w.
         subst (λ l. Writes text l start r e) (sym (append_assoc C (call ∷ []) D)) (before (call ∷ D) r e (on D r e w)))
 
     -- and these were the last ones
     pub calls_end : {new : W} (reply : Result (Unit {0}) Error) (end : List ℕ) (D : List WriteCall) → Made may now D new
-        → Writes text D left reply end
-        → ByCalls may old (λ C. Writes text C start reply end) new
+        → Writes text D left reply end → ByCalls may old (λ C. Writes text C start reply end) new
     calls_end {new} reply end D made writes = grind (arith, common_steps, made_then)
 
 -- The calls of a reader, one after another.
@@ -151,8 +144,7 @@ to_end_own {x = x} {answer = answer} own is = by_call (GaveAll x answer) own (in
 module _ {asks : ℕ → ℕ → Type 0} {C : List ReadCall} {x : List ℕ} (first : Gathers asks C x) where
   -- reads and then others
   pub gathers_then : {D : List ReadCall} {y : List ℕ} → Gathers (λ at room. asks (length x + at) room) D y → Gathers asks (C ++ D) (x ++ y)
-  gathers_then no_read =
-      subst (λ l. Gathers asks l (x ++ [])) (sym (append-nil C)) (subst (Gathers asks C) (sym (append-nil x)) first)
+  gathers_then no_read = subst (λ l. Gathers asks l (x ++ [])) (sym (append-nil C)) (subst (Gathers asks C) (sym (append-nil x)) first)
   gathers_then (and_gave D y z room so_far into some) =
       subst (λ l. Gathers asks l (x ++ (y ++ z))) (append_assoc C D (Gave room (Ok z) ∷ []))
       (subst (Gathers asks ((C ++ D) ++ Gave room (Ok z) ∷ [])) (append_assoc x y z)

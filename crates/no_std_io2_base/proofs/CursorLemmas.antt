@@ -3,21 +3,18 @@ use Rattle.std.proofs.Common.{rules, ◌≡◌, ℕ, ◌+◌, ◌-◌, ◌<◌, 
 use Rattle.std.proofs.Common.{replicate, refl, sym, ap, ◌∙◌, arith, count_by, inl, inr, append-nil, take-append-drop, length-append, ◌^◌}
 use Rattle.std.proofs.{Common.{true, Some, length-drop, ℤ, pos, subst}, lemmas.{Grind.{common_steps}, Bool.{cases_lt}}}
 use Rattle.std.proofs.lemmas.{List.{length-replicate, drop-drop, take_all, drop_all, take-replicate}, Bool.Decides.{nat_tests}}
-use Rattle.std.proofs.Math.Seq.{take-append-add, drop-append_seam}
-use Rattle.std.specs.{Result.{OnOk, OnErr, IfErr}, List.{splice}, declared.dyn_box.DynBox.{DynBox}}
-use Rattle.no_std_io2_base.specs.{declared.error.{Error.{Error}, ErrorKind.{ErrorKind, TheVariants.{WriteZero}}}, Errors.{error_kind}}
-use Rattle.no_std_io2_base.specs.{inner.Kinds.{is_interruption}, Errors.{IsFault, IsNoInterruption, IsOutOfMemory}}
-use Rattle.no_std_io2_base.specs.{Moves.{WriterState, Moves, MovesFront, told_out}, Write.{accepted_of, write_mishap}}
-use Rattle.no_std_io2_base.specs.inner.Write.{zero_write}
-use Rattle.no_std_io2_base.specs.{Calls.{ByCalls, SeekCall, Sought, Measured}, inner.Calls.{BoxMay}}
-use Rattle.no_std_io2_base.specs.inner.Cursor.{bytes_before, put_at, fitting, IsRefusal, PutsWhole, PutsAll, PutsFitting, PutsAllFitting}
-use Rattle.no_std_io2_base.specs.{inner.InMemory.{AppendsWhole}, Events.{events_of}}
-use Rattle.no_std_io2_base.specs.{Takes.{ReaderState, Takes, KeepsContent, to_come, store_at}, inner.Takes.{fits_u64}}
-use Rattle.no_std_io2_base.specs.{declared.traits.seek.SeekFrom.{SeekFrom}, declared.traits.seek.SeekFrom.TheVariants.{End}}
+use Rattle.std.{proofs.Math.Seq.{take-append-add, drop-append_seam}, specs.{Result.{OnOk, OnErr, IfErr}, List.{splice}}}
+use Rattle.std.specs.declared.dyn_box.DynBox.{DynBox}
+use Rattle.no_std_io2_base.specs.{declared.error.{Error.{Error}, ErrorKind.{TheVariants.{WriteZero}, ErrorKind}}, Errors.{error_kind}}
+use Rattle.no_std_io2_base.specs.{Errors.{IsFault, IsNoInterruption, IsOutOfMemory}, inner.Kinds.{is_interruption}, Moves.{WriterState}}
+use Rattle.no_std_io2_base.specs.{Moves.{Moves, MovesFront, told_out}, Write.{accepted_of, write_mishap}, inner.Write.{zero_write}}
+use Rattle.no_std_io2_base.specs.{Calls.{ByCalls, SeekCall, Sought, Measured}, inner.{Calls.{BoxMay}, Cursor.{bytes_before, put_at}}}
+use Rattle.no_std_io2_base.specs.inner.Cursor.{fitting, IsRefusal, PutsWhole, PutsAll, PutsFitting, PutsAllFitting}
+use Rattle.no_std_io2_base.specs.{inner.InMemory.{AppendsWhole}, Events.{events_of}, Takes.{ReaderState, Takes, KeepsContent, to_come}}
+use Rattle.no_std_io2_base.specs.{Takes.{store_at}, inner.Takes.{fits_u64}, declared.traits.seek.SeekFrom.{TheVariants.{End}, SeekFrom}}
 use Rattle.no_std_io2_base.specs.{inner.Seek.{LenCalls, measured, was_at_end, here}, Seek.{Seeker, SeekLaw, StreamPositionLaw, RewindLaw}}
-use Rattle.no_std_io2_base.specs.Seek.{StreamLenLaw, SeekRelativeLaw}
-use Rattle.no_std_io2_base.proofs.{TakesLemmas.{events_of-append, length-events_of, bytes-events_of}, CallsLemmas.{by_call, by_two}}
-use Rattle.no_std_io2_base.proofs.Forwards.{holding, in_box}
+use Rattle.no_std_io2_base.{specs.Seek.{StreamLenLaw, SeekRelativeLaw}, proofs.TakesLemmas.{events_of-append, length-events_of}}
+use Rattle.no_std_io2_base.proofs.{TakesLemmas.{bytes-events_of}, CallsLemmas.{by_call, by_two}, Forwards.{holding, in_box}}
 
 -- A content and a position in it.
 
@@ -47,8 +44,7 @@ put_opened more place x bs past near = grind (arith, common_steps, before-opened
 
 -- the bytes reach `end`, with zeros added if they were shorter
 abbrev pub IsLengthened : ℕ → List ℕ → List ℕ → Type 0
-IsLengthened end bs grown =
-    (end ≤ length bs) × (grown ≡ bs) ⊎ (length bs ≤ end) × (grown ≡ bs ++ replicate (end - length bs) 0)
+IsLengthened end bs grown = (end ≤ length bs) × (grown ≡ bs) ⊎ (length bs ≤ end) × (grown ≡ bs ++ replicate (end - length bs) 0)
 
 -- so they do
 pub lengthened_reaches : (end : ℕ) (bs grown : List ℕ) → IsLengthened end bs grown → end ≤ length grown
@@ -104,9 +100,8 @@ fits_moves bs place x {n} {bs'} {place'} count h =
     appends_moves (fitting_goes_out bs place x bs' place' h ∙ ap (λ l. bytes_before place bs ++ l) (sym part)) (quiet_count n x)
 
 -- the same holds for a `write_all` of which not all fits
-fits_moves_part : (bs : List ℕ) (place : ℕ) {x : List ℕ} (e : Error) {bs' : List ℕ} {place' : ℕ}
-    → error_kind e ≡ WriteZero → PutsFitting bs place x bs' place'
-    → MovesFront (told_out (bytes_before place bs)) x (Err e) (told_out (bytes_before place' bs'))
+fits_moves_part : (bs : List ℕ) (place : ℕ) {x : List ℕ} (e : Error) {bs' : List ℕ} {place' : ℕ} → error_kind e ≡ WriteZero
+    → PutsFitting bs place x bs' place' → MovesFront (told_out (bytes_before place bs)) x (Err e) (told_out (bytes_before place' bs'))
 fits_moves_part bs place {x} e {bs'} {place'} kind h = record {
   accepted = fitting place x bs;
   front = (drop (length bs - place) x, sym (take-append-drop (length bs - place) x));
@@ -115,11 +110,9 @@ fits_moves_part bs place {x} e {bs'} {place'} kind h = record {
 }
 
 -- and for one of which all fits
-fits_moves_all : (bs : List ℕ) (place : ℕ) {x bs' : List ℕ} {place' : ℕ} → length x ≤ length bs - place
-    → PutsFitting bs place x bs' place'
+fits_moves_all : (bs : List ℕ) (place : ℕ) {x bs' : List ℕ} {place' : ℕ} → length x ≤ length bs - place → PutsFitting bs place x bs' place'
     → MovesFront (told_out (bytes_before place bs)) x (Ok tt) (told_out (bytes_before place' bs'))
-fits_moves_all bs place {x} {bs'} {place'} room h =
-    search (arith, rules, take_all, all_accepted, appends_moves, fitting_goes_out)
+fits_moves_all bs place {x} {bs'} {place'} room h = search (arith, rules, take_all, all_accepted, appends_moves, fitting_goes_out)
 
 -- so a `write_all` over a slice keeps the law
 pub fits_all : (bs : List ℕ) (place : ℕ) {x : List ℕ} (reply : Result (Unit {0}) Error) {bs' : List ℕ} {place' : ℕ}
@@ -130,8 +123,7 @@ fits_all bs place (Err e) h = (ap is_interruption h.says.0, fits_moves_part bs p
 
 -- `write_all` of a vector keeps the law: an allocation failed and no byte was accepted, or all were
 append_moves : {old new x : List ℕ} (reply : Result (Unit {0}) Error) → OnOk reply (new ≡ old ++ x) → OnErr reply (new ≡ old)
-    → IfErr reply IsOutOfMemory
-    → MovesFront (told_out old) x reply (told_out new)
+    → IfErr reply IsOutOfMemory → MovesFront (told_out old) x reply (told_out new)
 append_moves {x} (Ok tt) is same refused = all_accepted (appends_moves is refl)
 append_moves {old} {x} (Err e) is same refused = grind (arith, common_steps)
 
@@ -195,18 +187,7 @@ behind_at content was now part rest split moved =
 pub takes_at : (content : List ℕ) (was now : ℕ) (part : List ℕ) → drop was content ≡ part ++ drop now content → now ≡ was + length part
     → Takes (tells_at content was) (events_of part) (tells_at content now)
 takes_at content was now part split moved =
-    grind (
-      arith,
-      common_steps,
-      length-append,
-      tells_at,
-      told_at,
-      events_of-append,
-      keeps_at,
-      length-drop,
-      bytes-events_of,
-      length-events_of,
-    )
+    grind (arith, common_steps, tells_at, told_at, events_of-append, keeps_at, length-drop, bytes-events_of, length-events_of)
 
 -- The calls of a `stream_len`, and those of a reference, a box and a boxed object.
 

@@ -1,17 +1,15 @@
 -- A stream behind a reference, in a box, or behind an object.
 use Rattle.std.proofs.Common.{rules, arith, ◌≡◌, ℕ, List, Result, refl, sym, subst, Vec, String, Option, ap, Global, ◌∙◌}
-use Rattle.std.proofs.lemmas.Grind.{common_steps}
-use Rattle.std.specs.{Borrow.{Bor, MutBor}, declared.dyn_box.DynBox.{DynBox}, contracts.vec.Vec.{the_row as vec-row}}
-use Rattle.std.specs.contracts.{collections.VecDeque.{the_row as deque-row}, boxed.BoxedSlice.{the_row as boxed-row}}
-use Rattle.std.specs.contracts.{alloc.Global.{the_row as global-row}, impls.GlobalAllocator.TheImpl.{ghosts}}
-use Rattle.std.specs.declared.boxed.BoxedSlice.{BoxedSlice}
-use Rattle.no_std_io2_base.specs.{declared.error.Error.{Error}, Events.{Event, Store}, Takes.{ReaderState, Reader, tells}}
-use Rattle.no_std_io2_base.specs.{Calls.{ReadCall, WriteCall, ByCalls, PartMay}, BufRead.{ReadUntilLaw, ReadLineLaw, FillBufLaw}}
-use Rattle.no_std_io2_base.specs.{Moves.{WriterState}, Write.{CallLaw, WriteAllLaw, WriteRestLaw}, inner.Write.{AllCalls}}
-use Rattle.no_std_io2_base.specs.{inner.Calls.{BoxMay}, Writers.{Writer, WriteAllOf}, inner.Writers.{CallOf}}
-use Rattle.no_std_io2_base.specs.{Read.{ReadCallLaw, ReadLaw, ReadExactLaw, ReadFullLaw, ToEndLaw, ConsumeLaw}, BufRead.{AfterLoan}}
-use Rattle.no_std_io2_base.specs.{Writers.{WriteRestOf}, contracts.cursor.Cursor.{the_row as cursor-row}, declared.cursor.Cursor.{Cursor}}
-use Rattle.no_std_io2_base.proofs.CallsLemmas.{made_map, made_keeps}
+use Rattle.std.{proofs.lemmas.Grind.{common_steps}, specs.{Borrow.{Bor, MutBor}, declared.dyn_box.DynBox.{DynBox}}}
+use Rattle.std.specs.contracts.{vec.Vec.{the_row as vec-row}, collections.VecDeque.{the_row as deque-row}}
+use Rattle.std.specs.contracts.{boxed.BoxedSlice.{the_row as boxed-row}, alloc.Global.{the_row as global-row}}
+use Rattle.std.specs.{contracts.impls.GlobalAllocator.TheImpl.{ghosts}, declared.boxed.BoxedSlice.{BoxedSlice}}
+use Rattle.no_std_io2_base.specs.{declared.error.Error.{Error}, Events.{Event, Store}, Takes.{ReaderState, Reader, tells}, Calls.{ReadCall}}
+use Rattle.no_std_io2_base.specs.{Calls.{WriteCall, ByCalls, PartMay}, BufRead.{ReadUntilLaw, ReadLineLaw, FillBufLaw, AfterLoan}}
+use Rattle.no_std_io2_base.specs.{Moves.{WriterState}, Write.{CallLaw, WriteAllLaw, WriteRestLaw}, inner.{Write.{AllCalls}, Calls.{BoxMay}}}
+use Rattle.no_std_io2_base.specs.{Writers.{Writer, WriteAllOf, WriteRestOf}, inner.Writers.{CallOf}, Read.{ReadCallLaw, ReadLaw}}
+use Rattle.no_std_io2_base.specs.{Read.{ReadExactLaw, ReadFullLaw, ToEndLaw, ConsumeLaw}, contracts.cursor.Cursor.{the_row as cursor-row}}
+use Rattle.no_std_io2_base.{specs.declared.cursor.Cursor.{Cursor}, proofs.CallsLemmas.{made_map, made_keeps}}
 use base.Stored.{Gv}
 use denote.{Builtin.{u8, Array}, RattleType.{RattleType}, Param.Table.{Entry}}
 use borrow.Pointer.Hide.{carry_nowᵐ, carried_sameᵐ}
@@ -27,8 +25,7 @@ pub record PassesReads {X Y : Type 0} (R : Reader X) (R' : Reader Y) (put : X �
 module _ {X Y : Type 0} {R : Reader X} {R' : Reader Y} {put : X → Y} (through : PassesReads R R' put) (a b : X) where
   -- what holds of that which was told before and after
   between : (P : ReaderState → ReaderState → Type 0) → P (tells R a) (tells R b) → P (tells R' (put a)) (tells R' (put b))
-  between P holds =
-      subst (λ t. P t (tells R' (put b))) (sym (through.told a)) (subst (λ t. P (tells R a) t) (sym (through.told b)) holds)
+  between P holds = subst (λ t. P t (tells R' (put b))) (sym (through.told a)) (subst (λ t. P (tells R a) t) (sym (through.told b)) holds)
 
   call_through : (call : ReadCall) → ReadCallLaw R a call b → ReadCallLaw R' (put a) call (put b)
   call_through call law = grind (arith, common_steps)
@@ -47,8 +44,7 @@ module _ {X Y : Type 0} {R : Reader X} {R' : Reader Y} (put : X → Y) (through 
   read_full_through {buf} {buf'} {n} {n'} {reply} law = grind (arith, common_steps, between, made_map, call_through)
 
   pub drained_through : {A : Type 0} {lacks : ℕ → Type 0} {buf buf' : Vec ℕ A} {reply : Result ℕ Error}
-      → ToEndLaw lacks R a buf reply buf' b
-      → ToEndLaw lacks R' (put a) buf reply buf' (put b)
+      → ToEndLaw lacks R a buf reply buf' b → ToEndLaw lacks R' (put a) buf reply buf' (put b)
   drained_through {lacks = lacks} {reply = reply} law = grind (arith, common_steps, between, made_map, call_through)
 
   pub consume_through : {n : ℕ} → ConsumeLaw R a n b → ConsumeLaw R' (put a) n (put b)
@@ -105,9 +101,8 @@ write_all_through put each {a} {b} law = search (arith, rules, made_map, wrote_t
 
 pub write_rest_through : {W V : Type 0} {told : V → WriterState} {takes_all : V → Type 0} {may : W → WriteCall → W → Type 0}
     {may' : V → WriteCall → V → Type 0} (put : W → V) → ((a b : W) (call : WriteCall) → may a call b → may' (put a) call (put b))
-    → {a b : W} {x left : List ℕ} {reply : Result (Unit {0}) Error}
-    → WriteRestLaw (λ w. told (put w)) (λ w. takes_all (put w)) may a x reply b left
-    → WriteRestLaw told takes_all may' (put a) x reply (put b) left
+    → {a b : W} {x left : List ℕ} {reply : Result (Unit {0}) Error} → WriteRestLaw (λ w. told (put w))
+    (λ w. takes_all (put w)) may a x reply b left → WriteRestLaw told takes_all may' (put a) x reply (put b) left
 write_rest_through put each {a} {b} law = search (arith, rules, made_map, wrote_through)
 
 -- A wrapper that passes calls on to a part of it, `get`, which `put` replaces, and leaves the rest as it is: its `may` is `PartMay`.
@@ -252,9 +247,8 @@ module _ {I A : Type 0} {V : I → Type 0} (o : (p : (x : I) × V x) → Reader 
   of_reader = record { told = λ x. refl; may = λ x y call may. (y, refl, may); held = λ x. refl }
 
   -- what a call did to the value that was lent, it did to the box
-  pub read_box : {buf buf' : List ℕ} {reply : Result ℕ Error} (lent : (x : I) × V x) → lent ≡ (box.vtable, box.value)
-      → (new : V lent.0) → ReadLaw (value_reader o lent.0) lent.1 buf reply buf' new
-      → ReadLaw (box_reader o) box buf reply buf' (holding box lent.0 new)
+  pub read_box : {buf buf' : List ℕ} {reply : Result ℕ Error} (lent : (x : I) × V x) → lent ≡ (box.vtable, box.value) → (new : V lent.0)
+      → ReadLaw (value_reader o lent.0) lent.1 buf reply buf' new → ReadLaw (box_reader o) box buf reply buf' (holding box lent.0 new)
   read_box {buf} {buf'} {reply} =
       in_box box (λ i a b. ReadLaw (value_reader o i) a buf reply buf' b) (ReadLaw (box_reader o) box buf reply buf')
       (λ new. read_through (holding box box.vtable) of_reader)
@@ -288,11 +282,7 @@ module _ {I A : Type 0} {V : I → Type 0} (o : (p : (x : I) × V x) → Reader 
 module _ {I A : Type 0} {V : I → Type 0} (o : (p : (x : I) × V x) → Writer (V p.0)) (box : DynBox I A V) where
   -- a value in a box, as a writer,
   abbrev value_writer : (i : I) → Writer (V i)
-  value_writer i = record {
-    told = λ v. (o (i, v)).told v;
-    takes_all = λ v. (o (i, v)).takes_all v;
-    may = λ v. (o (i, v)).may v;
-  }
+  value_writer i = record { told = λ v. (o (i, v)).told v; takes_all = λ v. (o (i, v)).takes_all v; may = λ v. (o (i, v)).may v }
 
   -- and the box
   abbrev box_writer : Writer (DynBox I A V)

@@ -1,19 +1,16 @@
 -- All pieces that are to come, and those that calls have given so far.
-use Rattle.no_std_io2_base.proofs.TakesLemmas.{left_of, spends, bytes-append, bytes-events_of, HasNoFault-events_of}
-use Rattle.no_std_io2_base.proofs.PieceLemmas.{pieces-first, pieces-last, ends_with_byte-end, ends_with_byte-lacks}
+use Rattle.no_std_io2_base.proofs.{PieceLemmas.{pieces-first, pieces-last, ends_with_byte-end, ends_with_byte-lacks}, TakesLemmas.{left_of}}
+use Rattle.no_std_io2_base.{proofs.TakesLemmas.{spends, bytes-append, bytes-events_of, HasNoFault-events_of}, specs.BufRead.{ReadUntilLaw}}
+use Rattle.no_std_io2_base.specs.{Errors.{IsFault, IsOutOfMemory}, Events.{Event, byte, fails, events_of, event_bytes, HasNoFault}}
+use Rattle.no_std_io2_base.specs.{Pieces.{GivesPieces, AreAllPieces}, Reads.{StopsAfter}, Takes.{ReaderState, Takes, to_come, Reader}}
+use Rattle.no_std_io2_base.specs.{Takes.{tells}, declared.error.Error.{Error}, inner.Events.{EndsInFault, bytes_to_fault, first_fault}}
+use Rattle.no_std_io2_base.specs.inner.{Iterators.{NextPieceLaw, ends_at, items_left}, Pieces.{Lacks, EndsAt, pieces_of, pieces_before}}
+use Rattle.no_std_io2_base.specs.inner.Pieces.{pieces_given, GivesFirst, GivesNext, GivesNone, GivenRead, PieceEnds}
 use Rattle.std.proofs.Common.{rules, ◌≡◌, ℕ, ◌+◌, ◌<◌, ◌≤◌, ◌⊎◌, false, cond, if◌then◌else◌, Option, Some, None, List, [], ◌∷◌, ◌++◌}
 use Rattle.std.proofs.Common.{length, filter, refl, sym, ap, ap₂, ◌∙◌, subst, arith, append-nil, append_assoc, Result, Ok, Err, inl, inr}
 use Rattle.std.proofs.Common.{⊎_elim, length-append, IfSome, OnSome, IfErr, Vec, vec_len, vec_capacity, IsSomeAnd, true}
-use Rattle.std.proofs.lemmas.{Grind.{common_steps}, List.{append_cancel_left, nil_from_length, Folds.{concat-append}}}
-use Rattle.no_std_io2_base.specs.{declared.error.Error.{Error}, Errors.{IsFault, IsOutOfMemory}, Events.{Event, byte, fails, events_of}}
-use Rattle.no_std_io2_base.specs.{Events.{event_bytes, HasNoFault}, inner.Events.{EndsInFault, bytes_to_fault, first_fault}}
-use Rattle.no_std_io2_base.specs.{Takes.{ReaderState, Takes, to_come, Reader, tells}, inner.Iterators.{NextPieceLaw, ends_at, items_left}}
-use Rattle.no_std_io2_base.specs.{BufRead.{ReadUntilLaw}}
-use Rattle.no_std_io2_base.specs.inner.Pieces.{Lacks, EndsAt, pieces_of, pieces_before, pieces_given, GivesFirst}
-use Rattle.no_std_io2_base.specs.inner.Pieces.{GivesNext, GivesNone, GivenRead}
-use Rattle.no_std_io2_base.specs.{Pieces.{GivesPieces, AreAllPieces}, Reads.{StopsAfter}}
+use Rattle.std.proofs.lemmas.{Grind.{common_steps}, List.{Folds.{concat-append}, append_cancel_left, nil_from_length}}
 use Rattle.std.specs.{List.{concat}, Io.BufRead.{ends_with_byte}}
-use Rattle.no_std_io2_base.specs.inner.Pieces.{PieceEnds}
 
 -- What a call that takes one piece says of all pieces that are to come, if the reader tells its events; and what its error is.
 
@@ -48,17 +45,7 @@ given-last d (b ∷ bs) none some = ap (pieces_of d) (append-nil (b ∷ bs)) ∙
 given_next : (d : ℕ) (E P after : List Event) → E ≡ P ++ after → HasNoFault P → EndsAt d P ⊎ (Lacks d (event_bytes P) × (after ≡ []))
     → 0 < length (event_bytes P) → GivesNext d E (event_bytes P) after
 given_next d E P after split free ends some =
-    grind (
-      arith,
-      common_steps,
-      first_fault-append,
-      bytes_to_fault-append,
-      bytes-append,
-      append_assoc,
-      given-front,
-      before-first,
-      given-last,
-    )
+    grind (arith, common_steps, first_fault-append, bytes_to_fault-append, bytes-append, given-front, before-first, given-last)
 
 -- if they have no byte, they are all
 given_none : (d : ℕ) (E P after : List Event) → E ≡ P ++ after → HasNoFault P → EndsAt d P ⊎ (Lacks d (event_bytes P) × (after ≡ []))
@@ -74,8 +61,7 @@ none_ended d (b ∷ bs) h =
 
 -- the first fault ends what is given
 given_fault : (d : ℕ) (E : List Event) (e : Error) (taken after : List Event) → E ≡ taken ++ after
-    → Lacks d (event_bytes taken) → EndsInFault taken e
-    → (pieces_given d E ≡ []) × (first_fault E ≡ Some e)
+    → Lacks d (event_bytes taken) → EndsInFault taken e → (pieces_given d E ≡ []) × (first_fault E ≡ Some e)
 given_fault d E e taken after split none f =
     grind (arith, common_steps, append_assoc, bytes-append, append-nil, given-front, ap₂, filter, none_ended, first_fault-append)
 
@@ -94,8 +80,7 @@ none_left E P after split all = append_cancel_left P after [] (sym split ∙ all
 
 -- what a piece says of all
 given_read : (lacks : ℕ → Type 0) (d : ℕ) (t : ReaderState) (E P after : List Event) (read : Result ℕ Error) → to_come t ≡ Some E
-    → E ≡ P ++ after
-    → PieceEnds lacks d t P read → GivenRead d E (event_bytes P) read after
+    → E ≡ P ++ after → PieceEnds lacks d t P read → GivenRead d E (event_bytes P) read after
 given_read lacks d t E P after (Ok n) told split (free, count, ends) =
     search (arith, rules, ⊎_elim, none_left, of_told, GivesNone, given_none, given_next)
 given_read lacks d t E P after (Err e) told split (none, inl fault) = inl (given_fault d E e P after split none fault)

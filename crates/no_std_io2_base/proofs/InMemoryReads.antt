@@ -1,19 +1,15 @@
 -- Reads from memory, and those of any reader that fills its room.
 use Rattle.std.proofs.Common.{◌≡◌, ℕ, zero, suc, ◌+◌, min, List, Result, Ok, Err, Some, IsOkAnd, length, refl, sym, ap, subst, ◌∙◌, arith}
 use Rattle.std.proofs.Common.{length-append, ◌<◌, ◌≤◌, [], ◌++◌, take, drop, le_refl, None, IfOk, IfErr, IfSome, Vec, vec_len, vec_capacity}
-use Rattle.std.proofs.{Common.{take-append-drop, length-take}, lemmas.Grind.{common_steps}}
-use Rattle.no_std_io2_base.specs.{declared.error.Error.{Error}, Events.{events_of, event_bytes}}
-use Rattle.no_std_io2_base.specs.Takes.{to_come, ReaderState, Takes, IsAtEnd, store_at, Reader, tells, bytes_left}
-use Rattle.no_std_io2_base.specs.{inner.Takes.{AreTaken, told_bytes}, inner.Read.{GaveLaw, without_number, least_room}}
-use Rattle.no_std_io2_base.specs.Calls.{ReadCall, Gave, GaveExactly, GaveAll}
-use Rattle.no_std_io2_base.specs.{Read.{ReadLaw, ReadExactLaw, ReadToEndLaw}, inner.Charges.{FillsFor}}
+use Rattle.std.{proofs.{Common.{take-append-drop, length-take}, lemmas.Grind.{common_steps}}, specs.Borrow.{Bor}}
+use Rattle.no_std_io2_base.specs.{declared.error.Error.{Error}, Events.{events_of, event_bytes}, Takes.{to_come, ReaderState, Takes}}
+use Rattle.no_std_io2_base.specs.{Takes.{IsAtEnd, store_at, Reader, tells, bytes_left}, inner.Takes.{AreTaken, told_bytes}}
+use Rattle.no_std_io2_base.specs.{inner.Read.{GaveLaw, without_number, least_room, FillsOrEnds, DrainsOrStops}, Calls.{ReadCall, Gave}}
+use Rattle.no_std_io2_base.specs.{Calls.{GaveExactly, GaveAll}, Read.{ReadLaw, ReadExactLaw, ReadToEndLaw}, inner.Charges.{FillsFor}}
 use Rattle.no_std_io2_base.specs.{Meter.{FillsRoom, IsReadMeter}, Errors.{IsUnexpectedEnd, IsOutOfMemory}, inner.InMemory.{GivesLeft}}
-use Rattle.no_std_io2_base.specs.{declared.cursor.Cursor.{Cursor}, inner.Cursor.{cursor_left}}
-use Rattle.no_std_io2_base.proofs.TakesLemmas.{bytes-events_of, length-events_of, events_of-append, HasNoFault-events_of, gives_whole}
-use Rattle.no_std_io2_base.proofs.{TakesLemmas.{drains_ended}, CursorLemmas.{told_at}, CallsLemmas.{exact_own, to_end_own}}
-use Rattle.std.specs.Borrow.{Bor}
-use Rattle.no_std_io2_base.specs.inner.Read.{FillsOrEnds}
-use Rattle.no_std_io2_base.specs.inner.Read.{DrainsOrStops}
+use Rattle.no_std_io2_base.{specs.{declared.cursor.Cursor.{Cursor}, inner.Cursor.{cursor_left}}, proofs.TakesLemmas.{bytes-events_of}}
+use Rattle.no_std_io2_base.proofs.TakesLemmas.{length-events_of, events_of-append, HasNoFault-events_of, gives_whole, drains_ended}
+use Rattle.no_std_io2_base.proofs.{CursorLemmas.{told_at}, CallsLemmas.{exact_own, to_end_own}}
 
 -- Reads of a reader that fills its room, and how it is shown to fill it.
 
@@ -83,14 +79,12 @@ module _ {V X : Type 0} (get : V → X) {may : V → ReadCall → V → Type 0} 
     (each : (a b : V) (call : ReadCall) → may a call b → R.may (get a) call (get b)) where
   -- it fills its room if that reader does
   pub fills_passing : (v : V) → FillsRoom R (get v) → FillsRoom (passing get may R) v
-  fills_passing v fills = fills_by {R = passing get may R} (λ v. FillsRoom R (get v)) (λ v. bytes_left R (get v))
-      (λ v now. fills_told now)
+  fills_passing v fills = fills_by {R = passing get may R} (λ v. FillsRoom R (get v)) (λ v. bytes_left R (get v)) (λ v now. fills_told now)
       (λ v room answer after now law.
       let law' : GaveLaw R (get v) room answer (get after) =
       record { bound = law.bound; takes = law.takes; end = law.end; call = each v after (Gave room answer) law.call } in
       let one = drawn answer now law' in
-      (subst (λ a. IsOkAnd a (λ g. length g ≡ min room (length (bytes_left R (get v))))) (sym one.is) one.count, one.fills))
-      v fills
+      (subst (λ a. IsOkAnd a (λ g. length g ≡ min room (length (bytes_left R (get v))))) (sym one.is) one.count, one.fills)) v fills
 
   -- a number that counts the reads of that reader counts its reads
   pub meters_passing : (cost : X → ℕ) → IsReadMeter R.may cost → IsReadMeter may (λ v. cost (get v))
@@ -127,9 +121,8 @@ module _ {X : Type 0} {R : Reader X} {left : X → List ℕ} {old new : X} {part
   ends none = subst (λ E. IfSome E (λ l. l ≡ [])) (sym gives.told) (ap events_of none)
 
   -- a `read` gave it
-  pub read_part : {buf : List ℕ} (buf' : List ℕ) (n : ℕ) → part ≡ take n buf' → n ≤ length buf'
-      → (n ≡ 0 → 0 < length buf' → left new ≡ []) → R.may old (Gave (length buf') (Ok (take n buf'))) new
-      → ReadLaw R old buf (Ok n) buf' new
+  pub read_part : {buf : List ℕ} (buf' : List ℕ) (n : ℕ) → part ≡ take n buf' → n ≤ length buf' → (n ≡ 0 → 0 < length buf' → left new ≡ [])
+      → R.may old (Gave (length buf') (Ok (take n buf'))) new → ReadLaw R old buf (Ok n) buf' new
   read_part buf' n is bound none call = grind (arith, common_steps)
 
   -- a `read_to_end` appended it

@@ -4,18 +4,14 @@ use Rattle.std.proofs.Common.{take-append-drop, length-take-le, ◌+◌, ◌-◌
 use Rattle.std.proofs.Common.{inl, inr, sym, subst, append-nil, length-append, length-take, refl, rules, length-drop, OnOk}
 use Rattle.std.proofs.{lemmas.{Grind.{common_steps}, List.{append_cancel_left}}, Math.Seq.{take-append_seam}}
 use Rattle.no_std_io2_base.specs.{Events.{Event, event_bytes, events_of, fails, HasNoFault, Store}, inner.Events.{cut, EndsInFault}}
-use Rattle.no_std_io2_base.specs.Reads.{TakesBytes}
-use Rattle.no_std_io2_base.specs.Takes.{ReaderState, Takes, to_come, KeepsContent, Reader, tells, IsAtEnd}
-use Rattle.no_std_io2_base.specs.{declared.error.Error.{Error}, Read.{ReadExactLaw, ReadAtMostLaw}}
-use Rattle.no_std_io2_base.specs.{inner.Read.{AllOrNone, gave_whole}, Seek.{Seeks, IsTarget}, inner.Reads.{ReadsAt, HasBytesAt}}
-use Rattle.no_std_io2_base.specs.{Read.{ReadFullLaw, ReadToEndLaw}, Errors.{IsOutOfMemory}, declared.traits.seek.SeekFrom.{SeekFrom}}
-use Rattle.no_std_io2_base.specs.declared.traits.seek.SeekFrom.TheVariants.{Start}
+use Rattle.no_std_io2_base.specs.{Reads.{TakesBytes}, Takes.{ReaderState, Takes, to_come, KeepsContent, Reader, tells, IsAtEnd}}
+use Rattle.no_std_io2_base.specs.{declared.error.Error.{Error}, Read.{ReadExactLaw, ReadAtMostLaw, ReadFullLaw, ReadToEndLaw, ToEndLaw}}
+use Rattle.no_std_io2_base.specs.{inner.{Read.{AllOrNone, gave_whole, FillsOrEnds}, Reads.{ReadsAt, HasBytesAt}}, Seek.{Seeks, IsTarget}}
+use Rattle.no_std_io2_base.specs.{Errors.{IsOutOfMemory}, declared.traits.seek.SeekFrom.{TheVariants.{Start}, SeekFrom}}
 use Rattle.no_std_io2_base.proofs.TakesLemmas.{bytes-append, events_of-append, bytes-events_of, bytes-behind, cut-bytes, cut-append}
 use Rattle.no_std_io2_base.proofs.TakesLemmas.{HasNoFault-front, HasNoFault-behind, HasNoFault-events_of, bytes-cut, all_taken, left_of}
-use Rattle.no_std_io2_base.proofs.{LimitLemmas.{cut-within, limit_reader, limit_to_end}}
-use Rattle.no_std_io2_base.specs.{Read.{ToEndLaw}, inner.Take.{limit_left, limit_inner, cut_to_come}}
-use Rattle.no_std_io2_base.specs.declared.traits.take.Take.{Take}
-use Rattle.no_std_io2_base.specs.inner.Read.{FillsOrEnds}
+use Rattle.no_std_io2_base.{proofs.LimitLemmas.{cut-within, limit_reader, limit_to_end}, specs.inner.Take.{limit_left, limit_inner}}
+use Rattle.no_std_io2_base.specs.{inner.Take.{cut_to_come}, declared.traits.take.Take.{Take}}
 
 -- Which bytes are gone from those to come, after one call and after two.
 
@@ -65,8 +61,7 @@ module _ {a b : ReaderState} (x : List ℕ) (rest : List Event) (told : to_come 
 -- A `read_exact` of as many bytes gives x, and the rest is to come.
 pub exact_known : {X : Type 0} {R : Reader X} {old new : X} {buf buf' : List ℕ} {reply : Result (Unit {0}) Error} (x : List ℕ)
     (rest : List Event) → ReadExactLaw R old buf reply buf' new → length x ≡ length buf'
-    → to_come (tells R old) ≡ Some (events_of x ++ rest)
-    → IsOk reply × (buf' ≡ x) × (to_come (tells R new) ≡ Some rest)
+    → to_come (tells R old) ≡ Some (events_of x ++ rest) → IsOk reply × (buf' ≡ x) × (to_come (tells R new) ≡ Some rest)
 exact_known x rest law long told = ends_known x rest told law.taken _ _ long law.takes law.ends
 
 -- no more bytes are before a cut than it allows
@@ -82,8 +77,7 @@ full_known {R = R} {old} {new} {buf} {filled = filled} (Ok u) x rest law long to
     let few : length (event_bytes law.taken) ≤ length x = omega (arith, long, bytes_within (length buf - filled) law.taken law.ends.1) in
     let many : length (event_bytes law.taken) ≡ length x =
     grind (arith, common_steps, few, all_taken, not_too_few x rest told law.taken law.takes) in
-    let (same, behind) =
-    whole_back x rest told law.taken law.takes (subst (λ n. cut n law.taken ≡ law.taken) (sym long) law.ends.1) many in
+    let (same, behind) = whole_back x rest told law.taken law.takes (subst (λ n. cut n law.taken ≡ law.taken) (sym long) law.ends.1) many in
     (refl, law.counts ∙ ap (λ n. filled + n) many, law.fills ∙ ap (λ l. take filled buf ++ l) same, behind)
 full_known (Err e) x rest law long told =
     absurd (no_fault_before x rest told law.taken law.takes law.ends.0 (omega (arith, law.ends.1, long)))
@@ -137,8 +131,7 @@ module _ {a b : ReaderState} (x : List ℕ) (told : to_come a ≡ Some (events_o
 -- A `read_to_end` of bytes that are all that is known to come appends them, and nothing is left; or an allocation failed.
 pub to_end_known : {X A : Type 0} {lacks : ℕ → Type 0} {R : Reader X} {old new : X} {buf buf' : Vec ℕ A} (reply : Result ℕ Error)
     (x : List ℕ) → ToEndLaw lacks R old buf reply buf' new → to_come (tells R old) ≡ Some (events_of x)
-    → IfOk reply (λ n. (n ≡ length x) × (buf'.items ≡ buf.items ++ x) × (to_come (tells R new) ≡ Some []))
-    × IfErr reply IsOutOfMemory
+    → IfOk reply (λ n. (n ≡ length x) × (buf'.items ≡ buf.items ++ x) × (to_come (tells R new) ≡ Some [])) × IfErr reply IsOutOfMemory
 to_end_known {buf = buf} (Ok n) x law told =
     let (all, none) = all_known x told law.takes law.ends.1 in
     ((law.appends.1 ∙ ap length all, law.appends.0 ∙ ap (λ l. buf.items ++ l) all, none), tt)
@@ -185,8 +178,7 @@ module _ {X A : Type 0} {R : Reader X} {limit : ℕ} {old new : X} {buf buf' : V
   -- A `read_at_most` of as many bytes appends x, and the rest is to come; or an allocation failed.
   pub at_most_known : (reply : Result ℕ Error) (x : List ℕ) (rest : List Event) → ReadAtMostLaw R limit old buf reply buf' new
       → length x ≡ limit → to_come (tells R old) ≡ Some (events_of x ++ rest)
-      → IfOk reply (λ n. (n ≡ length x) × (buf'.items ≡ buf.items ++ x) × (to_come (tells R new) ≡ Some rest))
-      × IfErr reply IsOutOfMemory
+      → IfOk reply (λ n. (n ≡ length x) × (buf'.items ≡ buf.items ++ x) × (to_come (tells R new) ≡ Some rest)) × IfErr reply IsOutOfMemory
   at_most_known (Ok n) x rest law long told =
       let few : length (event_bytes law.taken) ≤ length x = omega (arith, long, bytes_within limit law.taken law.within) in
       let many : length (event_bytes law.taken) ≡ length x =
@@ -202,8 +194,7 @@ module _ {X A : Type 0} {R : Reader X} {limit : ℕ} {old new : X} {buf buf' : V
   -- If fewer bytes than the limit are all that is known to come, it appends them, and nothing is left; or an allocation failed.
   pub at_most_short : (reply : Result ℕ Error) (x : List ℕ) → ReadAtMostLaw R limit old buf reply buf' new → length x < limit
       → to_come (tells R old) ≡ Some (events_of x)
-      → IfOk reply (λ n. (n ≡ length x) × (buf'.items ≡ buf.items ++ x) × (to_come (tells R new) ≡ Some []))
-      × IfErr reply IsOutOfMemory
+      → IfOk reply (λ n. (n ≡ length x) × (buf'.items ≡ buf.items ++ x) × (to_come (tells R new) ≡ Some [])) × IfErr reply IsOutOfMemory
   at_most_short (Ok n) x law few told =
       let (all, none) = all_known x told law.takes (law.ends.1 (omega (arith, few, few_known x told law.takes))) in
       ((law.appends.1 ∙ ap length all, law.appends.0 ∙ ap (λ l. buf.items ++ l) all, none), tt)
@@ -238,10 +229,8 @@ reads_there : {at : SeekFrom} {n : ℕ} {P : List Event} {buf : List ℕ} (s m t
 reads_there {at} {n} {P} {buf} s m t kept sought took given =
     let rest = drop t.position t.content in
     let front = drop m.position m.content in
-    let split : front ≡ buf ++ rest =
-    sym (bytes-events_of front) ∙ ap event_bytes took.split ∙ bytes-append P (events_of rest)
-    ∙ ap (λ l. l ++ event_bytes (events_of rest)) given
-    ∙ ap (λ l. buf ++ l) (bytes-events_of rest) in
+    let split : front ≡ buf ++ rest = sym (bytes-events_of front) ∙ ap event_bytes took.split ∙ bytes-append P (events_of rest)
+    ∙ ap (λ l. l ++ event_bytes (events_of rest)) given ∙ ap (λ l. buf ++ l) (bytes-events_of rest) in
     let there : front ≡ drop n s.content = grind (arith, common_steps) in
     record {
       place = n;
@@ -255,8 +244,7 @@ module _ {X : Type 0} {R : Reader X} {mid new : X} {buf buf' : List ℕ} (s : Op
     -- after a seek that succeeded, a read fills the buffer with the bytes from its target on
     pub stands_there : (reply : Result (Unit {0}) Error) → ReadExactLaw R mid buf reply buf' new
         → IfSome s (λ s. IsSomeAnd (R.store new) (λ t. (t.content ≡ s.content) × OnOk reply (ReadsAt s at buf' t.position)))
-    stands_there reply law =
-        search (arith, rules, store_taken, reads_there)
+    stands_there reply law = search (arith, rules, store_taken, reads_there)
 
     -- it does not fail if there are enough bytes
     pub enough_there : (reply : Result (Unit {0}) Error) {room : ℕ} → ReadExactLaw R mid buf reply buf' new → length buf' ≡ room

@@ -1,13 +1,11 @@
 -- What a call that takes one piece gives if the piece is known to come, and a `read_to_string` if all is.
 use Rattle.std.proofs.Common.{◌≡◌, ℕ, ◌+◌, List, [], ◌∷◌, ◌++◌, length, refl, ap, sym, ◌∙◌, arith, append_assoc, append-nil, inl, inr}
-use Rattle.std.proofs.{Common.{subst, Some, Result, Ok, Err, IfOk, IfErr, IfSome, Vec, String}, lemmas.Grind.{common_steps}}
-use Rattle.std.proofs.Common.{string_bytes, length-append}
-use Rattle.std.proofs.Common.{IsUtf8, string_len, string_capacity, vec_len, vec_capacity, ◌<◌, ◌≤◌}
+use Rattle.std.proofs.Common.{subst, Some, Result, Ok, Err, IfOk, IfErr, IfSome, Vec, String, string_bytes, length-append, IsUtf8}
+use Rattle.std.proofs.{Common.{string_len, string_capacity, vec_len, vec_capacity, ◌<◌, ◌≤◌}, lemmas.Grind.{common_steps}}
 use Rattle.no_std_io2_base.specs.{declared.error.Error.{Error}, Errors.{IsOutOfMemory}, Events.{Event, byte, fails, events_of, event_bytes}}
 use Rattle.no_std_io2_base.specs.{Takes.{Reader, ReaderState, Takes, tells, to_come}, BufRead.{ReadUntilLaw, ReadLineLaw}, Pieces.{newline}}
-use Rattle.no_std_io2_base.specs.inner.Pieces.{Lacks, PieceEnds, EndsAt, IsAll, IsPiecePart, ComesBehind, but_last}
-use Rattle.no_std_io2_base.specs.{inner.Events.{EndsInFault}, inner.Lines.{AnswersLine}}
-use Rattle.no_std_io2_base.specs.{Read.{ReadToStringLaw}, inner.Read.{DrainsOrStops, least_room}}
+use Rattle.no_std_io2_base.specs.inner.{Pieces.{Lacks, PieceEnds, EndsAt, IsAll, IsPiecePart, ComesBehind, but_last}, Events.{EndsInFault}}
+use Rattle.no_std_io2_base.specs.{inner.{Lines.{AnswersLine}, Read.{DrainsOrStops, least_room}}, Read.{ReadToStringLaw}}
 use Rattle.no_std_io2_base.proofs.{PieceLemmas.{Lacks-append}, KnownBytes.{all_known, few_known, no_fault_known}}
 use Rattle.no_std_io2_base.proofs.TakesLemmas.{events_of-append, bytes-behind, bytes-append, bytes-events_of, left_of}
 
@@ -107,13 +105,7 @@ module _ (lacks : ℕ → Type 0) (d : ℕ) {t t' : ReaderState} {P : List Event
       ∙ bytes-behind (x ++ d ∷ []) rest ∙ append_assoc x (d ∷ []) (event_bytes rest) in
       let short = few_before d first x (event_bytes rest) (last ∷ event_bytes after)
       (Lacks-append d (event_bytes P) (but_last part) free is_part.1) whole in
-      omega (
-        arith,
-        short,
-        ap length ends,
-        length-append (but_last part) (last ∷ []),
-        length-append (event_bytes P) (but_last part),
-      )
+      omega (arith, short, ap length ends, length-append (but_last part) (last ∷ []), length-append (event_bytes P) (but_last part))
 
   -- A call that takes a piece x, which is known to come up to its d, takes that and no more; or an allocation failed, since
   -- there was no room for so many bytes of it.
@@ -148,8 +140,7 @@ pub line_known : {X A : Type 0} {R : Reader X} {old new : X} {buf buf' : String 
     (rest : List Event) → ReadLineLaw R old buf reply buf' new → Lacks newline x → IsUtf8 (x ++ newline ∷ [])
     → to_come (tells R old) ≡ Some (events_of (x ++ newline ∷ []) ++ rest)
     → IfOk reply (λ n. (n ≡ length x + 1) × (string_bytes buf' ≡ string_bytes buf ++ (x ++ newline ∷ []))
-    × (to_come (tells R new) ≡ Some rest))
-    × IfErr reply (λ e. IsOutOfMemory e × (string_capacity buf < string_len buf + (length x + 1)))
+    × (to_come (tells R new) ≡ Some rest)) × IfErr reply (λ e. IsOutOfMemory e × (string_capacity buf < string_len buf + (length x + 1)))
 line_known {R = R} {new = new} {buf} {buf'} reply x rest law none text told = by reply law.read law.answers known
   where
     line : List ℕ
@@ -162,8 +153,7 @@ line_known {R = R} {new = new} {buf} {buf'} reply x rest law none text told = by
         × IfErr law.read (λ e. IsOutOfMemory e × ((n : ℕ) × (n ≤ length x + 1) × lacks n))
     known = piece_known lacks newline law.takes x rest none told law.read law.ends
 
-    by : (reply read : Result ℕ Error)
-        → AnswersLine (event_bytes law.taken) read reply (string_bytes buf) (string_bytes buf')
+    by : (reply read : Result ℕ Error) → AnswersLine (event_bytes law.taken) read reply (string_bytes buf) (string_bytes buf')
         → IfOk read (λ n. (n ≡ length x + 1) × (event_bytes law.taken ≡ line) × (to_come (tells R new) ≡ Some rest))
         × IfErr read (λ e. IsOutOfMemory e × ((n : ℕ) × (n ≤ length x + 1) × lacks n))
         → IfOk reply (λ n. (n ≡ length x + 1) × (string_bytes buf' ≡ string_bytes buf ++ line) × (to_come (tells R new) ≡ Some rest))

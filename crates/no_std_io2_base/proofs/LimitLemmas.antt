@@ -3,22 +3,17 @@ use Rattle.std.proofs.{lemmas.Grind.{common_steps}, Common.{◌≡◌, ℕ, zero
 use Rattle.std.proofs.Common.{IsOkAnd, IfSome, length, take, drop, refl, sym, ap, subst, ◌∙◌, arith, Option, None, Some, inl, inr}
 use Rattle.std.proofs.Common.{length-append, length-take, length-take-le, length-drop, Err, OnOk, ◌⊎◌, Vec, String, string_bytes, ◌^◌}
 use Rattle.std.proofs.lemmas.{Bool.{cases_lt}, List.{drop-take, append_cancel_right}}
-use Rattle.no_std_io2_base.specs.declared.{error.Error.{Error}, traits.take.Take.{Take}}
-use Rattle.no_std_io2_base.specs.Events.{Event, byte, fails, events_of, event_bytes}
-use Rattle.no_std_io2_base.specs.inner.Events.{cut, BeginsWith}
-use Rattle.no_std_io2_base.specs.Takes.{Takes, ReaderState, to_come, Reader, tells, gave_front, answered, bytes_left}
-use Rattle.no_std_io2_base.specs.inner.Takes.{AreTaken}
-use Rattle.no_std_io2_base.specs.Calls.{ReadCall, Gave, Filled, Consumed, Sought}
-use Rattle.no_std_io2_base.specs.Read.{ReadCallLaw, ReadLaw, ConsumeLaw, ReadExactLaw, ToEndLaw}
-use Rattle.no_std_io2_base.specs.inner.Take.{limit_held, limit_inner, limit_left, limit_set, limit_events, cut_to_come, lent_within}
-use Rattle.no_std_io2_base.specs.{inner.Read.{GaveLaw, bytes_given, fault_of, without_number}, Meter.{FillsRoom}}
-use Rattle.no_std_io2_base.specs.inner.Take.{LimitTakes, LimitAsks, LimitMay, limit_position, LimitGoes, LimitMaySeek, arrived}
-use Rattle.no_std_io2_base.specs.{BufRead.{ReadUntilLaw, ReadLineLaw}, Seek.{Seeker}, inner.Seek.{here}}
-use Rattle.no_std_io2_base.proofs.Forwards.{law_keeps}
+use Rattle.no_std_io2_base.proofs.{CallsAdd.{EachAdds, exact_adds, to_end_adds, piece_adds, line_appended}, Forwards.{law_keeps}}
+use Rattle.no_std_io2_base.proofs.{GivenPieces.{few_bytes}, InMemoryReads.{drawn, fills_by, fills_told}, ReadsLemmas.{begins_cut}}
 use Rattle.no_std_io2_base.proofs.TakesLemmas.{bytes-append, bytes-events_of, takes_then, cut-none, cut-fitting, cut-error, read_law}
-use Rattle.no_std_io2_base.proofs.{TakesLemmas.{read_by, length-events_of}, ReadsLemmas.{begins_cut}, InMemoryReads.{drawn, fills_by}}
-use Rattle.no_std_io2_base.proofs.{InMemoryReads.{fills_told}, GivenPieces.{few_bytes}, CallsAdd.{EachAdds}}
-use Rattle.no_std_io2_base.proofs.CallsAdd.{exact_adds, to_end_adds, piece_adds, line_appended}
+use Rattle.no_std_io2_base.{proofs.TakesLemmas.{read_by, length-events_of}, specs.{BufRead.{ReadUntilLaw, ReadLineLaw}, Calls.{ReadCall}}}
+use Rattle.no_std_io2_base.specs.{Calls.{Gave, Filled, Consumed, Sought}, Events.{Event, byte, fails, events_of, event_bytes}}
+use Rattle.no_std_io2_base.specs.{Meter.{FillsRoom}, Read.{ReadCallLaw, ReadLaw, ConsumeLaw, ReadExactLaw, ToEndLaw}, Seek.{Seeker}}
+use Rattle.no_std_io2_base.specs.Takes.{Takes, ReaderState, to_come, Reader, tells, gave_front, answered, bytes_left}
+use Rattle.no_std_io2_base.specs.{declared.{error.Error.{Error}, traits.take.Take.{Take}}, inner.{Events.{cut, BeginsWith}, Read.{GaveLaw}}}
+use Rattle.no_std_io2_base.specs.inner.{Read.{bytes_given, fault_of, without_number}, Seek.{here}, Take.{limit_held, limit_inner}}
+use Rattle.no_std_io2_base.specs.inner.Take.{limit_left, limit_set, limit_events, cut_to_come, lent_within, LimitTakes, LimitAsks, LimitMay}
+use Rattle.no_std_io2_base.specs.inner.{Take.{limit_position, LimitGoes, LimitMaySeek, arrived}, Takes.{AreTaken}}
 use lib.Seq.{take-take}
 
 -- a `Take`, as the laws of its calls see it
@@ -119,10 +114,9 @@ module _ {T : Type 0} {inner : Reader T} where
   gave_at_limit {t} room low = grind (arith, common_steps)
 
   -- above 0 it is one inner read into as much of the room as the limit allows
-  pub gave_inner : {old new : Take T} (room : ℕ) (answer : Result (List ℕ) Error) → 0 < limit_left old
-      → GaveLaw inner (limit_inner old) (min room (limit_left old)) answer (limit_inner new)
-      → limit_left new + length (bytes_given answer) ≡ limit_left old → limit_set new ≡ limit_set old
-      → GaveLaw (limit_reader inner) old room answer new
+  pub gave_inner : {old new : Take T} (room : ℕ) (answer : Result (List ℕ) Error) → 0 < limit_left old → GaveLaw inner (limit_inner old)
+      (min room (limit_left old)) answer (limit_inner new) → limit_left new + length (bytes_given answer) ≡ limit_left old
+      → limit_set new ≡ limit_set old → GaveLaw (limit_reader inner) old room answer new
   gave_inner {old} {new} room answer some law falls same = grind (arith, common_steps, limit_takes, gave_took, cut_end)
 
   -- so it is, if the inner reader read into a part of the buffer
@@ -151,8 +145,7 @@ module _ {T : Type 0} {inner : Reader T} where
   -- it is filling if its inner reader is
   pub limit_fills : (t : Take T) → FillsRoom inner (limit_inner t) → FillsRoom (limit_reader inner) t
   limit_fills t fills = fills_by {R = limit_reader inner} (λ t. FillsRoom inner (limit_inner t))
-      (λ t. take (limit_left t) (bytes_left inner (limit_inner t)))
-      (λ t now. ap (cut_to_come (limit_left t)) (fills_told now)
+      (λ t. take (limit_left t) (bytes_left inner (limit_inner t))) (λ t now. ap (cut_to_come (limit_left t)) (fills_told now)
       ∙ ap Some (cut-events_of (limit_left t) (bytes_left inner (limit_inner t))))
       (λ old room answer new now law. elim (cases_lt 0 (limit_left old)) [
         | inl some ↦
@@ -232,8 +225,7 @@ take_most most k x is = grind (arith, common_steps)
 -- What the loops of a `Take` take, its inner reader takes.
 
 -- Each call of a `Take` takes as many bytes of its inner reader as it gives.
-pub limit_each : {T : Type 0} {inner : Reader T}
-    → EachAdds (ReadCallLaw (limit_reader inner))
+pub limit_each : {T : Type 0} {inner : Reader T} → EachAdds (ReadCallLaw (limit_reader inner))
     (λ old x new. (P : List Event) × (length (event_bytes P) ≡ length x) × LimitTakes inner old P new)
 limit_each = record {
   joins = record {
@@ -246,8 +238,7 @@ limit_each = record {
         next.1,
         length-append x y,
         ap length (bytes-append first.0 next.0),
-        length-append (event_bytes first.0)
-            (event_bytes next.0),
+        length-append (event_bytes first.0) (event_bytes next.0),
       ),
       limit_then first.2 next.2,
     );
@@ -340,6 +331,9 @@ limit_line inner {old} {new} {buf} {buf'} {reply} law =
 pub limit_keeps : {T V : Type 0} (R : Reader T) (of : T → V) → ((a b : T) (call : ReadCall) → R.may a call b → of b ≡ of a)
     → (a b : Take T) (call : ReadCall) → LimitMay R a call b → of (limit_inner b) ≡ of (limit_inner a)
 limit_keeps R of each a b call did = grind (arith, common_steps, law_keeps R of each)
+
+-- for a loan that is cut at the limit
+pub ruleset lends_within = (take_most, filled_inner, limit_takes, filled_took, some_within, front_cut, cut_end, none_within)
 
 -- How a `Take` goes to a position, step by step.
 

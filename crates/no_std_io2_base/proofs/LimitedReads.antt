@@ -1,14 +1,12 @@
 -- A `Take` does by reads of its inner reader what these do, up to its limit.
-use Rattle.std.proofs.{lemmas.Bool.{cases_lt}, lemmas.Grind.{common_steps}, Common.{◌≡◌, ℕ, ◌+◌, ◌-◌, ◌<◌, min, List, [], ◌∷◌, ◌++◌}}
-use Rattle.std.proofs.Common.{Result, Ok, Err, length, refl, sym, ap, subst, ◌∙◌, arith, Vec, vec_len, vec_capacity, inl, inr}
-use Rattle.std.proofs.Common.{length-append}
-use Rattle.no_std_io2_base.specs.{declared.error.Error.{Error}, declared.traits.take.Take.{Take}, Events.{Event, event_bytes}}
-use Rattle.no_std_io2_base.specs.{Calls.{ReadCall, Gave, Made, ByCalls}, Takes.{Reader, ReaderState, tells, to_come}}
-use Rattle.no_std_io2_base.specs.Read.{ReadAtMostLaw, ToEndLaw, ReadCallLaw}
-use Rattle.no_std_io2_base.specs.inner.Read.{IsRoomWithin, Gathers, no_read, and_gave, and_again, GathersUntil, AtMostCalls, ToEndCalls}
-use Rattle.no_std_io2_base.specs.inner.Read.{DrainsOrStops, EndsWithin, without_number, GaveLaw, bytes_given, least_room}
-use Rattle.no_std_io2_base.specs.inner.Take.{limit_inner, limit_left, LimitTakes}
-use Rattle.no_std_io2_base.proofs.{CallsLemmas.{made_split, made_more}, KnownBytes.{bytes_within}, AtMostLemmas.{in_room, until_in_room}}
+use Rattle.std.proofs.{lemmas.{Bool.{cases_lt}, Grind.{common_steps}}, Common.{◌≡◌, ℕ, ◌+◌, ◌-◌, ◌<◌, min, List, [], ◌∷◌, ◌++◌, Result, Ok}}
+use Rattle.std.proofs.Common.{Err, length, refl, sym, ap, subst, ◌∙◌, arith, Vec, vec_len, vec_capacity, inl, inr, length-append}
+use Rattle.no_std_io2_base.specs.{declared.{error.Error.{Error}, traits.take.Take.{Take}}, Events.{Event, event_bytes}, Calls.{ReadCall}}
+use Rattle.no_std_io2_base.specs.{Calls.{Gave, Made, ByCalls}, Takes.{Reader, ReaderState, tells, to_come}, Read.{ReadAtMostLaw, ToEndLaw}}
+use Rattle.no_std_io2_base.specs.{Read.{ReadCallLaw}, inner.Read.{IsRoomWithin, Gathers, no_read, and_gave, and_again, GathersUntil}}
+use Rattle.no_std_io2_base.specs.inner.Read.{AtMostCalls, ToEndCalls, DrainsOrStops, EndsWithin, without_number, GaveLaw, bytes_given}
+use Rattle.no_std_io2_base.{specs.inner.{Read.{least_room}, Take.{limit_inner, limit_left, LimitTakes}}, proofs.CallsLemmas.{made_split}}
+use Rattle.no_std_io2_base.proofs.{CallsLemmas.{made_more}, KnownBytes.{bytes_within}, AtMostLemmas.{in_room, until_in_room}}
 use Rattle.no_std_io2_base.proofs.LimitLemmas.{limit_reader, gave_inner, limit_takes, gave_at_limit, cut_end, cut_zero}
 
 -- a `Take` after reads of its inner reader that gave n bytes
@@ -107,8 +105,7 @@ module _ {T : Type 0} (inner : Reader T) (old : Take T) where
       let P = law.taken in
       let long : vec_len buf' - vec_len buf ≡ length (event_bytes P) =
       omega (arith, ap length law.appends.0, length-append buf.items (event_bytes P), buf.ok.0, buf'.ok.0) in
-      let took : LimitTakes inner old P (limited old now (length (event_bytes P))) =
-      record {
+      let took : LimitTakes inner old P (limited old now (length (event_bytes P))) = record {
         takes = law.takes;
         within = law.within;
         limit = omega (arith, bytes_within (limit_left old) P law.within);

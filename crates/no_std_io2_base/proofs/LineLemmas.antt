@@ -1,23 +1,20 @@
 -- The lines of some bytes, and a line that goes to a text.
 use Rattle.std.proofs.{lemmas.Grind.{common_steps}, Common.{◌≡◌, ◌≢◌, ℕ, ◌<◌, ◌≤◌, ◌==◌, ◌⊎◌, Bool, true, false, List, [], ◌∷◌, ◌++◌}}
-use Rattle.std.proofs.Common.{length, refl, sym, ap, ◌∙◌, subst, arith, true≢false, eq-eqb, Contains, take, drop, Result}
-use Rattle.std.proofs.Common.{Err, String, string_bytes, string_len, string_capacity, Vec, vec_capacity, IfErr, IsErrAnd, IsUtf8, ◌+◌, Ok}
-use Rattle.std.proofs.{Common.{vec_len, le_refl, length-take-le, length-append, append-nil, ⊎_elim}, lemmas.List.{get_or_default}}
+use Rattle.std.proofs.Common.{length, refl, sym, ap, ◌∙◌, subst, arith, true≢false, eq-eqb, Contains, take, drop, Result, Err, String}
+use Rattle.std.proofs.Common.{string_bytes, string_len, string_capacity, Vec, vec_capacity, IfErr, IsErrAnd, IsUtf8, ◌+◌, Ok, vec_len}
+use Rattle.std.proofs.{Common.{le_refl, length-take-le, length-append, append-nil, ⊎_elim}, lemmas.List.{get_or_default}}
 use Rattle.std.proofs.lemmas.List.Elements.{recursion_from_All, All-from_recursion, Contains-append_left, Contains-append_right}
 use Rattle.std.proofs.{lemmas.Str.{IsUtf8-nil, IsUtf8-string_bytes}, Math.Seq.{take-append_seam, drop-append_seam}}
-use Rattle.no_std_io2_base.specs.inner.Lines.{AnswersLine, out_of_memory, part_follows, part_invalid, IsInvalidText, Follows}
-use Rattle.no_std_io2_base.specs.inner.Lines.{lines_of, unfinished_line, lines_len, IsLineState}
-use Rattle.no_std_io2_base.specs.{inner.Pieces.{Lacks, pieces_of, ArePieces, FindsPiece, but_last}, Pieces.{newline}}
-use Rattle.no_std_io2_base.specs.{declared.error.Error.{Error}}
-use Rattle.no_std_io2_base.specs.{declared.error.ErrorKind.TheVariants.{OutOfMemory}, Errors.{error_kind, IsFault}}
-use Rattle.no_std_io2_base.specs.{BufRead.{ReadUntilLaw, ReadLineLaw}, declared.error.ErrorKind.{ErrorKind}}
-use Rattle.no_std_io2_base.specs.{Events.{event_bytes, events_of, fails}, Takes.{Reader}, inner.Read.{FilledLaw}}
-use Rattle.no_std_io2_base.specs.Read.{ConsumeLaw, ReadToEndLaw, ReadToStringLaw}
-use Rattle.no_std_io2_base.proofs.{PieceLemmas.{pieces_are, pieces-other}, TakesLemmas.{bytes-events_of}, PieceLoops.{PieceTaken}}
-use Rattle.no_std_io2_base.proofs.PieceLemmas.{ends_with_byte-append, ends_with_byte-contains, ends_with_byte-lacks}
-use Rattle.no_std_io2_base.proofs.PieceLoops.{part_none, piece_whole, piece_faulted}
 use Rattle.std.specs.{Result.{result_and}, String.{string_vec}, List.{AllByRecursion, concat}, Prelude.{filter, not}}
 use Rattle.std.specs.Io.BufRead.{ends_with_byte}
+use Rattle.no_std_io2_base.proofs.PieceLemmas.{pieces_are, pieces-other, ends_with_byte-append, ends_with_byte-contains}
+use Rattle.no_std_io2_base.proofs.{PieceLemmas.{ends_with_byte-lacks}, PieceLoops.{PieceTaken, part_none, piece_whole, piece_faulted}}
+use Rattle.no_std_io2_base.{proofs.TakesLemmas.{bytes-events_of}, specs.{BufRead.{ReadUntilLaw, ReadLineLaw}, Errors.{error_kind, IsFault}}}
+use Rattle.no_std_io2_base.specs.{Events.{event_bytes, events_of, fails}, Pieces.{newline}, Read.{ConsumeLaw, ReadToEndLaw}}
+use Rattle.no_std_io2_base.specs.{Read.{ReadToStringLaw}, Takes.{Reader}, declared.error.{Error.{Error}, ErrorKind.{ErrorKind}}}
+use Rattle.no_std_io2_base.specs.{declared.error.ErrorKind.TheVariants.{OutOfMemory}, inner.Lines.{AnswersLine, out_of_memory}}
+use Rattle.no_std_io2_base.specs.inner.Lines.{part_follows, part_invalid, IsInvalidText, Follows, lines_of, unfinished_line, lines_len}
+use Rattle.no_std_io2_base.specs.inner.{Lines.{IsLineState}, Pieces.{Lacks, pieces_of, ArePieces, FindsPiece, but_last}, Read.{FilledLaw}}
 
 -- The lines of a list of bytes, and what follows them.
 
@@ -57,8 +54,7 @@ joins_line b bs = by_byte (b == newline) refl
 
     by_byte : (t : Bool) → (b == newline) ≡ t → JoinsLine b bs
     by_byte true e = grind (arith, common_steps)
-    by_byte false e =
-        by_end (pieces_of newline bs) (λ is. true≢false (sym (eq-eqb b newline is) ∙ e)) refl (pieces_are newline bs)
+    by_byte false e = by_end (pieces_of newline bs) (λ is. true≢false (sym (eq-eqb b newline is) ∙ e)) refl (pieces_are newline bs)
 
 -- the lines and what follows them are all bytes
 pub lines_split : (xs : List ℕ) → lines_of xs ++ unfinished_line xs ≡ xs
@@ -98,8 +94,7 @@ lacks_contains d xs h has = All-from_recursion (λ b. b ≢ d) xs h has.0 d has.
 
 -- bytes that have no d are without it
 pub contains_lacks : (d : ℕ) (xs : List ℕ) → (Contains xs d → ⊥) → Lacks d xs
-contains_lacks d xs none =
-    recursion_from_All (λ b. b ≢ d) xs (λ k e lt is. none (k, lt, get_or_default xs k d e lt ∙ is))
+contains_lacks d xs none = recursion_from_All (λ b. b ≢ d) xs (λ k e lt is. none (k, lt, get_or_default xs k d e lt ∙ is))
 
 -- the end of bytes without d has none
 pub lacks_rest : (d : ℕ) (front rest : List ℕ) → Lacks d (front ++ rest) → Lacks d rest
@@ -229,9 +224,8 @@ module _ {X A : Type 0} {R : Reader X} {old new : X} (text : String A) (line : V
 
 -- a line that was lent whole went straight to the text
 pub line_at_once : {X A : Type 0} {R : Reader X} {old now new : X} {lent : List ℕ} {n : ℕ} {is_whole : Bool} {buf buf' : String A}
-    → FilledLaw R old (Ok lent) now → FindsPiece newline lent n is_whole → is_whole ≡ true → ConsumeLaw R now n new
-    → Follows (take n lent) (string_bytes buf) (string_bytes buf') → string_capacity buf ≤ string_capacity buf'
-    → ReadLineLaw R old buf (Ok n) buf' new
+    → FilledLaw R old (Ok lent) now → FindsPiece newline lent n is_whole → is_whole ≡ true → ConsumeLaw R now n new → Follows (take n lent)
+    (string_bytes buf) (string_bytes buf') → string_capacity buf ≤ string_capacity buf' → ReadLineLaw R old buf (Ok n) buf' new
 line_at_once {R = R} {old} {lent = lent} {n} {buf = buf} {buf'} filled found whole dropped follows grown =
     let line = take n lent in
     let same = sym (bytes-events_of line) in
@@ -264,8 +258,7 @@ line_faulted {R = R} {old} {e = e} {buf} filled fault =
       ends = piece.ends;
       answers = (
         refl,
-        ⊎_elim (λ memory. out_of_memory memory refl)
-            (λ other. part_follows other (IsUtf8-nil, sym (append-nil (string_bytes buf))))
+        ⊎_elim (λ memory. out_of_memory memory refl) (λ other. part_follows other (IsUtf8-nil, sym (append-nil (string_bytes buf))))
             (memory_or_other (error_kind e)),
       );
       capacity = le_refl _;

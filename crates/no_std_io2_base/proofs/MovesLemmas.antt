@@ -3,15 +3,12 @@ use Rattle.std.proofs.{lemmas.Grind.{common_steps, flat_map-append}, Common.{◌
 use Rattle.std.proofs.Common.{List, [], ◌∷◌, ◌++◌, Option, None, Some, refl, sym, ap, ◌∙◌, arith, count_by, append_assoc, append-nil, ◌<◌}
 use Rattle.std.proofs.Common.{take, drop, get_or, take-append-drop, flat_map, OnErr, IsOk, codes, length-drop, inl, inr}
 use Rattle.std.proofs.lemmas.{List.{Sums.{sum_by-append, sum_by-cons}, take_more, flat_map_more}, Bool.Decides.{nat_tests}}
-use Rattle.std.proofs.lemmas.List.{Folds.{concat-append}}
-use Rattle.no_std_io2_base.specs.{declared.error.ErrorKind.{ErrorKind}, declared.error.Error.{Error}}
-use Rattle.no_std_io2_base.specs.{Moves.{WriterState, IsFront, Moves, MovesFront, Sends, call_mishap}, inner.Moves.{HasSpent}}
-use Rattle.no_std_io2_base.specs.inner.Write.{MovesEach, zero_write, Writes, no_write, write_took, write_again, write_stuck, write_fault}
-use Rattle.no_std_io2_base.specs.inner.Write.{AllCalls}
-use Rattle.no_std_io2_base.specs.{inner.Charges.{calls_for, charges}, Calls.{WriteCall, Made, ByCalls, WroteAll}}
-use Rattle.no_std_io2_base.specs.{inner.Kinds.{is_interruption}, Errors.{IsNoInterruption}, Writers.{Writer, TakesAll, WriteRestOf}}
-use Rattle.no_std_io2_base.specs.{inner.Writers.{CallOf}, Meter.{IsMeter}}
-use Rattle.std.specs.{List.{concat}, Result.{OnOk}}
+use Rattle.std.{proofs.lemmas.List.Folds.{concat-append}, specs.{List.{concat}, Result.{OnOk}}}
+use Rattle.no_std_io2_base.specs.{declared.error.{ErrorKind.{ErrorKind}, Error.{Error}}, Moves.{WriterState, IsFront, Moves, MovesFront}}
+use Rattle.no_std_io2_base.specs.{Moves.{Sends, call_mishap}, inner.{Moves.{HasSpent}, Write.{zero_write, Writes, no_write, write_took}}}
+use Rattle.no_std_io2_base.specs.inner.{Write.{write_again, write_stuck, write_fault, AllCalls}, Charges.{calls_for, charges}}
+use Rattle.no_std_io2_base.specs.{Calls.{WriteCall, Made, ByCalls, WroteAll}, inner.Kinds.{is_interruption}, Errors.{IsNoInterruption}}
+use Rattle.no_std_io2_base.specs.{Writers.{Writer, TakesAll, WriteRestOf}, inner.Writers.{CallOf}, Meter.{IsMeter}}
 use Rattle.no_std_io2_base.proofs.CallsLemmas.{writes_whole, law_may}
 
 -- How calls of a writer follow one another.
@@ -119,11 +116,6 @@ pub Sends-then : {a b c : WriterState} {r s : Result (Unit {0}) Error} {x rest l
     → Sends b rest s c left → Sends a x s c left
 Sends-then {left} f g = grind (arith, common_steps)
 
--- a list of calls accepted the lists joined
-pub Moves-each : (a c : WriterState) (xs : List (List ℕ)) → MovesEach a xs c → Moves a (concat xs) [] c
-Moves-each a c [] f = f
-Moves-each a c (x ∷ xs) f = Moves-then f.1 (Moves-each f.0 c xs f.2)
-
 -- After a `flush` that returned `Ok`, a device behind a new buffer has all of the text.
 pub device_empty : {a b : WriterState} {text : List ℕ} {k : List ErrorKind} → Moves a text k b → a.held ≡ [] → b.held ≡ []
     → b.out ≡ a.out ++ text
@@ -198,8 +190,7 @@ writes_idle writes empty = grind (arith, common_steps)
 module _ {X : Type 0} (I : Writer X) where
   -- what was accepted
   pub writes_sends : {text : List ℕ} {C : List WriteCall} {x left : List ℕ} {reply : Result (Unit {0}) Error}
-      → Writes text C x reply left → (a b : X) → Made (CallOf I) a C b
-      → Sends (I.told a) x reply (I.told b) left
+      → Writes text C x reply left → (a b : X) → Made (CallOf I) a C b → Sends (I.told a) x reply (I.told b) left
   writes_sends no_write a b made = grind (arith, common_steps)
   writes_sends (write_took {x = x} {left = left} {n = n} some more w) a b made =
       let rest = writes_sends w made.0 b made.2 in
@@ -216,10 +207,8 @@ module _ {X : Type 0} (I : Writer X) where
 
   -- a writer that takes all does so in one call, which is counted
   pub writes_all : {text : List ℕ} {C : List WriteCall} {x left : List ℕ} {reply : Result (Unit {0}) Error}
-      → Writes text C x reply left → (a b : X) → Made (CallOf I) a C b → TakesAll I a
-      → TakesAll I b × IsOk reply × (length C ≡ calls_for x)
-  writes_all no_write a b made takes =
-      (subst (TakesAll I) (sym made) takes, refl, refl)
+      → Writes text C x reply left → (a b : X) → Made (CallOf I) a C b → TakesAll I a → TakesAll I b × IsOk reply × (length C ≡ calls_for x)
+  writes_all no_write a b made takes = (subst (TakesAll I) (sym made) takes, refl, refl)
   writes_all (write_took {x = x} {n = n} some more w) a b made takes =
       let took = made.1.all takes in
       let rest = writes_all w made.0 b made.2 took.0 in
@@ -234,8 +223,7 @@ module _ {X : Type 0} (I : Writer X) where
 
   -- the law of `write_rest` follows from its writes
   pub writes_law : {x left : List ℕ} {reply : Result (Unit {0}) Error} {a b : X}
-      → ByCalls (CallOf I) a (λ C. Writes (codes "failed to write whole buffer") C x reply left) b
-      → WriteRestOf I a x reply b left
+      → ByCalls (CallOf I) a (λ C. Writes (codes "failed to write whole buffer") C x reply left) b → WriteRestOf I a x reply b left
   writes_law {x} {left} {reply} {a} {b} calls = grind (arith, common_steps, writes_fault, writes_sends, writes_whole, writes_all)
 
 -- The law of `write_all` follows from the calls that were made, if each call kept its law.
@@ -252,8 +240,7 @@ module _ {X : Type 0} (I : Writer X) where
 
   -- `write_all`
   pub all_calls : {C : List WriteCall} {x : List ℕ} {reply : Result (Unit {0}) Error} → AllCalls C x reply
-      → (a b : X) → Made (CallOf I) a C b
-      → IsNoInterruption reply × MovesFront (I.told a) x reply (I.told b) × TookAll x reply a b
+      → (a b : X) → Made (CallOf I) a C b → IsNoInterruption reply × MovesFront (I.told a) x reply (I.told b) × TookAll x reply a b
   all_calls {C} {x} {reply} calls a b made = elim calls [
     | inl own ↦
         let one = subst (λ K. Made (CallOf I) a K b) own made in
@@ -290,21 +277,16 @@ writes_charge (write_fault some is) = omega arith
 
 module _ {W : Type 0} (I : Writer W) where
   -- over a writer that takes all, a loop of writes counts as one, or none for no bytes
-  pub writes_count : {text : List ℕ} {C : List WriteCall} {x left : List ℕ} {reply : Result (Unit {0}) Error}
-      → Writes text C x reply left → (a b : W) → Made (CallOf I) a C b → TakesAll I a
-      → TakesAll I b × IsOk reply × (charges C ≡ calls_for x)
+  pub writes_count : {text : List ℕ} {C : List WriteCall} {x left : List ℕ} {reply : Result (Unit {0}) Error} → Writes text C x reply left
+      → (a b : W) → Made (CallOf I) a C b → TakesAll I a → TakesAll I b × IsOk reply × (charges C ≡ calls_for x)
   writes_count w a b made takes = grind (arith, common_steps, writes_all, writes_charge)
 
   -- and so does a `write_all`
-  pub all_count : {C : List WriteCall} {x : List ℕ}
-      {reply : Result (Unit {0}) Error} → AllCalls C x reply → (a b : W) → Made (CallOf I) a C b → TakesAll I a
-      → TakesAll I b × IsOk reply × (charges C ≡ calls_for x)
+  pub all_count : {C : List WriteCall} {x : List ℕ} {reply : Result (Unit {0}) Error} → AllCalls C x reply → (a b : W)
+      → Made (CallOf I) a C b → TakesAll I a → TakesAll I b × IsOk reply × (charges C ≡ calls_for x)
   all_count {C} {x} calls a b made takes =
       let all = (all_calls I calls a b made).2 takes in (
         all.0,
         all.1,
-        elim calls [
-          | inl own ↦ ap charges own ∙ omega arith
-          | inr writes ↦ (writes_count writes.1 a b made takes).2
-        ],
+        elim calls [ inl own ↦ ap charges own ∙ omega arith | inr writes ↦ (writes_count writes.1 a b made takes).2 ],
       )

@@ -1,22 +1,18 @@
 -- Pieces of bytes, and what calls took of one.
 use Rattle.std.proofs.{lemmas.Grind.{common_steps}, Common.{◌≡◌, ◌≢◌, ℕ, ◌==◌, true, false, Bool, if◌then◌else◌, List, [], ◌∷◌, ◌++◌}}
-use Rattle.std.proofs.Common.{length, refl, sym, ap, ◌∙◌, arith, true≢false, eqb-true, eq-eqb, ne_eqb, suc-ne-zero, get_or, drop}
-use Rattle.std.proofs.Common.{ap₂, ◌&&◌, length-append, inl, inr, ◌+◌, ◌<◌, ◌≤◌, take, All, Option, None, Some, IfSome}
-use Rattle.std.proofs.Common.{append_assoc, append-nil, add-one}
-use Rattle.std.proofs.Common.{take-suc, slice_index, drop_of_length-le, take_all, le_refl, length-take, take-append-drop, rules, Result, Ok}
-use Rattle.std.proofs.{Common.{Err, Vec, vec_len, vec_capacity, subst, ⊎_elim, ◌-◌}}
-use Rattle.std.proofs.lemmas.{Bool.{lt-ltb}, List.{get_or-append-add, get_or_default, Elements.{recursion_from_All}}}
-use Rattle.no_std_io2_base.specs.inner.Pieces.{Lacks, in_front, pieces_of, ArePieces, EndsPiece, but_last, FindsPiece}
-use Rattle.no_std_io2_base.specs.inner.Pieces.{IsPiecePart, ComesBehind, PartCalls, no_part, and_part, part_interrupted, PieceCalls}
-use Rattle.std.specs.Io.BufRead.{ends_with_byte}
-use Rattle.no_std_io2_base.specs.{Events.{Event, byte, event_bytes, fails, events_of, HasNoFault}}
-use Rattle.no_std_io2_base.specs.{inner.Events.{BeginsWith}, Takes.{ReaderState, Takes, to_come, Reader}, inner.Takes.{AreTaken}}
-use Rattle.no_std_io2_base.specs.{declared.error.Error.{Error}, Errors.{IsInterruption}, Calls.{ReadCall, Filled, Consumed}}
-use Rattle.no_std_io2_base.specs.{inner.Read.{FilledLaw}, BufRead.{ReadUntilLaw}}
-use Rattle.no_std_io2_base.proofs.TakesLemmas.{bytes-append, bytes-events_of, events_of-append, HasNoFault-append, takes_then, IsAll-behind}
-use Rattle.no_std_io2_base.proofs.TakesLemmas.{EndsInFault-behind}
+use Rattle.std.proofs.Common.{length, refl, sym, ap, ◌∙◌, arith, true≢false, eqb-true, eq-eqb, ne_eqb, suc-ne-zero, get_or, drop, ap₂, ◌&&◌}
+use Rattle.std.proofs.Common.{length-append, inl, inr, ◌+◌, ◌<◌, ◌≤◌, take, All, Option, None, Some, IfSome, append_assoc, append-nil}
+use Rattle.std.proofs.Common.{add-one, take-suc, slice_index, drop_of_length-le, take_all, le_refl, length-take, take-append-drop, rules}
+use Rattle.std.proofs.{Common.{Result, Ok, Err, Vec, vec_len, vec_capacity, subst, ⊎_elim, ◌-◌}, lemmas.Bool.{lt-ltb}}
+use Rattle.std.{proofs.lemmas.List.{Elements.{recursion_from_All}, get_or-append-add, get_or_default}, specs.Io.BufRead.{ends_with_byte}}
 use Rattle.std.specs.List.{AllByRecursion, AllWithin, Contains, concat}
-use Rattle.no_std_io2_base.specs.inner.Pieces.{PieceEnds}
+use Rattle.no_std_io2_base.specs.inner.Pieces.{Lacks, in_front, pieces_of, ArePieces, EndsPiece, but_last, FindsPiece, IsPiecePart}
+use Rattle.no_std_io2_base.specs.inner.Pieces.{ComesBehind, PartCalls, no_part, and_part, part_interrupted, PieceCalls, PieceEnds}
+use Rattle.no_std_io2_base.specs.{Events.{Event, byte, event_bytes, fails, events_of, HasNoFault}, inner.Events.{BeginsWith}}
+use Rattle.no_std_io2_base.specs.{Takes.{ReaderState, Takes, to_come, Reader}, inner.Takes.{AreTaken}, declared.error.Error.{Error}}
+use Rattle.no_std_io2_base.specs.{Errors.{IsInterruption}, Calls.{ReadCall, Filled, Consumed}, inner.Read.{FilledLaw}}
+use Rattle.no_std_io2_base.{specs.BufRead.{ReadUntilLaw}, proofs.TakesLemmas.{bytes-append, bytes-events_of, events_of-append}}
+use Rattle.no_std_io2_base.proofs.TakesLemmas.{HasNoFault-append, takes_then, IsAll-behind, EndsInFault-behind}
 
 -- How bytes end.
 
@@ -30,8 +26,7 @@ ends_with_byte-append d bs cs some =
     let long = length-append bs cs in
     let last : length (bs ++ cs) - 1 ≡ length bs + (length cs - 1) = omega (arith, long, some) in
     ends_with_byte-some d (bs ++ cs) (omega (arith, long, some))
-    ∙ ap (λ b. b == d) (ap (slice_index (bs ++ cs)) last ∙ get_or-append-add bs cs (length cs - 1) 0)
-    ∙ sym (ends_with_byte-some d cs some)
+    ∙ ap (λ b. b == d) (ap (slice_index (bs ++ cs)) last ∙ get_or-append-add bs cs (length cs - 1) 0) ∙ sym (ends_with_byte-some d cs some)
 
 -- bytes followed by d end in d
 pub ends_with_byte-end : (d : ℕ) (bs : List ℕ) → ends_with_byte d (bs ++ d ∷ []) ≡ true
@@ -48,8 +43,7 @@ ends_with_byte-contains d (b ∷ bs) e =
 pub ends_with_byte-lacks : (d : ℕ) (bs : List ℕ) → Lacks d bs → ends_with_byte d bs ≡ false
 ends_with_byte-lacks d [] h = refl
 ends_with_byte-lacks d (b ∷ []) h = ne_eqb b d h.0
-ends_with_byte-lacks d (b ∷ c ∷ bs) h =
-    ends_with_byte-append d (b ∷ []) (c ∷ bs) (omega arith) ∙ ends_with_byte-lacks d (c ∷ bs) h.1
+ends_with_byte-lacks d (b ∷ c ∷ bs) h = ends_with_byte-append d (b ∷ []) (c ∷ bs) (omega arith) ∙ ends_with_byte-lacks d (c ∷ bs) h.1
 
 -- The laws that determine the pieces of some bytes.
 
@@ -225,8 +219,7 @@ piece_first may_refuse d x (Err e) (D, parts, inr (may, memory, lent, some, call
 parts_waited : {d : ℕ} {e : Error} {C : List ReadCall} {x : List ℕ} → IsInterruption e → PartCalls d C x
     → PartCalls d (Filled (Err e) ∷ C) x
 parts_waited {e = e} again no_part = part_interrupted [] [] e no_part again
-parts_waited {e = e} again (and_part C x lent parts some lacks) =
-    and_part (Filled (Err e) ∷ C) x lent (parts_waited again parts) some lacks
+parts_waited {e = e} again (and_part C x lent parts some lacks) = and_part (Filled (Err e) ∷ C) x lent (parts_waited again parts) some lacks
 parts_waited {e = e} again (part_interrupted C x f parts other) = part_interrupted (Filled (Err e) ∷ C) x f (parts_waited again parts) other
 
 piece_waited : (may_refuse : Type 0) (d : ℕ) (e : Error) (C : List ReadCall) (x : List ℕ) (reply : Result ℕ Error) → IsInterruption e
@@ -248,12 +241,7 @@ piece_ends_behind : (lacks : ℕ → Type 0) {a b : ReaderState} (d : ℕ) (P Q 
 piece_ends_behind lacks d P Q (Ok n) takes free none ends = (
   HasNoFault-append P Q free ends.0,
   ends.1 ∙ ap length (same Q),
-  ⊎_elim
-      (λ end. inl (
-        P ++ end.0,
-        ap (λ l. P ++ l) end.1 ∙ sym (append_assoc P end.0 (byte d ∷ [])),
-        subst (Lacks d) (same end.0) end.2,
-      ))
+  ⊎_elim (λ end. inl (P ++ end.0, ap (λ l. P ++ l) end.1 ∙ sym (append_assoc P end.0 (byte d ∷ [])), subst (Lacks d) (same end.0) end.2))
       (λ all. inr (subst (Lacks d) (same Q) all.0, IsAll-behind P Q takes all.1)) ends.2,
 )
   where
@@ -267,8 +255,7 @@ module _ {X A : Type 0} {R : Reader X} {d : ℕ} {old now new : X} {buf buf' : V
   module _ (until : ReadUntilLaw R now d buf reply buf' new) where
     -- if it lent some bytes, the loop's first one lends the same and changes nothing, so both are as one
     pub until_lent : {lent : List ℕ} → FilledLaw R old (Ok lent) now → 0 < length lent → ReadUntilLaw R old d buf reply buf' new
-    until_lent {lent} filled some =
-        search (arith, rules, piece_first, takes_then, piece_ends_behind)
+    until_lent {lent} filled some = search (arith, rules, piece_first, takes_then, piece_ends_behind)
 
     -- if it was interrupted, it is one more
     pub until_waited : {e : Error} → FilledLaw R old (Err e) now → IsInterruption e → ReadUntilLaw R old d buf reply buf' new

@@ -5,16 +5,14 @@ use Rattle.std.proofs.Common.{append-nil, le_refl, le_trans, inl, inr, length-ap
 use Rattle.std.specs.Borrow.{Bor}
 use Rattle.no_std_io2_base.specs.{declared.error.Error.{Error}, Errors.{IsInterruption, IsFault, IsOutOfMemory, IsUnexpectedEnd}}
 use Rattle.no_std_io2_base.specs.inner.Pieces.{IsAll, Lacks, EndsPiece, EndsAt, FindsPiece, PartCalls, no_part, and_part, part_interrupted}
-use Rattle.no_std_io2_base.specs.{Events.{Event, fails, events_of, event_bytes, HasNoFault}, Takes.{Takes, Reader, tells}}
-use Rattle.no_std_io2_base.specs.{inner.Pieces.{PieceCalls}, Calls.{Filled, Consumed, ByCalls}, Read.{ConsumeLaw, ReadCallLaw}}
-use Rattle.no_std_io2_base.specs.inner.Read.{FilledLaw, lent_bytes, at_most_max}
-use Rattle.no_std_io2_base.specs.{BufRead.{FillBufLaw, AfterLoan, ReadUntilLaw, SkipUntilLaw}}
-use Rattle.no_std_io2_base.specs.{inner.Reads.{PortionCalls, no_portion, and_portion, portion_interrupted}, Reads.{Skipped}}
-use Rattle.no_std_io2_base.proofs.{CallsLemmas.{by_more, by_then}, TakesLemmas.{events_of-append, HasNoFault-append, HasNoFault-events_of}}
-use Rattle.no_std_io2_base.proofs.TakesLemmas.{length-events_of, takes_none, takes_then, takes_still, takes_turns, takes_to_end, spends}
-use Rattle.no_std_io2_base.proofs.{TakesLemmas.{stays_at_end}, PieceLemmas.{bytes-more, bytes-fails, Lacks-append, found_part}}
-use Rattle.no_std_io2_base.proofs.PieceLemmas.{comes_behind}
-use Rattle.no_std_io2_base.specs.inner.Pieces.{PieceEnds}
+use Rattle.no_std_io2_base.specs.{inner.Pieces.{PieceCalls, PieceEnds}, Events.{Event, fails, events_of, event_bytes, HasNoFault}}
+use Rattle.no_std_io2_base.specs.{Takes.{Takes, Reader, tells}, Calls.{Filled, Consumed, ByCalls}, Read.{ConsumeLaw, ReadCallLaw}}
+use Rattle.no_std_io2_base.specs.{inner.Read.{FilledLaw, lent_bytes, at_most_max}, BufRead.{FillBufLaw, AfterLoan, ReadUntilLaw}}
+use Rattle.no_std_io2_base.specs.{BufRead.{SkipUntilLaw}, inner.Reads.{PortionCalls, no_portion, and_portion, portion_interrupted}}
+use Rattle.no_std_io2_base.{specs.Reads.{Skipped}, proofs.{CallsLemmas.{by_more, by_then}, TakesLemmas.{events_of-append}}}
+use Rattle.no_std_io2_base.proofs.TakesLemmas.{HasNoFault-append, HasNoFault-events_of, length-events_of, takes_none, takes_then}
+use Rattle.no_std_io2_base.proofs.{TakesLemmas.{takes_still, takes_turns, takes_to_end, spends, stays_at_end}, PieceLemmas.{bytes-more}}
+use Rattle.no_std_io2_base.proofs.PieceLemmas.{bytes-fails, Lacks-append, found_part, comes_behind}
 
 -- A loop that takes one piece, by what its calls do, for any reader that lends.
 
@@ -207,8 +205,7 @@ module _ {X A : Type 0} {R : Reader X} {d : ℕ} {old now after : X} {buf xs : V
         let long : vec_len xs ≡ vec_len buf + length (event_bytes before.taken) =
         omega (arith, xs.ok.0, buf.ok.0, ap length before.gave, length-append buf.items (event_bytes before.taken)) in
         until_law (piece_refused before.part filled found refused (omega (arith, full, xs.ok.1))
-        (omega (arith, full, long, before.capacity)))
-        (le_trans before.capacity grown) (same ∙ before.gave)
+        (omega (arith, full, long, before.capacity))) (le_trans before.capacity grown) (same ∙ before.gave)
 
     module _ {v : Vec ℕ A} {new : X} (grown : vec_capacity xs ≤ vec_capacity v) (dropped : ConsumeLaw R after n new) where
       -- after a part of the piece the loop continues
@@ -226,8 +223,7 @@ module _ {X A : Type 0} {R : Reader X} {d : ℕ} {old now after : X} {buf xs : V
       until_whole {start} {end} appended whole from to =
           let all = event_bytes (before.taken ++ events_of (take n lent)) in
           let gave : v.items ≡ buf.items ++ all = gave_more buf.items before.taken (take n lent) before.gave appended in
-          let counts : end - start ≡ length all =
-          omega (arith, from, to, v.ok.0, buf.ok.0, ap length gave, length-append buf.items all) in
+          let counts : end - start ≡ length all = omega (arith, from, to, v.ok.0, buf.ok.0, ap length gave, length-append buf.items all) in
           until_law (piece_whole before.part filled found dropped whole counts) (le_trans before.capacity grown) gave
 
 -- A loop that skips one piece, for any reader that lends.
@@ -245,8 +241,7 @@ skip_none {R = R} {d} {old} = record { taken = []; part = part_none R d old; cou
 -- a piece that was skipped
 skip_law : {X : Type 0} {R : Reader X} {d : ℕ} {old new : X} {P : List Event} (read : Result ℕ Error) {reply : Result ℕ Error}
     → reply ≡ at_most_max read → PieceTaken R (λ _. ⊥) ⊥ d old P read new → SkipUntilLaw R old d reply new
-skip_law {P = P} read is piece =
-    record { taken = P; takes = piece.takes; read = read; is = is; ends = piece.ends; calls = piece.calls }
+skip_law {P = P} read is piece = record { taken = P; takes = piece.takes; read = read; is = is; ends = piece.ends; calls = piece.calls }
 
 module _ {X : Type 0} {R : Reader X} {d : ℕ} {old now after : X} {skipped : ℕ} (before : SkipSoFar R d old skipped now) where
   module _ {e : Error} (filled : FilledLaw R now (Err e) after) where

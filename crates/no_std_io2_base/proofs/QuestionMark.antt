@@ -1,6 +1,5 @@
 -- What a function returns on the path on which a `?` ends it.
-use Rattle.std.proofs.Common.{◌≡◌, Result, Ok, Err, ap}
-use Rattle.std.specs.Prelude.{IsErr, IsErrAnd}
+use Rattle.std.{proofs.Common.{◌≡◌, Result, Ok, Err, ap}, specs.Prelude.{IsErr, IsErrAnd}}
 
 -- the error of the call, or what `From` makes of it: `returned_err c.from_residual.ensures`
 pub returned_err : {T E : Type 0} {r : Result T E} {e : E} → IsErr r × IsErrAnd r (λ y. y ≡ e) → r ≡ Err e

@@ -1,20 +1,17 @@
 -- Loops of reads: those that fill a buffer, and those for one byte.
 use Rattle.std.proofs.Common.{◌≡◌, ℕ, ◌-◌, ◌<◌, List, length, take, drop, arith, length-take, length-drop, ◌+◌, ◌≤◌, ◌++◌, length-take-le}
 use Rattle.std.proofs.Common.{[], Result, Ok, Err, refl, ◌∷◌, sym, ap, subst, ◌∙◌, le_refl, inl, inr, append_assoc, append-nil}
-use Rattle.std.proofs.{Common.{length-append, take-append-drop, None, Some, Bool, true, false, IsOk}, lemmas.{Grind.{common_steps}}}
-use Rattle.std.proofs.lemmas.{Slice.{take-put_mid_below}}
+use Rattle.std.proofs.{Common.{length-append, take-append-drop, None, Some, Bool, true, false, IsOk}, lemmas.Grind.{common_steps}}
+use Rattle.std.proofs.lemmas.Slice.{take-put_mid_below}
 use borrow.Rule.Slice.PartMut.{put_mid, same_len_mid, post_of}
 use lib.Seq.{take-append-le, take-append-add, take-take}
 use Rattle.no_std_io2_base.specs.{declared.error.Error.{Error}, Errors.{IsInterruption, IsFault, IsUnexpectedEnd}, Takes.{Reader, tells}}
-use Rattle.no_std_io2_base.specs.inner.Read.{GaveLaw, GathersUntil, FullCalls, IsRest}
-use Rattle.no_std_io2_base.specs.{Read.{ReadLaw, ReadCallLaw, ReadFullLaw, ReadExactLaw}, inner.Read.{ExactCalls}}
-use Rattle.no_std_io2_base.specs.{Calls.{Gave, ReadCall, ByCalls}, inner.Iterators.{NextLaw}, Moves.{IsFront}}
-use Rattle.no_std_io2_base.specs.Events.{fails, event_bytes, events_of}
-use Rattle.no_std_io2_base.specs.{inner.Reads.{Reads}, Reads.{Took}, inner.Read.{FillsOrMeetsEnd}}
-use Rattle.no_std_io2_base.proofs.CallsLemmas.{made_more, by_are}
-use Rattle.no_std_io2_base.proofs.TakesLemmas.{read_law, takes_then, takes_still, nothing_read, all_taken}
-use Rattle.no_std_io2_base.proofs.ReadsLemmas.{Reads-none, Reads-more, Reads-again, Reads-end, Reads-fault, Reads-takes, Reads-took}
-use Rattle.no_std_io2_base.proofs.ReadsLemmas.{Reads-nothing, TookBy}
+use Rattle.no_std_io2_base.specs.{inner.Read.{GaveLaw, GathersUntil, FullCalls, IsRest, ExactCalls, FillsOrMeetsEnd}, Read.{ReadLaw}}
+use Rattle.no_std_io2_base.specs.{Read.{ReadCallLaw, ReadFullLaw, ReadExactLaw}, Calls.{Gave, ReadCall, ByCalls}, inner.Iterators.{NextLaw}}
+use Rattle.no_std_io2_base.specs.{Moves.{IsFront}, Events.{fails, event_bytes, events_of}, inner.Reads.{Reads}, Reads.{Took}}
+use Rattle.no_std_io2_base.proofs.{CallsLemmas.{made_more, by_are}, TakesLemmas.{read_law, takes_then, takes_still, nothing_read}}
+use Rattle.no_std_io2_base.proofs.{TakesLemmas.{all_taken}, ReadsLemmas.{Reads-none, Reads-more, Reads-again, Reads-end, Reads-fault}}
+use Rattle.no_std_io2_base.proofs.ReadsLemmas.{Reads-takes, Reads-took, Reads-nothing, TookBy}
 
 -- What each exit of a loop that fills a buffer says.
 

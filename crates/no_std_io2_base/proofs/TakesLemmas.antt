@@ -1,19 +1,15 @@
 -- What calls take of the events and the bytes that a reader tells, and whose fault an error is.
 use Rattle.no_std_io2_base.specs.declared.traits.{read.Read.{Ghosts as Reads}, stored.Stored.{Ghosts as Stores}}
-use Rattle.no_std_io2_base.specs.declared.traits.seek.Seek.{Ghosts as Seeks}
-use Rattle.no_std_io2_base.specs.{Reads.{Took, TakesBytes}, inner.Reads.{GathersTo}}
-use Rattle.no_std_io2_base.specs.Takes.{Reader, tells, gave_front, ReaderState, Takes, to_come, IsAtEnd}
-use Rattle.no_std_io2_base.specs.Calls.{ReadCall, Made}
-use Rattle.no_std_io2_base.specs.inner.Read.{without_number, bytes_given, GaveLaw, Gives, AllOrNone}
-use Rattle.no_std_io2_base.specs.{Read.{ReadCallLaw, ReadLaw, ReadExactLaw}, Seek.{Seeker}}
-use Rattle.no_std_io2_base.specs.{Events.{Event, byte, fails, events_of, event_bytes, HasNoFault}, inner.Events.{cut, EndsInFault}}
-use Rattle.no_std_io2_base.specs.{declared.error.Error.{Error}, Errors.{IsInterruption, error_kind}, inner.Pieces.{IsAll}}
-use Rattle.no_std_io2_base.specs.{Moves.{WriterState, Moves}, inner.Faults.{HasFirstFault, TellsMishap, MayFail}}
+use Rattle.no_std_io2_base.specs.{declared.traits.seek.Seek.{Ghosts as Seeks}, Reads.{Took, TakesBytes}, inner.Reads.{GathersTo}}
+use Rattle.no_std_io2_base.specs.{Takes.{Reader, tells, gave_front, ReaderState, Takes, to_come, IsAtEnd}, Calls.{ReadCall, Made}}
+use Rattle.no_std_io2_base.specs.{inner.Read.{without_number, bytes_given, GaveLaw, Gives, AllOrNone, DrainsOrStops}, Read.{ReadCallLaw}}
+use Rattle.no_std_io2_base.specs.{Read.{ReadLaw, ReadExactLaw}, Seek.{Seeker}, Events.{Event, byte, fails, events_of, event_bytes}}
+use Rattle.no_std_io2_base.specs.{Events.{HasNoFault}, inner.Events.{cut, EndsInFault}, declared.error.Error.{Error}}
+use Rattle.no_std_io2_base.specs.{Errors.{IsInterruption, error_kind}, inner.Pieces.{IsAll}, Moves.{WriterState, Moves}}
+use Rattle.no_std_io2_base.{specs.inner.Faults.{HasFirstFault, TellsMishap, MayFail}, proofs.CallsLemmas.{made_map}}
 use Rattle.std.proofs.Common.{◌≡◌, ℕ, zero, suc, ◌+◌, ◌-◌, ◌<◌, ◌≤◌, List, [], ◌∷◌, ◌++◌, length, take, refl, sym, ap, ◌∙◌, arith, Result}
 use Rattle.std.proofs.Common.{Ok, Err, Option, Some, subst, append_assoc, append-nil, length-append, drop, length-take-le, IfOk, IfSome}
 use Rattle.std.proofs.{Common.{OnOk, inl, inr, ◌⊎◌, Bool, true}, lemmas.Grind.{common_steps}}
-use Rattle.no_std_io2_base.proofs.CallsLemmas.{made_map}
-use Rattle.no_std_io2_base.specs.inner.Read.{DrainsOrStops}
 
 -- Readers and seekers, as the laws of their calls take them.
 
@@ -155,8 +151,7 @@ front_taken bs x took told = let (rest, whole, still) = known_after bs x took to
 
 -- and the others are what is to come then
 pub front_gone : {a b : ReaderState} (bs x cs : List ℕ) → TakesBytes a x b → to_come a ≡ Some (events_of bs)
-    → to_come b ≡ Some (events_of cs)
-    → bs ≡ x ++ cs
+    → to_come b ≡ Some (events_of cs) → bs ≡ x ++ cs
 front_gone bs x cs took told left =
     let (rest, whole, still) = known_after bs x took told in
     let same : events_of rest ≡ events_of cs = let both = sym still ∙ left in cc in

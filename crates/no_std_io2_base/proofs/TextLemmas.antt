@@ -1,23 +1,19 @@
 -- The loop of a `write_rest`, tries of it, and texts that are printed piece by piece.
-use Rattle.std.proofs.{lemmas.Grind.{common_steps}, Common.{◌≡◌, ℕ, ◌+◌, ◌-◌, ◌<◌, ◌≤◌, ◌==◌, Bool, true, false, eqb-true, codes, List, []}}
-use Rattle.std.proofs.Common.{◌∷◌, Result, Ok, Err, length, take, drop, refl, sym, ap, subst, ◌∙◌, arith, take_all, length-drop}
-use Rattle.std.proofs.Common.{drop_of_length-le, Option, count_by, ◌++◌, None, Some, OnOk, OnErr, IsOk, is_ok, IfSome, ◌⊎◌, true≢false}
-use Rattle.std.proofs.{Common.{IsErrAnd, append-nil, inl, inr, ⊎_elim, is_err}, lemmas.List.Recursion.{is_count_by}}
-use Rattle.std.proofs.{Math.{Seq.{drop-append_seam}, Logic.{∥∥₁_elim, ∥∥₁_map}}, Props.{props}, lemmas.List.Folds.{concat-append}}
-use Rattle.std.proofs.lemmas.Fn.{chained_keeps}
+use Rattle.std.proofs.Common.{◌≡◌, ℕ, ◌+◌, ◌-◌, ◌<◌, ◌≤◌, ◌==◌, Bool, true, false, eqb-true, codes, List, [], ◌∷◌, Result, Ok, Err, length}
+use Rattle.std.proofs.Common.{take, drop, refl, sym, ap, subst, ◌∙◌, arith, take_all, length-drop, drop_of_length-le, Option, count_by}
+use Rattle.std.proofs.Common.{◌++◌, None, Some, OnOk, OnErr, IsOk, is_ok, IfSome, ◌⊎◌, true≢false, IsErrAnd, append-nil, inl, inr, ⊎_elim}
+use Rattle.std.proofs.{Common.{is_err}, Math.{Logic.{∥∥₁_elim, ∥∥₁_map}, Seq.{drop-append_seam}}, Props.{props}, lemmas.Fn.{chained_keeps}}
+use Rattle.std.{proofs.lemmas.{Grind.{common_steps}, List.{Folds.{concat-append}, Recursion.{is_count_by}}}, specs.Coded.{le_prop, Π_prop}}
+use Rattle.std.specs.{Coded.{Unit-prop}, Fmt.{WritesInCalls, WritesText}, List.{concat}, declared.fmt.Error.{Error as FormatError}}
 use Rattle.no_std_io2_base.specs.{declared.error.{Error.{Error}, ErrorKind.TheVariants.{WriteZero}}, Errors.{IsInterruption, IsFault}}
-use Rattle.no_std_io2_base.specs.{Errors.{SaysError, IsNoInterruption, IsTextError}, Calls.{Wrote}}
-use Rattle.no_std_io2_base.specs.inner.Write.{Writes, no_write, write_took, write_again, write_stuck, write_fault}
-use Rattle.no_std_io2_base.specs.{Moves.{WriterState, Moves, MovesFront, call_mishap}, inner.Moves.{HasSpent, HasSpentTries}}
-use Rattle.no_std_io2_base.specs.Writers.{Writer, TakesAll, WriteOf, WriteRestOf, WriteAllOf}
-use Rattle.no_std_io2_base.specs.inner.Writers.{CallOf, PrintsOf, WriteFmtOf}
-use Rattle.no_std_io2_base.specs.{declared.error.ErrorKind.{ErrorKind}, Retries.{HasAtMost, Tries, next_try}}
-use Rattle.no_std_io2_base.specs.inner.Text.{none_printed, printed_piece, silent, FailsText, HasText, PrintsShort, PrintsOrRefuses}
-use Rattle.no_std_io2_base.specs.Text.{MovesText}
+use Rattle.no_std_io2_base.specs.{Errors.{SaysError, IsNoInterruption, IsTextError}, Calls.{Wrote}, inner.Write.{Writes, no_write}}
+use Rattle.no_std_io2_base.specs.{inner.Write.{write_took, write_again, write_stuck, write_fault}, Moves.{WriterState, Moves, MovesFront}}
+use Rattle.no_std_io2_base.specs.{Moves.{call_mishap}, inner.Moves.{HasSpent, HasSpentTries}, Writers.{Writer, TakesAll, WriteOf}}
+use Rattle.no_std_io2_base.specs.{Writers.{WriteRestOf, WriteAllOf}, inner.Writers.{CallOf, PrintsOf, WriteFmtOf}}
+use Rattle.no_std_io2_base.specs.{declared.error.ErrorKind.{ErrorKind}, Retries.{HasAtMost, Tries, next_try}, inner.Text.{none_printed}}
+use Rattle.no_std_io2_base.specs.{inner.Text.{printed_piece, silent, FailsText, HasText, PrintsShort, PrintsOrRefuses}, Text.{MovesText}}
 use Rattle.no_std_io2_base.proofs.{CallsLemmas.{CallsSoFar, calls_more, calls_end}, MovesLemmas.{writes_law, Moves-refl, after_ok}}
 use Rattle.no_std_io2_base.proofs.MovesLemmas.{IsFront-refl, MovesFront-join, MovesFront-first, MovesFront-flush}
-use Rattle.std.specs.{Coded.{le_prop, Π_prop, Unit-prop}, List.{concat}, Fmt.{WritesInCalls, WritesText}}
-use Rattle.std.specs.{declared.fmt.{Error.{Error as FormatError}}}
 use mathlib.Core.HLevel.{⊥_prop}
 
 -- What each exit of a loop of writes says.
@@ -35,8 +31,7 @@ pub rest_is : (n : ℕ) (left : List ℕ) → take (length left - n) (drop n lef
 rest_is n left = take_all (length left - n) (drop n left) (omega (arith, length-drop n left))
 
 -- some bytes fewer are left, or a turn fewer is
-pub fewer_left : (n : ℕ) {turns : ℕ} (turns' k : ℕ) (left : List ℕ)
-    → (n ≡ 0 → ⊥) → n ≤ length left → turns' + k ≤ turns
+pub fewer_left : (n : ℕ) {turns : ℕ} (turns' k : ℕ) (left : List ℕ) → (n ≡ 0 → ⊥) → n ≤ length left → turns' + k ≤ turns
     → turns' + length (take (length left - n) (drop n left)) < turns + length left
 fewer_left n turns' k left some fits spent = omega (arith, some, fits, spent, ap length (rest_is n left), length-drop n left)
 
@@ -50,15 +45,13 @@ module _ {X : Type 0} {I : Writer X} {old now : X} {start left : List ℕ} where
 
     module _ {new : X} where
       -- n bytes more were sent
-      pub writes_more : {n : ℕ} → WriteOf I now left (Ok n) new → 0 < length left → 0 < n
-          → CallsSoFar (CallOf I) (codes "failed to write whole buffer") old start
-          (take (length left - n) (drop n left)) new
+      pub writes_more : {n : ℕ} → WriteOf I now left (Ok n) new → 0 < length left → 0 < n → CallsSoFar (CallOf I)
+          (codes "failed to write whole buffer") old start (take (length left - n) (drop n left)) new
       writes_more {n} wrote some more = calls_more before wrote
           (λ D r e w. write_took some more (subst (λ l. Writes (codes "failed to write whole buffer") D l r e) (rest_is n left) w))
 
       -- an interruption is ignored
-      pub writes_interruption : {e : Error} → WriteOf I now left (Err e) new
-          → 0 < length left → IsInterruption e
+      pub writes_interruption : {e : Error} → WriteOf I now left (Err e) new → 0 < length left → IsInterruption e
           → CallsSoFar (CallOf I) (codes "failed to write whole buffer") old start left new
       writes_interruption wrote some interrupted = calls_more before wrote (λ D r e w. write_again some interrupted w)
 
@@ -66,17 +59,14 @@ module _ {X : Type 0} {I : Writer X} {old now : X} {start left : List ℕ} where
       pub writes_stopped : {e : Error} → WriteOf I now left (Err e) new → IsFault e → 0 < length left
           → WriteRestOf I old start (Err e) new left
       writes_stopped {e} wrote is_fault some =
-          writes_law I
-          (calls_end before (Err e) left (Wrote left (Err e) ∷ []) (new, wrote, refl) (write_fault some is_fault))
+          writes_law I (calls_end before (Err e) left (Wrote left (Err e) ∷ []) (new, wrote, refl) (write_fault some is_fault))
 
       -- no byte was taken of some
-      pub writes_zero : {reply : Result ℕ Error} {n : ℕ} {e : Error} → WriteOf I now left reply new
-          → reply ≡ Ok n → n ≡ 0 → 0 < length left → SaysError WriteZero (codes "failed to write whole buffer") e
-          → WriteRestOf I old start (Err e) new left
+      pub writes_zero : {reply : Result ℕ Error} {n : ℕ} {e : Error} → WriteOf I now left reply new → reply ≡ Ok n → n ≡ 0 → 0 < length left
+          → SaysError WriteZero (codes "failed to write whole buffer") e → WriteRestOf I old start (Err e) new left
       writes_zero {e = e} wrote is none some says =
           let took = subst (λ r. WriteOf I now left r new) (is ∙ ap Ok none) wrote in
-          writes_law I
-          (calls_end before (Err e) left (Wrote left (Ok 0) ∷ []) (new, took, refl) (write_stuck some says))
+          writes_law I (calls_end before (Err e) left (Wrote left (Ok 0) ∷ []) (new, took, refl) (write_stuck some says))
 
 -- How tries follow one another.
 
@@ -95,10 +85,9 @@ pub spent_all : (n : ℕ) (old mid new : Option (List ErrorKind)) (k : ErrorKind
 spent_all = grind (arith, common_steps, count_all)
 
 -- a try that failed, and then the others, one fewer
-pub tries_again : {W : Type 0} (law : W → List ℕ → Result (Unit {0}) Error → W → List ℕ → Type 0) (retries less : ℕ)
-    {old mid new : W} {x rest left : List ℕ} {e : Error}
-    {reply : Result (Unit {0}) Error} → retries ≡ less + 1 → law old x (Err e) mid rest → Tries law less mid rest reply new left
-    → Tries law retries old x reply new left
+pub tries_again : {W : Type 0} (law : W → List ℕ → Result (Unit {0}) Error → W → List ℕ → Type 0) (retries less : ℕ) {old mid new : W}
+    {x rest left : List ℕ} {e : Error} {reply : Result (Unit {0}) Error} → retries ≡ less + 1 → law old x (Err e) mid rest
+    → Tries law less mid rest reply new left → Tries law retries old x reply new left
 tries_again law retries less is failed tries = grind (arith, common_steps, next_try)
 
 -- How the calls that print a text follow one another, and what is known after any formatter.
@@ -106,8 +95,7 @@ tries_again law retries less is failed tries = grind (arith, common_steps, next_
 module _ {X : Type 0} {I : Writer X} {old : X} where
   -- a piece more, if the test says that no error was met
   pub prints_next : (b : Bool) {met : Result (Unit {0}) Error} → b ≡ is_ok met → b ≡ true
-      → {text bytes x : List ℕ} {reply : Result (Unit {0}) Error} {mid new : X}
-      → WriteAllOf I mid bytes reply new → bytes ≡ x
+      → {text bytes x : List ℕ} {reply : Result (Unit {0}) Error} {mid new : X} → WriteAllOf I mid bytes reply new → bytes ≡ x
       → PrintsOf I old text met mid → PrintsOf I old (text ++ x) reply new
   prints_next b {met = Ok u} is had {text = text} {bytes = bytes} {reply = reply} {new = new} wrote same so_far =
       subst (λ l. PrintsOf I old (text ++ l) reply new) same (printed_piece bytes so_far wrote)
@@ -126,15 +114,13 @@ module _ {X : Type 0} {I : Writer X} {old : X} where
   prints_moves (silent {text = text} x {e = e} so_far) = MovesFront-first text x e (prints_moves so_far)
 
   -- and no interruption is returned
-  prints_fault : {text : List ℕ} {reply : Result (Unit {0}) Error} {new : X}
-      → PrintsOf I old text reply new → IsNoInterruption reply
+  prints_fault : {text : List ℕ} {reply : Result (Unit {0}) Error} {new : X} → PrintsOf I old text reply new → IsNoInterruption reply
   prints_fault none_printed = tt
   prints_fault (printed_piece x so_far wrote) = wrote.never_interrupted
   prints_fault (silent x so_far) = prints_fault so_far
 
   -- a writer that takes all still takes all
-  prints_all : {text : List ℕ} {reply : Result (Unit {0}) Error} {new : X}
-      → PrintsOf I old text reply new → TakesAll I old → TakesAll I new
+  prints_all : {text : List ℕ} {reply : Result (Unit {0}) Error} {new : X} → PrintsOf I old text reply new → TakesAll I old → TakesAll I new
   prints_all none_printed all = all
   prints_all (printed_piece x so_far wrote) all = wrote.all (prints_all so_far all)
   prints_all (silent x so_far) all = prints_all so_far all
@@ -150,8 +136,7 @@ module _ {W X : Type 0} (prints : X → List ℕ → W → Type 0) where
 
   -- a text was printed by a writer for formatters: whatever its `fmt` did, and its output if that is specified
   pub prints_through : {s t : W} {old : X} (output : Option (List ℕ)) (formatted : Result (Unit {0}) FormatError)
-      → OnOk formatted (WritesText PrintsNext s output t) → prints old [] s
-      → ∥ ((old : X) × (text : List ℕ) × prints old text t) ∥₁
+      → OnOk formatted (WritesText PrintsNext s output t) → prints old [] s → ∥ ((old : X) × (text : List ℕ) × prints old text t) ∥₁
       → ∥ ((old : X) × (text : List ℕ) × prints old text t × (IsOk formatted → IfSome output (λ bs. text ≡ bs))) ∥₁
   prints_through None formatted writes start had = ∥∥₁_map had (λ p. (p.0, p.1, p.2, λ ok. tt))
   prints_through (Some bs) (Err e) writes start had = ∥∥₁_map had (λ p. (p.0, p.1, p.2, λ ok. absurd (true≢false (sym ok))))
@@ -248,8 +233,7 @@ module _ {X : Type 0} {I : Writer X} {old new : X} {name was : ℕ} {output : Op
   -- what is known of a text that was printed, from the result
   pub law_shown : (formatted : Result (Unit {0}) FormatError) (reply : Result (Unit {0}) Error)
       → ∥ ((x : X) × (text : List ℕ) × (((x ≡ old) × (name ≡ was)) × PrintsOf I x text met new)
-      × (IsOk formatted → IfSome output (λ bs. text ≡ bs))) ∥₁
-      → OnOk formatted (reply ≡ met) → OnErr formatted (FailsText met reply)
+      × (IsOk formatted → IfSome output (λ bs. text ≡ bs))) ∥₁ → OnOk formatted (reply ≡ met) → OnErr formatted (FailsText met reply)
       → WriteFmtOf I old output reply new
   law_shown (Ok u) reply had same why =
       let prints : ∥ ((text : List ℕ) × PrintsOf I old text met new × IfSome output (λ bs. text ≡ bs)) ∥₁ =
@@ -287,8 +271,7 @@ MovesFront-text {a} {b} {bs} {r} f = grind (arith, common_steps)
 
 -- `write!(..)?; flush()`, if the `write!` returned `Ok`
 pub MovesFront-text_flush : {a b c : WriterState} {text : List ℕ} {u : Unit {0}} (r : Result (Unit {0}) Error)
-    → MovesText a (Some text) (Ok u) b
-    → Moves b [] (call_mishap r) c → MovesFront a text r c
+    → MovesText a (Some text) (Ok u) b → Moves b [] (call_mishap r) c → MovesFront a text r c
 MovesFront-text_flush {text = text} {u} r f g = ⊎_elim (λ front. MovesFront-flush text u r front g) (λ no. absurd no) (MovesFront-text f)
 
 -- What a page has after a text was printed to it, and what is known of a text that was printed by it.
@@ -308,8 +291,7 @@ module _ {P : Type 0} (has : List ℕ → P → Type 0) where
   -- a page that had no text has the specified one
   pub page_has : (s t : P) (output : Option (List ℕ)) → WritesText PageGives s output t → has [] s → IfSome output (λ bs. has bs t)
   page_has s t None writes start = tt
-  page_has s t (Some bs) writes start = subst (λ l. has l t) writes.whole
-      (chained_keeps PageGives (λ xs q. has (concat xs) q)
+  page_has s t (Some bs) writes start = subst (λ l. has l t) writes.whole (chained_keeps PageGives (λ xs q. has (concat xs) q)
       (λ xs q x v so_far next. subst (λ l. has l v)
       (sym (concat-append xs (x ∷ []) ∙ ap (λ l. concat xs ++ l) (append-nil x))) (next (concat xs) so_far))
       writes.parts s t start writes.calls)
@@ -321,8 +303,7 @@ page_over N output bytes len is has = grind (arith, common_steps)
 
 -- or these bytes are it
 pub page_text : (N : ℕ) (output : Option (List ℕ)) (bytes : List ℕ) (len : ℕ) {text : List ℕ} {is_over : Bool} → is_over ≡ false
-    → text ≡ take len bytes
-    → IfSome output (HasText N bytes len is_over) → IfSome output (λ bs. text ≡ bs)
+    → text ≡ take len bytes → IfSome output (HasText N bytes len is_over) → IfSome output (λ bs. text ≡ bs)
 page_text N output bytes len is same has = grind (arith, common_steps)
 
 -- a text that was printed is one of the two results
@@ -332,8 +313,7 @@ short_prints N reply prints = grind (arith, common_steps)
 
 -- A text of at most N bytes was accepted, or a front of it; or its own `fmt` failed, and the writer got no call.
 pub prints_fitting : (N : ℕ) {a b : WriterState} {bs : List ℕ} (r : Result (Unit {0}) Error) → PrintsOrRefuses N a (Some bs) r b
-    → length bs ≤ N
-    → MovesFront a bs r b ⊎ IsErrAnd r (λ e. IsTextError e × (b ≡ a))
+    → length bs ≤ N → MovesFront a bs r b ⊎ IsErrAnd r (λ e. IsTextError e × (b ≡ a))
 prints_fitting N {a} {b} (Ok u) prints fits = inl (subst (λ l. MovesFront a l (Ok u) b) prints.is prints.moves)
 prints_fitting N {a} {b} (Err e) (inl prints) fits = inl (subst (λ l. MovesFront a l (Err e) b) prints.is prints.moves)
 prints_fitting N (Err e) (inr (inl unwritten, same)) fits = absurd (omega (arith, unwritten.1))

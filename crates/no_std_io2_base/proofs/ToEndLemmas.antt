@@ -1,22 +1,18 @@
 -- Reads to the end, also those of a `Chain`, which goes to the end of one reader and then of another.
 use Rattle.std.proofs.{lemmas.Grind.{common_steps}, Common.{◌≡◌, ℕ, ◌+◌, ◌-◌, ◌<◌, ◌≤◌, List, [], ◌++◌, Result, Ok, Err, length, take}}
-use Rattle.std.proofs.Common.{drop, refl, sym, ap, ◌∙◌, arith, le_refl, le_trans, length-take, length-drop, Vec, vec_len}
-use Rattle.std.proofs.Common.{vec_capacity, inl, inr, append_assoc, append-nil, take_all, OnOk, IfOk, length-append, true, false}
-use Rattle.std.proofs.Common.{true≢false, None, Bool, IsOk, IsErrAnd, length-take-le}
-use Rattle.no_std_io2_base.specs.{declared.error.Error.{Error}, Errors.{IsInterruption, IsFault, IsOutOfMemory}, Events.{Event}}
-use Rattle.no_std_io2_base.specs.{Events.{event_bytes, HasNoFault}, Takes.{Reader, tells, ReaderState, Takes, IsAtEnd}}
-use Rattle.no_std_io2_base.specs.Read.{ReadLaw, ToEndLaw, ReadToEndLaw}
-use Rattle.no_std_io2_base.specs.{inner.Read.{IsRoom, no_read, least_room, without_number, FilledLaw}, Calls.{GaveAll}}
-use Rattle.no_std_io2_base.specs.inner.Chain.{chain_first, chain_second, chain_is_done, chain_events, chain_held, by_first, by_both}
-use Rattle.no_std_io2_base.specs.{declared.traits.chain.Chain.{Chain}, inner.Chain.{by_second, ChainMay}, BufRead.{FillBufLaw, AfterLoan}}
-use Rattle.no_std_io2_base.proofs.{CallsLemmas.{to_end_own}, TakesLemmas.{bytes-append, HasNoFault-append}}
-use Rattle.no_std_io2_base.proofs.TakesLemmas.{takes_none, nothing_read, read_law, EndsInFault-behind}
-use Rattle.no_std_io2_base.proofs.{TakesLemmas.{drains_ended, stays_at_end}, ReadLoops.{some_bytes}}
-use Rattle.no_std_io2_base.proofs.ReadsLemmas.{Reads-none, Reads-more, Reads-again, Reads-end, Reads-fault, Reads-takes}
-use Rattle.no_std_io2_base.specs.{inner.Reads.{Reads}, Reads.{Took}, inner.Read.{DrainCalls}}
-use Rattle.no_std_io2_base.proofs.{ReadLoops.{written, take-written, take-written_below}, PieceLoops.{filled_law}}
-use Rattle.std.specs.Borrow.{Bor}
-use Rattle.no_std_io2_base.specs.inner.Read.{DrainsOrStops}
+use Rattle.std.proofs.Common.{drop, refl, sym, ap, ◌∙◌, arith, le_refl, le_trans, length-take, length-drop, Vec, vec_len, vec_capacity, inl}
+use Rattle.std.proofs.Common.{inr, append_assoc, append-nil, take_all, OnOk, IfOk, length-append, true, false, true≢false, None, Bool, IsOk}
+use Rattle.std.{proofs.Common.{IsErrAnd, length-take-le}, specs.Borrow.{Bor}}
+use Rattle.no_std_io2_base.proofs.{CallsLemmas.{to_end_own}, PieceLoops.{filled_law}, ReadLoops.{some_bytes, written, take-written}}
+use Rattle.no_std_io2_base.proofs.{ReadLoops.{take-written_below}, ReadsLemmas.{Reads-none, Reads-more, Reads-again, Reads-end}}
+use Rattle.no_std_io2_base.proofs.{ReadsLemmas.{Reads-fault, Reads-takes}, TakesLemmas.{bytes-append, HasNoFault-append, takes_none}}
+use Rattle.no_std_io2_base.proofs.TakesLemmas.{nothing_read, read_law, EndsInFault-behind, drains_ended, stays_at_end}
+use Rattle.no_std_io2_base.specs.{BufRead.{FillBufLaw, AfterLoan}, Calls.{GaveAll}, Errors.{IsInterruption, IsFault, IsOutOfMemory}}
+use Rattle.no_std_io2_base.specs.{Events.{Event, event_bytes, HasNoFault}, Read.{ReadLaw, ToEndLaw, ReadToEndLaw}, Reads.{Took}}
+use Rattle.no_std_io2_base.specs.{Takes.{Reader, tells, ReaderState, Takes, IsAtEnd}, declared.error.Error.{Error}}
+use Rattle.no_std_io2_base.specs.{declared.traits.chain.Chain.{Chain}, inner.Chain.{chain_first, chain_second, chain_is_done, chain_events}}
+use Rattle.no_std_io2_base.specs.inner.{Chain.{chain_held, by_first, by_both, by_second, ChainMay}, Read.{IsRoom, no_read, least_room}}
+use Rattle.no_std_io2_base.specs.inner.{Read.{without_number, FilledLaw, DrainCalls, DrainsOrStops}, Reads.{Reads}}
 
 -- What a loop that reads to the end into a vector has done so far, and what it has done at each of its ends.
 
@@ -212,8 +208,7 @@ module _ {T U : Type 0} (R : Reader T) (S : Reader U) where
 
 -- how it ended, of a reader that is at its end if the other is
 end_of_both : (l : Type 0) (P : List Event) (t t' : ReaderState) (reply : Result ℕ Error) → (IsAtEnd t → IsAtEnd t')
-    → DrainsOrStops l P reply t
-    → DrainsOrStops l P reply t'
+    → DrainsOrStops l P reply t → DrainsOrStops l P reply t'
 end_of_both l P t t' reply end stops = grind (arith, common_steps)
 
 module _ {T U A : Type 0} (R : Reader T) (S : Reader U) {old new : Chain T U} {buf buf' : Vec ℕ A} where

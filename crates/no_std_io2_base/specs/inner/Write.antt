@@ -33,11 +33,6 @@ AllCalls C x reply = (C ≡ WroteAll x reply ∷ []) ⊎ ((left : List ℕ) × W
 abbrev pub AcceptsAll : {W : Type 0} → (W → WriterState) → (W → Type 0) → W → Type 0
 AcceptsAll told takes_all w = takes_all w × ((told w).mishaps ≡ Some [])
 
--- From old to new a writer accepted these lists, one after another, without a mishap.
-abbrev pub MovesEach : WriterState → List (List ℕ) → WriterState → Type 0
-MovesEach old [] new = Moves old [] [] new
-MovesEach old (x ∷ xs) new = (mid : WriterState) × Moves old x [] mid × MovesEach mid xs new
-
 -- These bytes are out, and these are held. Mishaps and turns are those of the writer below.
 abbrev pub told_over : List ℕ → List ℕ → WriterState → WriterState
 told_over out held below = record below { out = out; held = held }

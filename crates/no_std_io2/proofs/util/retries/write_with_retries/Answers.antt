@@ -22,8 +22,7 @@ returns-in-Err-clause-enough g c = λ most.
     absurd (spent_all c.args.retries _ _ _ _ last tried.moves.mishaps most)
 
 pub returns-in-Ok-clause-calls : goal.returns-in-Ok-clause-calls
-returns-in-Ok-clause-calls g c =
-    c.tries.invariant.so_far _ _ _ (last_try (rw c.in-Ok.is at c.write_and_flush.ensures.calls) tt)
+returns-in-Ok-clause-calls g c = c.tries.invariant.so_far _ _ _ (last_try (rw c.in-Ok.is at c.write_and_flush.ensures.calls) tt)
 
 pub returns-in-Err-clause-calls : goal.returns-in-Err-clause-calls
 returns-in-Err-clause-calls g c =

@@ -1,6 +1,5 @@
 -- The ways through the loop, by their lemmas: the search builds no record of what was moved so far.
-use Rattle.no_std_io2.proofs.Words.{◌∙◌, refl, sym}
-use Rattle.no_std_io2.proofs.CopyLoop.{copy_none, copy_again, copy_more, copy_ended, copy_faulted, copy_refused}
+use Rattle.no_std_io2.proofs.{Words.{◌∙◌, refl, sym}, CopyLoop.{copy_none, copy_again, copy_more, copy_ended, copy_faulted, copy_refused}}
 use Rattle.no_std_io2.proofs.util.sides.copy_with.Goals as goal
 
 pub reads-init : goal.reads-init

@@ -1,7 +1,6 @@
 -- `copy_with` ends with its reader's turns.
-use Rattle.no_std_io2.proofs.Words.{length}
+use Rattle.no_std_io2.proofs.{Words.{length}, CopyLoop.{CopySoFar}}
 use Rattle.no_std_io2_base.proofs.TakesLemmas.{reader}
-use Rattle.no_std_io2.proofs.CopyLoop.{CopySoFar}
 use Rattle.no_std_io2.proofs.util.sides.copy_with.Given as goal
 
 abbrev pub invariant-reads : goal.invariant-reads

@@ -1,11 +1,10 @@
 -- The bytes are put over those of the vector, or behind zeros: the search does not split the vector there.
-use Rattle.std.proofs.Common.{◌≡◌, ◌+◌, ◌-◌, ◌++◌, length, take, drop, replicate, arith, ap, sym, ◌∙◌, inl, inr}
-use Rattle.std.proofs.{Common.{length-append, length-take, length-drop}, lemmas.List.{with_items_is}}
+use Rattle.std.proofs.Common.{◌≡◌, ℕ, ◌+◌, ◌-◌, ◌++◌, length, take, drop, replicate, arith, ap, sym, ◌∙◌, inl, inr, length-append}
+use Rattle.std.proofs.{Common.{length-take, length-drop}, lemmas.List.{with_items_is}}
 use borrow.Rule.Slice.PartMut.{put_mid}
-use Rattle.no_std_io2_base.specs.inner.Cursor.{put_at}
-use Rattle.no_std_io2_base.proofs.CursorLemmas.{left_after, IsLengthened, lengthened_reaches, put_lengthened}
-use Rattle.no_std_io2_base.proofs.cursor.vectors.put.Goals as goal
+use Rattle.no_std_io2_base.{specs.inner.Cursor.{put_at}, proofs.CursorLemmas.{left_after, IsLengthened, lengthened_reaches, put_lengthened}}
 use Rattle.no_std_io2_base.proofs.cursor.vectors.put.Goals.{then-end-len+in_ok-lengthen, else-end-len}
+use Rattle.no_std_io2_base.proofs.cursor.vectors.put.Goals as goal
 
 pub returns-clause-put : goal.returns-clause-put
 returns-clause-put g c =
@@ -30,25 +29,12 @@ returns-clause-put g c =
     ] in
     let back : start + k ≡ end = omega (arith, at) in
     let rest : drop k (drop start shown) ≡ drop end shown = sym (left_after shown start k) ∙ ap (λ n. drop n shown) back in
-    let is : part ≡ put_at start x bs =
-    ap (λ l. take start shown ++ (l ++ drop k (drop start shown))) c.copy_bytes.ensures
-    ∙ ap (λ l. take start shown ++ (x ++ l)) rest
-    ∙ ap (λ l. take start l ++ (x ++ drop end l)) c.deref_mut.ensures.value
+    let is : part ≡ put_at start x bs = ap (λ l. take start shown ++ (l ++ drop k (drop start shown))) c.copy_bytes.ensures
+    ∙ ap (λ l. take start shown ++ (x ++ l)) rest ∙ ap (λ l. take start l ++ (x ++ drop end l)) c.deref_mut.ensures.value
     ∙ put_lengthened start end x bs now.items at grown in
     let reach = lengthened_reaches end bs now.items grown in
-    let tail = drop k (drop start shown) in
+    let copied = ap length c.copy_bytes.ensures in
+    let seen = ap length c.deref_mut.ensures.value in
     let long : length part ≡ now.len =
-    omega (
-      arith,
-      length-append (take start shown) (c.copy_bytes.new.to ++ tail),
-      length-append c.copy_bytes.new.to tail,
-      length-take start shown,
-      length-drop k (drop start shown),
-      length-drop start shown,
-      ap length c.copy_bytes.ensures,
-      ap length c.deref_mut.ensures.value,
-      now.ok.0,
-      at,
-      reach,
-    ) in
+    omega (arith, length-append {A = ℕ}, length-take {A = ℕ}, length-drop {A = ℕ}, copied, seen, now.ok.0, at, reach) in
     record { fits = omega (arith, at); puts = with_items_is now part long ∙ is; refused = tt; same = tt; full = tt }

@@ -1,6 +1,5 @@
 -- The bytes so far are at the back of the queue, and there is room for the others.
-use Rattle.std.proofs.Common.{◌≡◌, ◌+◌, ◌≤◌, ◌++◌, take}
-use Rattle.std.specs.VecDeque.{deque_len, deque_capacity}
+use Rattle.std.{proofs.Common.{◌≡◌, ◌+◌, ◌≤◌, ◌++◌, take}, specs.VecDeque.{deque_len, deque_capacity}}
 use Rattle.no_std_io2_base.proofs.impls.queues.pushed.Given as goal
 
 abbrev pub invariant-bytes : goal.invariant-bytes

@@ -20,6 +20,5 @@ returns-in_err-read_to_end g c =
 
 pub returns : goal.returns
 returns g c = record {
-  law = at_most_then (Ok _) _ c.in_ok-read.ensures.law (omega (arith, c.if-read-room.false)) c.in_ok-read_to_end.ensures.law
-      (omega arith);
+  law = at_most_then (Ok _) _ c.in_ok-read.ensures.law (omega (arith, c.if-read-room.false)) c.in_ok-read_to_end.ensures.law (omega arith);
 }

@@ -12,8 +12,7 @@ returns-then-is_err g c =
 pub returns-then-page : goal.returns-then-page
 returns-then-page g c =
     let written = when_ok c.write.result c.if-is_err.ensures.value c.write.ensures.writes in
-    let has =
-    page_has (λ text p. HasText g.row.N p.bytes.now p.len p.is_over text) _ c.write.new.self _ written
+    let has = page_has (λ text p. HasText g.row.N p.bytes.now p.len p.is_over text) _ c.write.new.self _ written
     (page_none g.row.N (replicate g.row.N 0)) in
     let refused = inl (c.failed_to_write.ensures, page_over g.row.N _ _ _ c.if-page.true has) in
     record { prints = inr (refused, refl); calls = (c.args.w.now.1, refl, inr (refused, refl)) }
@@ -21,8 +20,7 @@ returns-then-page g c =
 pub returns : goal.returns
 returns g c =
     let written = when_ok c.write.result c.if-is_err.ensures.value c.write.ensures.writes in
-    let has =
-    page_has (λ text p. HasText g.row.N p.bytes.now p.len p.is_over text) _ c.write.new.self _ written
+    let has = page_has (λ text p. HasText g.row.N p.bytes.now p.len p.is_over text) _ c.write.new.self _ written
     (page_none g.row.N (replicate g.row.N 0)) in
     let is = page_text g.row.N _ _ _ c.if-page.false refl has in
     record {

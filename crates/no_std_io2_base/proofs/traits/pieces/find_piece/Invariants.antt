@@ -1,5 +1,4 @@
-use Rattle.std.proofs.Common.{◌≡◌}
-use Rattle.std.specs.List.{AllWithin}
+use Rattle.std.{proofs.Common.{◌≡◌}, specs.List.{AllWithin}}
 use Rattle.no_std_io2_base.proofs.traits.pieces.find_piece.Given as goal
 
 abbrev pub invariant-bytes : goal.invariant-bytes

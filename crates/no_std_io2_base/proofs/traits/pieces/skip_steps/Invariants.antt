@@ -1,5 +1,4 @@
-use Rattle.std.proofs.Common.{◌≡◌, ◌≤◌, ◌-◌, length}
-use Rattle.std.specs.List.{AllWithin}
+use Rattle.std.{proofs.Common.{◌≡◌, ◌≤◌, ◌-◌, length}, specs.List.{AllWithin}}
 use Rattle.no_std_io2_base.proofs.traits.pieces.skip_steps.Given as goal
 
 abbrev pub invariant-steps : goal.invariant-steps

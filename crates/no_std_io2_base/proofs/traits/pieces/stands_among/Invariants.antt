@@ -1,5 +1,4 @@
-use Rattle.std.proofs.Common.{◌≡◌, ◌+◌, false}
-use Rattle.std.specs.List.{AllWithin}
+use Rattle.std.{proofs.Common.{◌≡◌, ◌+◌, false}, specs.List.{AllWithin}}
 use Rattle.no_std_io2_base.proofs.traits.pieces.stands_among.Given as goal
 
 abbrev pub invariant-bytes : goal.invariant-bytes

@@ -1,7 +1,6 @@
 -- What became of the line in each of the three cases, for every length and capacity.
 use Rattle.std.proofs.{lemmas.Grind.{common_steps}, Common.{◌≡◌, ℕ, ◌-◌, List, refl, sym, ap, subst, ◌∙◌, take, drop, length, arith}}
-use Rattle.std.proofs.{Common.{take_all, length-drop, string_bytes, IsUtf8}, lemmas.{Str.{IsUtf8-append}, List.{take-append-drop}}}
-use Rattle.no_std_io2_base.specs.inner.Lines.{AnswersLine}
+use Rattle.std.proofs.{Common.{take_all, length-drop, IsUtf8}, lemmas.{Str.{IsUtf8-append}, List.{take-append-drop}}}
 use Rattle.no_std_io2_base.proofs.LineLemmas.{line_kept, became, line_refused}
 use Rattle.no_std_io2_base.proofs.traits.strings.put_back.Goals as goal
 
@@ -31,8 +30,6 @@ pub returns-clause-answers : goal.returns-clause-answers
 returns-clause-answers c =
     let same : c.deref.result.now ≡ c.args.bytes.items = grind (arith, common_steps) in
     let line = drop c.args.start c.args.bytes.items in
-    subst (λ r. AnswersLine line c.args.read r (take c.args.start c.args.bytes.items)
-    (string_bytes c.text_front-2.result))
-    (sym c.and.ensures) (line_refused line c.args.read _
+    rw c.and.ensures (line_refused line c.args.read _
     (λ text. c.is_text.ensures.no c.if-is_text.false (subst IsUtf8 (sym (behind c.args.start c.args.bytes.items _ same)) text))
     c.invalid_text.ensures (c.is_out_of_memory.ensures.other c.if-is_out_of_memory.false) c.text_front-2.ensures.bytes)

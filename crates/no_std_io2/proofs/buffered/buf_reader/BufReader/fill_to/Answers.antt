@@ -1,7 +1,6 @@
 -- Reads until enough bytes are held: after each read, and at the three ends.
-use Rattle.no_std_io2.proofs.Words.{sym, ◌∙◌, arith}
-use Rattle.no_std_io2.proofs.FillToLemmas.{filled_none, filled_more, filled_again, fills_fault, fills_end, fills_enough, fills_all}
-use Rattle.no_std_io2.proofs.FillToLemmas.{spends_more, spends_again}
+use Rattle.no_std_io2.proofs.{Words.{sym, ◌∙◌, arith}, FillToLemmas.{filled_none, filled_more, filled_again, fills_fault, fills_end}}
+use Rattle.no_std_io2.proofs.FillToLemmas.{fills_enough, fills_all, spends_more, spends_again}
 use Rattle.no_std_io2.proofs.buffered.buf_reader.BufReader.fill_to.Goals as goal
 
 pub reads-init : goal.reads-init
@@ -15,8 +14,7 @@ reads-preserved-in-Ok g c =
 pub reads-preserved : goal.reads-preserved
 reads-preserved g c =
     let read = c.in-Err.ensures in
-    filled_again c.reads.invariant (omega arith) c.requires read.read read.behind
-    (sym c.is_interrupted.ensures ∙ c.if-is_interrupted.true)
+    filled_again c.reads.invariant (omega arith) c.requires read.read read.behind (sym c.is_interrupted.ensures ∙ c.if-is_interrupted.true)
 
 pub reads-smaller-in-Ok : goal.reads-smaller-in-Ok
 reads-smaller-in-Ok g c = spends_more c.in-Ok.ensures.read c.in-Ok.field-0-test.1

@@ -1,7 +1,6 @@
 -- An exact read past the held bytes, by its `read_full`: the search does not find what it leaves, nor an error's law.
-use Rattle.no_std_io2.proofs.Words.{arith, err_from_is_err_and}
+use Rattle.no_std_io2.proofs.{Words.{arith, err_from_is_err_and}, BufReaderThrough.{leaves_whole, leaves_end, leaves_fault}}
 use Rattle.no_std_io2_base.proofs.ReadLoops.{exact_end, exact_fault}
-use Rattle.no_std_io2.proofs.BufReaderThrough.{leaves_whole, leaves_end, leaves_fault}
 use Rattle.no_std_io2.proofs.buffered.buf_reader.BufReader.read_exact_cold.Goals as goal
 
 pub returns-in_err-read_full : goal.returns-in_err-read_full

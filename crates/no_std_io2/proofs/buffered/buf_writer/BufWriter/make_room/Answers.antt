@@ -1,8 +1,7 @@
 -- Room was there, or was made by a sending.
 use Rattle.no_std_io2.proofs.Words.{ℕ, ◌+◌, ◌≤◌, List, length, Result, OnOk, arith, common_steps, WriteCall, RoomCalls}
-use Rattle.no_std_io2_base.specs.declared.error.Error.{Error}
-use Rattle.no_std_io2_base.proofs.CallsLemmas.{writes_whole}
 use Rattle.no_std_io2.proofs.{BufWriterLemmas.{effect_of}, BufWriterCalls.{room_does}}
+use Rattle.no_std_io2_base.{specs.declared.error.Error.{Error}, proofs.CallsLemmas.{writes_whole}}
 use Rattle.no_std_io2.proofs.buffered.buf_writer.BufWriter.make_room.Goals as goal
 
 room_fits : (S n : ℕ) {held left : List ℕ} {C : List WriteCall} {reply : Result (Unit {0}) Error} → n ≤ S → RoomCalls S n held C reply left

@@ -1,7 +1,6 @@
 -- There is room after the end, so no call is made.
-use Rattle.no_std_io2.proofs.Words.{refl}
+use Rattle.no_std_io2.proofs.{Words.{refl}, BufWriterCalls.{room_kept, whole_held}}
 use Rattle.no_std_io2_base.proofs.MovesLemmas.{Moves-refl}
-use Rattle.no_std_io2.proofs.BufWriterCalls.{room_kept, whole_held}
 use Rattle.no_std_io2.proofs.buffered.buf_writer.BufWriter.write_whole.Goals as goal
 
 pub returns-then-hold_both_if_room : goal.returns-then-hold_both_if_room

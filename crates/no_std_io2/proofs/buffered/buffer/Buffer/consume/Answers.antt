@@ -1,6 +1,5 @@
 -- The range of the held bytes starts later, by lemmas about ranges.
-use Rattle.no_std_io2.proofs.Words.{common_steps, arith, length-take}
-use Rattle.no_std_io2.proofs.BufferedReads.{range_rest, front_more}
+use Rattle.no_std_io2.proofs.{Words.{common_steps, arith, length-take}, BufferedReads.{range_rest, front_more}}
 use Rattle.no_std_io2.proofs.buffered.buffer.Buffer.consume.Goals as goal
 
 pub returns-clause-held : goal.returns-clause-held

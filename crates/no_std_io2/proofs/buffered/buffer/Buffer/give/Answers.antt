@@ -1,7 +1,6 @@
 -- One byte is given without a copy of a range: the search does not compare lists of one byte.
-use Rattle.no_std_io2.proofs.Words.{common_steps, arith, sym, ap, ◌∙◌, ◌++◌}
+use Rattle.no_std_io2.{proofs.Words.{common_steps, arith, sym, ap, ◌∙◌, ◌++◌}, specs.inner.Buffer.{buffer_behind}}
 use Rattle.std.proofs.{Common.{slice_index}, Math.Seq.{take-suc, take-suc-set}}
-use Rattle.no_std_io2.specs.inner.Buffer.{buffer_behind}
 use Rattle.no_std_io2.proofs.buffered.buffer.Buffer.give.Goals as goal
 
 -- the one byte that moves

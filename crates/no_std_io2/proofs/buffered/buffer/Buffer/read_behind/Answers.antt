@@ -8,16 +8,10 @@ module _ (xs ys x : List ℕ) (end more to : ℕ) (fits : end + more ≤ length 
     (count : to ≡ end + length x) where
   -- no more was filled than there is
   within : to ≤ length ys
-  within = omega (
-    arith,
-    count,
-    ap length is,
-    length-append (take end (take (end + more) xs)) x,
-    length-take to ys,
-    length-take end (take (end + more) xs),
-    length-take (end + more) xs,
-    fits,
-  )
+  within =
+      let first = take (end + more) xs in
+      let long = length-append (take end first) x in
+      omega (arith, count, ap length is, long, length-take to ys, length-take end first, length-take (end + more) xs, fits)
 
   -- the bytes from the front on, after the room behind them was filled in part
   filled_on : (zs : List ℕ) → take to (ys ++ zs) ≡ take end xs ++ x

@@ -22,7 +22,6 @@ returns g c =
     let first = c.move_to_front.ensures in
     let (x, is, calls) = c.read_behind.ensures.fills in (
       x,
-      from_front _ _ _ first.start ∙ is
-          ∙ ap (λ l. l ++ x) (sym (from_front was.bytes was.start was.end first.start) ∙ first.same),
+      from_front _ _ _ first.start ∙ is ∙ ap (λ l. l ++ x) (sym (from_front was.bytes was.start was.end first.start) ∙ first.same),
       calls,
     )

@@ -33,8 +33,7 @@ returns-clause-read g c =
       answer = Ok (take n c.read.new.buf);
       read = subst (λ k. GaveLaw (reader g.R.Stored g.R.Read) c.args.from.now k (Ok (take n c.read.new.buf)) c.read.new.self)
           (room_on was.bytes c.read.new.buf was.start was.end g.row.S first.start was.in_range long c.read.auto.buf
-          ∙ ap (λ l. g.row.S - length l) first.same)
-          (read_law (Ok n) law);
+          ∙ ap (λ l. g.row.S - length l) first.same) (read_law (Ok n) law);
       number = ap Ok (sym (length-take-le n c.read.new.buf law.bound));
       holds = on ∙ ap (λ l. l ++ take n c.read.new.buf) first.same;
     }

@@ -4,6 +4,4 @@ use Rattle.no_std_io2.proofs.buffered.line_writer.LineWriter.into_inner.Goals as
 
 pub invariant_of-sender : goal.invariant_of-sender
 invariant_of-sender g c =
-    record {
-      line = rw c.into_parts-buffered.ensures.writer (state_end (writes_end c.in-Err.ensures.calls.are) c.args.self.sender.line);
-    }
+    record { line = rw c.into_parts-buffered.ensures.writer (state_end (writes_end c.in-Err.ensures.calls.are) c.args.self.sender.line) }

@@ -1,6 +1,6 @@
 -- The line state and the clauses, by lemmas about the inner calls: the search does not apply these to a whole step.
-use Rattle.no_std_io2.proofs.{Words.{CallOf, Made, subst, sender_inner, line_inner}, LineWriterStates.{line_write_state, line_write_short}}
-use Rattle.no_std_io2.proofs.{LineWriterStates.{line_write_fits}, LineWriterCalls.{line_write_does, line_write_bound}}
+use Rattle.no_std_io2.proofs.LineWriterStates.{line_write_state, line_write_short, line_write_fits}
+use Rattle.no_std_io2.proofs.LineWriterCalls.{line_write_does, line_write_bound}
 use Rattle.no_std_io2.proofs.buffered.line_writer.LineWriterWrite.write.Goals as goal
 
 pub invariant_of-self : goal.invariant_of-self
@@ -16,8 +16,7 @@ returns g c =
       short = line_write_short S calls.are;
       fits = λ short plain room.
           let fits = line_write_fits S calls.are short plain room in
-          let inner = sender_inner c.write.new.w in
-          (fits.1, subst (λ C. Made (CallOf g.W.Write) (line_inner c.args.self.now) C inner) fits.0 calls.made, fits.2);
+          (fits.1, rw fits.0 at calls.made, fits.2);
       held = done.filled c.args.self.now.sender.line;
       inner = λ t. let k = done.keeps t in (k.0, k.1);
     }

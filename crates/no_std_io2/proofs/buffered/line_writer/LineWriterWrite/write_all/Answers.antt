@@ -1,5 +1,4 @@
 -- The line state and the clauses, by lemmas about the inner calls: the search does not apply these to a whole step.
-use Rattle.no_std_io2.proofs.Words.{CallOf, List, Made, WriteCall, subst, sender_inner, line_inner}
 use Rattle.no_std_io2.proofs.{LineWriterStates.{line_write_all_state, line_write_all_fits}, LineWriterCalls.{line_write_all_does}}
 use Rattle.no_std_io2_base.proofs.CallsLemmas.{own_law}
 use Rattle.no_std_io2.proofs.buffered.line_writer.LineWriterWrite.write_all.Goals as goal
@@ -19,7 +18,6 @@ returns g c =
       held = done.leaves c.args.self.now.sender.line;
       fits = λ short plain room.
           let fits = line_write_all_fits S calls.are short plain room in
-          let by : List WriteCall → Type 0 = λ C. Made (CallOf g.W.Write) (line_inner c.args.self.now) C (sender_inner c.write_all.new.w) in
-          (fits.1, subst by fits.0 calls.made, fits.2);
+          (fits.1, rw fits.0 at calls.made, fits.2);
       inner = λ t. let k = done.keeps t in (k.0, k.1);
     }

@@ -2,8 +2,7 @@
 use Rattle.no_std_io2.proofs.Words.{common_steps, ◌≡◌, ◌+◌, ◌∷◌, ◌++◌, length, drop, take, arith, ap, sym, ◌∙◌, length-drop, length-append}
 use Rattle.no_std_io2.proofs.Words.{newline, lines_len, lines_of, unfinished_line, ◌-◌, ◌≢◌, [], List, ℕ, true, false, true≢false, inl, inr}
 use Rattle.no_std_io2.proofs.Words.{nil_from_length, cases_lt, rules}
-use Rattle.std.specs.{List.{AllWithin}, Prelude.{Contains}}
-use Rattle.std.specs.Io.BufRead.{ends_with_byte}
+use Rattle.std.specs.{List.{AllWithin}, Prelude.{Contains}, Io.BufRead.{ends_with_byte}}
 use Rattle.no_std_io2_base.proofs.LineLemmas.{lines_are, lines_none, lines_split, unfinished_none, contains_lacks}
 use Rattle.no_std_io2_base.proofs.PieceLemmas.{ends_with_byte-append}
 use Rattle.no_std_io2.proofs.buffered.line_writer.steps.lines_len.Goals as goal
@@ -31,10 +30,8 @@ lacks_all x other before has = elim (cases_lt has.0 (length x - 1)) [
       let at = has.0 in
       let whole : x ≡ take at x ++ newline ∷ drop (at + 1) x = grind (arith, common_steps, has.1, has.2) in
       let none : drop (at + 1) x ≡ [] = nil_from_length _ (omega (arith, last, has.1, length-drop (at + 1) x)) in
-      let ends : ends_with_byte newline x ≡ true =
-      ap (ends_with_byte newline) (whole ∙ ap (λ l. take at x ++ newline ∷ l) none)
-      ∙ ends_with_byte-append newline (take at x) (newline ∷ [])
-      (omega arith) in
+      let ends : ends_with_byte newline x ≡ true = ap (ends_with_byte newline) (whole ∙ ap (λ l. take at x ++ newline ∷ l) none)
+      ∙ ends_with_byte-append newline (take at x) (newline ∷ []) (omega arith) in
       true≢false (sym ends ∙ other)
 ]
 

@@ -37,8 +37,7 @@ returns-then-len-x g c =
     let S = g.row.S in
     let sent = c.in_ok-send_lines.ensures in
     let none = send_lines_leaves S _ sent.are in
-    let rest : unfinished_line x ≡ [] =
-    sym (drop_lines x is) ∙ nil_from_length _ (omega (arith, length-drop len x, c.if-len-x.true)) in
+    let rest : unfinished_line x ≡ [] = sym (drop_lines x is) ∙ nil_from_length _ (omega (arith, length-drop len x, c.if-len-x.true)) in
     let w = c.send_lines.new.w in
     let nothing : Stepped g.W.Write (WriteAllCalls S (unfinished_line x)) (sender_inner w) (sender_buffer w) (Ok tt) (sender_buffer w)
     (sender_inner w) = rw (none, rest) (nothing_put {I = g.W.Write} S (sender_inner w)) in

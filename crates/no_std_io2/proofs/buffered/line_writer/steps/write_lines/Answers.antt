@@ -44,15 +44,10 @@ returns g c =
     let end = c.tail_end-end.result in
     let none = writes_whole c.in_ok-send_held.ensures.calls.are in
     let held = c.hold.ensures.buffer ∙ ap (λ l. l ++ slice_range x n end) none in
-    let count : end ≡ n + length (sender_buffer c.hold.new.self) = omega (
-      arith,
-      ap length held,
-      length-take (end - n) (drop n x),
-      length-drop n x,
-      c.tail_end-end.ensures.after,
-      c.tail_end-end.ensures.within,
-    ) in
+    let tail = c.tail_end-end.ensures in
+    let count : end ≡ n + length (sender_buffer c.hold.new.self) =
+    omega (arith, ap length held, length-take (end - n) (drop n x), length-drop n x, tail.after, tail.within) in
     let law = rw (sym c.hold.ensures.same) at (rw c.get_mut.ensures.value at c.in_ok-n.ensures.law) in
     let went = then_goes_on _ c.in_ok-send_held.ensures.calls
-    (wrote_lines g.row.S _ c.requires.lines law none (held ∙ c.tail_end-end.ensures.tail, ap Ok count)) in
+    (wrote_lines g.row.S _ c.requires.lines law none (held ∙ tail.tail, ap Ok count)) in
     by_are went (λ C calls. inr (contains_lines _ c.requires.lines c.requires.some, calls))

@@ -1,7 +1,6 @@
 -- A `write` off the hot path: room is made, and then the bytes go past the buffer or into it.
-use Rattle.no_std_io2.proofs.Words.{common_steps, SingleCall, arith, rules, err_from_is_err_and, Wrote}
-use Rattle.no_std_io2.proofs.BufWriterLemmas.{then_stops, then_goes_on}
-use Rattle.no_std_io2.proofs.BufWriterCalls.{room_none, room_enough, put_beside, put_past, one_made}
+use Rattle.no_std_io2.proofs.{Words.{common_steps, SingleCall, arith, rules, err_from_is_err_and, Wrote}, BufWriterLemmas.{then_stops}}
+use Rattle.no_std_io2.proofs.{BufWriterLemmas.{then_goes_on}, BufWriterCalls.{room_none, room_enough, put_beside, put_past, one_made}}
 use Rattle.no_std_io2.proofs.buffered.sender.Sender.write_cold.Goals as goal
 
 pub returns-in_err-make_room : goal.returns-in_err-make_room

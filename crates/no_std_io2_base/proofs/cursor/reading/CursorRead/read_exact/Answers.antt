@@ -1,8 +1,7 @@
 -- The law, by the lemmas of calls that fill a buffer from memory.
 use Rattle.std.proofs.Common.{◌≡◌, ◌+◌, ◌++◌, arith, rules, length, take, drop, ap, ◌∙◌, refl, append-nil, drop_of_length-le}
-use Rattle.no_std_io2_base.specs.inner.Cursor.{cursor_left}
-use Rattle.no_std_io2_base.proofs.{CursorLemmas.{left_after, takes_at, told_at}, TakesLemmas.{takes_none}}
-use Rattle.no_std_io2_base.proofs.InMemoryReads.{split_at, exact_part, exact_short}
+use Rattle.no_std_io2_base.{specs.inner.Cursor.{cursor_left}, proofs.CursorLemmas.{left_after, takes_at, told_at}}
+use Rattle.no_std_io2_base.proofs.{TakesLemmas.{takes_none}, InMemoryReads.{split_at, exact_part, exact_short}}
 use Rattle.no_std_io2_base.proofs.cursor.reading.CursorRead.read_exact.Goals as goal
 
 pub returns-then-left-buf-clause-law : goal.returns-then-left-buf-clause-law

@@ -1,28 +1,19 @@
 -- The boxed slice has the written bytes: the search does not find that its length stays.
-use Rattle.std.proofs.Common.{◌≡◌, ◌∙◌, rules, subst, sym, take, take_at}
-use Rattle.std.specs.Box.{boxed_slice_items, boxed_slice_with_items}
-use Rattle.no_std_io2_base.specs.{inner.Cursor.{bytes_before}, Moves.{Moves, told_out}, inner.Write.{zero_write}}
+use Rattle.std.{proofs.Common.{◌≡◌, ◌∙◌, rules, take_at}, specs.Box.{boxed_slice_items, boxed_slice_with_items}}
 use Rattle.no_std_io2_base.proofs.CursorLemmas.{fits_moves}
 use Rattle.no_std_io2_base.proofs.cursor.slices.CursorBoxedSliceU8Write.write.Goals as goal
 
 pub returns : goal.returns
 returns g c = record {
   law =
-      let n = c.write_fitting.result in
       let put = c.write_fitting.new in
       let all = c.args.self.now.inner in
       let kept : boxed_slice_items (boxed_slice_with_items all put.content) ≡ put.content =
       take_at _ _ _ (c.write_fitting.auto.content ∙ c.as_mut_slice.ensures.len) in
       record {
         bound = search rules;
-        moves =
-            subst
-            (λ bs. Moves (told_out (bytes_before c.args.self.now.pos (boxed_slice_items all))) (take n c.args.buf.now)
-            (zero_write n c.args.buf.now) (told_out (bytes_before put.pos bs))) (sym kept)
-            (subst
-            (λ bs. Moves (told_out (bytes_before c.args.self.now.pos bs)) (take n c.args.buf.now) (zero_write n c.args.buf.now)
-            (told_out (bytes_before put.pos put.content))) c.as_mut_slice.ensures.value
-            (fits_moves _ _ _ c.write_fitting.ensures.count c.write_fitting.ensures.puts));
+        moves = rw kept
+            (rw c.as_mut_slice.ensures.value at (fits_moves _ _ _ c.write_fitting.ensures.count c.write_fitting.ensures.puts));
         all = λ h. absurd h.0;
         call = search rules;
       };

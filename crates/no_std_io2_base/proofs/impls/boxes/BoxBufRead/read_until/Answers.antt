@@ -5,7 +5,6 @@ use Rattle.no_std_io2_base.proofs.impls.boxes.BoxBufRead.read_until.Goals as goa
 
 pub returns : goal.returns
 returns g c = record {
-  law = until_through (λ v. record c.args.self.now { value = v })
-      (record { told = λ x. refl; may = λ x y call may. may; held = λ x. refl })
+  law = until_through (λ v. record c.args.self.now { value = v }) (record { told = λ x. refl; may = λ x y call may. may; held = λ x. refl })
       (rw c.as_mut.ensures.value at c.read_until.ensures.law);
 }

@@ -7,7 +7,6 @@ pub returns : goal.returns
 returns g c =
     let o = goal.Read-dyn g in
     record {
-      law = full_box (λ p. reader (o p).Stored (o p).Read) c.args.self.now c.deref_box_mut-1.result.now
-          (search rules) c.read_full.new.self
+      law = full_box (λ p. reader (o p).Stored (o p).Read) c.args.self.now c.deref_box_mut-1.result.now (search rules) c.read_full.new.self
           c.read_full.ensures;
     }

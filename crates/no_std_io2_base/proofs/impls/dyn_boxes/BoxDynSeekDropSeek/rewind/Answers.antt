@@ -1,7 +1,6 @@
 -- What the call did to the value in the box, it did to the box.
 use Rattle.std.proofs.Common.{rules}
-use Rattle.no_std_io2_base.specs.Seek.{RewindLaw}
-use Rattle.no_std_io2_base.proofs.{TakesLemmas.{seeker}, CursorLemmas.{seeks_box, rewind_through}}
+use Rattle.no_std_io2_base.{specs.Seek.{RewindLaw}, proofs.{TakesLemmas.{seeker}, CursorLemmas.{seeks_box, rewind_through}}}
 use Rattle.no_std_io2_base.proofs.impls.dyn_boxes.BoxDynSeekDropSeek.rewind.Goals as goal
 
 pub returns : goal.returns

@@ -1,7 +1,6 @@
 -- What the call did to the value in the box, it did to the box.
 use Rattle.std.proofs.Common.{rules}
-use Rattle.no_std_io2_base.specs.Seek.{SeekLaw}
-use Rattle.no_std_io2_base.proofs.{TakesLemmas.{seeker}, CursorLemmas.{seeks_box, seek_through}}
+use Rattle.no_std_io2_base.{specs.Seek.{SeekLaw}, proofs.{TakesLemmas.{seeker}, CursorLemmas.{seeks_box, seek_through}}}
 use Rattle.no_std_io2_base.proofs.impls.dyn_boxes.BoxDynSeekDropSeek.seek.Goals as goal
 
 pub returns : goal.returns

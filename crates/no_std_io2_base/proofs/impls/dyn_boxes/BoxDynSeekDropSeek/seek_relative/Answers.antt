@@ -1,8 +1,7 @@
 -- What the call did to the value in the box, it did to the box.
 use Rattle.std.proofs.{Common.{rules}, lemmas.Int.{to_z-of_z}}
 use mir.Syntax.{w64}
-use Rattle.no_std_io2_base.specs.Seek.{SeekRelativeLaw}
-use Rattle.no_std_io2_base.proofs.{TakesLemmas.{seeker}, CursorLemmas.{seeks_box, seek_relative_through}}
+use Rattle.no_std_io2_base.{specs.Seek.{SeekRelativeLaw}, proofs.{TakesLemmas.{seeker}, CursorLemmas.{seeks_box, seek_relative_through}}}
 use Rattle.no_std_io2_base.proofs.impls.dyn_boxes.BoxDynSeekDropSeek.seek_relative.Goals as goal
 
 pub returns : goal.returns

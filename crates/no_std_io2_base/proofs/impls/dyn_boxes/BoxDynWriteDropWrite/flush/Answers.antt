@@ -1,7 +1,6 @@
 -- What the call did to the value in the box, it did to the box.
 use Rattle.std.proofs.Common.{rules}
-use Rattle.no_std_io2_base.proofs.Forwards.{lent_call}
-use Rattle.no_std_io2_base.specs.Calls.{Flushed}
+use Rattle.no_std_io2_base.{proofs.Forwards.{lent_call}, specs.Calls.{Flushed}}
 use Rattle.no_std_io2_base.proofs.impls.dyn_boxes.BoxDynWriteDropWrite.flush.Goals as goal
 
 pub returns : goal.returns

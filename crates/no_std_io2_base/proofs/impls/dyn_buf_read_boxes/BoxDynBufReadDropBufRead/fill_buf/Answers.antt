@@ -9,8 +9,7 @@ returns g c =
       (
         refl,
         λ _. tt,
-        loan_box (λ p. reader (o p).Stored (o p).Read) c.args.self.now c.fill_buf.result _ (search rules)
-            c.fill_buf.follows.lender-at-none
+        loan_box (λ p. reader (o p).Stored (o p).Read) c.args.self.now c.fill_buf.result _ (search rules) c.fill_buf.follows.lender-at-none
             c.fill_buf.follows.holds-at-none,
       ),
       record {

@@ -8,6 +8,5 @@ returns g c =
     let o = goal.BufRead-dyn g in
     record {
       law = exact_box (λ p. reader (o p).Stored (o p).Read) c.args.self.now c.deref_box_mut-1.result.now
-          (search rules) c.read_exact.new.self
-          c.read_exact.ensures;
+          (search rules) c.read_exact.new.self c.read_exact.ensures;
     }

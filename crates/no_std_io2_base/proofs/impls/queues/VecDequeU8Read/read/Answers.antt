@@ -14,8 +14,7 @@ returns-clause-law g c =
     let whole : length parts.0.now + length parts.1.now ≡ length all =
     sym (length-append parts.0.now parts.1.now) ∙ ap length c.as_slices.ensures.items in
     let within : n ≤ length parts.0.now = omega arith in
-    let front : take n buf ≡ take n all =
-    ap (take n) c.copy_prefix-n.ensures.copied ∙ take_at _ _ n (length-take-le n parts.0.now within)
+    let front : take n buf ≡ take n all = ap (take n) c.copy_prefix-n.ensures.copied ∙ take_at _ _ n (length-take-le n parts.0.now within)
     ∙ sym (take-append-le n parts.0.now parts.1.now within) ∙ ap (take n) c.as_slices.ensures.items in
     let split = split_at n all front left in
     read_part {left = λ q. q.items} (record { split = split; takes = takes_left all (take n buf) _ split; told = refl }) buf n refl

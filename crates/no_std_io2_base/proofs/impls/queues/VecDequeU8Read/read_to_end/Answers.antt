@@ -1,9 +1,7 @@
 -- Room was made before the reads: the law says the same of the vector with less room.
-use Rattle.std.proofs.{Common.{◌≡◌, ℕ, List, ◌≤◌, ◌++◌, ◌∙◌, Result, Vec, vec_len, vec_capacity}}
-use Rattle.std.proofs.Common.{Ok, Err, inl, inr, ap, arith, le_trans}
-use Rattle.no_std_io2_base.specs.{declared.error.Error.{Error}, Events.{Event, event_bytes}, Takes.{ReaderState}}
-use Rattle.no_std_io2_base.specs.{Takes.{Reader, tells}, Read.{ReadToEndLaw}}
-use Rattle.no_std_io2_base.specs.inner.Read.{DrainsOrStops}
+use Rattle.std.proofs.Common.{◌≡◌, ℕ, List, ◌≤◌, ◌++◌, ◌∙◌, Result, Vec, vec_len, vec_capacity, Ok, Err, inl, inr, ap, arith, le_trans}
+use Rattle.no_std_io2_base.specs.{declared.error.Error.{Error}, Events.{Event, event_bytes}, Takes.{ReaderState, Reader, tells}}
+use Rattle.no_std_io2_base.specs.{Read.{ReadToEndLaw}, inner.Read.{DrainsOrStops}}
 use Rattle.no_std_io2_base.proofs.impls.queues.VecDequeU8Read.read_to_end.Goals as goal
 
 -- how it ended, with a weaker reason for a failed allocation

@@ -1,11 +1,9 @@
 -- A line that is lent whole goes straight to the text. Any other is read into its memory: what was lent is lent once more.
-use Rattle.std.proofs.lemmas.Grind.{common_steps}
-use Rattle.std.proofs.Common.{◌≡◌, ◌≤◌, ◌∙◌, sym, ap, subst, arith, take, drop, length-take-le, string_len, string_bytes, vec_len}
-use Rattle.std.proofs.Common.{IsUtf8}
+use Rattle.std.proofs.{lemmas.Grind.{common_steps}, Common.{◌≡◌, ◌∙◌, sym, ap, arith, take, length-take-le, string_len}}
 use Rattle.std.specs.String.{string_vec}
-use Rattle.no_std_io2_base.specs.{BufRead.{ReadUntilLaw}, Pieces.{newline}, inner.Lines.{AnswersLine}}
-use Rattle.no_std_io2_base.proofs.LineLemmas.{line_law, line_at_once, line_faulted, line_some, memory_grows, memory_text}
-use Rattle.no_std_io2_base.proofs.{PieceLemmas.{until_lent, until_waited}, PieceLoops.{filled_law}, TakesLemmas.{reader}}
+use Rattle.no_std_io2_base.{specs.{BufRead.{ReadUntilLaw}, Pieces.{newline}}, proofs.LineLemmas.{line_law, line_at_once, line_faulted}}
+use Rattle.no_std_io2_base.proofs.{LineLemmas.{line_some, memory_grows, memory_text}, PieceLemmas.{until_lent, until_waited}}
+use Rattle.no_std_io2_base.proofs.{PieceLoops.{filled_law}, TakesLemmas.{reader}}
 use Rattle.no_std_io2_base.proofs.traits.buf_read.BufRead.read_line.Goals.{in-Ok+else-is_whole}
 use Rattle.no_std_io2_base.proofs.traits.buf_read.BufRead.read_line.Goals.{else-is_whole-via-then-is_whole+else-append_text}
 use Rattle.no_std_io2_base.proofs.traits.buf_read.BufRead.read_line.Goals.{else-is_whole-via-else-is_whole, in-Err}
@@ -35,41 +33,31 @@ returns g c =
           let found = w.find_piece-len.ensures in
           elim w.else-is_whole.branch [
             | else-is_whole-via-then-is_whole+else-append_text v ↦
-                let law = subst (λ s. ReadUntilLaw R s newline bytes read.result read.new.buf read.new.self) (w.self-is ∙ v.self-is)
-                read.ensures.law in
+                let law = rw (w.self-is ∙ v.self-is) at read.ensures.law in
                 let some = line_some c.args.buf.now (take w.find_piece-len.result.0 w.in-Ok.lent.now) v.if-append_text.ensures.refused in
                 let long = length-take-le w.find_piece-len.result.0 w.in-Ok.lent.now found.within in
                 (w.buf-is ∙ v.buf-is ∙ v.if-append_text.ensures.same, until_lent law filled (omega (arith, some, found.within, long)))
             | else-is_whole-via-else-is_whole v ↦
-                let law = subst (λ s. ReadUntilLaw R s newline bytes read.result read.new.buf read.new.self) (w.self-is ∙ v.self-is)
-                read.ensures.law in
+                let law = rw (w.self-is ∙ v.self-is) at read.ensures.law in
                 let some = (found.open_ended v.if-is_whole.false).0 in
                 (w.buf-is ∙ v.buf-is, until_lent law filled (omega (arith, some, found.within)))
           ]
       | in-Err w ↦
           let filled = filled_law w.in-Err.is c.fill_buf.ensures.law c.fill_buf.follows.holds-at-none in
-          let law = subst (λ s. ReadUntilLaw R s newline bytes read.result read.new.buf read.new.self) w.self-is read.ensures.law in
+          let law = rw w.self-is at read.ensures.law in
           (w.buf-is, until_waited law filled (sym w.is_interrupted.ensures ∙ w.if-is_interrupted.true))
     ] in
     let text = c.args.buf.now in
     let start : c.len-start.result ≡ string_len text = c.len-start.ensures ∙ ap string_len both.0 in
-    let until = subst (λ v. ReadUntilLaw R c.args.self.now newline v read.result read.new.buf read.new.self)
-    (c.take_bytes-bytes.ensures ∙ ap string_vec both.0) both.1 in
-    record {
-      law = line_law text read.new.buf until
-          (subst (λ n. AnswersLine (drop n read.new.buf.items) read.result c.put_back.result
-          (take n read.new.buf.items) (string_bytes c.put_back.new.buf)) start c.put_back.ensures.answers)
-          c.put_back.ensures.capacity;
-    }
+    let until = rw (c.take_bytes-bytes.ensures ∙ ap string_vec both.0) at both.1 in
+    record { law = line_law text read.new.buf until (rw start at c.put_back.ensures.answers) c.put_back.ensures.capacity }
 
 pub put_back-requires-clause-within : goal.put_back-requires-clause-within
 put_back-requires-clause-within g c =
-    let read = c.read_until-read in
-    subst (λ n. n ≤ vec_len read.new.buf) (sym c.len-start.ensures) (memory_grows c.match-fill_buf.buf read.new.buf _
-    (rw c.take_bytes-bytes.ensures at read.ensures.law.appends))
+    let appends = rw c.take_bytes-bytes.ensures at c.read_until-read.ensures.law.appends in
+    rw c.len-start.ensures (memory_grows c.match-fill_buf.buf c.read_until-read.new.buf _ appends)
 
 pub put_back-requires-clause-text : goal.put_back-requires-clause-text
 put_back-requires-clause-text g c =
-    let read = c.read_until-read in
-    subst (λ n. IsUtf8 (take n read.new.buf.items)) (sym c.len-start.ensures) (memory_text c.match-fill_buf.buf read.new.buf _
-    (rw c.take_bytes-bytes.ensures at read.ensures.law.appends))
+    let appends = rw c.take_bytes-bytes.ensures at c.read_until-read.ensures.law.appends in
+    rw c.len-start.ensures (memory_text c.match-fill_buf.buf c.read_until-read.new.buf _ appends)

@@ -1,7 +1,6 @@
 -- The loop and each of its exits: the list of reads grows at its end, which the search does not do.
 use Rattle.std.proofs.Common.{◌≡◌, Err, arith, rules, refl, sym, ap, ◌∙◌, length, take, take-suc}
-use Rattle.no_std_io2_base.proofs.ReadLoops.{next_end, next_byte, next_byte_fault, took_before}
-use Rattle.no_std_io2_base.proofs.ReadsLemmas.{Reads-none, Reads-again}
+use Rattle.no_std_io2_base.proofs.{ReadLoops.{next_end, next_byte, next_byte_fault, took_before}, ReadsLemmas.{Reads-none, Reads-again}}
 use Rattle.no_std_io2_base.proofs.TakesLemmas.{takes_turns, read_spends, read_law}
 use Rattle.no_std_io2_base.proofs.traits.bytes.BytesIterator.next.Goals as goal
 
@@ -41,9 +40,7 @@ returns-in-Err-2-clause-steps g c =
     (law, fault, takes_turns law.takes, omega (arith, read.takes.turns, takes_turns (took_before before.reads).takes))
 
 pub returns-in-Ok-clause-goes : goal.returns-in-Ok-clause-goes
-returns-in-Ok-clause-goes g c =
-    let turns = takes_turns (took_before c.reads.invariant.reads).takes in search (arith, rules, read_spends)
+returns-in-Ok-clause-goes g c = let turns = takes_turns (took_before c.reads.invariant.reads).takes in search (arith, rules, read_spends)
 
 pub returns-in-Err-2-clause-goes : goal.returns-in-Err-2-clause-goes
-returns-in-Err-2-clause-goes g c =
-    let turns = takes_turns (took_before c.reads.invariant.reads).takes in search (arith, rules)
+returns-in-Err-2-clause-goes g c = let turns = takes_turns (took_before c.reads.invariant.reads).takes in search (arith, rules)

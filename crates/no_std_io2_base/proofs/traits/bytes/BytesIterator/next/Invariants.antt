@@ -1,8 +1,6 @@
 -- All reads so far were interrupted. The reader's turns bound the loop.
 use Rattle.std.proofs.Common.{◌≡◌, [], length, Ok, true}
-use Rattle.no_std_io2_base.specs.inner.Iterators.{bytes_reader}
-use Rattle.no_std_io2_base.specs.inner.Reads.{Reads}
-use Rattle.no_std_io2_base.proofs.{TakesLemmas.{reader}}
+use Rattle.no_std_io2_base.{specs.inner.{Iterators.{bytes_reader}, Reads.{Reads}}, proofs.TakesLemmas.{reader}}
 use Rattle.no_std_io2_base.proofs.traits.bytes.BytesIterator.next.Given as goal
 
 abbrev pub invariant-reads : goal.invariant-reads

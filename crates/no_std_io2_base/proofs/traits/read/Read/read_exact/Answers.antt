@@ -1,8 +1,7 @@
 -- The loop and each of its exits, by the lemmas of loops that fill a buffer.
-use Rattle.std.proofs.Common.{sym, ◌∙◌, arith}
+use Rattle.std.proofs.{Common.{sym, ◌∙◌, arith}, lemmas.Grind.{common_steps}}
 use Rattle.no_std_io2_base.proofs.ReadLoops.{exact_end, exact_fault, full_none, full_read, full_interruption, full_end, full_fault}
-use Rattle.no_std_io2_base.proofs.ReadLoops.{length_is_kept, full_all, exact_all}
-use Rattle.no_std_io2_base.proofs.TakesLemmas.{read_spends}
+use Rattle.no_std_io2_base.proofs.{ReadLoops.{length_is_kept, full_all, exact_all}, TakesLemmas.{read_spends}}
 use Rattle.no_std_io2_base.proofs.traits.read.Read.read_exact.Goals as goal
 
 pub reads-init : goal.reads-init
@@ -16,9 +15,7 @@ returns-in-Ok-eq0 g c =
     record { law = exact_end long full (omega (arith, c.reads-test.true, long, so_far.long)) c.failed_to_fill.ensures }
 
 pub returns : goal.returns
-returns g c =
-    let so_far = c.reads.invariant in
-    record { law = exact_all so_far.long (full_all so_far (omega (arith, c.reads-test.false))) (omega (arith, c.reads-test.false)) }
+returns g c = grind (arith, common_steps, full_all, exact_all)
 
 pub reads-preserved-in-Ok : goal.reads-preserved-in-Ok
 reads-preserved-in-Ok g c = full_read c.reads.invariant c.reads-test.true _ c.read.auto.buf c.in-Ok.ensures.law c.in-Ok.n-test.1

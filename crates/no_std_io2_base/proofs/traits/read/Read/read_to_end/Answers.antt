@@ -48,9 +48,7 @@ pub reads-preserved : goal.reads-preserved
 reads-preserved g c =
     let room = c.open_room.ensures in
     let w = part_was_written c.open_room.new.buf.ok.0 c.deref_mut.ensures.value c.read.auto.buf room.front c.in_ok-open_room.ensures.room in
-    to_end_interruption c.reads.invariant w.some c.in-Err.ensures.law
-    (sym c.is_interrupted.ensures ∙ c.if-is_interrupted.true) w
-    room.grows
+    to_end_interruption c.reads.invariant w.some c.in-Err.ensures.law (sym c.is_interrupted.ensures ∙ c.if-is_interrupted.true) w room.grows
 
 pub reads-smaller-in-Ok : goal.reads-smaller-in-Ok
 reads-smaller-in-Ok g c = read_spends c.in-Ok.ensures.law c.in-Ok.n-test.1

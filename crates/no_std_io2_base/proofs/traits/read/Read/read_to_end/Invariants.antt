@@ -1,6 +1,5 @@
 -- `read_to_end` ends with its reader's turns.
-use Rattle.no_std_io2_base.specs.inner.Read.{IsRoom}
-use Rattle.no_std_io2_base.proofs.{TakesLemmas.{reader}, ToEndLemmas.{ToEndSoFar}}
+use Rattle.no_std_io2_base.{specs.inner.Read.{IsRoom}, proofs.{TakesLemmas.{reader}, ToEndLemmas.{ToEndSoFar}}}
 use Rattle.no_std_io2_base.proofs.traits.read.Read.read_to_end.Given as goal
 
 abbrev pub invariant-reads : goal.invariant-reads

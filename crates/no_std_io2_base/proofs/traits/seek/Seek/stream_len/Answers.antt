@@ -1,8 +1,7 @@
 -- One answer for each end: no position, no end, no way back, and the two ends that return a length.
 use Rattle.std.proofs.{Common.{rules}, lemmas.Result.{err_from_is_err_and}}
-use Rattle.no_std_io2_base.specs.inner.Seek.{no_position, no_end, went_back, no_way_back}
-use Rattle.no_std_io2_base.proofs.{CallsLemmas.{by_call, by_two, by_three}, CursorLemmas.{len_at_end}}
-use Rattle.no_std_io2_base.proofs.traits.seek.Seek.stream_len.Goals.{then-old-end+in_ok-seek, else-old-end}
+use Rattle.no_std_io2_base.{specs.inner.Seek.{no_position, no_end, went_back, no_way_back}, proofs.CallsLemmas.{by_call, by_two, by_three}}
+use Rattle.no_std_io2_base.proofs.{CursorLemmas.{len_at_end}, traits.seek.Seek.stream_len.Goals.{then-old-end+in_ok-seek, else-old-end}}
 use Rattle.no_std_io2_base.proofs.traits.seek.Seek.stream_len.Goals as goal
 
 pub returns-in_err-old : goal.returns-in_err-old

@@ -1,7 +1,6 @@
 -- What is left to go from here is left to go from the start. Each step brings the position nearer.
 use Rattle.std.proofs.Common.{◌≤◌, ◌+◌, ◌-◌}
-use Rattle.no_std_io2_base.specs.inner.Take.{limit_set, limit_position}
-use Rattle.no_std_io2_base.proofs.{LimitLemmas.{LimitGoesOn}, TakesLemmas.{seeker}}
+use Rattle.no_std_io2_base.{specs.inner.Take.{limit_set, limit_position}, proofs.{LimitLemmas.{LimitGoesOn}, TakesLemmas.{seeker}}}
 use Rattle.no_std_io2_base.proofs.traits.take.Take.go_to.Given as goal
 
 abbrev pub invariant-steps : goal.invariant-steps

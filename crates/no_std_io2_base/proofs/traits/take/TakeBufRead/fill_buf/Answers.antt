@@ -2,8 +2,8 @@
 use Rattle.std.proofs.{Common.{Err, arith, refl, sym, ap, ◌∙◌}, lemmas.Grind.{common_steps}, lemmas.Result.{err_from_is_err_and}}
 use Rattle.no_std_io2_base.specs.{inner.Read.{lent_bytes}, inner.Take.{lent_within}}
 use Rattle.no_std_io2_base.proofs.{ReadsLemmas.{begins_nothing}, ReadLoops.{some_bytes}, TakesLemmas.{takes_none}, PieceLoops.{filled_law}}
-use Rattle.no_std_io2_base.proofs.LimitLemmas.{limit_takes, filled_inner, filled_took, take_most, front_cut}
-use Rattle.no_std_io2_base.proofs.LimitLemmas.{some_within, none_within, cut_end, cut_zero, none_at_limit, none_lent, filled_at_limit}
+use Rattle.no_std_io2_base.proofs.LimitLemmas.{limit_takes, filled_inner, filled_took, some_within, cut_zero, none_at_limit, none_lent}
+use Rattle.no_std_io2_base.proofs.LimitLemmas.{filled_at_limit, lends_within}
 use Rattle.no_std_io2_base.proofs.traits.take.TakeBufRead.fill_buf.Goals as goal
 
 pub returns-then-self-eq0 : goal.returns-then-self-eq0
@@ -14,8 +14,7 @@ returns-in_err-available g c =
     let p = err_from_is_err_and c.from_residual.result c.from_residual.ensures.1 in
     let limit = c.args.self.now.limit in
     let after = c.fill_buf.follows.holds-at-none in
-    let call =
-    filled_inner (lent_bytes c.fill_buf.result) (some_bytes _ c.if-self-eq0.false) refl refl
+    let call = filled_inner (lent_bytes c.fill_buf.result) (some_bytes _ c.if-self-eq0.false) refl refl
     (ap lent_bytes (p.1 ∙ ap Err p.2) ∙ sym (ap (λ r. lent_within limit (lent_bytes r)) c.in_err-available.was))
     (filled_law refl c.fill_buf.ensures.law after) in (
       (
@@ -41,18 +40,4 @@ returns-in_err-available g c =
     )
 
 pub returns : goal.returns
-returns g c =
-    grind (
-      arith,
-      common_steps,
-      some_bytes,
-      take_most,
-      filled_inner,
-      filled_law,
-      limit_takes,
-      filled_took,
-      some_within,
-      front_cut,
-      cut_end,
-      none_within,
-    )
+returns g c = grind (arith, common_steps, some_bytes, filled_law, lends_within)

@@ -22,9 +22,6 @@ invariant_of-self g c = record {
   prints = ∥∥₁_map c.args.self.now.prints (λ p. (
     p.0,
     _,
-    (
-      p.2.0,
-      prints_next _ c.is_ok.ensures.value c.if-is_ok.true c.write_all-self.ensures.law c.as_bytes.ensures.value p.2.1,
-    ),
+    (p.2.0, prints_next _ c.is_ok.ensures.value c.if-is_ok.true c.write_all-self.ensures.law c.as_bytes.ensures.value p.2.1),
   ));
 }

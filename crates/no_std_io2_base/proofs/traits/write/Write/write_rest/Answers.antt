@@ -15,8 +15,7 @@ pub writes-preserved-in-Ok : goal.writes-preserved-in-Ok
 writes-preserved-in-Ok g c = grind (arith, common_steps, is_empty, not_empty, writes_more)
 
 pub returns : goal.returns
-returns g c =
-    record { law = writes_done c.writes.invariant (is_empty _ c.writes.rest.now c.is_empty.ensures c.writes-test.false) }
+returns g c = record { law = writes_done c.writes.invariant (is_empty _ c.writes.rest.now c.is_empty.ensures c.writes-test.false) }
 
 pub returns-in-Err-2 : goal.returns-in-Err-2
 returns-in-Err-2 g c =

@@ -1,6 +1,5 @@
 -- What is taken is the front of the held bytes: the search does not split the list.
-use Rattle.no_std_io2.proofs.Words.{take, refl, sym, take-append-drop, ◌∙◌, ap, ◌++◌, reader_held}
-use Rattle.no_std_io2.proofs.BufferedReads.{takes_held, held-le}
+use Rattle.no_std_io2.proofs.{Words.{take, refl, sym, take-append-drop, ◌∙◌, ap, ◌++◌, reader_held}, BufferedReads.{takes_held, held-le}}
 use Rattle.no_std_io2.proofs.buffered.buf_reader.lends.BufReaderBufRead.consume.Goals as goal
 
 pub returns : goal.returns

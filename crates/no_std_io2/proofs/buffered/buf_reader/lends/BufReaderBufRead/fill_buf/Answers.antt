@@ -1,9 +1,8 @@
 -- Held bytes are lent; or a fill failed; or what it gave is lent.
 use Rattle.no_std_io2.proofs.Words.{◌≡◌, ◌<◌, [], Ok, Err, refl, sym, ap, ◌∙◌, arith, length, nil_from_length, err_from_is_err_and, tells}
-use Rattle.no_std_io2.proofs.Words.{reader_held, lent_held, lent_read}
+use Rattle.no_std_io2.{proofs.{Words.{reader_held, lent_held, lent_read}, BufferedReads.{takes_fill}}, specs.inner.Buffer.{buffer_held}}
+use Rattle.no_std_io2.proofs.BufferedReads.{begins_lent, begins_filled, ends_unheld}
 use Rattle.no_std_io2_base.proofs.TakesLemmas.{reader, takes_none, stays_at_end}
-use Rattle.no_std_io2.specs.inner.Buffer.{buffer_held}
-use Rattle.no_std_io2.proofs.BufferedReads.{takes_fill, begins_lent, begins_filled, ends_unheld}
 use Rattle.no_std_io2.proofs.buffered.buf_reader.lends.BufReaderBufRead.fill_buf.Goals as goal
 
 pub returns-then-len-gt0 : goal.returns-then-len-gt0
@@ -38,8 +37,7 @@ returns-then-len-gt0 g c =
 pub returns-in_err-fill : goal.returns-in_err-fill
 returns-in_err-fill g c =
     let p = err_from_is_err_and c.from_residual.result c.from_residual.ensures.1 in
-    let r = c.args.self.now in
-    let held = reader_held r in
+    let held = reader_held c.args.self.now in
     let none : held ≡ [] = nil_from_length held (omega (arith, c.len.ensures.len, c.if-len-gt0.false)) in
     let fill = c.in_err-fill.ensures in
     rw (p.1, p.2) (
@@ -48,17 +46,13 @@ returns-in_err-fill g c =
         λ _. tt,
         record {
           lends = fill.err;
-          takes = takes_fill g.row.S held (Err _) fill.read.takes none fill.err
-              (omega (arith, ap length fill.err));
+          takes = takes_fill g.row.S held (Err _) fill.read.takes none fill.err (omega (arith, ap length fill.err));
           unchanged = λ some. absurd (omega (arith, some, ap length none));
           end = λ empty. absurd (let no : ⊥ = cc in no);
           call = lent_read none fill.read (fill.behind, fill.err);
         },
       ),
-      record {
-        law = record { held = λ some. absurd (omega (arith, some, ap length none)); front = tt; end = tt };
-        after_borrow = tt;
-      },
+      record { law = record { held = λ some. absurd (omega (arith, some, ap length none)); front = tt; end = tt }; after_borrow = tt },
     )
 
 pub returns : goal.returns
@@ -91,8 +85,7 @@ returns g c =
           front = begins_filled c.as_slice-2.result.now takes (begins_lent g.row.S inner is);
           end = λ empty.
               let gone = sym is ∙ empty in
-              stays_at_end takes (ends_unheld g.row.S mid inner gone
-              (fill.read.end (ap Ok gone) r.some_room));
+              stays_at_end takes (ends_unheld g.row.S mid inner gone (fill.read.end (ap Ok gone) r.some_room));
         };
         after_borrow = tt;
       },

@@ -1,10 +1,9 @@
 -- A read, by its ends: out of what was held, past the buffer, a fill that failed, and out of the filled buffer.
-use Rattle.no_std_io2.proofs.Words.{◌≡◌, [], Ok, Err, ◌++◌, length, take, drop, arith, refl, ap, ◌∙◌}
-use Rattle.no_std_io2.proofs.Words.{nil_from_length, err_from_is_err_and, tells, reader_held, went_past, was_filled}
+use Rattle.no_std_io2.proofs.Words.{◌≡◌, [], Ok, Err, ◌++◌, length, take, drop, arith, refl, ap, ◌∙◌, nil_from_length, err_from_is_err_and}
+use Rattle.no_std_io2.{proofs.Words.{tells, reader_held, went_past, was_filled}, specs.inner.Buffer.{buffer_held}}
+use Rattle.no_std_io2.proofs.BufferedReads.{by_held, split_held, by_filled, takes_held, takes_direct, takes_fill, ends_unheld, end_read}
 use Rattle.std.proofs.Math.Seq.{drop-nil}
 use Rattle.no_std_io2_base.proofs.TakesLemmas.{reader, read_law, takes_then}
-use Rattle.no_std_io2.specs.inner.Buffer.{buffer_held}
-use Rattle.no_std_io2.proofs.BufferedReads.{by_held, split_held, by_filled, takes_held, takes_direct, takes_fill, ends_unheld, end_read}
 use Rattle.no_std_io2.proofs.buffered.buf_reader.reads.BufReaderRead.read.Goals as goal
 
 -- out of what was held
@@ -19,8 +18,7 @@ returns-then-len-gt0 g c =
 -- past the buffer
 pub returns-then-buf : goal.returns-then-buf
 returns-then-buf g c =
-    let r = c.args.self.now in
-    let held = reader_held r in
+    let held = reader_held c.args.self.now in
     let none : held ≡ [] = nil_from_length held (omega (arith, c.len.ensures.len, c.if-len-gt0.false)) in
     let read = c.read.ensures.law in
     let clear = c.clear.ensures in
@@ -38,8 +36,7 @@ returns-then-buf g c =
 pub returns-in_err-fill : goal.returns-in_err-fill
 returns-in_err-fill g c =
     let p = err_from_is_err_and c.from_residual.result c.from_residual.ensures.1 in
-    let r = c.args.self.now in
-    let held = reader_held r in
+    let held = reader_held c.args.self.now in
     let none : held ≡ [] = nil_from_length held (omega (arith, c.len.ensures.len, c.if-len-gt0.false)) in
     let fill = c.in_err-fill.ensures in
     rw (p.1, p.2) (record {
@@ -54,8 +51,7 @@ returns-in_err-fill g c =
 -- out of the filled buffer
 pub returns : goal.returns
 returns g c =
-    let r = c.args.self.now in
-    let held = reader_held r in
+    let held = reader_held c.args.self.now in
     let none : held ≡ [] = nil_from_length held (omega (arith, c.len.ensures.len, c.if-len-gt0.false)) in
     let mid = buffer_held c.fill.new.self in
     let fill = c.in_ok-fill.ensures in
@@ -65,8 +61,7 @@ returns g c =
     record {
       law = record {
         bound = omega (arith, is.count, c.give-2.auto.buf);
-        takes = takes_then
-            (takes_fill g.row.S held (Ok mid) fill.read.takes none refl fill.read.bound)
+        takes = takes_then (takes_fill g.row.S held (Ok mid) fill.read.takes none refl fill.read.bound)
             (takes_held g.row.S mid _ (take n shown) _ (split_held n mid shown is.gave is.held) fill.read.bound);
         end = λ zero room.
             let empty : mid ≡ [] = nil_from_length mid (omega (arith, zero, room, is.count, c.give-2.auto.buf)) in

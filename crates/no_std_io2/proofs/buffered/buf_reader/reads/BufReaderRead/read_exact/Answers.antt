@@ -1,6 +1,5 @@
 -- An exact read out of what is held.
-use Rattle.no_std_io2.proofs.Words.{refl, arith}
-use Rattle.no_std_io2.proofs.{BufReaderThrough.{exact_held}, BufferedReads.{same_buffer}}
+use Rattle.no_std_io2.proofs.{Words.{refl, arith}, BufReaderThrough.{exact_held}, BufferedReads.{same_buffer}}
 use Rattle.no_std_io2.proofs.buffered.buf_reader.reads.BufReaderRead.read_exact.Goals as goal
 
 pub returns : goal.returns

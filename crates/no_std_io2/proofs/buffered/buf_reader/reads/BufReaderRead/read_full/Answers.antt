@@ -1,8 +1,7 @@
 -- The loop, as the trait's, and after each of its ends the inner reads, which no search finds.
-use Rattle.no_std_io2.proofs.Words.{Ok, Err, sym, ◌∙◌}
+use Rattle.no_std_io2.proofs.{Words.{Ok, Err, sym, ◌∙◌}, BufReaderThrough.{full_through}}
 use Rattle.no_std_io2_base.proofs.ReadLoops.{full_none, full_read, full_interruption, full_end, full_fault, full_all, length_is_kept}
 use Rattle.no_std_io2_base.proofs.TakesLemmas.{read_spends}
-use Rattle.no_std_io2.proofs.BufReaderThrough.{full_through}
 use Rattle.no_std_io2.proofs.buffered.buf_reader.reads.BufReaderRead.read_full.Goals as goal
 
 pub reads-init : goal.reads-init

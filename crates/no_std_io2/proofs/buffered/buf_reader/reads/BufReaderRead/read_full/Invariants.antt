@@ -1,7 +1,6 @@
 -- `read_full` ends with its reader's turns.
 use Rattle.no_std_io2_base.proofs.{ReadLoops.{FullSoFar}, TakesLemmas.{reader}}
-use Rattle.no_std_io2.specs.inner.BufReader.{reader_turns}
-use Rattle.no_std_io2.proofs.BufferedReads.{buf_reader}
+use Rattle.no_std_io2.{specs.inner.BufReader.{reader_turns}, proofs.BufferedReads.{buf_reader}}
 use Rattle.no_std_io2.proofs.buffered.buf_reader.reads.BufReaderRead.read_full.Given as goal
 
 abbrev pub invariant-reads : goal.invariant-reads

@@ -1,8 +1,7 @@
 -- Sending failed, with bytes still held, or nothing is held, and the inner writer was sought.
 use Rattle.no_std_io2.proofs.Words.{arith, common_steps, err_from_is_err_and, sender_inner, writer_inner, writer_buffer}
 use Rattle.no_std_io2.proofs.{BufWriterLemmas.{no_ok}, BufWriterCalls.{store_refused, store_sought, position_sought, sent_idle, sends_all}}
-use Rattle.no_std_io2.proofs.BufWriterCalls.{seek_failed}
-use Rattle.no_std_io2.specs.inner.BufferSeeks.{went}
+use Rattle.no_std_io2.{proofs.BufWriterCalls.{seek_failed}, specs.inner.BufferSeeks.{went}}
 use Rattle.no_std_io2_base.proofs.CallsLemmas.{writes_whole}
 use Rattle.no_std_io2.proofs.buffered.buf_writer.seeking.BufWriterSeek.seek.Goals as goal
 
