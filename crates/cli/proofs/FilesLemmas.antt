@@ -1,8 +1,7 @@
 -- A program's way through its files: one file more.
-use Rattle.no_std_io2.proofs.Words.{◌≡◌, ℕ, ◌+◌, ◌<◌, Bool, false, List, [], ◌∷◌, ◌++◌, length, take, drop, get_or, Result, Ok, Err}
-use Rattle.no_std_io2.proofs.Words.{sym, ap, ◌∙◌, subst, arith, common_steps, take_more, take-append-drop}
-use Rattle.cli.specs.declared.files.FileFault.{FileFault, TheVariants.{File, Output}}
-use Rattle.cli.specs.Files.{TriesEach, then_done, then_told, StopsAt}
+use Rattle.no_std_io2.proofs.Words.{◌≡◌, ℕ, ◌+◌, ◌<◌, Bool, false, List, [], ◌∷◌, ◌++◌, length, take, drop, get_or, Result, Ok, Err, sym}
+use Rattle.no_std_io2.proofs.Words.{ap, ◌∙◌, subst, arith, common_steps, take_more, take-append-drop}
+use Rattle.cli.specs.{declared.files.FileFault.{FileFault, TheVariants.{File, Output}}, Files.{TriesEach, then_done, then_told, StopsAt}}
 
 module _ {N : Type 0} (names : List N) (i : ℕ) (name : N) (within : i < length names) (is : name ≡ get_or names i name) where
   with_one : take (i + 1) names ≡ take i names ++ name ∷ []

@@ -1,7 +1,6 @@
 -- What a program is asked of itself, and what it tells.
-use Rattle.std.specs.Prelude.{◌≡◌, ℕ, List, ◌++◌, ◌⊎◌, codes, Option, Some, Result, OnErr, OnOk}
-use Rattle.std.specs.{Process.{exit_status}, declared.process.ExitCode.{ExitCode}}
-use Rattle.std.specs.Fmt.{◌++?◌}
+use Rattle.std.specs.{Prelude.{◌≡◌, ℕ, List, ◌++◌, ◌⊎◌, codes, Option, Some, Result, OnErr, OnOk}, Process.{exit_status}}
+use Rattle.std.specs.{declared.process.ExitCode.{ExitCode}, Fmt.{◌++?◌}}
 use Rattle.std.specs.declared.io.Error as Std
 
 -- this word asks for a help or for a version

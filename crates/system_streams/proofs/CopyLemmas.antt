@@ -1,15 +1,14 @@
 -- A copy, piece by piece.
 use Rattle.no_std_io2.proofs.Words.{◌≡◌, ℕ, List, [], ◌∷◌, ◌++◌, ap, ◌∙◌, subst, arith, Ok, Err, Result, Some, None, Option, append-nil}
 use Rattle.no_std_io2.proofs.Words.{inr, ◌⊎◌, Bool, length, length-append, nil_from_length, error_kind, Event, event_bytes, HasNoFault}
-use Rattle.no_std_io2.proofs.Words.{ReaderState}
-use Rattle.no_std_io2.proofs.Words.{to_come, Reader, tells, ReadCall, WriterState, Moves, WriteCall, Flushed, Made, ByCalls, Writer, CallOf}
-use Rattle.no_std_io2.proofs.{BufWriterLemmas.{Moves-bare, level_by_level}, CallsLemmas.{made_more}, CopyLoop.{copied_ok, copied_err}}
-use Rattle.no_std_io2.proofs.{TakesLemmas.{first_fault_taken, may_fail, no_failure, takes_to_end}, Words.{with_buffer, Copied, LevelCalls}}
-use Rattle.no_std_io2.proofs.MovesLemmas.{Moves-then, Moves-ends}
-use Rattle.std.proofs.Common.{IfSome}
-use Rattle.no_std_io2.specs.{declared.io.Error.{Error}, inner.Pieces.{IsAll}, Writers.{FlushOf}, Copy.{SidesCopied}}
-use Rattle.no_std_io2.specs.{inner.Copy.{side_error, HandsOn}, declared.io.CopyError.{CopyError}, inner.Faults.{HasFirstFault, MayFail}}
+use Rattle.no_std_io2.proofs.Words.{ReaderState, to_come, Reader, tells, ReadCall, WriterState, Moves, WriteCall, Flushed, Made, ByCalls}
+use Rattle.no_std_io2.proofs.{Words.{Writer, CallOf, with_buffer, Copied, LevelCalls}, BufWriterLemmas.{Moves-bare, level_by_level}}
+use Rattle.no_std_io2.proofs.{CallsLemmas.{made_more}, CopyLoop.{copied_ok, copied_err}, TakesLemmas.{first_fault_taken, may_fail}}
+use Rattle.no_std_io2.proofs.{TakesLemmas.{no_failure, takes_to_end}, MovesLemmas.{Moves-then, Moves-ends}}
+use Rattle.no_std_io2.specs.{declared.io.Error.{Error}, inner.{Pieces.{IsAll}, Copy.{side_error}}, Writers.{FlushOf}, Copy.{SidesCopied}}
+use Rattle.no_std_io2.specs.{inner.{Copy.{HandsOn}, Faults.{HasFirstFault, MayFail}}, declared.io.CopyError.{CopyError}}
 use Rattle.no_std_io2.specs.Retries.{IsFaultOf}
+use Rattle.std.proofs.Common.{IfSome}
 use Rattle.system_streams.specs.Copies.{CopiesAll, HandsAndFlushes, HandsThrough, BufferCalls}
 
 -- a copy, and then a flush

@@ -1,10 +1,8 @@
 -- What one read takes of the events, as a reader of the system's says it.
-use Rattle.std.proofs.{Common.{arith}, lemmas.Grind.{common_steps}}
+use Rattle.std.{proofs.{Common.{arith}, lemmas.Grind.{common_steps}}, specs.{Prelude.{option_map}, Option.{IfSome}}}
+use Rattle.std.specs.Io.KnownBytes.{Consumes, Keeps, ReadConsumes, IsAtEnd as IsKnownEnd}
 use Rattle.no_std_io2.proofs.Words.{◌≡◌, ℕ, List, [], ◌∷◌, Option, Result, Event, fails, events_of, event_bytes, AreTaken, Reader, tells}
-use Rattle.no_std_io2.proofs.Words.{ReadLaw}
-use Rattle.no_std_io2.proofs.TakesLemmas.{bytes-append, bytes-events_of}
-use Rattle.std.specs.{Prelude.{option_map}, Option.{IfSome}, Io.KnownBytes.{Consumes, Keeps, ReadConsumes, IsAtEnd as IsKnownEnd}}
-use Rattle.no_std_io2.specs.declared.io.Error.{Error}
+use Rattle.no_std_io2.{proofs.{Words.{ReadLaw}, TakesLemmas.{bytes-append, bytes-events_of}}, specs.declared.io.Error.{Error}}
 use Rattle.system_streams.specs.ToStd.{SameAnswer, bytes_to_come}
 use Rattle.std.specs.declared.io.Error as Std
 

@@ -1,9 +1,7 @@
 -- One read of a patient.
-use Rattle.std.proofs.lemmas.Grind.{common_steps}
+use Rattle.std.{proofs.lemmas.Grind.{common_steps}, specs.{Prelude.{min}, Io.KnownBytes.{ReadConsumes}}}
 use Rattle.no_std_io2.proofs.Words.{◌≡◌, ℕ, zero, suc, ◌+◌, ◌<◌, ◌≤◌, List, None, Result, Ok, Err, length, refl, arith, IfOk, ⊤, Reader}
-use Rattle.no_std_io2.proofs.Words.{ReadLaw, answered, []}
-use Rattle.std.specs.{Prelude.{min}, Io.KnownBytes.{ReadConsumes}}
-use Rattle.no_std_io2.specs.{declared.io.Error.{Error}, Takes.{gave_front}}
+use Rattle.no_std_io2.{proofs.Words.{ReadLaw, answered, []}, specs.{declared.io.Error.{Error}, Takes.{gave_front}}}
 use Rattle.system_streams.specs.{declared.{patient.Patient.{Patient}, system.SystemRead.{Ghosts as Source}}, Patient.{patient_device}}
 use Rattle.system_streams.specs.{Patient.{patient_turns, patient_taken, patient_error, PatientReads, Remembers}, Turns.{AnswersRead}}
 use Rattle.system_streams.specs.Turns.{GivesOn}

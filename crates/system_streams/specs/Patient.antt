@@ -1,12 +1,9 @@
 -- What a `Patient` tells.
 use Rattle.std.specs.Prelude.{◌≡◌, ℕ, ◌<◌, ◌-◌, ◌^◌, List, [], ◌++◌, length, Option, None, Some, Ok, Err, Result, IsErrAnd}
 use Rattle.std.specs.Io.KnownBytes.{ReadConsumes}
-use Rattle.no_std_io2.specs.{declared.io.Error.{Error}, declared.io.SeekFrom.{SeekFrom}}
-use Rattle.no_std_io2.specs.declared.io.SeekFrom.TheVariants.{Start, End, Current}
-use Rattle.no_std_io2.specs.Calls.{ReadCall, Gave, SeekCall, Sought, Measured, Moved, WriteCall, Wrote, WroteAll, Flushed}
-use Rattle.no_std_io2.specs.Takes.{gave_front}
-use Rattle.no_std_io2.specs.Moves.{WriterState}
-use Rattle.no_std_io2.specs.Write.{accepted_of}
+use Rattle.no_std_io2.specs.{declared.io.{Error.{Error}, SeekFrom.{SeekFrom, TheVariants.{Start, End, Current}}}, Calls.{ReadCall, Gave}}
+use Rattle.no_std_io2.specs.{Calls.{SeekCall, Sought, Measured, Moved, WriteCall, Wrote, WroteAll, Flushed}, Takes.{gave_front}}
+use Rattle.no_std_io2.specs.{Moves.{WriterState}, Write.{accepted_of}}
 use Rattle.system_streams.specs.declared.{patient.Patient.{Patient}, system.{SystemWrite.{Ghosts as Device}, SystemRead.{Ghosts as Source}}}
 use Rattle.system_streams.specs.{declared.system.SystemSeek.{Ghosts as Place}, Turns.{AnswersFor, AnswersRead, GivesOn, IsOutOfTurns}}
 use Rattle.std.specs.declared.io.Error as Std

@@ -1,8 +1,7 @@
 // [`copy_through`], a copy from a reader to a writer with a buffer at each.
 ghost use Rattle.std.specs.Prelude.{◌≡◌, [], Some, IfSome, IfOk, IsOk, IfErr};
 ghost use Rattle.no_std_io2.specs.Events.{HasNoFault};
-ghost use Rattle.no_std_io2.specs.Takes.{to_come};
-ghost use Rattle.no_std_io2.specs.Takes.{tells};
+ghost use Rattle.no_std_io2.specs.Takes.{to_come, tells};
 ghost use Rattle.no_std_io2.specs.Retries.{IsFaultOf};
 ghost use Rattle.no_std_io2.specs.BufReader.{BufReaderFits};
 ghost use Rattle.system_streams.specs.Copies.{CopiesAll, HandsAndFlushes, HandsThrough};

@@ -1,12 +1,10 @@
 -- Why the program failed, and what it prints then.
-use Rattle.std.specs.Prelude.{◌≡◌, ℕ, List, ◌++◌, codes, Option, Some, String, string_bytes}
-use Rattle.std.specs.Global.{Global}
-use Rattle.std.specs.declared.io.Error as Std
+use Rattle.std.specs.{Prelude.{◌≡◌, ℕ, List, ◌++◌, codes, Option, Some, String, string_bytes}, Global.{Global}}
 use Rattle.no_std_io2.specs.inner.Errors.{error_display}
 use Rattle.cli.specs.{declared.reason.Reason.{Reason}, Reasons.{IsReasonOfEither, reason_text}}
-use Rattle.tar_list.specs.declared.{CopyFault.{CopyFault}, Failure.{Failure}}
-use Rattle.tar_list.specs.declared.CopyFault.TheVariants.{Member as MemberFault, Stream as StreamFault}
+use Rattle.tar_list.specs.declared.{CopyFault.{CopyFault, TheVariants.{Member as MemberFault, Stream as StreamFault}}, Failure.{Failure}}
 use Rattle.tar_list.specs.declared.Failure.TheVariants.{Member, Stream}
+use Rattle.std.specs.declared.io.Error as Std
 
 -- the text of a failure, if it is known: what is wrong with a member stands behind its name
 abbrev pub failure_text : Failure → Option (List ℕ)

@@ -1,18 +1,12 @@
 -- What a list of an archive prints.
 use Rattle.std.specs.Prelude.{◌≡◌, ◌≢◌, ◌⊎◌, ◌<◌, List, ℕ, [], ◌++◌, ⊤, codes, decimal, map, Option, Some, None, Result, Ok, Err, OnOk}
-use Rattle.std.specs.Prelude.{IsErr, IsErrAnd}
-use Rattle.std.specs.List.{concat}
-use Rattle.no_std_io2.specs.{Errors.{SaysError}, declared.io.{Error.{Error}, ErrorKind.{ErrorKind}}}
-use Rattle.no_std_io2.specs.declared.io.ErrorKind.TheVariants.{InvalidInput, NotFound, UnexpectedEof}
-use Rattle.no_std_io2.specs.{Takes.{Reader}, Copy.{Copied}, Writers.{Writer, FlushOf}, declared.io.Take.{Take}, Errors.{IsTextError}}
-use Rattle.no_std_io2.specs.Moves.{WriterState, Moves, MovesFront, call_mishap}
-use Rattle.tar.specs.declared.read.Archive.{Archive}
-use Rattle.tar.specs.declared.header.Header.{Header}
-use Rattle.tar.specs.declared.header.Kind.TheVariants.{Directory}
-use Rattle.tar.specs.Archives.{member_of, with_member, left_of_member}
-use Rattle.tar.specs.Headers.{member_length}
-use Rattle.tar.specs.Members.{ComesTo, FindHeaderLaw}
-use Rattle.tar.specs.Names.{name_bytes}
+use Rattle.std.specs.{Prelude.{IsErr, IsErrAnd}, List.{concat}}
+use Rattle.no_std_io2.specs.{Errors.{SaysError, IsTextError}, declared.io.{Error.{Error}, ErrorKind.{ErrorKind}}}
+use Rattle.no_std_io2.specs.{declared.io.ErrorKind.TheVariants.{InvalidInput, NotFound, UnexpectedEof}, Takes.{Reader}, Copy.{Copied}}
+use Rattle.no_std_io2.specs.{Writers.{Writer, FlushOf}, declared.io.Take.{Take}, Moves.{WriterState, Moves, MovesFront, call_mishap}}
+use Rattle.tar.specs.{declared.{read.Archive.{Archive}, header.{Header.{Header}, Kind.TheVariants.{Directory}}}, Archives.{member_of}}
+use Rattle.tar.specs.{Archives.{with_member, left_of_member}, Headers.{member_length}, Members.{ComesTo, FindHeaderLaw}}
+use Rattle.tar.specs.Blocks.{name_bytes}
 use Rattle.tar_list.specs.declared.CopyFault.{CopyFault, TheVariants.{Member, Stream}}
 
 -- the line of a member: its size and its name

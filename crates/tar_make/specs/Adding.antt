@@ -1,15 +1,15 @@
 -- How a member is added to the archive on standard output, and what is told of it. K are the ghost members of the reader of a file's bytes,
 -- and I those of the output.
-use Rattle.std.specs.Prelude.{◌≡◌, ◌⊎◌, ℕ, Bool, List, [], ◌∷◌, codes, decimal, Option, Some, Result, Ok, Err}
-use Rattle.std.specs.Fmt.{◌++?◌}
+use Rattle.std.specs.{Prelude.{◌≡◌, ◌⊎◌, ℕ, Bool, List, [], ◌∷◌, codes, decimal, Option, Some, Result, Ok, Err, bit_and}, Fmt.{◌++?◌}}
+use Rattle.std.specs.Fs.{metadata_mode, file_type, IsSymlink}
 use Rattle.no_std_io2.specs.{declared.io.{BufWriter.{BufWriter}, Error.{Error}}, Takes.{Reader}, Writers.{Writer}}
 use Rattle.no_std_io2.specs.declared.util.sides.CopyError.{CopyError, TheVariants.{Read, Write}}
-use Rattle.cli.specs.declared.{files.FileFault.{FileFault, TheVariants.{File, Output}}, reason.Reason.{Reason}}
-use Rattle.cli.specs.Reasons.{IsReason}
+use Rattle.cli.specs.{declared.{files.FileFault.{FileFault, TheVariants.{File, Output}}, reason.Reason.{Reason}}, Reasons.{IsReason}}
 use Rattle.system_streams.specs.{declared.patient.Patient.{Patient}, Patient.{IsFresh, patient_error}}
-use Rattle.tar.specs.declared.header.Kind.{Kind}
-use Rattle.tar.specs.{Builders.{AppendsHeader, Finishes, builder_inner}, Says.{IsHeaderOf}, Sides.{AppendsFilled}}
-use Rattle.tar.specs.declared.{write.Builder.{Builder}, header_block.{HeaderBlock.{HeaderBlock}, Metadata.{Metadata}}}
+use Rattle.tar.specs.{declared.header.Kind.{Kind, TheVariants.{Symlink}}, Builders.{AppendsHeader, Finishes, builder_inner}}
+use Rattle.tar.specs.{Says.{IsHeaderOf}, Sides.{AppendsFilled}, declared.{write.Builder.{Builder}, header_block.HeaderBlock.{HeaderBlock}}}
+use Rattle.tar.specs.declared.header_block.Metadata.{Metadata}
+use Rattle.std.specs.declared.fs.attrs.Metadata as Found
 
 -- what a try of a member returned
 abbrev Tried : Type 0
@@ -57,15 +57,16 @@ AddsFile {E = E} {S = S} K I h from old reply to new =
     ((mid : Builder (Patient E) S) × AppendsHeader I h old (Ok tt) mid × AddsBody K I from mid reply to new)
     ⊎ ((e : Error) × BlamesOutput e reply new × AppendsHeader I h old (Err e) new × (to ≡ from))
 
--- the header is of a member of this name
-abbrev pub HasName : List ℕ → HeaderBlock → Type 0
-HasName name h = (kind : Kind) × (target : List ℕ) × (size : ℕ) × (m : Metadata) × IsHeaderOf kind name target size m h
+-- The header is of a member of this name, of which the system said this: it has the twelve bits of its mode, and a link stays one.
+abbrev pub IsHeaderFor : List ℕ → Found.Metadata → HeaderBlock → Type 0
+IsHeaderFor name found h = (kind : Kind) × (target : List ℕ) × (size : ℕ) × (m : Metadata) × IsHeaderOf kind name target size m h
+    × (m.mode ≡ bit_and (metadata_mode found) 0o7777) × (IsSymlink (file_type found) → kind ≡ Symlink)
 
 -- A member of this name was added: a header alone, or a file. Or it was left out, and the archive is as it was.
 abbrev pub AddsMember : {D E : Type 0} {S : ℕ} → Reader (Patient D) → Writer (Patient E) → List ℕ → Builder (Patient E) S
     → Tried → Builder (Patient E) S → Type 0
 AddsMember {D = D} K I name old reply new = (((why : Reason) × (reply ≡ Err (File why))) × (new ≡ old))
-    ⊎ ((h : HeaderBlock) × HasName name h × (AddsHeader I h old reply new
+    ⊎ ((h : HeaderBlock) × (found : Found.Metadata) × IsHeaderFor name found h × (AddsHeader I h old reply new
     ⊎ ((from : Patient D) × (to : Patient D) × IsFresh from × AddsFile K I h from old reply to new)))
 
 -- How the archive was ended, after the members were tried with this result: unless the output had failed, `finish` was called. F are the

@@ -8,11 +8,12 @@
 //! longer, it is cut. The status is 0 if nothing failed, and else 1.
 #![tactic(auto)]
 
-ghost use Rattle.std.specs.Prelude.{◌≡◌, ◌≢◌, Ok, Err, true, IfOk, IfErr, codes};
+ghost use Rattle.std.specs.Prelude.{◌≡◌, ◌≢◌, Ok, Err, true, IfOk, IfErr, bit_and, codes};
+ghost use Rattle.std.specs.Fs.{metadata_mode};
 ghost use Rattle.std.specs.Process.{exit_status};
 ghost use Rattle.cli.specs.About.{TellsLine, error_line};
 ghost use Rattle.cli.specs.Reasons.{reason_text};
-ghost use Rattle.tar_make.specs.Adding.{AddsBody, AddsHeader, AddsFile, AddsMember, EndsAll, HasName, member_fault, progress_text};
+ghost use Rattle.tar_make.specs.Adding.{AddsBody, AddsHeader, AddsFile, AddsMember, EndsAll, IsHeaderFor, member_fault, progress_text};
 
 use cli::{
     FileFault, PerFile, Reason, SystemMessages, SystemOutput, about, each_file, named, report,
@@ -44,7 +45,9 @@ standard output. Of a directory it has the name, and not what is in it.
 const BUFFER: usize = 65536;
 
 // Returns the permissions and the time of a file. A time before 1970 is 1970.
-fn described(found: &fs::Metadata) -> Metadata {
+fn described(found: &fs::Metadata) -> Metadata
+    ensures { result.mode ≡ bit_and (metadata_mode found.now) 0o7777 }
+{
     Metadata {
         mode: found.permissions().mode() & 0o7777,
         mtime: u64::try_from(found.mtime()).unwrap_or(0),
@@ -63,7 +66,7 @@ fn header_or_reason(made: no_std_io2::io::Result<HeaderBlock>) -> Result<HeaderB
 
 // Returns the header of a file, a directory, a symbolic link or a named pipe.
 fn header_of(rt: &HostRuntime, name: &str, found: &fs::Metadata) -> Result<HeaderBlock, Reason>
-    ensures { IfOk result (HasName name.now) }
+    ensures { IfOk result (IsHeaderFor name.now found.now) }
 {
     let metadata = described(found);
     let bytes = name.as_bytes();

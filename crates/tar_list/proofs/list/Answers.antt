@@ -1,6 +1,5 @@
 -- The prover does not find the members that were passed over: each end is a `comes_to` of the last `next`.
-use Rattle.no_std_io2.proofs.Words.{refl, err_from_is_err_and}
-use Rattle.no_std_io2.proofs.MovesLemmas.{Moves-refl, Moves-ends}
+use Rattle.no_std_io2.proofs.{Words.{refl, err_from_is_err_and}, MovesLemmas.{Moves-refl, Moves-ends}}
 use Rattle.tar.proofs.MemberLemmas.{skipping_none, skips_member}
 use Rattle.tar_list.proofs.ListLemmas.{prints_more, lists}
 use Rattle.tar_list.proofs.list.Goals as goal
@@ -25,10 +24,7 @@ pub members-preserved : goal.members-preserved
 members-preserved g c =
     let before = c.members.invariant in
     let more = skips_member before.skipped (rw c.in-Some.is at c.in_ok-header.ensures.law) in
-    record {
-      skipped = more.0;
-      printed = rw more.1 (prints_more _ _ c.in_ok-print_line.was before.printed c.print_line.ensures);
-    }
+    record { skipped = more.0; printed = rw more.1 (prints_more _ _ c.in_ok-print_line.was before.printed c.print_line.ensures) }
 
 pub returns : goal.returns
 returns g c =

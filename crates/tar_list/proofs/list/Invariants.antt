@@ -1,7 +1,6 @@
 -- Members were passed over, and their lines were printed.
 use Rattle.no_std_io2.proofs.{Words.{[], Moves}, TakesLemmas.{reader}}
-use Rattle.tar.specs.Archives.{archive_turns}
-use Rattle.tar.proofs.MemberLemmas.{Skipping}
+use Rattle.tar.{specs.Archives.{archive_turns}, proofs.MemberLemmas.{Skipping}}
 use Rattle.tar_list.specs.Listing.{member_lines}
 use Rattle.tar_list.proofs.list.Given as goal
 

@@ -1,10 +1,9 @@
 -- The prover does not find how the tries join: one more follows those before it (`tries_done`, `tries_told`, `stops_at`).
 use Rattle.no_std_io2.proofs.Words.{arith}
-use Rattle.cli.specs.Files.{none_tried}
+use Rattle.cli.{specs.Files.{none_tried}, proofs.{FilesLemmas.{tries_done, tries_told, stops_at}, files.each_file.Goals.{in-Ok}}}
+use Rattle.cli.proofs.files.each_file.Goals.{in-Err-File}
 use Rattle.std.proofs.Common.{take_all}
-use Rattle.cli.proofs.FilesLemmas.{tries_done, tries_told, stops_at}
 use Rattle.cli.proofs.files.each_file.Goals as goal
-use Rattle.cli.proofs.files.each_file.Goals.{in-Ok, in-Err-File}
 
 pub names-init : goal.names-init
 names-init g c = none_tried

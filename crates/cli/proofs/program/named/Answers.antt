@@ -1,9 +1,6 @@
 -- The prover does not split an option into its cases: whether a word was there.
-use Rattle.std.proofs.Common.{◌≡◌, ℕ, ◌<◌, true, List, ◌++◌, length, drop, Option, Some, None}
-use Rattle.std.proofs.Common.{sym, ap, ◌∙◌, arith}
-use Rattle.std.proofs.lemmas.{List.{nil_from_length}, Grind.{common_steps}}
-use Rattle.std.specs.Prelude.{is_some}
-use Rattle.std.specs.Option.{option_to_list}
+use Rattle.std.proofs.Common.{◌≡◌, ℕ, ◌<◌, true, List, ◌++◌, length, drop, Option, Some, None, sym, ap, ◌∙◌, arith}
+use Rattle.std.{proofs.lemmas.{List.{nil_from_length}, Grind.{common_steps}}, specs.{Prelude.{is_some}, Option.{option_to_list}}}
 use Rattle.std.specs.Vec.Iter.{into_iter_items, into_iter_len}
 use Rattle.cli.proofs.program.named.Goals as goal
 

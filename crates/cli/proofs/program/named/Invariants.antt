@@ -1,6 +1,5 @@
 -- The words that are left follow the names.
-use Rattle.std.proofs.Common.{◌≡◌, ◌++◌, drop}
-use Rattle.std.specs.Vec.Iter.{into_iter_items, into_iter_len}
+use Rattle.std.{proofs.Common.{◌≡◌, ◌++◌, drop}, specs.Vec.Iter.{into_iter_items, into_iter_len}}
 use Rattle.cli.proofs.program.named.Given as goal
 
 abbrev pub invariant-words : goal.invariant-words

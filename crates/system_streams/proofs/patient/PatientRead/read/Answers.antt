@@ -1,7 +1,6 @@
 -- With some room and more than one turn, it is one read of the device.
 use Rattle.no_std_io2.proofs.{Words.{◌<◌, length, arith, rules, Ok, Err}, TextLemmas.{not_empty}}
-use Rattle.system_streams.specs.Patient.{patient_turns}
-use Rattle.system_streams.proofs.PatientLemmas.{asks_once}
+use Rattle.system_streams.{specs.Patient.{patient_turns}, proofs.PatientLemmas.{asks_once}}
 use Rattle.system_streams.proofs.patient.PatientRead.read.Goals as goal
 
 pub returns-in-Ok-eq0-clause-law : goal.returns-in-Ok-eq0-clause-law
