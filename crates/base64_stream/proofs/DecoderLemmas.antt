@@ -1,4 +1,5 @@
 -- What a decoder gives, one step after another, and the law of its `read`.
+use Rattle.no_std_io2.proofs.Words.{common_steps}
 use Rattle.no_std_io2.proofs.Words.{◌≡◌, ℕ, ◌+◌, ◌-◌, ◌*◌, ◌/◌, ◌%◌, ◌<◌, ◌≤◌, min, Bool, true, false, List, [], ◌∷◌, ◌++◌, length, take}
 use Rattle.no_std_io2.proofs.Words.{drop, Option, Some, None, Result, Ok, Err, refl, sym, ap, ap₂, subst, ◌∙◌, arith, inl, inr}
 use Rattle.no_std_io2.proofs.Words.{append_assoc, append-nil, length-append, length-take, length-drop, take-append-drop, nil_from_length}
@@ -7,12 +8,12 @@ use Rattle.no_std_io2.proofs.{Words.{AreTaken, nat_lt, cases_lt, length-take-le}
 use Rattle.no_std_io2.proofs.TakesLemmas.{bytes-append, bytes-behind, events_of-append, length-events_of, takes_none}
 use Rattle.no_std_io2.proofs.ReadsLemmas.{Reads-none, Reads-takes}
 use Rattle.no_std_io2.specs.{declared.io.{Error.{Error}, ErrorKind.TheVariants.{InvalidData}}, inner.Kinds.{error_of}, Reads.{Took}}
-use Rattle.no_std_io2.specs.inner.{Events.{EndsInFault}, Buffer.{AsksOn, HasTo}, Reads.{GathersTo, Reads}}
+use Rattle.no_std_io2.specs.inner.{Buffer.{AsksOn, HasTo}, Reads.{GathersTo, Reads}}
 use Rattle.base64.specs.declared.engine.general_purpose.GeneralPurpose.{GeneralPurpose}
 use Rattle.std.specs.Option.{IfSome, option_map}
-use Rattle.base64_stream.specs.{declared.decoder.DecoderReader.{DecoderReader}, Waiting.{text_items}}
+use Rattle.base64_stream.specs.{declared.decoder.DecoderReader.{DecoderReader}, Held.{GathersText}}
 use Rattle.base64_stream.specs.Decoding.{closed_after, decoded_events, decoded_group, group_events}
-use Rattle.base64_stream.specs.Decoder.{Decodes, goes_on, cut_off, DecoderMay, DecodesFront, FillsWaiting, GathersText, TakesText, said}
+use Rattle.base64_stream.specs.Decoder.{Decodes, goes_on, cut_off, DecoderMay, DecodesFront, FillsWaiting, TakesText}
 use Rattle.base64_stream.specs.Decoder.{decoder_closed, decoder_engine, decoder_events, decoder_gives, decoder_inner, decoder_text}
 use Rattle.base64_stream.specs.Decoder.{decoder_turns, decoder_waiting}
 use Rattle.base64_stream.proofs.DecodingLemmas.{passes_fault, last_group_given, group_given, group_in_front, groups_in_front, text_first}
@@ -29,6 +30,11 @@ abbrev pub AreGroups : ℕ → List ℕ → Type 0
 AreGroups n text = (0 < n) × (n ≤ length text) × (4 ≤ length text → n % 4 ≡ 0) × (length text < 4 → n ≡ length text)
 
 module _ {R : Type 0} (I : Reader R) where
+  -- The text was gathered, and nothing else has changed.
+  abbrev pub Gathers : DecoderReader R → Result Bool Error → DecoderReader R → Type 0
+  Gathers old how new = GathersText I (decoder_inner old) (decoder_text old) how (decoder_inner new) (decoder_text new)
+      × (new.engine ≡ old.engine) × (new.closed ≡ old.closed) × (decoder_waiting new ≡ decoder_waiting old)
+
   -- a decoder, as the laws of its calls see it
   abbrev pub decoder_reader : Reader (DecoderReader R)
   decoder_reader = record {
@@ -82,11 +88,7 @@ module _ {R : Type 0} (I : Reader R) where
 
   -- at most 192 bytes wait
   waiting_most : (r : DecoderReader R) → length (decoder_waiting r) ≤ 192
-  waiting_most r = omega (
-    arith,
-    length-take (r.waiting.end - r.waiting.start) (drop r.waiting.start r.waiting.bytes),
-    r.waiting.within,
-  )
+  waiting_most r = grind (arith, common_steps, length-take, r.waiting.end)
 
   -- and then gives something that does not depend on what comes,
   pub decodes_more : {a b c : DecoderReader R} (P : List Event) → Decodes I a [] b → decoder_inner c ≡ decoder_inner b
@@ -126,60 +128,49 @@ module _ {R : Type 0} (I : Reader R) where
   text_most r = omega (arith, length-take (r.text.end - r.text.start) (drop r.text.start r.text.bytes), r.text.ordered, r.text.in_range)
 
   -- the events that the reads of a group took
-  text_took : (old mid : DecoderReader R) {reply : Result (Unit {0}) Error} (gathers : GathersText I old reply mid)
-      → Took (tells I (decoder_inner old)) gathers.given gathers.how (tells I (decoder_inner mid))
-  text_took old mid gathers = Reads-takes (λ at room asks. omega (arith, asks.0, asks.1)) gathers.how gathers.reads
+  text_took : (old mid : DecoderReader R) {how : Result Bool Error} (gathers : Gathers old how mid)
+      → Took (tells I (decoder_inner old)) gathers.0.given how (tells I (decoder_inner mid))
+  text_took old mid gathers = Reads-takes (λ at room asks. omega (arith, asks.0, asks.1)) _ gathers.0.reads
 
   -- the reader below gave them
-  text_taken : (old mid : DecoderReader R) {reply : Result (Unit {0}) Error} (gathers : GathersText I old reply mid)
+  text_taken : (old mid : DecoderReader R) {how : Result Bool Error} (gathers : Gathers old how mid)
       → TakesText I old (text_took old mid gathers).taken (decoder_inner mid)
-  text_taken old mid gathers = record {
+  text_taken old mid {how} gathers = record {
     takes = (text_took old mid gathers).takes;
-    how = gathers.how;
+    how = how;
     ends = (text_took old mid gathers).ends;
-    reads = subst (λ x. Reads I (AsksOn 256 4 (decoder_text old)) (decoder_inner old) x gathers.how (decoder_inner mid))
-        (sym (text_took old mid gathers).are) gathers.reads;
+    reads = subst (λ x. Reads I (AsksOn 256 4 (decoder_text old)) (decoder_inner old) x how (decoder_inner mid))
+        (sym (text_took old mid gathers).are) gathers.0.reads;
   }
 
   -- and the text grew by their bytes
-  text_grows : (old mid : DecoderReader R) {reply : Result (Unit {0}) Error} (gathers : GathersText I old reply mid)
+  text_grows : (old mid : DecoderReader R) {how : Result Bool Error} (gathers : Gathers old how mid)
       → decoder_text old ++ event_bytes (text_took old mid gathers).taken ≡ decoder_text mid
-  text_grows old mid gathers = ap (λ l. decoder_text old ++ l) (text_took old mid gathers).are ∙ sym gathers.holds
+  text_grows old mid gathers = ap (λ l. decoder_text old ++ l) (text_took old mid gathers).are ∙ sym gathers.0.holds
 
   -- the turns did not rise
-  text_turns : (old mid : DecoderReader R) {reply : Result (Unit {0}) Error} → GathersText I old reply mid
+  text_turns : (old mid : DecoderReader R) {how : Result Bool Error} → Gathers old how mid
       → 257 * I.turns mid.inner + length (decoder_text mid) ≤ 257 * I.turns old.inner + length (decoder_text old)
   text_turns old mid gathers =
       let took = text_took old mid gathers in
-      let grows = text_grows old mid gathers in
       let long = length-append (decoder_text old) (event_bytes took.taken) in
-      omega (arith, took.takes.turns, ap length grows, long, text_most mid, bytes_fewer took.taken)
+      omega (arith, took.takes.turns, ap length (text_grows old mid gathers), long, text_most mid, bytes_fewer took.taken)
 
-  -- without a fault it is one of these
-  gathered : (old mid : DecoderReader R) (gathers : GathersText I old (Ok tt) mid) → (full : Bool) × (gathers.how ≡ Ok full)
-  gathered old mid gathers = go gathers.how gathers.is
-    where
-      go : (how : Result Bool Error) → Ok tt ≡ said how → (full : Bool) × (how ≡ Ok full)
-      go (Ok full) is = (full, refl)
-      go (Err e) is = cc is
-
-  -- and the end came if there is no group
-  ended : (old mid : DecoderReader R) (how : Result Bool Error) (P : List Event) → Ok tt ≡ said how
-      → HasTo 4 how (length (decoder_text mid))
-      → GathersTo P how (tells I (decoder_inner mid))
+  -- no fault came, and if there is no group the end did
+  ended : (mid : DecoderReader R) (full : Bool) (P : List Event) → HasTo 4 (Ok full) (length (decoder_text mid))
+      → GathersTo P (Ok full) (tells I (decoder_inner mid))
       → HasNoFault P × (length (decoder_text mid) < 4 → IsAtEnd (tells I (decoder_inner mid)))
-  ended old mid (Ok true) P is enough ends = (ends, λ short. absurd (omega (arith, short, enough)))
-  ended old mid (Ok false) P is enough ends = (ends.0, λ short. ends.1)
-  ended old mid (Err e) P is enough ends = cc is
+  ended mid true P enough ends = (ends, λ short. absurd (omega (arith, short, enough)))
+  ended mid false P enough ends = (ends.0, λ short. ends.1)
 
   -- characters were read, and nothing is given yet
-  text_read : (old mid : DecoderReader R) → GathersText I old (Ok tt) mid → Decodes I old [] mid
-  text_read old mid gathers =
+  text_read : (old mid : DecoderReader R) {full : Bool} → Gathers old (Ok full) mid → Decodes I old [] mid
+  text_read old mid {full} gathers =
       let took = text_took old mid gathers in
       let P = took.taken in
       let held = events_of (decoder_text old) in
-      let (free, end) = ended old mid gathers.how P gathers.is gathers.enough took.ends in
-      let (engine, closed, waiting) = gathers.keeps in
+      let (free, end) = ended mid full P gathers.0.enough took.ends in
+      let (text, engine, closed, waiting) = gathers in
       goes_on P (text_taken old mid gathers) (λ E. ap₂ (λ w l. events_of w ++ l) (sym waiting)
       (ap (decoded_events old.engine old.closed []) (sym (append_assoc held P E))
       ∙ without_interruptions old.engine old.closed [] (held ++ P) E
@@ -189,26 +180,20 @@ module _ {R : Type 0} (I : Reader R) where
       ∙ ap₂ (λ e c. decoded_events e c [] (events_of (decoder_text mid) ++ E)) (sym engine) (sym closed)))
 
   -- the end came before a group was whole
-  text_ends : (old mid : DecoderReader R) → GathersText I old (Ok tt) mid → length (decoder_text mid) < 4
+  text_ends : (old mid : DecoderReader R) {full : Bool} → Gathers old (Ok full) mid → length (decoder_text mid) < 4
       → IsAtEnd (tells I (decoder_inner mid))
-  text_ends old mid gathers short =
-      (ended old mid gathers.how (text_took old mid gathers).taken gathers.is gathers.enough (text_took old mid gathers).ends).1 short
-
-  -- how a gathering failed
-  failed : (old mid : DecoderReader R) (how : Result Bool Error) (P : List Event) {e : Error} → Err e ≡ said how
-      → HasTo 4 how (length (decoder_text mid))
-      → GathersTo P how (tells I (decoder_inner mid)) → EndsInFault P e × (length (decoder_text mid) < 4)
-  failed old mid (Ok full) P is enough ends = cc is
-  failed old mid (Err f) P {e} is enough ends = let same : f ≡ e = cc is in (subst (λ x. EndsInFault P x) same ends, enough)
+  text_ends old mid {full} gathers short =
+      let took = text_took old mid gathers in (ended mid full took.taken gathers.0.enough took.ends).1 short
 
   -- a fault came before
-  pub refill_fails : (old mid : DecoderReader R) {e : Error} → GathersText I old (Err e) mid → decoder_waiting old ≡ []
+  pub refill_fails : (old mid : DecoderReader R) {e : Error} → Gathers old (Err e) mid → decoder_waiting old ≡ []
       → FillsWaiting I old (Err e) mid
   refill_fails old mid {e} gathers none =
       let took = text_took old mid gathers in
       let P = took.taken in
-      let ((Q, split, free, fault), short) = failed old mid gathers.how P gathers.is gathers.enough took.ends in
-      let (engine_kept, closed_kept, waiting_kept) = gathers.keeps in
+      let (Q, split, free, fault) = took.ends in
+      let short : length (decoder_text mid) < 4 = gathers.0.enough in
+      let (text, engine_kept, closed_kept, waiting_kept) = gathers in
       let idle : decoder_waiting mid ≡ [] = waiting_kept ∙ none in
       let held = events_of (decoder_text old) in
       let chars : event_bytes (held ++ Q) ≡ decoder_text mid =
@@ -233,11 +218,11 @@ module _ {R : Type 0} (I : Reader R) where
       )
 
   -- the end came before a group
-  pub refill_ends : (old mid : DecoderReader R) → GathersText I old (Ok tt) mid → decoder_waiting old ≡ [] → length (decoder_text mid) ≡ 0
-      → FillsWaiting I old (Ok tt) mid
+  pub refill_ends : (old mid : DecoderReader R) {full : Bool} → Gathers old (Ok full) mid → decoder_waiting old ≡ []
+      → length (decoder_text mid) ≡ 0 → FillsWaiting I old (Ok tt) mid
   refill_ends old mid gathers none zero = (
     text_read old mid gathers,
-    omega (arith, text_turns old mid gathers, ap length gathers.keeps.2),
+    omega (arith, text_turns old mid gathers, ap length gathers.3),
     λ idle. (text_ends old mid gathers (omega (arith, zero)), nil_from_length (decoder_text mid) zero),
   )
 
@@ -251,21 +236,17 @@ module _ {R : Type 0} (I : Reader R) where
       ∙ ap (decoded_events engine closed []) (append_assoc (events_of (take n text)) (events_of (drop n text)) E)
 
   -- a refusal changes nothing
-  pub still_gathered : (old mid new : DecoderReader R) (n : ℕ) → GathersText I old (Ok tt) mid → DecodesFront n mid false new
-      → decoder_waiting old ≡ [] → GathersText I old (Ok tt) new
-  still_gathered old mid new n gathers (refused, idle, engine, closed, inner, text) none = record {
-    how = gathers.how;
-    is = gathers.is;
-    given = gathers.given;
-    reads = subst (λ i. Reads I (AsksOn 256 4 (decoder_text old)) (decoder_inner old) gathers.given gathers.how i) (sym inner)
-        gathers.reads;
-    holds = ap text_items text ∙ gathers.holds;
-    enough = subst (λ t. HasTo 4 gathers.how (length (text_items t))) (sym text) gathers.enough;
-    keeps = (engine ∙ gathers.keeps.0, closed ∙ gathers.keeps.1, idle ∙ sym none);
-  }
+  pub still_gathered : (old mid new : DecoderReader R) (n : ℕ) {full : Bool} → Gathers old (Ok full) mid
+      → DecodesFront n mid false new → decoder_waiting old ≡ [] → Gathers old (Ok full) new
+  still_gathered old mid new n {full} (gathers, was, before, waited) (refused, idle, engine, closed, inner, text) none = (
+    rw (inner, text) gathers,
+    engine ∙ was,
+    closed ∙ before,
+    idle ∙ sym none,
+  )
 
   -- the groups were decoded at once
-  pub refill_gives : (old mid new : DecoderReader R) (n : ℕ) → GathersText I old (Ok tt) mid → decoder_waiting mid ≡ []
+  pub refill_gives : (old mid new : DecoderReader R) (n : ℕ) {full : Bool} → Gathers old (Ok full) mid → decoder_waiting mid ≡ []
       → AreGroups n (decoder_text mid) → DecodesFront n mid true new → FillsWaiting I old (Ok tt) new
   refill_gives old mid new n gathers none (some, within, whole, last) (opened, decodes, engine, closed, inner, text) =
       let e = mid.engine in
@@ -303,12 +284,12 @@ module _ {R : Type 0} (I : Reader R) where
       )
 
   -- a group that is refused gives an error
-  pub refill_refuses : (old mid new : DecoderReader R) (n : ℕ) {e : Error} → GathersText I old (Ok tt) mid → decoder_waiting mid ≡ []
-      → 0 < length (decoder_text mid) → n ≡ min (length (decoder_text mid)) 4
+  pub refill_refuses : (old mid new : DecoderReader R) (n : ℕ) {full : Bool} {e : Error} → Gathers old (Ok full) mid
+      → decoder_waiting mid ≡ [] → 0 < length (decoder_text mid) → n ≡ min (length (decoder_text mid)) 4
       → decoded_group mid.engine mid.closed (take n (decoder_text mid)) ≡ [] → decoder_waiting new ≡ []
-      → new.engine ≡ mid.engine → new.closed ≡ mid.closed → new.inner ≡ mid.inner
+      → new.engine ≡ mid.engine → new.closed ≡ mid.closed → decoder_inner new ≡ decoder_inner mid
       → decoder_text new ≡ drop n (decoder_text mid) → e ≡ error_of InvalidData → FillsWaiting I old (Err e) new
-  refill_refuses old mid new n {e} gathers none some first refused idle engine closed inner text error =
+  refill_refuses old mid new n {e = e} gathers none some first refused idle engine closed inner text error =
       let g = mid.engine in
       let c = mid.closed in
       let s = take n (decoder_text mid) in
@@ -369,7 +350,7 @@ module _ {R : Type 0} (I : Reader R) where
   -- some bytes were given, or the end has come
   pub gave_waiting : {old mid new : DecoderReader R} (buf buf' : List ℕ) (n : ℕ) → FillsWaiting I old (Ok tt) mid
       → n ≡ min (length buf') (length (decoder_waiting mid)) → decoder_waiting mid ≡ take n buf' ++ decoder_waiting new
-      → new.inner ≡ mid.inner → decoder_engine new ≡ decoder_engine mid → decoder_closed new ≡ decoder_closed mid
+      → decoder_inner new ≡ decoder_inner mid → decoder_engine new ≡ decoder_engine mid → decoder_closed new ≡ decoder_closed mid
       → decoder_text new ≡ decoder_text mid → ReadLaw decoder_reader old buf (Ok n) buf' new
   gave_waiting {old} {mid} {new} buf buf' n (decodes, turns, end) count split inner engine closed text =
       let x = take n buf' in
@@ -392,7 +373,4 @@ module _ {R : Type 0} (I : Reader R) where
   pub starts_decoding : (r : DecoderReader R) (engine : GeneralPurpose) (E : List Event) → decoder_engine r ≡ engine
       → decoder_closed r ≡ false → decoder_text r ≡ [] → decoder_waiting r ≡ [] → to_come (tells I (decoder_inner r)) ≡ Some E
       → decoder_events (tells I) r ≡ Some (decoded_events engine false [] E)
-  starts_decoding r engine E is opened no_text idle told =
-      ap (option_map (decoder_gives r)) told
-      ∙ ap Some (text_next I r E idle ∙ ap (λ t. decoded_events r.engine r.closed [] (events_of t ++ E)) no_text
-      ∙ ap₂ (λ e c. decoded_events e c [] E) is opened)
+  starts_decoding r engine E is opened no_text idle told = grind (arith, common_steps, text_next)

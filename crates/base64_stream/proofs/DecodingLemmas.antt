@@ -19,10 +19,7 @@ above_is_false a b more = grind (arith, nat_tests)
 
 -- both numbers are larger by three
 same_test : (a b c d : ℕ) → c ≡ 3 + a → d ≡ 3 + b → nat_lt a b ≡ nat_lt c d
-same_test a b c d first second = elim (cases_lt a b) [
-  | inl less ↦ below_is_true a b less ∙ sym (below_is_true c d (omega (arith, less, first, second)))
-  | inr more ↦ above_is_false a b more ∙ sym (above_is_false c d (omega (arith, more, first, second)))
-]
+same_test a b c d first second = grind (arith, common_steps, cases_lt, below_is_true, above_is_false)
 
 -- the bytes of the first group, and the others
 in_one : (first rest x : List ℕ) (E : List Event) → x ≡ first ++ rest → events_of first ++ (events_of rest ++ E) ≡ events_of x ++ E

@@ -21,8 +21,7 @@ module _ {W : Type 0} {S : ℕ} (I : Writer W) where
   -- bytes that do not make the group whole are kept
   pub adds_kept : (old new : EncoderWriter W S) (x : List ℕ) → unfinished new ≡ unfinished old ++ x
       → encoder_writer new ≡ encoder_writer old → encoder_engine new ≡ encoder_engine old → Encodes64 I.told old x new
-  adds_kept old new x group same engine = λ rest.
-      rw (group, same, engine, append_assoc (unfinished old) x rest) refl
+  adds_kept old new x group same engine = grind (arith, common_steps, append_assoc)
 
   -- whole groups were put into the buffer
   pub adds_put : (old new : EncoderWriter W S) (x : List ℕ) → length (unfinished old ++ x) % 3 ≡ 0

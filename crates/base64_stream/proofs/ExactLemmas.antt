@@ -8,7 +8,6 @@ use Rattle.base64.specs.declared.{decode.DecodeError.{DecodeError}, engine.gener
 use Rattle.base64.specs.{GeneralPurpose.{IsBytes, IsStrict, decode_of, encode_of}, Rfc4648.{encode_symbols}}
 use Rattle.base64.proofs.{EngineFacts.{decode_of_strict, encode_of-append, encode_of-nil, front_bytes}, RoundTrip.{length-encode_symbols}}
 use Rattle.no_std_io2.specs.{declared.io.{Error.{Error}, ErrorKind.TheVariants.{InvalidData}}, inner.Kinds.{error_of}, Read.{ReadToEndLaw}}
-use Rattle.std.specs.Option.{IfSome}
 use Rattle.base64_stream.specs.Decoding.{closed_after, decoded_events, decoded_group, group_events, or_no_bytes}
 use Rattle.base64_stream.proofs.DecodingLemmas.{below_is_true, above_is_false, closed_by}
 
@@ -137,8 +136,4 @@ drained_error {e = e} E law told all = elim law.ends [
 -- all that was told was read, without a fault
 pub drained_whole : {X A : Type 0} {R : Reader X} {old new : X} {buf buf' : Vec ℕ A} {n : ℕ} (E : List Event)
     → ReadToEndLaw R old buf (Ok n) buf' new → to_come (tells R old) ≡ Some E → HasNoFault E × (buf'.items ≡ buf.items ++ event_bytes E)
-drained_whole {buf = buf} E law told =
-    let (after, still, split) = left_of law.takes told in
-    let none : after ≡ [] = subst (λ o. IfSome o (λ l. l ≡ [])) still law.ends.1 in
-    let all : E ≡ law.taken = split ∙ ap (λ l. law.taken ++ l) none ∙ append-nil law.taken in
-    (subst HasNoFault (sym all) law.ends.0, law.appends.0 ∙ ap (λ l. buf.items ++ event_bytes l) (sym all))
+drained_whole {buf = buf} E law told = grind (arith, common_steps, left_of, append-nil)

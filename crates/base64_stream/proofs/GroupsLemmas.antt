@@ -1,11 +1,10 @@
 -- What an engine decodes of several groups at once is what it decodes of each of them.
-use Rattle.no_std_io2.proofs.Words.{◌≡◌, ◌⊎◌, ℕ, zero, suc, ◌+◌, ◌*◌, ◌%◌, ◌==◌, ◌<◌, nat_lt, Bool, true, false, List, [], ◌∷◌, ◌++◌}
+use Rattle.no_std_io2.proofs.Words.{◌≡◌, ◌⊎◌, ℕ, zero, suc, ◌+◌, ◌*◌, ◌%◌, ◌==◌, ◌<◌, Bool, false, List, [], ◌∷◌, ◌++◌}
 use Rattle.no_std_io2.proofs.Words.{length, drop, Option, Some, None, Result, Ok, Err, refl, sym, ap, ap₂, ◌∙◌, arith, inl, inr}
 use Rattle.no_std_io2.proofs.Words.{append_assoc, common_steps, length-append, length-take}
 use Rattle.std.specs.Prelude.{slice_index}
 use Rattle.std.proofs.lemmas.Bool.{cases_Bool, eqb-true, ltb-false, ne_eqb}
 use Rattle.base64.specs.declared.{decode.DecodeError.{DecodeError}, engine.DecodePaddingMode.{DecodePaddingMode}}
-use Rattle.base64.specs.declared.engine.DecodePaddingMode.TheVariants.{Indifferent, RequireCanonical, RequireNone}
 use Rattle.base64.specs.{declared.engine.general_purpose.GeneralPurpose.{GeneralPurpose}, GeneralPurpose.{decode_of}}
 use Rattle.base64.specs.Decode.{or_else, symbol_error, group_error, group_bytes, groups_error, groups_bytes, no_leftover}
 use Rattle.base64.specs.Decode.{groups_before_last, lone_error, push_leftover, scan_steps, scan_last, leftover_error, leftover_bytes}
@@ -41,10 +40,7 @@ module _ (dec : List ℕ) where
   IsSymbol s i = (slice_index dec (slice_index s i) == 255) ≡ false
 
   is_symbol : (s : List ℕ) (i : ℕ) → symbol_error dec s i ≡ None → IsSymbol s i
-  is_symbol s i none = elim (cases_Bool (slice_index dec (slice_index s i) == 255)) [
-    | inl bad ↦ cc (rw bad at none)
-    | inr good ↦ good
-  ]
+  is_symbol s i none = grind (arith, common_steps, cases_Bool)
 
   -- four of them
   abbrev AreSymbols : List ℕ → ℕ → Type 0
@@ -94,19 +90,7 @@ module _ (dec : List ℕ) (pad : ℕ) where
   -- what a symbol does to a scan does not depend on its place in the text
   push_elsewhere : (at at' : ℕ) (st next : Leftover) (i b : ℕ) → push_leftover dec pad at st i b ≡ Ok next
       → push_leftover dec pad at' st i b ≡ Ok next
-  push_elsewhere at at' st next i b is = elim (cases_Bool (b == pad)) [
-    | inl padding ↦ elim (cases_Bool (nat_lt i 2)) [
-      | inl early ↦ cc (rw (padding, early) at is)
-      | inr late ↦ rw (padding, late) (rw (padding, late) at is)
-    ]
-    | inr other ↦ elim (cases_Bool (nat_lt 0 st.padding_count)) [
-      | inl after ↦ cc (rw (other, after) at is)
-      | inr before ↦ elim (cases_Bool (slice_index dec b == 255)) [
-        | inl bad ↦ cc (rw (other, before, bad) at is)
-        | inr good ↦ rw (other, before, good) (rw (other, before, good) at is)
-      ]
-    ]
-  ]
+  push_elsewhere at at' st next i b is = grind (arith, common_steps, cases_Bool)
 
   -- nor does a whole scan
   scan_elsewhere : (at at' : ℕ) (st end : Leftover) (i : ℕ) (bs : List ℕ) → scan_steps dec pad at (Ok st) i bs ≡ Ok end
@@ -128,10 +112,7 @@ module _ (dec : List ℕ) (pad : ℕ) where
   -- a last group that is accepted has some bytes
   leftover_some : (at : ℕ) (allow : Bool) (mode : DecodePaddingMode) (st : Leftover) → leftover_error false at allow mode st ≡ None
       → 0 < length (leftover_bytes st)
-  leftover_some at allow mode st none = elim (cases_Bool (nat_lt st.morsels_count 2)) [
-    | inl few ↦ cc (rw few at none)
-    | inr more ↦ omega (arith, ltb-false st.morsels_count 2 more, length-take {A = ℕ})
-  ]
+  leftover_some at allow mode st none = grind (arith, common_steps, cases_Bool, ltb-false, length-take)
 
   -- the last group of a text with a group in front
   suffix_behind : (a b c d : ℕ) (r : List ℕ) (allow : Bool) (mode : DecodePaddingMode) (at to : ℕ) → to ≡ 4 + at → 0 < length r
@@ -154,34 +135,14 @@ module _ (dec : List ℕ) (pad : ℕ) where
 
   -- a symbol is no padding
   no_padding : (b : ℕ) → slice_index dec pad ≡ 255 → (slice_index dec b == 255) ≡ false → (b == pad) ≡ false
-  no_padding b none symbol = elim (cases_Bool (b == pad)) [
-    | inl is ↦ cc (rw (eqb-true b pad is, none) at symbol)
-    | inr other ↦ other
-  ]
+  no_padding b none symbol = grind (arith, common_steps, cases_Bool, eqb-true)
 
   -- four symbols are decoded as a group
   one_group : (a b c d : ℕ) (allow : Bool) (mode : DecodePaddingMode) → slice_index dec pad ≡ 255
       → AreSymbols dec (a ∷ b ∷ c ∷ d ∷ []) 0 → (decode_error dec pad allow mode (a ∷ b ∷ c ∷ d ∷ []) ≡ None)
       × (decoded_bytes dec pad (a ∷ b ∷ c ∷ d ∷ []) ≡ group_bytes dec (a ∷ b ∷ c ∷ d ∷ []) 0)
   unfolding scan_steps groups_error groups_bytes
-  one_group a b c d allow mode none (sa, sb, sc, sd) =
-      let scans : scan_last dec pad 0 (a ∷ b ∷ c ∷ d ∷ []) ≡ Ok (record no_leftover {
-        morsels = slice_index dec a ∷ slice_index dec b ∷ slice_index dec c ∷ slice_index dec d ∷ [];
-        morsels_count = 4;
-        last_symbol = d;
-        last_symbol_value = slice_index dec d;
-      }) =
-      rw (scan_steps, no_padding a none sa, sa, no_padding b none sb, sb, no_padding c none sc, sc, no_padding d none sd, sd) refl in
-      (rw scans (whole_accepted allow mode _ refl refl), rw scans refl)
-    where
-      whole_accepted : (allow : Bool) (mode : DecodePaddingMode) (st : Leftover) → st.padding_count ≡ 0 → st.morsels_count ≡ 4
-          → leftover_error false 0 allow mode st ≡ None
-      whole_accepted true Indifferent st none four = rw four refl
-      whole_accepted true RequireCanonical st none four = rw (none, four) refl
-      whole_accepted true RequireNone st none four = rw (none, four) refl
-      whole_accepted false Indifferent st none four = rw four refl
-      whole_accepted false RequireCanonical st none four = rw (none, four) refl
-      whole_accepted false RequireNone st none four = rw (none, four) refl
+  one_group a b c d allow mode none symbols = grind (arith, common_steps, no_padding)
 
 module _ (e : GeneralPurpose) where
   -- a text without an error has none in its groups and none in its last group

@@ -3,15 +3,10 @@ use Rattle.std.specs.Prelude.{◌≡◌, ℕ, ◌+◌, ◌*◌, ◌/◌, ◌<◌
 use Rattle.std.specs.{Prelude.{Result, Ok, Err}, Option.{option_map}}
 use Rattle.base64.specs.{declared.engine.general_purpose.GeneralPurpose.{GeneralPurpose}, GeneralPurpose.{decode_of}}
 use Rattle.no_std_io2.specs.{declared.io.Error.{Error}, Events.{Event, fails, events_of, event_bytes}, Calls.{ReadCall, Gave}}
-use Rattle.no_std_io2.specs.{Takes.{ReaderState, Takes, to_come, IsAtEnd, Reader, tells, answered}, inner.Buffer.{AsksOn, HasTo}}
+use Rattle.no_std_io2.specs.{Takes.{ReaderState, Takes, to_come, IsAtEnd, Reader, tells, answered}, inner.Buffer.{AsksOn}}
 use Rattle.no_std_io2.specs.inner.Reads.{GathersTo, Reads}
-use Rattle.base64_stream.specs.{declared.decoder.DecoderReader.{DecoderReader}, Waiting.{text_items, waiting_items}}
+use Rattle.base64_stream.specs.{declared.decoder.DecoderReader.{DecoderReader}, Held.{text_items, waiting_items}}
 use Rattle.base64_stream.specs.Decoding.{decoded_events, decoded_group}
-
--- the result of reads that ended like this
-abbrev pub said : Result Bool Error → Result (Unit {0}) Error
-said (Ok full) = Ok tt
-said (Err e) = Err e
 
 module _ {R : Type 0} where
   -- the reader below
@@ -67,20 +62,6 @@ module _ {R : Type 0} where
   abbrev pub DecoderMay : Reader R → DecoderReader R → ReadCall → DecoderReader R → Type 0
   DecoderMay I old (Gave room answer) new = Decodes I old (answered answer) new
   DecoderMay I old _ new = ⊥
-
-  -- the engine, what waits, and whether the text is closed have not changed
-  abbrev pub KeepsState : DecoderReader R → DecoderReader R → Type 0
-  KeepsState old new = (new.engine ≡ old.engine) × (new.closed ≡ old.closed) × (decoder_waiting new ≡ decoder_waiting old)
-
-  -- Reads went on until the text had four characters, or up to the end or a fault.
-  pub record GathersText (I : Reader R) (old : DecoderReader R) (reply : Result (Unit {0}) Error) (new : DecoderReader R) : Type 0 where
-    pub how : Result Bool Error
-    pub is : reply ≡ said how
-    pub given : List ℕ
-    pub reads : Reads I (AsksOn 256 4 (decoder_text old)) (decoder_inner old) given how (decoder_inner new)
-    pub holds : decoder_text new ≡ decoder_text old ++ given
-    pub enough : HasTo 4 how (length (decoder_text new))
-    pub keeps : KeepsState old new
 
   -- the first n characters of the text are a group that is refused, and nothing has changed; or all of them were decoded at once, and their
   -- bytes wait

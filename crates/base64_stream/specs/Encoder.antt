@@ -3,7 +3,7 @@ use Rattle.std.specs.Prelude.{◌≡◌, ℕ, Bool, List, [], ◌++◌, Result}
 use Rattle.base64.specs.{declared.engine.general_purpose.GeneralPurpose.{GeneralPurpose}, GeneralPurpose.{encode_of}}
 use Rattle.no_std_io2.specs.{declared.io.{Error.{Error}, BufWriter.{BufWriter}}, Moves.{WriterState, told_out}, inner.Write.{told_over}}
 use Rattle.no_std_io2.specs.{Writers.{Writer}, BufWriter.{writer_inner, writer_buffer, writer_told, Puts}}
-use Rattle.base64_stream.specs.{declared.encoder.EncoderWriter.{EncoderWriter}, Group.{group_items}}
+use Rattle.base64_stream.specs.{declared.encoder.EncoderWriter.{EncoderWriter}, Held.{group_items}}
 
 module _ {W : Type 0} {S : ℕ} where
   -- the buffer with the text that waits, in front of the writer below

@@ -1,5 +1,4 @@
-pub mod Group
-pub mod Waiting
+pub mod Held
 pub mod Encoder
 pub mod Finish
 pub mod Decoding

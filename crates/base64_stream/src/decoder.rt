@@ -8,7 +8,7 @@ ghost use Rattle.no_std_io2.specs.Read.{ReadLaw};
 ghost use Rattle.no_std_io2.specs.Takes.{tells};
 ghost use Rattle.no_std_io2.specs.Events.{events_of};
 ghost use Rattle.no_std_io2.specs.Takes.{to_come};
-ghost use Rattle.base64_stream.specs.Decoder.{DecoderMay, DecodesFront, FillsWaiting, GathersText, decoder_closed, decoder_engine};
+ghost use Rattle.base64_stream.specs.Decoder.{DecoderMay, DecodesFront, FillsWaiting, decoder_closed, decoder_engine};
 ghost use Rattle.base64_stream.specs.Decoder.{decoder_events};
 ghost use Rattle.base64_stream.specs.Decoder.{decoder_inner, decoder_text, decoder_turns, decoder_waiting};
 
@@ -77,21 +77,6 @@ impl<R: Read> DecoderReader<R> {
         }
     }
 
-    // Reads until there are four characters, or up to the end.
-    fn gather(&mut self) -> Result<()>
-        ensures { GathersText R.Read self.old result self.new }
-    {
-        'reads: while self.text.len() < 4 {
-            match self.text.read_on(&mut self.inner) {
-                Ok(0) => return Ok(()),
-                Ok(_) => {}
-                Err(e) if e.is_interrupted() => {}
-                Err(e) => return Err(e),
-            }
-        }
-        Ok(())
-    }
-
     // Decodes the first `n` characters at once. If the engine does not take them, it returns `false`, and they are kept.
     fn decode(&mut self, n: usize) -> bool
         requires within { n ≤ length (decoder_text self.old) }
@@ -117,7 +102,7 @@ impl<R: Read> DecoderReader<R> {
         requires { decoder_waiting self.old ≡ [] }
         ensures { FillsWaiting R.Read self.old result self.new }
     {
-        self.gather()?;
+        self.text.gather(&mut self.inner)?;
         let held = self.text.len();
         if held == 0 {
             return Ok(());

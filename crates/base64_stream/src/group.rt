@@ -11,7 +11,7 @@ pub(crate) struct Group<const S: usize> {
 }
 
 impl<const S: usize> Group<S> {
-    ghost use Rattle.base64_stream.specs.Group.{group_items};
+    ghost use Rattle.base64_stream.specs.Held.{group_items};
 
     pub(crate) fn new() -> Group<S>
         requires { 4 < S }

@@ -15,7 +15,7 @@ pub(crate) struct Text {
 }
 
 impl Text {
-    ghost use Rattle.base64_stream.specs.Waiting.{text_items};
+    ghost use Rattle.base64_stream.specs.Held.{GathersText, text_items};
 
     pub(crate) fn new() -> Text
         ensures { text_items result ≡ [] }
@@ -71,5 +71,20 @@ impl Text {
             }
             Err(e) => Err(e),
         }
+    }
+
+    // Reads until there are four characters, and returns `true`, or up to the end. Interruptions are ignored.
+    pub(crate) fn gather<R: Read>(&mut self, from: &mut R) -> Result<bool>
+        ensures { GathersText R.Read from.old (text_items self.old) result from.new (text_items self.new) }
+    {
+        'reads: while self.len() < 4 {
+            match self.read_on(from) {
+                Ok(0) => return Ok(false),
+                Ok(_) => {}
+                Err(e) if e.is_interrupted() => {}
+                Err(e) => return Err(e),
+            }
+        }
+        Ok(true)
     }
 }

@@ -16,7 +16,7 @@ pub(crate) struct Waiting {
 }
 
 impl Waiting {
-    ghost use Rattle.base64_stream.specs.Waiting.{waiting_items};
+    ghost use Rattle.base64_stream.specs.Held.{waiting_items};
 
     pub(crate) fn new() -> Waiting
         ensures { waiting_items result ≡ [] }

@@ -1,5 +1,5 @@
 -- One line more, in a loop that passes lines on to a writer.
-use Rattle.no_std_io2.proofs.Words.{◌≡◌, ◌<◌, ◌≤◌, ◌+◌, ℕ, List, [], ◌∷◌, ◌++◌, Result, Ok, Err, refl, subst, arith, Vec}
+use Rattle.no_std_io2.proofs.Words.{common_steps, ◌≡◌, ◌<◌, ◌≤◌, ◌+◌, ℕ, List, [], ◌∷◌, ◌++◌, Result, Ok, Err, subst, arith, Vec}
 use Rattle.no_std_io2.proofs.Words.{concat, length-append, append-nil, event_bytes, newline, Reader, tells, ReaderState, WriterState}
 use Rattle.no_std_io2.proofs.Words.{MovesFront}
 use Rattle.std.proofs.lemmas.List.Folds.{concat-append}
@@ -11,8 +11,7 @@ use Rattle.examples.specs.Lines.{LinesPassed, PassesLines, StopsWriting, StopsAt
 
 -- before the first line
 pub passed_none : (wanted : ℕ) (t : ReaderState) (told : WriterState) → LinesPassed wanted 0 t t told told
-passed_none wanted t told =
-    record { lines = []; gives = pieces_none newline t; count = refl; within = omega arith; moves = Moves-refl told }
+passed_none wanted t told = grind (arith, common_steps, pieces_none, Moves-refl)
 
 module _ {X A : Type 0} {R : Reader X} {wanted n : ℕ} {old : ReaderState} {a b : WriterState} {mid new : X}
     {buf buf' : Vec ℕ A} (before : LinesPassed wanted n old (tells R mid) a b) where

@@ -33,8 +33,7 @@ module _ {X : Type 0} {R : Reader X} {old now after : X} (before : RecordsTaken 
 
   -- the end came
   pub records_end : FilledLaw R now (Ok []) after → SkipsRecords R old (Ok tt) after
-  records_end filled =
-      (before.xs, before.records, rw (sym (append-nil before.xs)) (Took-then before.took (Took-end filled.takes (filled.end refl))))
+  records_end filled = grind (arith, common_steps, append-nil, Took-then, Took-end, filled.end)
 
   -- a fault came
   pub records_fault : {e : Error} → FilledLaw R now (Err e) after → IsFault e → SkipsRecords R old (Err e) after

@@ -1,14 +1,14 @@
 -- Sums of bytes, and what was summed up so far.
-use Rattle.no_std_io2.proofs.Words.{◌^◌, Ok, refl, sum, Reader, ReadCall, Gave, GaveAll, Filled, ReadCallLaw, ◌≡◌, ◌+◌, ◌%◌, ℕ, List, []}
+use Rattle.no_std_io2.proofs.Words.{common_steps, ◌^◌, Ok, refl, sum, Reader, ◌≡◌, ◌+◌, ◌%◌, ℕ, List, []}
 use Rattle.no_std_io2.proofs.{Words.{◌++◌, ◌<◌, ◌≤◌, true, false, arith, Bool, Err, inl, inr, length, subst, event_bytes}}
-use Rattle.no_std_io2.proofs.{CallsAdd.{Joins, joins_modulo, EachAdds}}
+use Rattle.no_std_io2.proofs.{CallsAdd.{Joins, joins_modulo}}
 use Rattle.no_std_io2.proofs.{ReadsLemmas.{fetches_none, fetches_then, fetches_reads, fetches_until}}
 use Rattle.no_std_io2.proofs.ReadsLemmas.{fetches_end, fetches_fault}
 use Rattle.no_std_io2.specs.{declared.io.Error.{Error}, inner.Writers.{OfObject}, Read.{ReadFullLaw}, Reads.{Fetches}}
 use Rattle.std.proofs.lemmas.List.Sums.{sum_by-append}
-use Rattle.no_std_io2.specs.{Calls.{GaveExactly}, Write.{CallAdds, RestAdds}}
+use Rattle.no_std_io2.specs.Write.{CallAdds, RestAdds}
 use Rattle.no_std_io2.proofs.{Words.{◌∙◌, append-nil, ap, sym, Result, WroteAll}, BufWriterLemmas.{AddsThrough}}
-use Rattle.examples.specs.{declared.summed.Summed.{Summed}, Summed.{summed_sum, Sums, ReadSums}}
+use Rattle.examples.specs.{declared.summed.Summed.{Summed}, Summed.{summed_sum, Sums}}
 
 -- A sum of no bytes is nothing, and a sum of bytes and then others is that of both.
 
@@ -30,18 +30,6 @@ sums_sent a m b x held left last none (accepted, front, whole, through) (rest, s
 -- the sum of the stream that a result has
 pub same_sum : {W E : Type 0} {x y : Summed W} → (let r : Result (Summed W) E = Ok x in r ≡ Ok y) → summed_sum x ≡ summed_sum y
 same_sum same = cc
-
--- each read adds what it gave
-pub reads_sum : {X : Type 0} (R : Reader (Summed X)) → ((a b : Summed X) (call : ReadCall) → R.may a call b → ReadSums a call b)
-    → EachAdds (ReadCallLaw R) Sums
-reads_sum R sums = record {
-  joins = sums_join;
-  gave = λ a b room answer law. sums a b (Gave room answer) law.call;
-  exactly = λ a b room answer law. absurd (sums a b (GaveExactly room answer) law.0);
-  all = λ a b x answer law. absurd (sums a b (GaveAll x answer) law.0);
-  lent = λ a b answer law. absurd (sums a b (Filled answer) law.call);
-  took = λ a b c x n law next within. absurd (sums a b (Filled (Ok x)) law.call);
-}
 
 -- What was summed up so far.
 
@@ -74,10 +62,7 @@ module _ {X : Type 0} {R : Reader X} {a b : X} {buf buf' : List ℕ} {n : ℕ} w
   -- the calls of a `read_full` that filled the buffer
   pub fetched_full : {u : Unit {0}} (law : ReadFullLaw R a buf 0 (Ok u) buf' n b) → length buf ≤ n
       → Fetches R a (event_bytes law.taken) (Ok true) b
-  fetched_full law full = elim law.calls.are [
-    | inl whole ↦ fetches_reads whole.0 b law.calls.made
-    | inr end ↦ absurd (omega (arith, law.counts, full, end.3.0, end.3.1))
-  ]
+  fetched_full law full = grind (arith, common_steps, fetches_reads)
 
   -- of one that met the end
   pub fetched_end : {u : Unit {0}} (law : ReadFullLaw R a buf 0 (Ok u) buf' n b) → n < length buf

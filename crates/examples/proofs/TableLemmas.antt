@@ -1,7 +1,7 @@
 -- One row more, and what became of a text that was printed to an object.
 use Rattle.no_std_io2.proofs.Words.{◌≡◌, ℕ, ◌+◌, ◌<◌, ◌≤◌, ◌^◌, List, [], ◌++◌, length, take, get_or, Some, Ok, Err, inl, inr, ⊎_elim}
-use Rattle.no_std_io2.proofs.Words.{subst, arith, take_more, Option, Result}
-use Rattle.no_std_io2.proofs.Words.{WriterState, Moves, MovesFront, sym, append-nil, length-append, told_out, with_buffer}
+use Rattle.no_std_io2.proofs.Words.{common_steps, subst, arith, take_more, Option, Result}
+use Rattle.no_std_io2.proofs.Words.{WriterState, Moves, sym, append-nil, length-append, told_out, with_buffer}
 use Rattle.std.proofs.lemmas.Fmt.{length-decimal-le}
 use Rattle.no_std_io2.specs.{declared.io.Error.{Error}, inner.Text.{PrintsOrRefuses, PrintsShort}}
 use Rattle.no_std_io2.proofs.{MovesLemmas.{MovesFront-whole, MovesFront-all, MovesFront-next, MovesFront-stop}, TextLemmas.{prints_fitting}}
@@ -23,9 +23,7 @@ module _ (rows : List (ℕ × ℕ)) (i : ℕ) (within : i < length rows) {a b c 
   -- one row more was accepted
   pub row_more : {u : Unit {0}} → PrintsShort 32 b (Some (row_text (get_or rows i (0, 0)))) (Ok u) c
       → Moves a (table (take (i + 1) rows)) [] c
-  row_more {u} prints = MovesFront-whole (table (take (i + 1) rows)) tt
-      (MovesFront-next row_text rows i (0, 0) within (MovesFront-all so_far)
-      (subst (λ l. MovesFront b l (Ok u) c) prints.is prints.moves))
+  row_more {u} prints = grind (arith, common_steps, MovesFront-whole, MovesFront-next, MovesFront-all)
 
   -- or it was not
   pub row_stops : {e : Error} → (get_or rows i (0, 0)).0 < 2 ^ 32 → (get_or rows i (0, 0)).1 < 2 ^ 32

@@ -1,11 +1,11 @@
 -- What a tee tells, from what its two writers tell.
-use Rattle.no_std_io2.proofs.Words.{◌≡◌}
-use Rattle.std.proofs.Common.{ℕ, ◌+◌, ◌≤◌, List, [], ◌∷◌, ◌++◌, length, take, arith, sym, subst}
+use Rattle.no_std_io2.proofs.Words.{common_steps, ◌≡◌}
+use Rattle.std.proofs.Common.{ℕ, ◌+◌, ◌≤◌, List, [], ◌∷◌, ◌++◌, length, take, arith}
 use Rattle.std.specs.Prelude.{None, count_by, Ok, Err}
 use Rattle.std.proofs.lemmas.List.{append-nil}
 use Rattle.no_std_io2.specs.{Moves.{WriterState, Moves}, inner.Kinds.{is_interruption}}
 use Rattle.no_std_io2.specs.declared.io.{ErrorKind.{ErrorKind}}
-use Rattle.no_std_io2.specs.{Write.{WriteLaw, CallAdds}, inner.Write.{zero_write}}
+use Rattle.no_std_io2.specs.{Write.{WriteLaw, CallAdds}}
 use Rattle.no_std_io2.proofs.{MovesLemmas.{Moves-trans}, CallsAdd.{write_law_by, zero_none}}
 use Rattle.std.proofs.lemmas.List.{take-take, length-take}
 use Rattle.no_std_io2.specs.BufWriter.{writer_told}
@@ -35,27 +35,10 @@ pub tee_wrote : {A B : Type 0} {S : ℕ} (a : A → WriterState) (b : B → Writ
     → Moves mid x [] (writer_told b new.second) → x ≡ take n buf
     → WriteLaw (tee_told a b) (λ _. ⊥) (CallAdds (BothAdd a b)) old buf (Ok n) new
 tee_wrote a b {old} {new} mid {k} n most buf {x} within first room second is =
-    let long = length-take most buf in
-    let small : n ≤ most = omega arith in
-    let bound : n ≤ length buf = omega arith in
-    let same = take-take n most buf small in
-    let both = Moves-trans room second in
-    let given : Moves (writer_told b old.second) (take n buf) [] (writer_told b new.second) =
-    subst (λ y. Moves (writer_told b old.second) y [] (writer_told b new.second)) is both in
-    let no_turn = zero_none n buf in
-    let turns : (a new.first).turns + (writer_told b new.second).turns + count_by is_interruption (zero_write n buf)
-    ≤ (a old.first).turns + (writer_told b old.second).turns = omega (arith, first.turns, given.turns, no_turn) in
-    let ones : accepted_bytes (a new.first) ≡ accepted_bytes (a old.first) ++ take n buf =
-    subst (λ y. accepted_bytes (a new.first) ≡ accepted_bytes (a old.first) ++ y) same (accepts first) in
-    write_law_by {Adds = BothAdd a b} bound (tee_moves (a old.first) (a new.first) given turns) (ones, accepts given)
+    grind (arith, common_steps, length-take, take-take, Moves-trans, zero_none, accepts, write_law_by, tee_moves)
 
 -- No room could be made in the second.
 pub tee_full : {A B : Type 0} {S : ℕ} (a : A → WriterState) (b : B → WriterState) {old new : Tee A B S} (e : Error) (buf : List ℕ)
     → new.first ≡ old.first → Moves (writer_told b old.second) [] (error_kind e ∷ []) (writer_told b new.second)
     → WriteLaw (tee_told a b) (λ _. ⊥) (CallAdds (BothAdd a b)) old buf (Err e) new
-tee_full a b {old} {new} e buf same room =
-    let turns : (a new.first).turns + (writer_told b new.second).turns + count_by is_interruption (error_kind e ∷ [])
-    ≤ (a old.first).turns + (writer_told b old.second).turns = rw same (omega (arith, room.turns)) in
-    let ones : accepted_bytes (a new.first) ≡ accepted_bytes (a old.first) ++ [] = rw same
-    (sym (append-nil (accepted_bytes (a old.first)))) in
-    write_law_by {Adds = BothAdd a b} tt (tee_moves (a old.first) (a new.first) room turns) (ones, accepts room)
+tee_full a b {old} {new} e buf same room = grind (arith, common_steps, append-nil, write_law_by, tee_moves, accepts)

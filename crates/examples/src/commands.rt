@@ -1,8 +1,7 @@
-//! Commands, each with its end behind it: bytes up to a delimiter, or a line of text. [`read_whole`] reads a store.
-ghost use Rattle.std.specs.Prelude.{◌≡◌, ◌++◌, ◌∷◌, [], ℕ, List, Some, IfErr, IfOk, IfSome, IsSomeAnd, IsUtf8, string_bytes};
+//! Commands, each with its end behind it: bytes up to a delimiter. [`read_whole`] reads a store.
+ghost use Rattle.std.specs.Prelude.{◌≡◌, ◌++◌, ◌∷◌, [], ℕ, List, Some, IfErr, IfOk, IfSome, IsSomeAnd};
 ghost use Rattle.no_std_io2.specs.Errors.{IsOutOfMemory};
 ghost use Rattle.no_std_io2.specs.Events.{Event, events_of};
-ghost use Rattle.no_std_io2.specs.Pieces.{newline};
 ghost use Rattle.no_std_io2.specs.Reads.{TakesBytes};
 ghost use Rattle.no_std_io2.specs.Takes.{tells, to_come};
 ghost use Rattle.no_std_io2.specs.inner.Pieces.{Lacks};
@@ -27,22 +26,6 @@ pub fn read_command<B: BufRead>(alloc: Global, r: &mut B, end: u8) -> Result<Vec
     let mut command = Vec::new(alloc);
     r.read_until(end, &mut command)?;
     Ok(command)
-}
-
-/// Reads a line, and returns it with its newline. At the end of the reader that may be missing.
-///
-/// # Errors
-/// Returns the errors of a `read_line`. The line, or some first bytes of it, may be taken then.
-pub fn read_text<B: BufRead>(alloc: Global, r: &mut B) -> Result<String>
-    // If a line is known to come next, and is UTF-8, it is returned, unless an allocation failed.
-    ensures back { (line : List ℕ) → (rest : List Event) → Lacks newline line → IsUtf8 (line ++ newline ∷ [])
-        → to_come (tells B.Read r.old) ≡ Some (events_of (line ++ newline ∷ []) ++ rest)
-        → IfOk result (λ s. (string_bytes s ≡ line ++ newline ∷ []) × (to_come (tells B.Read r.new) ≡ Some rest))
-        × IfErr result IsOutOfMemory }
-{
-    let mut text = String::new(alloc);
-    r.read_line(alloc, &mut text)?;
-    Ok(text)
 }
 
 /// Reads the whole of a store, such as a file, and goes back to its start.

@@ -1,5 +1,6 @@
 // [`FlashFile`], a reader with a store: a content, and a position in it that can be moved.
-ghost use Rattle.std.specs.Prelude.{◌≡◌, ◌<◌, ℕ, List, length, drop, slice_index};
+ghost use Rattle.std.specs.Prelude.{◌≡◌, ◌<◌, ℕ, List, Some, length, drop, slice_index};
+ghost use Rattle.no_std_io2.specs.Events.{events_of};
 ghost use Rattle.no_std_io2.specs.Takes.{store_at};
 
 use no_std_io2::io::{Read, Result, Seek, SeekFrom, Stored};
@@ -34,6 +35,8 @@ impl<F: Flash> Stored for FlashFile<F> {
 
 impl<F: Flash> Read for FlashFile<F> {
     ghost turns = { λ f. length (drop f.place (F.bytes f.flash)) };
+
+    ghost events = { λ f. Some (events_of (drop f.place (F.bytes f.flash))) };
 
     fn read(&mut self, buf: &mut [u8]) -> Result<usize> {
         if buf.is_empty() || self.place >= self.flash.size() {

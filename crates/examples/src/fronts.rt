@@ -1,11 +1,10 @@
-//! A `Take` and a `BufReader` of a `&mut`, and what the reader behind that has left once they have ended.
-ghost use Rattle.std.specs.Prelude.{◌≡◌, ◌≤◌, ◌++◌, ℕ, List, Some, length, IfErr, IfOk};
-ghost use Rattle.no_std_io2.specs.BufReader.{BufReaderFits};
+//! A `Take` of a `&mut`, and what the reader behind that has left once it has ended.
+ghost use Rattle.std.specs.Prelude.{◌≡◌, ◌++◌, ℕ, List, Some, length, IfErr, IfOk};
 ghost use Rattle.no_std_io2.specs.Errors.{IsOutOfMemory};
 ghost use Rattle.no_std_io2.specs.Events.{Event, events_of};
 ghost use Rattle.no_std_io2.specs.Takes.{tells, to_come};
 
-use no_std_io2::io::{BufRead, BufReader, Read, Result};
+use no_std_io2::io::{Read, Result};
 
 /// Appends the next `most` bytes of a reader, or fewer at its end, and returns their number.
 ///
@@ -20,17 +19,4 @@ pub fn read_front<R: Read>(r: &mut R, most: u64, content: &mut Vec<u8>) -> Resul
 {
     let mut front = r.take(most);
     front.read_to_end(content)
-}
-
-/// Appends a line of a reader, through a buffer, and returns its length. The bytes that were in the buffer behind the
-/// line are lost, so the reader goes on somewhere behind it.
-///
-/// # Errors
-/// Returns the errors of a `read_until`.
-pub fn read_one_line<R: Read>(r: &mut R, line: &mut Vec<u8>) -> Result<usize>
-    requires fits { BufReaderFits R.row 64 }
-    ensures turns { R.turns r.new ≤ R.turns r.old }
-{
-    let mut lines = BufReader::<&mut R, 64>::new(r);
-    lines.read_until(b'\n', line)
 }

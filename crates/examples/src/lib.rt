@@ -24,9 +24,9 @@ mod tee;
 mod uart;
 
 pub use checksum::checksum_of;
-pub use commands::{read_command, read_text, read_whole};
+pub use commands::{read_command, read_whole};
 pub use flash::{Flash, FlashFile};
-pub use fronts::{read_front, read_one_line};
+pub use fronts::read_front;
 pub use heads::head;
 pub use inbox::{Inbox, Source};
 pub use lengths::pass_records;

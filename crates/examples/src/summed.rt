@@ -1,14 +1,12 @@
 //! [`Summed`], an adaptor with a state of its own. Its promise holds through the trait's loops and through a buffer.
-ghost use Rattle.std.specs.Prelude.{◌≡◌, ℕ, List, ◌++◌, ◌+◌, ◌%◌, ◌^◌, sum, OnOk, IfOk};
+ghost use Rattle.std.specs.Prelude.{◌≡◌, ◌++◌, ◌+◌, ◌%◌, ◌^◌, sum, IfOk};
 ghost use Rattle.no_std_io2.specs.BufWriter.{writer_inner, writer_buffer};
-ghost use Rattle.no_std_io2.specs.Takes.{tells};
-ghost use Rattle.no_std_io2.specs.Takes.{to_come};
 ghost use Rattle.no_std_io2.specs.Write.{CallAdds, RestAdds};
-ghost use Rattle.examples.specs.Summed.{summed_inner, summed_sum, Sums, ReadSums};
+ghost use Rattle.examples.specs.Summed.{summed_inner, summed_sum, Sums};
 
-use no_std_io2::io::{BufWriter, Read, Result, Stored, Write};
+use no_std_io2::io::{BufWriter, Result, Write};
 
-/// A writer or a reader with a checksum: the sum of the bytes that were accepted or given, modulo 2^64.
+/// A writer with a checksum: the sum of the bytes that were accepted, modulo 2^64.
 #[derive(Drop)]
 pub struct Summed<W> {
     inner: W,
@@ -94,44 +92,4 @@ pub fn save_summed(device: Vec<u8>, text: &[u8]) -> Result<(Vec<u8>, u64)>
         }
         Err(e) => Err(e.into()),
     }
-}
-
-impl<R> Stored for Summed<R> {}
-
-impl<R: Read> Read for Summed<R> {
-    ghost turns = { λ s. R.turns (summed_inner s) };
-
-    // Those of the inner reader, also if that tells them by its store.
-    ghost events = { λ s. to_come (tells R.Read (summed_inner s)) };
-
-    // Each read adds the bytes that it gave.
-    ghost may = { ReadSums };
-
-    fn read(&mut self, buf: &mut [u8]) -> Result<usize> {
-        let n = self.inner.read(buf)?;
-        self.sum = add_all(self.sum, &buf[..n]);
-        Ok(n)
-    }
-}
-
-/// Fills `buf` by the trait's loop. The bytes that it took are in the sum, also after an error. After
-/// `Ok` they are all of `buf`.
-///
-/// # Errors
-/// Returns the inner reader's first fault, and `UnexpectedEof` if it ends before `buf` is full. The
-/// bytes before it are taken.
-pub fn read_summed<R: Read>(r: &mut Summed<R>, buf: &mut [u8]) -> Result<()>
-    ensures { (x : List ℕ) × OnOk result (x ≡ buf.new) × Sums r.old x r.new }
-{
-    r.read_exact(buf)
-}
-
-/// Reads to the end by the trait's loop. The bytes that it appended are in the sum, also after an error.
-///
-/// # Errors
-/// Returns the inner reader's first fault, and `OutOfMemory` if `buf` cannot grow. The same call then continues.
-pub fn drain_summed<R: Read>(r: &mut Summed<R>, buf: &mut Vec<u8>) -> Result<usize>
-    ensures { (x : List ℕ) × (buf.new.items ≡ buf.old.items ++ x) × Sums r.old x r.new }
-{
-    r.read_to_end(buf)
 }

@@ -1,8 +1,8 @@
 -- A line is put into a buffer, and then all is sent.
-use Rattle.no_std_io2.proofs.Words.{Some, nil_from_length, ◌≡◌, ℕ, ◌+◌, ◌≤◌, List, [], length, Result, Ok, Err, OnOk, refl, arith, inl, inr}
+use Rattle.no_std_io2.proofs.Words.{nil_from_length, ◌≡◌, ℕ, ◌+◌, ◌≤◌, List, [], length, Result, Ok, Err, OnOk, refl, arith, inl, inr}
 use Rattle.no_std_io2.proofs.Words.{Writer, error_kind, Moves, WriteCall, call_mishap, no_write, writer_inner, writer_buffer, writer_told}
 use Rattle.no_std_io2.proofs.{Words.{TakesStep, RoomCalls, SendCalls}, CallsLemmas.{by_are}, BufWriterLemmas.{then_stops, then_goes_on}}
-use Rattle.no_std_io2.proofs.MovesLemmas.{Moves-ends, Moves-steady, writes_left}
+use Rattle.no_std_io2.proofs.MovesLemmas.{Moves-ends, writes_left}
 use Rattle.no_std_io2.specs.{declared.io.{Error.{Error}, BufWriter.{BufWriter}}, BufWriter.{Puts}}
 use Rattle.line_log.specs.Log.{Logs, IsLogged}
 
@@ -38,8 +38,3 @@ module _ {W : Type 0} {S : ℕ} (I : Writer W) (x : List ℕ) {old mid new : Buf
           → IsLogged (writer_told I.told old) x (writer_told I.told new) (writer_buffer new)
       of_met (Ok u) m fits sent = inl (nil_from_length (writer_buffer new) (omega (arith, fits)), Moves-ends put.moves m)
       of_met (Err e) m fits sent = inr (writes_left sent, (error_kind e, Moves-ends put.moves m))
-
--- if the writer below tells that no mishap is to come, it has the whole line, and nothing is held
-pub logged_steady : {W : Type 0} {S : ℕ} (I : Writer W) {x : List ℕ} {old new : BufWriter W S}
-    → (writer_told I.told old).mishaps ≡ Some [] → Logs I x old (Ok tt) new → writer_buffer new ≡ []
-logged_steady I none logs = elim logs.ok [ inl out ↦ out.0 | inr held ↦ absurd (Moves-steady none held.1.1) ]

@@ -1,6 +1,6 @@
 -- A number that was read spells the bytes that were taken: of bytes below 256 none is lost in it.
 use Rattle.no_std_io2.proofs.Words.{◌≡◌, ℕ, zero, suc, ◌+◌, ◌*◌, ◌/◌, ◌%◌, ◌^◌, ◌<◌, List, [], ◌∷◌, length, Ok, refl, sym, ap, ap₂, ◌∙◌}
-use Rattle.no_std_io2.proofs.{Words.{subst, arith, Reader, tells}, TakesLemmas.{TakesBytes-fills}}
+use Rattle.no_std_io2.proofs.{Words.{common_steps, arith, Reader, tells}, TakesLemmas.{TakesBytes-fills}}
 use Rattle.no_std_io2.specs.Reads.{TakesBytes}
 use Rattle.std.proofs.{Math.Nat.{pow-suc, pow-succ', div-div-eq-div-mul, div-one, mul_assoc}, lemmas.Nat.{div-mul-add, mod-mul-add}}
 use Rattle.std.proofs.lemmas.Int.{of_z-to_z}
@@ -56,14 +56,10 @@ little_spelled bytes n long are = low_spelled n 0 _ bytes long are (div-one _)
 -- After `Ok` the bytes of the result were taken, and no others.
 module _ {V : Type 0} {R : Reader V} {n x : ℕ} {old new : V} where
   pub takes_big : ReadsValue R (big_number n) n old (Ok x) new → TakesBytes (tells R old) (big_bytes n x) (tells R new)
-  takes_big reads =
-      let is = big_spelled reads.buf n reads.long reads.are in
-      subst (λ l. TakesBytes (tells R old) l (tells R new)) (sym (ap (big_bytes n) reads.spells ∙ is)) (TakesBytes-fills reads.law)
+  takes_big reads = grind (arith, common_steps, big_spelled, TakesBytes-fills)
 
   pub takes_little : ReadsValue R (little_number n) n old (Ok x) new → TakesBytes (tells R old) (little_bytes n x) (tells R new)
-  takes_little reads =
-      let is = little_spelled reads.buf n reads.long reads.are in
-      subst (λ l. TakesBytes (tells R old) l (tells R new)) (sym (ap (little_bytes n) reads.spells ∙ is)) (TakesBytes-fills reads.law)
+  takes_little reads = grind (arith, common_steps, little_spelled, TakesBytes-fills)
 
 -- The same of a byte.
 one_byte : (bytes : List ℕ) → length bytes ≡ 1 → first_byte bytes ∷ [] ≡ bytes
@@ -73,19 +69,13 @@ one_byte (b ∷ c ∷ bytes) long = absurd (omega (arith, long))
 
 pub takes_byte : {V : Type 0} {R : Reader V} {x : ℕ} {old new : V} → ReadsValue R first_byte 1 old (Ok x) new
     → TakesBytes (tells R old) (x ∷ []) (tells R new)
-takes_byte {R = R} {x} {old} {new} reads =
-    let is = one_byte reads.buf reads.long in
-    subst (λ l. TakesBytes (tells R old) l (tells R new)) (sym (ap (λ b. b ∷ []) reads.spells ∙ is)) (TakesBytes-fills reads.law)
+takes_byte {R = R} {x} {old} {new} reads = grind (arith, common_steps, one_byte, TakesBytes-fills)
 
 -- The same of a signed number of width w in either order, of which `number` and `spelled` are the words, as `big_number` and `big_bytes`.
 pub takes_signed : {V : Type 0} {R : Reader V} {n : ℕ} {x : ℤ} {old new : V} (w : Width) (number : ℕ → List ℕ → ℕ) (spelled : ℕ → List ℕ)
     → ((bytes : List ℕ) → length bytes ≡ n → AreBytes bytes → (spelled (number n bytes) ≡ bytes) × (number n bytes < 2 ^ bits w))
     → ReadsValue R (signed_by w number n) n old (Ok x) new → TakesBytes (tells R old) (spelled (cast_unsigned w x)) (tells R new)
-takes_signed {R = R} {n} {x} {old} {new} w number spelled spells reads =
-    let (is, small) = spells reads.buf reads.long reads.are in
-    let whole : spelled (cast_unsigned w x) ≡ reads.buf =
-    ap (λ z. spelled (cast_unsigned w z)) reads.spells ∙ ap spelled (of_z-to_z w (number n reads.buf) small) ∙ is in
-    subst (λ l. TakesBytes (tells R old) l (tells R new)) (sym whole) (TakesBytes-fills reads.law)
+takes_signed {R = R} {n} {x} {old} {new} w number spelled spells reads = grind (arith, common_steps, of_z-to_z, TakesBytes-fills)
 
 -- in big-endian order
 pub big_spells : (n : ℕ) (bytes : List ℕ) → length bytes ≡ n → AreBytes bytes

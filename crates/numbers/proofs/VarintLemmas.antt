@@ -2,7 +2,7 @@
 use Rattle.no_std_io2.proofs.Words.{◌≡◌, ◌≢◌, ◌⊎◌, ℕ, zero, suc, ◌+◌, ◌*◌, ◌/◌, ◌%◌, ◌^◌, ◌<◌, ◌≤◌, List, [], ◌∷◌, ◌++◌, length, take, drop}
 use Rattle.no_std_io2.proofs.Words.{get_or, Result, Ok, Err, Option, None, Some, refl, sym, ap, subst, ◌∙◌, arith, inl, inr, append-nil}
 use Rattle.no_std_io2.proofs.Words.{append_assoc, length-append, length-take-le, nil_from_length, ap₂, ◌-◌, cases_lt, Event, events_of}
-use Rattle.no_std_io2.proofs.{Words.{Reader, tells, to_come}, TakesLemmas.{Took-then}, ReadsLemmas.{Took-none}}
+use Rattle.no_std_io2.proofs.{Words.{common_steps, Reader, tells, to_come}, TakesLemmas.{Took-then}, ReadsLemmas.{Took-none}}
 use Rattle.std.proofs.{Common.{set, add-one}, lemmas.List.{drop_more, length-set, take_more_set}, Math.Nat.{pow-suc}}
 use Rattle.std.specs.Prelude.{IfSome, IfNone}
 use Rattle.no_std_io2.specs.{declared.io.Error.{Error}, Reads.{TakesBytes}}
@@ -71,12 +71,7 @@ value_more l i within = ap varint_value (drop_more l i 0 within)
 
 -- a value that grows past 64 bits
 pub value_past : (l : List ℕ) (i : ℕ) → 0 < i → i ≤ length l → 2 ^ 57 ≤ varint_value (drop i l) → 2 ^ 64 ≤ varint_value l
-value_past l i some within much =
-    let j = i - 1 in
-    let next : j + 1 ≡ i = omega (arith, some) in
-    let here = value_more l j (omega (arith, some, within)) in
-    let there = later_less j l in
-    omega (arith, here, there, much, ap (λ k. varint_value (drop k l)) next)
+value_past l i some within much = grind (arith, common_steps, value_more, later_less)
 
 -- What is refused.
 pub refused_long : (l : List ℕ) → NoneEnds l → length l ≡ 10 → IsRefused l
@@ -87,16 +82,10 @@ refused_long l all ten (r ∷ rest) is =
     omega (arith, much)
 
 pub refused_zero : (x : List ℕ) → 0 < length x → IsRefused (x ++ 0 ∷ [])
-refused_zero x some rest is =
-    let split = append_assoc x (0 ∷ []) rest in
-    let none = ends_there x 0 rest (omega arith) (subst IsVarint split is) in
-    let alone = zero_alone x (subst (λ r. IsVarint (x ++ 0 ∷ r)) none (subst IsVarint split is)) in
-    absurd (omega (arith, some, ap length alone))
+refused_zero x some rest is = grind (arith, common_steps, append_assoc, ends_there, zero_alone)
 
 pub refused_value : (x : List ℕ) (b : ℕ) → b < 128 → 2 ^ 64 ≤ varint_value (x ++ b ∷ []) → IsRefused (x ++ b ∷ [])
-refused_value x b end much rest is =
-    let none = ends_there x b rest end (subst IsVarint (append_assoc x (b ∷ []) rest) is) in
-    rw (none, append-nil (x ++ b ∷ [])) much
+refused_value x b end much rest is = grind (arith, common_steps, ends_there, append_assoc, append-nil)
 
 -- at most ten bytes spell a number of 64 bits
 pub ten_most : (l : List ℕ) → IsVarint l → varint_value l < 2 ^ 64 → length l ≤ 10
@@ -190,8 +179,7 @@ module _ {V : Type 0} {R : Reader V} {old : V} where
     -- the read of the next byte failed
     pub gather_fails : {e : Error} {new : V} → i < 10 → ReadsValue R first_byte 1 mid (Err e) new → (buf' : List ℕ)
         → GathersVarint R old buf' (Err e) new
-    gather_fails most reads buf' =
-        (take i buf, mid, before.read.are, before.high, omega (arith, most, length-take-le i buf (omega (arith, within))), reads)
+    gather_fails most reads buf' = grind (arith, common_steps, length-take-le)
 
     pub fails_back : {e : Error} (new : V) → ReadsBack R (λ x. x < 256) (λ x. x ∷ []) mid (Err e) new → (buf' : List ℕ)
         → GathersBack R old buf' (Err e) new
@@ -201,31 +189,18 @@ module _ {V : Type 0} {R : Reader V} {old : V} where
   -- ten bytes, and none ends a number
   pub gather_ten : (start buf : List ℕ) (i : ℕ) (now : V) → i ≡ 10 → length buf ≡ 10 → GatheredSoFar R old start i buf now
       → GathersVarint R old buf (Ok 10) now
-  gather_ten start buf i now all ten before =
-      let so_far = subst (λ k. GatheredSoFar R old start k buf now) all before in
-      let long = length-take-le 10 buf (omega (arith, ten)) in
-      (omega (arith, ten), omega arith, so_far.read.are, inr (so_far.high, long))
+  gather_ten start buf i now all ten before = grind (arith, common_steps, length-take-le)
 
   pub ten_back : (start buf : List ℕ) (i : ℕ) (now : V) → i ≡ 10 → length buf ≡ 10 → GatheredSoFar R old start i buf now
       → GathersBack R old buf (Ok 10) now
   ten_back start buf i now all ten before bytes rest is few told =
-      let so_far = subst (λ k. GatheredSoFar R old start k buf now) all before in
-      let (tail, split, ends, known) = so_far.back bytes rest is told in
-      let long = ap length split ∙ length-append (take 10 buf) tail in
-      let none : tail ≡ [] = nil_from_length tail (omega (arith, long, few, length-take-le 10 buf (omega (arith, ten)))) in
-      absurd (subst IsVarint none ends)
+      grind (arith, common_steps, length-append, nil_from_length, length-take-le)
 
 -- What was gathered is a number, or it is refused.
 
 -- the last byte
 last_of : (l x : List ℕ) (b : ℕ) → l ≡ x ++ b ∷ [] → get_or l (length l - 1) 0 ≡ b
-last_of l x b is =
-    let at : length (x ++ b ∷ []) - 1 ≡ length x = omega (arith, length-append x (b ∷ [])) in
-    ap (λ l. get_or l (length l - 1) 0) is ∙ ap (λ i. get_or (x ++ b ∷ []) i 0) at ∙ at_end x b
-  where
-    at_end : (x : List ℕ) (b : ℕ) → get_or (x ++ b ∷ []) (length x) 0 ≡ b
-    at_end [] b = refl
-    at_end (a ∷ x) b = at_end x b
+last_of l x b is = grind (arith, common_steps, length-append)
 
 -- each byte that goes on is high
 all_high : (l : List ℕ) → NoneEnds l → (i : ℕ) → i < length l → 128 ≤ get_or l i 0
@@ -273,10 +248,7 @@ module _ (n left i : ℕ) (buf : List ℕ) (within : i < length buf) (before : P
       )
 
       spells : (tail : List ℕ) → SpellsVarint (left / 128) tail → SpellsVarint n (take (i + 1) (set buf i b) ++ tail)
-      spells tail those =
-          subst (SpellsVarint n)
-          (sym (append_assoc (take i buf) (b ∷ []) tail) ∙ ap (λ l. l ++ tail) (sym (take_more_set buf i b within)))
-          (before.spells (b ∷ tail) (one tail those))
+      spells tail those = grind (arith, common_steps, append_assoc, take_more_set, before.spells, one)
 
   -- the last one
   pub put_last : left < 128 → SpellsVarint n (take (i + 1) (set buf i left))
@@ -290,20 +262,11 @@ left_small n left buf so_far = omega (arith, so_far.most)
 module _ (l : List ℕ) (last : ℕ) (gathered : IsGathered l) (some : 0 < length l) (at : last ≡ get_or l (length l - 1) 0) where
   -- the last byte goes on
   pub decode_high : 128 ≤ last → IsRefused l
-  decode_high high = elim gathered [
-    | inl (x, b, is, all, end) ↦ absurd (omega (arith, high, at, last_of l x b is, end))
-    | inr (all, ten) ↦ refused_long l all ten
-  ]
+  decode_high high = grind (arith, common_steps, last_of, refused_long)
 
   -- the last one is 0, and others come before it
   pub decode_zero : last ≡ 0 → 1 < length l → IsRefused l
-  decode_zero null more = elim gathered [
-    | inl (x, b, is, all, end) ↦
-        let none : b ≡ 0 = sym (last_of l x b is) ∙ sym at ∙ null in
-        let split : l ≡ x ++ 0 ∷ [] = is ∙ ap (λ n. x ++ n ∷ []) none in
-        subst IsRefused (sym split) (refused_zero x (omega (arith, more, ap length split, length-append x (0 ∷ []))))
-    | inr (all, ten) ↦ absurd (omega (arith, null, at, ten, all_high l all (length l - 1) (omega (arith, ten))))
-  ]
+  decode_zero null more = grind (arith, common_steps, last_of, refused_zero, length-append, all_high)
 
   -- else the bytes are a number
   pub decode_some : last < 128 → ((last ≡ 0) → 1 < length l → ⊥) → (o : Option ℕ) → IfSome o (λ n. n ≡ varint_value l)
@@ -322,9 +285,7 @@ module _ (l : List ℕ) (last : ℕ) (gathered : IsGathered l) (some : 0 < lengt
 module _ {V : Type 0} (R : Reader V) (old new : V) (buf : List ℕ) where
   -- A number that is known to come is gathered, so no read of it fails,
   pub back_fails : {e : Error} → GathersBack R old buf (Err e) new → ReadsVarintBack R old (Err e) new
-  back_fails back n bytes rest (is, value) small told =
-      let (said, front, left) = back bytes rest is (ten_most bytes is (omega (arith, value, small))) told in
-      absurd (let no : ⊥ = cc said in no)
+  back_fails back n bytes rest spells small told = grind (arith, common_steps, ten_most)
 
   -- it is not refused,
   pub back_refused : (len : ℕ) {e : Error} → GathersBack R old buf (Ok len) new → IsRefused (take len buf)
@@ -338,8 +299,4 @@ module _ {V : Type 0} (R : Reader V) (old new : V) (buf : List ℕ) where
 
   -- and it is what is read.
   pub back_read : (len m : ℕ) → GathersBack R old buf (Ok len) new → SpellsVarint m (take len buf) → ReadsVarintBack R old (Ok m) new
-  back_read len m back (ends, spelled) n bytes rest (is, value) small told =
-      let (said, front, left) = back bytes rest is (ten_most bytes is (omega (arith, value, small))) told in
-      let long : len ≡ length bytes = cc said in
-      let whole : take len buf ≡ bytes = ap (λ k. take k buf) long ∙ front in
-      (ap Ok (sym spelled ∙ ap varint_value whole ∙ value), left)
+  back_read len m back spelled n bytes rest spells small told = grind (arith, common_steps, ten_most)

@@ -15,6 +15,9 @@ use std::num::{f32_from_bits_with_nan, f64_from_bits_with_nan};
 /// Each call for one number returns the error of that `read_exact`: the first fault that comes before the last byte of
 /// the number, after which the bytes before it are taken; or `UnexpectedEof` if the bytes end too early, after which all of
 /// them are taken, except that slices and cursors take nothing. Never returns `Interrupted`.
+///
+/// A call for several numbers returns the error of the first read that fails. The numbers before it are in `dst`, and the
+/// others are as they were.
 pub trait ReadBytesExt: Read {
     /// Reads a byte.
     final fn read_u8(&mut self) -> Result<u8>
@@ -84,10 +87,7 @@ pub trait ReadBytesExt: Read {
         ensures reads { ReadsValue ⟦<Self as Read>⟧ (λ bytes. cast_signed w8 (first_byte bytes)) 1 self.old result self.new }
         ensures back { ReadsBack ⟦<Self as Read>⟧ (FitsSigned w8) (λ x. cast_unsigned w8 x ∷ []) self.old result self.new }
     {
-        match self.read_u8() {
-            Ok(x) => Ok(x.cast_signed()),
-            Err(e) => Err(e),
-        }
+        Ok(self.read_u8()?.cast_signed())
     }
 
     /// Reads a signed number of 2 bytes.
@@ -97,10 +97,7 @@ pub trait ReadBytesExt: Read {
         ensures reads { ReadsValue ⟦<Self as Read>⟧ (signed_by w16 T.number_of 2) 2 self.old result self.new }
         ensures back { ReadsBack ⟦<Self as Read>⟧ (FitsSigned w16) (λ x. T.bytes_of 2 (cast_unsigned w16 x)) self.old result self.new }
     {
-        match self.read_u16::<T>() {
-            Ok(x) => Ok(x.cast_signed()),
-            Err(e) => Err(e),
-        }
+        Ok(self.read_u16::<T>()?.cast_signed())
     }
 
     /// Reads a signed number of 4 bytes.
@@ -110,10 +107,7 @@ pub trait ReadBytesExt: Read {
         ensures reads { ReadsValue ⟦<Self as Read>⟧ (signed_by w32 T.number_of 4) 4 self.old result self.new }
         ensures back { ReadsBack ⟦<Self as Read>⟧ (FitsSigned w32) (λ x. T.bytes_of 4 (cast_unsigned w32 x)) self.old result self.new }
     {
-        match self.read_u32::<T>() {
-            Ok(x) => Ok(x.cast_signed()),
-            Err(e) => Err(e),
-        }
+        Ok(self.read_u32::<T>()?.cast_signed())
     }
 
     /// Reads a signed number of 8 bytes.
@@ -123,10 +117,7 @@ pub trait ReadBytesExt: Read {
         ensures reads { ReadsValue ⟦<Self as Read>⟧ (signed_by w64 T.number_of 8) 8 self.old result self.new }
         ensures back { ReadsBack ⟦<Self as Read>⟧ (FitsSigned w64) (λ x. T.bytes_of 8 (cast_unsigned w64 x)) self.old result self.new }
     {
-        match self.read_u64::<T>() {
-            Ok(x) => Ok(x.cast_signed()),
-            Err(e) => Err(e),
-        }
+        Ok(self.read_u64::<T>()?.cast_signed())
     }
 
     /// Reads a signed number of 16 bytes.
@@ -136,10 +127,7 @@ pub trait ReadBytesExt: Read {
         ensures reads { ReadsValue ⟦<Self as Read>⟧ (signed_by w128 T.number_of 16) 16 self.old result self.new }
         ensures back { ReadsBack ⟦<Self as Read>⟧ (FitsSigned w128) (λ x. T.bytes_of 16 (cast_unsigned w128 x)) self.old result self.new }
     {
-        match self.read_u128::<T>() {
-            Ok(x) => Ok(x.cast_signed()),
-            Err(e) => Err(e),
-        }
+        Ok(self.read_u128::<T>()?.cast_signed())
     }
 
     /// Reads a floating-point number of 4 bytes. The bytes of a NaN give a NaN, whose bits are not kept: in Rattle no NaN has
@@ -149,10 +137,7 @@ pub trait ReadBytesExt: Read {
         Self: Sized,
         ensures { ReadsValue ⟦<Self as Read>⟧ (λ bytes. from_bits binary32 (T.number_of 4 bytes)) 4 self.old result self.new }
     {
-        match self.read_u32::<T>() {
-            Ok(bits) => Ok(f32_from_bits_with_nan(bits)),
-            Err(e) => Err(e),
-        }
+        Ok(f32_from_bits_with_nan(self.read_u32::<T>()?))
     }
 
     /// Reads a floating-point number of 8 bytes, a NaN as `read_f32` does.
@@ -161,16 +146,10 @@ pub trait ReadBytesExt: Read {
         Self: Sized,
         ensures { ReadsValue ⟦<Self as Read>⟧ (λ bytes. from_bits binary64 (T.number_of 8 bytes)) 8 self.old result self.new }
     {
-        match self.read_u64::<T>() {
-            Ok(bits) => Ok(f64_from_bits_with_nan(bits)),
-            Err(e) => Err(e),
-        }
+        Ok(f64_from_bits_with_nan(self.read_u64::<T>()?))
     }
 
     /// Reads signed bytes into `dst`, one after another.
-    ///
-    /// # Errors
-    /// Returns the error of the first read that fails. The numbers before it are in `dst`, and the others are as they were.
     #[tactic(auto, using(crate::proofs::NumberLemmas::into_steps))]
     final fn read_i8_into(&mut self, dst: &mut [i8]) -> Result<()>
     where
@@ -184,9 +163,6 @@ pub trait ReadBytesExt: Read {
     }
 
     /// Reads numbers of 2 bytes each into `dst`, one after another.
-    ///
-    /// # Errors
-    /// Returns the error of the first read that fails. The numbers before it are in `dst`, and the others are as they were.
     #[tactic(auto, using(crate::proofs::NumberLemmas::into_steps))]
     final fn read_u16_into<T: ByteOrder>(&mut self, dst: &mut [u16]) -> Result<()>
     where
@@ -200,9 +176,6 @@ pub trait ReadBytesExt: Read {
     }
 
     /// Reads numbers of 4 bytes each into `dst`, one after another.
-    ///
-    /// # Errors
-    /// Returns the error of the first read that fails. The numbers before it are in `dst`, and the others are as they were.
     #[tactic(auto, using(crate::proofs::NumberLemmas::into_steps))]
     final fn read_u32_into<T: ByteOrder>(&mut self, dst: &mut [u32]) -> Result<()>
     where
@@ -216,9 +189,6 @@ pub trait ReadBytesExt: Read {
     }
 
     /// Reads numbers of 8 bytes each into `dst`, one after another.
-    ///
-    /// # Errors
-    /// Returns the error of the first read that fails. The numbers before it are in `dst`, and the others are as they were.
     #[tactic(auto, using(crate::proofs::NumberLemmas::into_steps))]
     final fn read_u64_into<T: ByteOrder>(&mut self, dst: &mut [u64]) -> Result<()>
     where
@@ -232,9 +202,6 @@ pub trait ReadBytesExt: Read {
     }
 
     /// Reads signed numbers of 2 bytes each into `dst`, one after another.
-    ///
-    /// # Errors
-    /// Returns the error of the first read that fails. The numbers before it are in `dst`, and the others are as they were.
     #[tactic(auto, using(crate::proofs::NumberLemmas::into_steps))]
     final fn read_i16_into<T: ByteOrder>(&mut self, dst: &mut [i16]) -> Result<()>
     where
@@ -248,9 +215,6 @@ pub trait ReadBytesExt: Read {
     }
 
     /// Reads signed numbers of 4 bytes each into `dst`, one after another.
-    ///
-    /// # Errors
-    /// Returns the error of the first read that fails. The numbers before it are in `dst`, and the others are as they were.
     #[tactic(auto, using(crate::proofs::NumberLemmas::into_steps))]
     final fn read_i32_into<T: ByteOrder>(&mut self, dst: &mut [i32]) -> Result<()>
     where
@@ -264,9 +228,6 @@ pub trait ReadBytesExt: Read {
     }
 
     /// Reads signed numbers of 8 bytes each into `dst`, one after another.
-    ///
-    /// # Errors
-    /// Returns the error of the first read that fails. The numbers before it are in `dst`, and the others are as they were.
     #[tactic(auto, using(crate::proofs::NumberLemmas::into_steps))]
     final fn read_i64_into<T: ByteOrder>(&mut self, dst: &mut [i64]) -> Result<()>
     where
