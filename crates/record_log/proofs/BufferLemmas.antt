@@ -1,15 +1,13 @@
 -- A buffer in front of a writer that puts its bytes at a place puts them there too.
-use Rattle.no_std_io2.proofs.Words.{◌≡◌, ℕ, ◌+◌, ◌<◌, ◌≤◌, List, [], ◌∷◌, ◌++◌, length, take, refl, sym, ap, subst, ◌∙◌}
-use Rattle.no_std_io2.proofs.Words.{arith, OnOk, length-append, inl, inr, Result, Ok, Err, Writes, Made, CallOf}
-use Rattle.no_std_io2.proofs.Words.{RoomCalls, WriteCalls, WriteAllCalls, FlushCalls, SendCalls, SingleCall, AllCalls, InnerCalls}
-use Rattle.no_std_io2.proofs.Words.{first_stops, first_goes_on, no_write, write_took, write_again, write_stuck, write_fault, Writer, Then}
-use Rattle.no_std_io2.proofs.Words.{WriteCall, Wrote, WroteAll, Flushed, Step, SendLinesCalls, lines_of, unfinished_line, take-append-le}
-use Rattle.no_std_io2.proofs.Words.{cases_lt, take-append_seam, length-take-le}
-use Rattle.std.proofs.{Math.Seq.{take-length, take-append-add}, lemmas.List.{take_all}}
-use Rattle.no_std_io2.proofs.CallsLemmas.{made_split, writes_whole}
-use Rattle.no_std_io2.specs.{declared.io.Error.{Error}, inner.{BufWriter.{PutCalls, WithNothingHeld}}}
+use Rattle.no_std_io2.proofs.Words.{◌≡◌, ℕ, ◌+◌, ◌<◌, ◌≤◌, List, [], ◌∷◌, ◌++◌, length, take, refl, sym, ap, subst, ◌∙◌, arith, OnOk}
+use Rattle.no_std_io2.proofs.Words.{length-append, inl, inr, Result, Ok, Err, Writes, Made, CallOf, RoomCalls, WriteCalls, WriteAllCalls}
+use Rattle.no_std_io2.proofs.Words.{FlushCalls, SendCalls, SingleCall, AllCalls, InnerCalls, first_stops, first_goes_on, no_write}
+use Rattle.no_std_io2.proofs.Words.{write_took, write_again, write_stuck, write_fault, Writer, Then, WriteCall, Wrote, WroteAll, Flushed}
+use Rattle.no_std_io2.proofs.Words.{Step, SendLinesCalls, lines_of, unfinished_line, take-append-le, cases_lt, take-append_seam}
+use Rattle.no_std_io2.proofs.{Words.{length-take-le}, CallsLemmas.{made_split, writes_whole}, LineWriterStates.{took_tail}}
+use Rattle.no_std_io2.{proofs.LineLemmas.{lines_split}, specs.{declared.io.Error.{Error}, inner.BufWriter.{PutCalls, WithNothingHeld}}}
 use Rattle.no_std_io2.specs.inner.LineWriter.{LineCalls, LinesCalls, SendLineCalls, held_tail}
-use Rattle.no_std_io2.proofs.{LineWriterStates.{took_tail}, LineLemmas.{lines_split}}
+use Rattle.std.proofs.{Math.Seq.{take-length, take-append-add}, lemmas.List.{take_all}}
 use Rattle.record_log.specs.Placed.{IsPutAt, PutsAt, PutsCall, GoesNoFurther, held_over}
 use Rattle.record_log.proofs.PlacedLemmas.{Stands, stands_held, writes_there, reaches_there, whole_there, put_behind, put_then}
 
@@ -213,7 +211,7 @@ module _ {W : Type 0} (I : Writer W) (content : W → List ℕ) (place : W → �
         omega (arith, reaches_there (writes_there I content place puts old new loop.1 made (stands_held (place old) x (content old))))
 
     -- nor do those through a buffer
-    all_near : (S : ℕ) (x : List ℕ) (C : List WriteCall) (held left : List ℕ) (reply : Result (Unit {0}) Error) (old new : W)
+    pub all_near : (S : ℕ) (x : List ℕ) (C : List WriteCall) (held left : List ℕ) (reply : Result (Unit {0}) Error) (old new : W)
         → WriteAllCalls S x held C reply left → Made (CallOf I) old C new → place new + length left ≤ place old + length held + length x
     all_near S x C held left reply old new (first_stops room) made =
         let stays = roomed S (length x) C held left _ old new room made in omega (arith, stays.at)

@@ -1,16 +1,13 @@
 -- What a list of calls leaves of a log at any moment.
-use Rattle.no_std_io2.proofs.Words.{◌≡◌, ℕ, List, [], ◌∷◌, ◌++◌, length, drop, refl, sym, ap, subst, ◌∙◌, Bool}
-use Rattle.no_std_io2.proofs.Words.{arith, append_assoc, append-nil, length-append, inl, inr, Result, Ok, Err, OnOk, Writer}
+use Rattle.no_std_io2.proofs.Words.{◌≡◌, ℕ, List, [], ◌∷◌, ◌++◌, length, drop, refl, sym, ap, subst, ◌∙◌, Bool, arith, append_assoc}
+use Rattle.no_std_io2.proofs.Words.{append-nil, length-append, inl, inr, Result, Ok, Err, OnOk, Writer, nat_tests, Store}
+use Rattle.no_std_io2.specs.{inner.Takes.{fits_u64, fits_by, store_by}, Takes.{store_at}, declared.io.Error.{Error}}
 use Rattle.std.proofs.{Math.Seq.{drop-nil}, lemmas.List.{drop-drop}}
 use Rattle.std.specs.Prelude.{is_ok, OnErr, IsOk, IfOk, IfSome, IsOkAnd, IsSomeAnd, ◌<◌, ◌^◌, Option, Some, None, true, false}
-use Rattle.no_std_io2.proofs.Words.{nat_tests, Store}
-use Rattle.no_std_io2.specs.{inner.Takes.{fits_u64, fits_by, store_by}, Takes.{store_at}}
-use Rattle.record_log.specs.{Opening.{Opens}, declared.opening.Opened.{Opened}}
-use Rattle.no_std_io2.specs.declared.io.Error.{Error}
-use Rattle.record_log.specs.{Placed.{PutsAt}, Log.{Appends, log_inner, log_held}}
+use Rattle.record_log.specs.{Opening.{Opens}, declared.{opening.Opened.{Opened}, log.RecordLog.{RecordLog}, cuts.Step.{Step}}}
+use Rattle.record_log.specs.{declared.cuts.Step.TheVariants.{Append, Sync}, Placed.{PutsAt}, Log.{Appends, log_inner, log_held}}
 use Rattle.record_log.specs.Records.{record_of, log_of, AreShort, HasRecords, NoneByChance}
 use Rattle.record_log.specs.Cuts.{DidStep, Counted, count_step, outcome, StandsAtEnd, HasConfirmed, Survives}
-use Rattle.record_log.specs.declared.{log.RecordLog.{RecordLog}, cuts.Step.{Step, TheVariants.{Append, Sync}}}
 use Rattle.record_log.proofs.RecordLemmas.{log-append, AreShort-append, cut_log, same_records, none_at_end}
 use Rattle.record_log.proofs.PlacedLemmas.{Stands, stands_held, all_there, flush_there, begins_anew, front_there}
 

@@ -1,18 +1,14 @@
 -- What the reads of `open` give of known bytes.
-use Rattle.no_std_io2.proofs.Words.{◌≡◌, ℕ, ◌+◌, ◌<◌, ◌≤◌, ◌^◌, List, [], ◌∷◌, ◌++◌, length, take, drop, refl, sym, ap, subst, ◌∙◌}
-use Rattle.no_std_io2.proofs.Words.{arith, append_assoc, append-nil, length-append, length-drop, length-take-le, take-append-drop, Some}
-use Rattle.no_std_io2.proofs.Words.{ap₂, common_steps}
-use Rattle.no_std_io2.proofs.Words.{cases_lt, inl, inr, Result, Err, Event, event_bytes, events_of, HasNoFault, fails, to_come}
-use Rattle.no_std_io2.proofs.Words.{Reader, tells, ReaderState, Takes, Option, take-append_seam}
-use Rattle.std.proofs.Math.Seq.{take-length, take-add}
-use Rattle.std.specs.{Prelude.{true}, List.{fold}}
-use Rattle.std.proofs.lemmas.{List.{drop-drop}, List.Sums.{fold-append}}
-use Rattle.no_std_io2.specs.{declared.io.Error.{Error}, inner.Events.{EndsInFault}, Read.{ReadFullLaw}}
+use Rattle.no_std_io2.proofs.Words.{◌≡◌, ℕ, ◌+◌, ◌<◌, ◌≤◌, ◌^◌, List, [], ◌∷◌, ◌++◌, length, take, drop, refl, sym, ap, subst, ◌∙◌, arith}
+use Rattle.no_std_io2.proofs.Words.{append_assoc, append-nil, length-append, length-drop, length-take-le, take-append-drop, Some, ap₂}
+use Rattle.no_std_io2.proofs.Words.{common_steps, cases_lt, inl, inr, Result, Err, Event, event_bytes, events_of, HasNoFault, fails}
+use Rattle.no_std_io2.proofs.Words.{to_come, Reader, tells, ReaderState, Takes, Option, take-append_seam, Ok, true, false, Bool}
 use Rattle.no_std_io2.proofs.{KnownBytes.{full_known}, TakesLemmas.{left_of, HasNoFault-front, HasNoFault-behind, HasNoFault-events_of}}
-use Rattle.no_std_io2.proofs.TakesLemmas.{bytes-append, bytes-events_of, events_of-append}
+use Rattle.no_std_io2.proofs.{TakesLemmas.{bytes-append, bytes-events_of, events_of-append}, ReadsLemmas.{fetches_then, fetches_reads}}
+use Rattle.no_std_io2.{proofs.ReadsLemmas.{fetches_until, fetches_end, fetches_fault}, specs.declared.io.Error.{Error}}
+use Rattle.no_std_io2.specs.{inner.Events.{EndsInFault}, Read.{ReadFullLaw}}
+use Rattle.std.{proofs.{Math.Seq.{take-length, take-add}, lemmas.List.{drop-drop, Sums.{fold-append}}}, specs.{Prelude.{true}, List.{fold}}}
 use Rattle.std.specs.Int.{w32, from_le_bytes}
-use Rattle.no_std_io2.proofs.Words.{Ok, true, false, Bool}
-use Rattle.no_std_io2.proofs.ReadsLemmas.{fetches_then, fetches_reads, fetches_until, fetches_end, fetches_fault}
 use Rattle.record_log.specs.Records.{add_number, start, header, check_of, record_of, log_of, AreShort, HasNoRecord}
 use Rattle.record_log.specs.Opening.{GivesPiece, AddsPiece, PassesRecord, PassesRecords, FetchesSome}
 use Rattle.record_log.proofs.RecordLemmas.{told_record, log-append, AreShort-append}

@@ -1,15 +1,13 @@
 -- What writes leave at a place, directly and through a buffer.
-use Rattle.no_std_io2.proofs.Words.{◌≡◌, ℕ, ◌+◌, ◌-◌, ◌<◌, ◌≤◌, List, [], ◌++◌, length, take, drop, refl, sym, ap, subst, ◌∙◌}
-use Rattle.no_std_io2.proofs.Words.{arith, append_assoc, append-nil, length-append, length-drop, length-take-le, take-append_seam, OnOk}
-use Rattle.no_std_io2.proofs.Words.{cases_lt, inl, inr, IsFront, Result, Ok, Err, Writes, Made, CallOf, common_steps, length-take}
-use Rattle.no_std_io2.proofs.Words.{RoomCalls, WriteAllCalls, FlushCalls, first_stops, first_goes_on, no_write, write_took, write_again}
-use Rattle.no_std_io2.proofs.Words.{write_stuck, write_fault, WriteCall, Wrote, Writer, nil_from_length, Flushed, drop-append_seam}
-use Rattle.no_std_io2.proofs.Words.{take-append-drop, take-append-le}
+use Rattle.no_std_io2.proofs.Words.{◌≡◌, ℕ, ◌+◌, ◌-◌, ◌<◌, ◌≤◌, List, [], ◌++◌, length, take, drop, refl, sym, ap, subst, ◌∙◌, arith}
+use Rattle.no_std_io2.proofs.Words.{append_assoc, append-nil, length-append, length-drop, length-take-le, take-append_seam, OnOk, cases_lt}
+use Rattle.no_std_io2.proofs.Words.{inl, inr, IsFront, Result, Ok, Err, Writes, Made, CallOf, common_steps, length-take, RoomCalls}
+use Rattle.no_std_io2.proofs.Words.{WriteAllCalls, FlushCalls, first_stops, first_goes_on, no_write, write_took, write_again, write_stuck}
+use Rattle.no_std_io2.proofs.Words.{write_fault, WriteCall, Wrote, Writer, nil_from_length, Flushed, drop-append_seam, take-append-drop}
+use Rattle.no_std_io2.{proofs.{Words.{take-append-le}, CallsLemmas.{made_split}, MovesLemmas.{after_ok}}, specs.declared.io.Error.{Error}}
+use Rattle.no_std_io2.specs.inner.Cursor.{put_at, bytes_before}
 use Rattle.std.proofs.Math.Seq.{drop-append-add, take-length, take-add}
-use Rattle.std.proofs.lemmas.{List.{drop-drop, drop-append-le, take_all, drop_all, length-replicate}}
-use Rattle.std.specs.Prelude.{replicate}
-use Rattle.no_std_io2.proofs.{CallsLemmas.{made_split}, MovesLemmas.{after_ok}}
-use Rattle.no_std_io2.specs.{declared.io.Error.{Error}, inner.Cursor.{put_at, bytes_before}}
+use Rattle.std.{proofs.lemmas.List.{drop-drop, drop-append-le, take_all, drop_all, length-replicate}, specs.Prelude.{replicate}}
 use Rattle.record_log.specs.Placed.{IsPutAt, PutsAt}
 
 -- bytes that are put at a place within a content stand there, and those behind them stay

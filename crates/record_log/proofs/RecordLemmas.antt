@@ -1,11 +1,9 @@
 -- A list of records is read back from its bytes, also from a front of them.
-use Rattle.no_std_io2.proofs.Words.{◌≡◌, ℕ, ◌+◌, ◌<◌, ◌≤◌, ◌^◌, List, [], ◌∷◌, ◌++◌, length, take, drop, refl, sym, ap, subst, ◌∙◌}
-use Rattle.no_std_io2.proofs.Words.{arith, append_assoc, append-nil, length-append, length-drop, take-append_seam, drop-append_seam}
-use Rattle.no_std_io2.proofs.Words.{common_steps, take-append-le}
-use Rattle.no_std_io2.proofs.Words.{take-append-drop, cases_lt, inl, inr, nil_from_length}
-use Rattle.std.proofs.{Math.Seq.{drop-nil}, lemmas.List.{drop-drop}}
-use Rattle.std.proofs.lemmas.{List.{append_cancel_left}, Nat.{from_le_bytes-to_le_bytes_4}}
-use Rattle.std.specs.{Int.{w32, from_le_bytes}}
+use Rattle.no_std_io2.proofs.Words.{◌≡◌, ℕ, ◌+◌, ◌<◌, ◌≤◌, ◌^◌, List, [], ◌∷◌, ◌++◌, length, take, drop, refl, sym, ap, subst, ◌∙◌, arith}
+use Rattle.no_std_io2.proofs.Words.{append_assoc, append-nil, length-append, length-drop, take-append_seam, drop-append_seam, common_steps}
+use Rattle.no_std_io2.proofs.Words.{take-append-le, take-append-drop, cases_lt, inl, inr, nil_from_length}
+use Rattle.std.proofs.{Math.Seq.{drop-nil}, lemmas.{List.{drop-drop, append_cancel_left}, Nat.{from_le_bytes-to_le_bytes_4}}}
+use Rattle.std.specs.Int.{w32, from_le_bytes}
 use Rattle.record_log.specs.Records.{record_of, log_of, AreShort, HasNoRecord, HasRecords, NoneByChance}
 
 -- the first bytes of a record say the length of its payload
