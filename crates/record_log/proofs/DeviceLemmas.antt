@@ -74,15 +74,7 @@ put_there place x old new fits is = grind (arith, common_steps, append-nil)
 -- what is before the place stays, and what was put goes out
 pub put_before : (place : ℕ) (x old new : List ℕ) → place ≤ length old → new ≡ take place old ++ (x ++ drop (place + length x) old)
     → (take place new ≡ take place old) × (take (place + length x) new ≡ take place old ++ x)
-put_before place x old new le is =
-    let long : length (take place old) ≡ place = length-take-le place old le in
-    let behind = x ++ drop (place + length x) old in (
-      ap (take place) is ∙ ap (λ n. take n (take place old ++ behind)) (sym long) ∙ take-append_seam (take place old) behind,
-      ap (take (place + length x)) (is ∙ sym (append_assoc (take place old) x _))
-          ∙ ap (λ n. take n ((take place old ++ x) ++ drop (place + length x) old))
-          (let n : place + length x ≡ length (take place old ++ x) = omega (arith, long, length-append (take place old) x) in n)
-          ∙ take-append_seam (take place old ++ x) _,
-    )
+put_before place x old new le is = grind (arith, common_steps, length-take-le place old le, take-append_seam, append_assoc, length-append)
 
 -- no `Ok` is an interruption
 no_wait : (n : ℕ) (x : List ℕ) → count_by is_interruption (zero_write n x) ≡ 0

@@ -1,6 +1,6 @@
 -- What the reads of `open` give of known bytes.
 use Rattle.no_std_io2.proofs.Words.{◌≡◌, ℕ, ◌+◌, ◌<◌, ◌≤◌, ◌^◌, List, [], ◌∷◌, ◌++◌, length, take, drop, refl, sym, ap, subst, ◌∙◌, arith}
-use Rattle.no_std_io2.proofs.Words.{append_assoc, append-nil, length-append, length-drop, length-take-le, take-append-drop, Some, ap₂}
+use Rattle.no_std_io2.proofs.Words.{append_assoc, append-nil, length-append, length-drop, length-take-le, take-append-drop, Some}
 use Rattle.no_std_io2.proofs.Words.{common_steps, cases_lt, inl, inr, Result, Err, Event, event_bytes, events_of, HasNoFault, fails}
 use Rattle.no_std_io2.proofs.Words.{to_come, Reader, tells, ReaderState, Takes, Option, take-append_seam, Ok, true, false, Bool}
 use Rattle.no_std_io2.proofs.{KnownBytes.{full_known}, TakesLemmas.{left_of, HasNoFault-front, HasNoFault-behind, HasNoFault-events_of}}
@@ -52,10 +52,7 @@ module _ {X : Type 0} {R : Reader X} {old new : X} {buf buf' : List ℕ} {filled
   -- it is not full if they were too few
   pub piece_short : (reply : Result (Unit {0}) Error) → ReadFullLaw R old buf 0 reply buf' filled new → length buf' ≡ length buf
       → filled < length buf' → length bytes < length buf'
-  piece_short reply law same less = elim (cases_lt (length bytes) (length buf')) [
-    | inl few ↦ few
-    | inr le ↦ absurd (omega (arith, less, (enough reply law same le).0))
-  ]
+  piece_short reply law same less = grind (arith, enough reply law same, cases_lt (length bytes) (length buf'))
 
 module _ {X : Type 0} {R : Reader X} where
   -- one read after another
@@ -122,14 +119,11 @@ module _ (bytes head : List ℕ) (len : ℕ) (is : head ≡ take 8 bytes) (says 
         → o ≡ Some (events_of (drop len (drop 8 bytes))) → PassesRecord bytes (Some n) o
     one_checked n small le same counts left =
         let p = take len (drop 8 bytes) in
-        let long : length p ≡ len = length-take-le len (drop 8 bytes) le in
-        let checks : check ≡ check_of p = sum ∙ ap (λ m. fold add_number (start m) p) (sym long) in
-        let front : take 8 bytes ≡ header (length p) (check_of p) = sym is ∙ same ∙ ap₂ header (sym long) checks in (
+        let long : length p ≡ len = length-take-le len (drop 8 bytes) le in (
           p,
           drop len (drop 8 bytes),
           omega (arith, small, long),
-          sym (take-append-drop 8 bytes) ∙ ap₂ (λ h l. h ++ l) front (sym (take-append-drop len (drop 8 bytes)))
-              ∙ sym (append_assoc (header (length p) (check_of p)) p (drop len (drop 8 bytes))),
+          grind (arith, common_steps, append_assoc, take-append-drop 8 bytes, take-append-drop len (drop 8 bytes), sum, is, same, long),
           omega (arith, counts, long),
           left,
         )
@@ -155,9 +149,7 @@ passed_more bytes end n sum s fits (payload, rest, small, is, long, left) adds =
     log-append s.payloads (payload ∷ []) ∙ ap (λ l. log_of s.payloads ++ l) (append-nil (record_of payload)) in
     let size : length (log_of (s.payloads ++ payload ∷ [])) ≡ end + n =
     omega (arith, ap length log, length-append (log_of s.payloads) (record_of payload), s.counts, long) in
-    let split : bytes ≡ log_of (s.payloads ++ payload ∷ []) ++ rest =
-    s.split ∙ ap (λ l. log_of s.payloads ++ l) is ∙ sym (append_assoc (log_of s.payloads) (record_of payload) rest)
-    ∙ ap (λ l. l ++ rest) (sym log) in record {
+    let split : bytes ≡ log_of (s.payloads ++ payload ∷ []) ++ rest = grind (arith, common_steps, append_assoc, s.split) in record {
       payloads = s.payloads ++ payload ∷ [];
       rest = rest;
       short = AreShort-append s.payloads (payload ∷ []) s.short (small, tt);
