@@ -206,8 +206,8 @@ def unused(text):
     pattern = re.compile(r"^ *ghost use ([^;]+);", re.M)
     rest = pattern.sub("", text)
     for path in pattern.findall(text):
-        names = path[path.index("{") + 1:-1].split(",") if "{" in path else [path.rsplit(".", 1)[-1]]
-        for name in filter(None, (name.split(" as ")[-1].strip() for name in names)):
+        names = re.split("[{},]", path) if "{" in path else [path.rsplit(".", 1)[-1]]
+        for name in (name.split(" as ")[-1].strip() for name in names if name.strip() and not name.endswith(".")):
             parts = [part for part in name.split("◌") if part] if "◌" in name else []
             is_used = all(part in rest for part in parts) if parts else \
                 re.search(rf"(?<!\w){re.escape(name)}(?!\w)", rest)

@@ -9,13 +9,11 @@ use Rattle.no_std_io2.proofs.Words.{and_again, ExactCalls, FillsRoom, IsReadMete
 use Rattle.no_std_io2.proofs.Words.{reader_inner, behind_held, PassesOn, ReadsBelow, of_held, went_past, was_filled, FillsBelow, lent_held}
 use Rattle.no_std_io2.proofs.TakesLemmas.{takes_none, takes_then, made_takes, stays_at_end, left_of, bytes-append, bytes-events_of}
 use Rattle.no_std_io2.proofs.{TakesLemmas.{events_of-append}, CallsLemmas.{made_split}, InMemoryReads.{drawn, fills_told}}
-use Rattle.no_std_io2.proofs.BufferedReads.{reader_has_room, held-le, told_behind, buf_reader}
-use Rattle.no_std_io2.specs.{declared.{io.Error.{Error}, buffered.buf_reader.BufReader.{BufReader}}, inner.Read.{FilledLaw}}
-use Rattle.no_std_io2.specs.Read.{ConsumeLaw, ReadExactLaw}
-use Rattle.io_bench.specs.declared.asks.Ask.{Ask, TheVariants.{Read, Exact, Fill}}
-use Rattle.io_bench.specs.Asks.{Fits, AllFit, Answered, CameTo, no_ask, next_ask, read_answer, end_or_error, exact_answer, fill_answer}
-use Rattle.io_bench.specs.Asks.{fill_calls, left_behind, DropsFront, AskStep, meets_end, Steps, no_step, next_step}
-use Rattle.io_bench.proofs.RunLemmas.{made_one}
+use Rattle.no_std_io2.{proofs.BufferedReads.{reader_has_room, held-le, told_behind, buf_reader}, specs.declared.io.Error.{Error}}
+use Rattle.no_std_io2.specs.{declared.buffered.buf_reader.BufReader.{BufReader}, inner.Read.{FilledLaw}, Read.{ConsumeLaw, ReadExactLaw}}
+use Rattle.io_bench.specs.{declared.asks.Ask.{Ask, TheVariants.{Read, Exact, Fill}}, Asks.{Fits, AllFit, Answered, CameTo, no_ask}}
+use Rattle.io_bench.specs.Asks.{next_ask, read_answer, end_or_error, exact_answer, fill_answer, fill_calls, left_behind, DropsFront}
+use Rattle.io_bench.{specs.Asks.{AskStep, meets_end, Steps, no_step, next_step}, proofs.RunLemmas.{made_one}}
 
 -- For `run_reads`: asks in a row, and what they take.
 

@@ -4,12 +4,11 @@ use Rattle.no_std_io2.proofs.Words.{◌∙◌, subst, sym, inl, inr, ◌<◌, �
 use Rattle.no_std_io2.proofs.Words.{concat, common_steps, IsFault, IsOutOfMemory, Event, byte, fails, event_bytes, HasNoFault, split_delim}
 use Rattle.no_std_io2.proofs.Words.{bytes_to_fault, first_fault, to_come, Reader, tells, Made, newline, strip_last, split_reader}
 use Rattle.no_std_io2.proofs.{GivenPieces.{next_error, next_fault, next_item, next_none}, CallsLemmas.{made_more}}
-use Rattle.std.proofs.Common.{IfSome}
-use Rattle.no_std_io2.specs.{declared.io.Error.{Error}, inner.{Kinds.{is_interruption}, Pieces.{pieces_given, GivesNext, GivesNone}}}
-use Rattle.no_std_io2.specs.{inner.Lines.{RefusesLine, line_text}, declared.io.{Split.{Split}, Lines.{Lines}}}
+use Rattle.no_std_io2.specs.{declared.io.{Error.{Error}, Split.{Split}, Lines.{Lines}}, inner.Kinds.{is_interruption}}
+use Rattle.no_std_io2.specs.inner.{Pieces.{pieces_given, GivesNext, GivesNone}, Lines.{RefusesLine, line_text}}
 use Rattle.no_std_io2.specs.inner.Iterators.{ends_at, split_is_ended, lines_reader, lines_is_ended, NextPieceLaw}
-use Rattle.io_bench.specs.{Appended.{appended}, PieceRuns.{AllPieces, GathersPieces, RunsNexts}}
-use Rattle.io_bench.proofs.RunLemmas.{appended-one}
+use Rattle.std.proofs.Common.{IfSome}
+use Rattle.io_bench.{specs.{Appended.{appended}, PieceRuns.{AllPieces, GathersPieces, RunsNexts}}, proofs.RunLemmas.{appended-one}}
 
 -- the first pieces were gathered, trimmed, and the others are to come
 record GatheredSoFar (trim : List ℕ → List ℕ) (d : ℕ) (E : List Event) (items : List (List ℕ)) (after : List Event) : Type 0 where

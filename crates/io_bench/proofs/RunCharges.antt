@@ -6,13 +6,12 @@ use Rattle.no_std_io2.proofs.Words.{no_write, write_took, write_again, BufferMay
 use Rattle.no_std_io2.proofs.{Words.{Moves, writer_buffer, writer_inner, writer_told}, MovesLemmas.{meter_made, Moves-ends}}
 use Rattle.no_std_io2.proofs.BufWriterLemmas.{Always, effect_of, Exactly, Moves-device, buffer-le}
 use Rattle.no_std_io2.proofs.BufWriterCalls.{writing_all_calls, send_does, write_does, write_all_does, flush_does, write_takes}
-use Rattle.no_std_io2.proofs.CallsLemmas.{made_split, made_map, law_may}
-use Rattle.no_std_io2.specs.{declared.{io.Error.{Error}, buffered.buf_writer.BufWriter.{BufWriter}}, inner.Meter.{CostsAtMost}}
-use Rattle.no_std_io2.specs.BufWriter.{Unwraps}
+use Rattle.no_std_io2.{proofs.CallsLemmas.{made_split, made_map, law_may}, specs.declared.io.Error.{Error}}
+use Rattle.no_std_io2.specs.{declared.buffered.buf_writer.BufWriter.{BufWriter}, inner.Meter.{CostsAtMost}, BufWriter.{Unwraps}}
 use Rattle.std.proofs.{lemmas.{Nat.{le-div}, List.{length-append}}, Common.{take_all}}
-use Rattle.io_bench.proofs.RunLemmas.{made_one}
-use Rattle.io_bench.specs.declared.runs.{Op.{Op, TheVariants.{Write, WriteAll, Flush}}, Reply.{Reply, TheVariants.{Took, Done}}}
-use Rattle.io_bench.specs.{Runs.{OpCalls, JoinsEach, IsWhole, AreWhole, Accepts, Ran, Run, RunCalls}, declared.tally.Tally.{Tally}}
+use Rattle.io_bench.{proofs.RunLemmas.{made_one}, specs.declared.runs.{Op.{Op, TheVariants.{Write, WriteAll, Flush}}, Reply.{Reply}}}
+use Rattle.io_bench.specs.declared.{runs.Reply.TheVariants.{Took, Done}, tally.Tally.{Tally}}
+use Rattle.io_bench.specs.Runs.{OpCalls, JoinsEach, IsWhole, AreWhole, Accepts, Ran, Run, RunCalls}
 use Rattle.io_bench.specs.{Closed.{op_bytes, given_bytes, op_flushes, flush_count}, Tally.{TallyMay, tally_inner, tally_writes}}
 
 -- What the calls of a buffered writer cost, by each number that counts the calls of the inner writer, if

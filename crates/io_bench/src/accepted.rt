@@ -1,8 +1,7 @@
 // [`joined`], which finds the bytes that a run accepted from its calls and replies.
 ghost use Rattle.std.specs.Prelude.{◌≡◌, ℕ, List, [], Some, None, true, false, IfSome, IfOk, IfErr};
 ghost use Rattle.no_std_io2.specs.Errors.{IsOutOfMemory};
-ghost use Rattle.io_bench.specs.Runs.{Accepts, Run};
-ghost use Rattle.io_bench.specs.Joined.{IsClear, AreClear, IsJoined, HasIdleFailure};
+ghost use Rattle.io_bench.specs.{Runs.{Accepts, Run}, Joined.{IsClear, AreClear, IsJoined, HasIdleFailure}};
 
 use crate::runs::{Op, Reply};
 use no_std_io2::io::Result;

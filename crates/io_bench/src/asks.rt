@@ -1,10 +1,6 @@
 // [`run_reads`], a list of calls on a buffered reader, and how many inner reads they make.
 ghost use Rattle.std.specs.Prelude.{◌≡◌, ◌+◌, ◌-◌, ◌/◌, ◌≤◌, ℕ, List, length};
-ghost use Rattle.no_std_io2.specs.Events.{Event};
-ghost use Rattle.no_std_io2.specs.Takes.{Takes};
-ghost use Rattle.no_std_io2.specs.Takes.{tells};
-ghost use Rattle.no_std_io2.specs.Meter.{FillsRoom, IsReadMeter};
-ghost use Rattle.no_std_io2.specs.BufReader.{reader_inner};
+ghost use Rattle.no_std_io2.specs.{Events.{Event}, Takes.{Takes, tells}, Meter.{FillsRoom, IsReadMeter}, BufReader.{reader_inner}};
 ghost use Rattle.io_bench.specs.Asks.{AllFit, Answered, CameTo, Fits, Steps, left_behind};
 
 use no_std_io2::io::{BufRead, BufReader, ErrorKind, Read, Result};

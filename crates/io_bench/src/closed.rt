@@ -1,15 +1,10 @@
 // [`run_closed`], a list of calls through one `BufWriter` that is then closed.
 ghost use Rattle.std.specs.Prelude.{◌≡◌, ◌+◌, ◌*◌, ◌/◌, ◌<◌, ◌≤◌, [], ◌++◌, Ok, IfErr, IfOk, OnErr, OnOk, length, vec_capacity, vec_len};
 ghost use Rattle.no_std_io2.specs.BufWriter.{BufWriterFits, Unwraps, writer_inner, writer_buffer};
-ghost use Rattle.no_std_io2.specs.declared.io.BufWriter.{BufWriter as Buffered};
-ghost use Rattle.no_std_io2.specs.Errors.{IsOutOfMemory};
-ghost use Rattle.no_std_io2.specs.Moves.{Moves};
+ghost use Rattle.no_std_io2.specs.{declared.io.BufWriter.{BufWriter as Buffered}, Errors.{IsOutOfMemory}, Moves.{Moves}};
 ghost use Rattle.no_std_io2.specs.Writers.{TakesAll};
-ghost use Rattle.io_bench.specs.Appended.{appended};
-ghost use Rattle.io_bench.specs.Closed.{flush_count, given_bytes};
-ghost use Rattle.io_bench.specs.Runs.{AreWhole, RunLaw};
-ghost use Rattle.io_bench.specs.declared.tally.Tally.{Tally as Counted};
-ghost use Rattle.io_bench.specs.Tally.{tally_inner, tally_writes};
+ghost use Rattle.io_bench.specs.{Appended.{appended}, Closed.{flush_count, given_bytes}, Runs.{AreWhole, RunLaw}};
+ghost use Rattle.io_bench.specs.{declared.tally.Tally.{Tally as Counted}, Tally.{tally_inner, tally_writes}};
 ghost use Rattle.io_bench.specs.contracts.tally.Tally.{the_row as tally-row};
 
 use crate::runs::{Op, Reply, run_writes};

@@ -1,16 +1,10 @@
 // [`run_split`] and [`run_lines`], which take all items of a `split` and of a `lines`.
-ghost use Rattle.std.specs.Prelude.{◌≡◌, ◌+◌, ◌<◌, ◌++◌, map, false, OnOk, OnErr, IfErr, IfSome};
-ghost use Rattle.std.specs.Iterator.{IsFinite};
-ghost use Rattle.std.specs.Io.BufRead.{strip_last};
-ghost use Rattle.std.specs.Prelude.{vec_items, vec_len, vec_capacity, string_bytes};
-ghost use Rattle.no_std_io2.specs.Errors.{IsFault, IsOutOfMemory};
-ghost use Rattle.no_std_io2.specs.Takes.{to_come};
-ghost use Rattle.no_std_io2.specs.Takes.{tells};
-ghost use Rattle.no_std_io2.specs.Pieces.{newline};
+ghost use Rattle.std.specs.Prelude.{◌≡◌, ◌+◌, ◌<◌, ◌++◌, map, false, OnOk, OnErr, IfErr, IfSome, vec_items, vec_len, vec_capacity};
+ghost use Rattle.std.specs.{Prelude.{string_bytes}, Iterator.{IsFinite}, Io.BufRead.{strip_last}};
+ghost use Rattle.no_std_io2.specs.{Errors.{IsFault, IsOutOfMemory}, Takes.{to_come, tells}, Pieces.{newline}};
 ghost use Rattle.no_std_io2.specs.inner.Lines.{line_text, RefusesLine};
 ghost use Rattle.no_std_io2.specs.inner.Iterators.{split_reader, split_delim, split_is_ended, lines_reader, lines_is_ended};
-ghost use Rattle.io_bench.specs.PieceRuns.{GathersPieces, RunsNexts};
-ghost use Rattle.io_bench.specs.Appended.{appended};
+ghost use Rattle.io_bench.specs.{PieceRuns.{GathersPieces, RunsNexts}, Appended.{appended}};
 
 use no_std_io2::io::{BufRead, Lines, Read, Result, Split};
 

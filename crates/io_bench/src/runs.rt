@@ -1,10 +1,7 @@
 // [`run_writes`], a list of calls on any writer.
 ghost use Rattle.std.specs.Prelude.{◌≡◌, ◌+◌, ◌<◌, ◌++◌, OnOk, OnErr, IfErr, length, vec_len, vec_capacity};
-ghost use Rattle.no_std_io2.specs.Errors.{IsOutOfMemory};
-ghost use Rattle.no_std_io2.specs.Calls.{ByCalls};
-ghost use Rattle.no_std_io2.specs.inner.Writers.{CallOf};
-ghost use Rattle.io_bench.specs.Appended.{appended};
-ghost use Rattle.io_bench.specs.Runs.{OpCalls, RunLaw};
+ghost use Rattle.no_std_io2.specs.{Errors.{IsOutOfMemory}, Calls.{ByCalls}, inner.Writers.{CallOf}};
+ghost use Rattle.io_bench.specs.{Appended.{appended}, Runs.{OpCalls, RunLaw}};
 
 use no_std_io2::io::{Error, Result, Write};
 use std::alloc::Allocator;

@@ -1,15 +1,12 @@
 -- For `adaptors`: a `Take` at its limit, and the calls of a `Chain`.
 use Rattle.std.proofs.{lemmas.{Grind.{common_steps}, Str.{IsUtf8-nil}}, Common.{IsUtf8, String, string_bytes, string_len, string_capacity}}
-use Rattle.no_std_io2.proofs.Words.{◌+◌}
-use Rattle.no_std_io2.proofs.Words.{◌≡◌, ℕ, ◌<◌, ◌⊎◌, List, [], ◌∷◌, ◌++◌, Result, Ok, Err, OnOk, IfOk, IfErr, length, refl, sym, ap, subst}
-use Rattle.no_std_io2.proofs.Words.{◌∙◌, arith, inl, inr, append-nil, Vec, Event, event_bytes, Reader, ReadCall, Filled, ReadCallLaw, tells}
-use Rattle.no_std_io2.proofs.{Words.{newline, Made}, CallsLemmas.{made_split}, CallsAdd.{piece_adds, EachAdds}, LimitLemmas.{limit_reader}}
-use Rattle.no_std_io2.proofs.{LimitLemmas.{limit_each, limit_exact}, ToEndLemmas.{chain_reader}}
-use Rattle.no_std_io2.specs.{declared.io.Error.{Error}, declared.io.Take.{Take}, Errors.{IsUnexpectedEnd}, inner.Events.{cut}}
-use Rattle.no_std_io2.specs.{Calls.{GaveExactly, ByCalls}, Read.{ReadExactLaw}, inner.Read.{FillCalls, gave_whole}}
-use Rattle.no_std_io2.specs.{BufRead.{ReadUntilLaw, ReadLineLaw}, inner.Lines.{AnswersLine}, inner.Pieces.{PieceCalls}}
-use Rattle.no_std_io2.specs.{inner.Take.{limit_left, LimitTakes}, inner.Chain.{InTurn}}
-use Rattle.no_std_io2.specs.inner.Pieces.{PieceEnds}
+use Rattle.no_std_io2.proofs.Words.{◌+◌, ◌≡◌, ℕ, ◌<◌, ◌⊎◌, List, [], ◌∷◌, ◌++◌, Result, Ok, Err, OnOk, IfOk, IfErr, length, refl, sym, ap}
+use Rattle.no_std_io2.proofs.Words.{subst, ◌∙◌, arith, inl, inr, append-nil, Vec, Event, event_bytes, Reader, ReadCall, Filled, ReadCallLaw}
+use Rattle.no_std_io2.proofs.{Words.{tells, newline, Made}, CallsLemmas.{made_split}, CallsAdd.{piece_adds, EachAdds}}
+use Rattle.no_std_io2.proofs.{LimitLemmas.{limit_reader, limit_each, limit_exact}, ToEndLemmas.{chain_reader}}
+use Rattle.no_std_io2.specs.{declared.io.{Error.{Error}, Take.{Take}}, Errors.{IsUnexpectedEnd}, inner.{Events.{cut}, Read.{FillCalls}}}
+use Rattle.no_std_io2.specs.inner.{Read.{gave_whole}, Lines.{AnswersLine}, Pieces.{PieceCalls, PieceEnds}, Take.{limit_left, LimitTakes}}
+use Rattle.no_std_io2.specs.{inner.Chain.{InTurn}, Calls.{GaveExactly, ByCalls}, Read.{ReadExactLaw}, BufRead.{ReadUntilLaw, ReadLineLaw}}
 
 -- For `adaptors`: at limit 0 a `Take` gives nothing, over every reader.
 

@@ -1,17 +1,14 @@
 -- For `towers`: which errors a writer returns, and what streams in front of others are.
 use Rattle.no_std_io2.proofs.Words.{Ok, Err, Wrote, common_steps, ℕ, List, Result, IfErr, arith, IsOutOfMemory, WriteCall, Flushed, Made}
 use Rattle.no_std_io2.proofs.Words.{AllCalls, Writes, no_write, write_took, write_again, write_stuck, write_fault, Writer, CallOf, ◌≡◌, ◌<◌}
-use Rattle.no_std_io2.proofs.Words.{◌∷◌, [], IfOk, length}
-use Rattle.no_std_io2.proofs.Words.{subst, sym, inl, inr, WroteAll, Step, TakesStep, Then, first_stops, first_goes_on, SendCalls, RoomCalls}
-use Rattle.no_std_io2.proofs.Words.{Buffered}
-use Rattle.no_std_io2.proofs.Words.{WriteCalls, SingleCall, WriteAllCalls, FlushCalls, InnerCalls, BufferMay, lines_of, unfinished_line}
-use Rattle.no_std_io2.proofs.Words.{SendLinesCalls, LineWriteCalls, LineWriteAllCalls, Vec, told_out, writer_inner, writer_buffer}
-use Rattle.no_std_io2.proofs.{Words.{writer_told, with_buffer, line_inner, line_buffer}, CallsLemmas.{law_may, made_split}}
-use Rattle.no_std_io2.proofs.LineLemmas.{lines_some}
-use Rattle.no_std_io2.specs.{declared.io.Error.{Error}, Writers.{WriteAllOf, FlushOf}, inner.InMemory.{AppendsWhole, AppendsMay}}
-use Rattle.no_std_io2.specs.inner.BufWriter.{WithNothingHeld, PutCalls}
-use Rattle.no_std_io2.specs.inner.LineWriter.{SendLineCalls, LinesCalls, HoldsTail, LineCalls}
+use Rattle.no_std_io2.proofs.Words.{◌∷◌, [], IfOk, length, subst, sym, inl, inr, WroteAll, Step, TakesStep, Then, first_stops}
+use Rattle.no_std_io2.proofs.Words.{first_goes_on, SendCalls, RoomCalls, Buffered, WriteCalls, SingleCall, WriteAllCalls, FlushCalls}
+use Rattle.no_std_io2.proofs.Words.{InnerCalls, BufferMay, lines_of, unfinished_line, SendLinesCalls, LineWriteCalls, LineWriteAllCalls}
+use Rattle.no_std_io2.proofs.Words.{Vec, told_out, writer_inner, writer_buffer, writer_told, with_buffer, line_inner, line_buffer}
+use Rattle.no_std_io2.{proofs.{CallsLemmas.{law_may, made_split}, LineLemmas.{lines_some}}, specs.declared.io.Error.{Error}}
 use Rattle.no_std_io2.specs.declared.buffered.{buf_writer.BufWriter.{BufWriter}, line_writer.LineWriter.{LineWriter}}
+use Rattle.no_std_io2.specs.{Writers.{WriteAllOf, FlushOf}, inner.InMemory.{AppendsWhole, AppendsMay}}
+use Rattle.no_std_io2.specs.inner.{BufWriter.{WithNothingHeld, PutCalls}, LineWriter.{SendLineCalls, LinesCalls, HoldsTail, LineCalls}}
 use Rattle.promises.specs.Fails.{FailsBy, FailsOnly}
 use Rattle.std.specs.Vec.{vec_len, vec_capacity}
 

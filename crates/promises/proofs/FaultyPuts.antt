@@ -1,11 +1,10 @@
 -- A writer that fails as its acts say puts its bytes where the writer behind it does.
-use Rattle.no_std_io2.proofs.Words.{◌≡◌, ℕ, ◌+◌, ◌≤◌, List, take, refl, sym, ap, subst, arith, inl, inr, cases_lt}
-use Rattle.no_std_io2.proofs.Words.{take-take, common_steps}
+use Rattle.no_std_io2.proofs.Words.{◌≡◌, ℕ, ◌+◌, ◌≤◌, List, take, refl, sym, ap, subst, arith, inl, inr, cases_lt, take-take, common_steps}
 use Rattle.no_std_io2.proofs.Words.{Option, Some, None, Result, Ok, Err, Writer, CallOf, WriteCall, Wrote, WroteAll, Flushed, length-take}
+use Rattle.no_std_io2.specs.declared.io.Error.{Error}
 use Rattle.std.proofs.Common.{take_all, eq-zero-or-pos}
-use Rattle.no_std_io2.specs.{declared.io.Error.{Error}}
-use Rattle.io_bench.specs.Faulty.{FaultyMay, WritesBehind, faulty_inner, next_act}
-use Rattle.io_bench.specs.declared.faulty.{Act.{Act, TheVariants.{Take, Zero, Fail}}, Faulty.{Faulty}}
+use Rattle.io_bench.specs.{Faulty.{FaultyMay, WritesBehind, faulty_inner, next_act}, declared.faulty.Act.{Act}}
+use Rattle.io_bench.specs.declared.faulty.{Act.TheVariants.{Take, Zero, Fail}, Faulty.{Faulty}}
 use Rattle.record_log.specs.Placed.{IsPutAt, PutsAt, PutsCall}
 
 module _ {W : Type 0} (I : Writer W) (content : W → List ℕ) (place : W → ℕ) (puts : PutsAt I content place) where

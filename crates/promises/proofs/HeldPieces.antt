@@ -4,17 +4,13 @@ use Rattle.no_std_io2.proofs.Words.{◌≡◌, ◌+◌, ◌-◌, ◌<◌, ◌++�
 use Rattle.no_std_io2.proofs.Words.{ap, ap₂, ◌∙◌, drop, arith, drop-append_seam, step_back, store_before, store_if, Event, answered}
 use Rattle.no_std_io2.proofs.Words.{KeepsContent, Store, Bool, true, ◌∷◌, take, Err, ⊎_elim, inl, inr, append_assoc, append-nil}
 use Rattle.no_std_io2.proofs.Words.{length-append, length-take-le, take-append-drop, Vec, IsOutOfMemory, Made, event_bytes, Reader}
-use Rattle.no_std_io2.proofs.Words.{ReadCall}
-use Rattle.no_std_io2.proofs.Words.{Filled, Consumed, ReadCallLaw, tells, newline, IsSuffix, reader_held, reader_behind, reader_inner}
-use Rattle.no_std_io2.proofs.{Words.{FillsBelow, lent_held, lent_read}, BufferedReads.{before_decides, buf_reader}}
-use Rattle.no_std_io2.proofs.CallsLemmas.{made_split}
-use Rattle.no_std_io2.specs.{declared.io.Error.{Error}, Takes.{gave_front}, BufRead.{ReadUntilLaw, ReadLineLaw}}
+use Rattle.no_std_io2.proofs.Words.{ReadCall, Filled, Consumed, ReadCallLaw, tells, newline, IsSuffix, reader_held, reader_behind}
+use Rattle.no_std_io2.proofs.{Words.{reader_inner, FillsBelow, lent_held, lent_read}, BufferedReads.{before_decides, buf_reader}}
+use Rattle.no_std_io2.{proofs.CallsLemmas.{made_split}, specs.declared.{io.Error.{Error}, buffered.buf_reader.BufReader.{BufReader}}}
+use Rattle.no_std_io2.specs.{Takes.{gave_front}, BufRead.{ReadUntilLaw, ReadLineLaw}}
 use Rattle.no_std_io2.specs.inner.Lines.{AnswersLine, out_of_memory, part_follows, part_invalid}
 use Rattle.no_std_io2.specs.inner.Pieces.{Lacks, EndsPiece, FindsPiece, PartCalls, no_part, and_part, part_interrupted, PieceCalls}
-use Rattle.no_std_io2.specs.{Calls.{ByCalls}, declared.buffered.buf_reader.BufReader.{BufReader}}
-use Rattle.no_std_io2.specs.inner.BufReader.{TakesHeld, TakesHeldLine}
-use Rattle.no_std_io2.specs.inner.BufReader.{HasBuffer}
-use Rattle.no_std_io2.specs.inner.Pieces.{PieceEnds}
+use Rattle.no_std_io2.specs.{inner.{Pieces.{PieceEnds}, BufReader.{TakesHeld, TakesHeldLine, HasBuffer}}, Calls.{ByCalls}}
 
 -- For `reads`: the store after a call, if it was told before; and the events.
 

@@ -1,12 +1,11 @@
 -- For `system` and `memory`: what reads give.
-use Rattle.std.proofs.{lemmas.Grind.{common_steps}, KnownBytes.{Consumes-nil, Consumes-trans}}
+use Rattle.std.{proofs.{lemmas.Grind.{common_steps}, KnownBytes.{Consumes-nil, Consumes-trans}}, specs.{Prelude.{min}, Result.{IsErrAnd}}}
+use Rattle.std.specs.Io.KnownBytes.{Consumes, Keeps}
 use Rattle.no_std_io2.proofs.Words.{◌≡◌, ℕ, zero, suc, ◌+◌, ◌<◌, ◌≤◌, List, [], ◌∷◌, Option, Result, Ok, Err, length, refl, sym, ap, subst}
 use Rattle.no_std_io2.proofs.Words.{◌∙◌, arith, inl, inr, ◌⊎◌, append-nil, length-append, OnOk, IsFault, ReadCall, Gave, bytes_given}
 use Rattle.no_std_io2.proofs.Words.{answered, GaveLaw, ReadCallLaw, GathersUntil, ExactCalls, Made, IsFront, ◌++◌, Vec, Some, Event}
-use Rattle.no_std_io2.proofs.Words.{event_bytes}
-use Rattle.no_std_io2.proofs.{Words.{to_come, Reader, tells}, CallsLemmas.{made_split}, TakesLemmas.{length-events_of}, CallsAdd.{EachAdds}}
-use Rattle.no_std_io2.proofs.{CallsAdd.{gathers_add}, CopyLoop.{took_told}}
-use Rattle.std.specs.{Prelude.{min}, Result.{IsErrAnd}, Io.KnownBytes.{Consumes, Keeps}}
+use Rattle.no_std_io2.proofs.{Words.{event_bytes, to_come, Reader, tells}, CallsLemmas.{made_split}, TakesLemmas.{length-events_of}}
+use Rattle.no_std_io2.proofs.{CallsAdd.{EachAdds, gathers_add}, CopyLoop.{took_told}}
 use lib.Seq.{take-append_seam}
 use Rattle.no_std_io2.specs.{declared.io.Error.{Error}, inner.Kinds.{is_interruption}, Takes.{gave_front}, Read.{ToEndLaw}, Calls.{ByCalls}}
 use Rattle.system_streams.specs.{declared.{patient.Patient.{Patient}, system.SystemRead.{Ghosts as Source}}, Patient.{patient_device}}

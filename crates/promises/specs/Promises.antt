@@ -1,14 +1,13 @@
 -- The words of the promises.
 use Rattle.std.specs.Prelude.{◌≡◌, ◌+◌, ℕ, List, [], ◌∷◌, ◌++◌, length, ⊤, Ok, Err, None, Some}
-use Rattle.no_std_io2.specs.{declared.io.{Error.{Error}, ErrorKind.TheVariants.{WriteZero}}, Errors.{error_kind}}
-use Rattle.no_std_io2.specs.{Moves.{WriterState}, Calls.{WriteCall, Wrote, WroteAll, Flushed}}
-use Rattle.no_std_io2.specs.{declared.buffered.buf_writer.BufWriter.{BufWriter}, declared.io.Take.{Take}}
-use Rattle.no_std_io2.specs.{BufWriter.{writer_inner, writer_buffer}, inner.BufWriter.{with_buffer}, inner.BufReader.{reader_told}}
-use Rattle.no_std_io2.specs.{BufReader.{reader_held, reader_inner}, declared.io.Cursor.{Cursor}, Cursor.{cursor_inner, cursor_position}}
-use Rattle.no_std_io2.specs.{inner.Cursor.{cursor_left}, Events.{events_of}, Takes.{ReaderState, store_at}}
-use Rattle.no_std_io2.specs.{inner.Take.{limit_inner, limit_events}, inner.Chain.{chain_first, chain_second, chain_events}}
+use Rattle.no_std_io2.specs.declared.io.{Error.{Error}, ErrorKind.TheVariants.{WriteZero}, Take.{Take}, Cursor.{Cursor}, Chain.{Chain}}
+use Rattle.no_std_io2.specs.declared.buffered.{buf_writer.BufWriter.{BufWriter}, line_writer.LineWriter.{LineWriter}}
+use Rattle.no_std_io2.specs.{declared.buffered.buf_reader.BufReader.{BufReader}, Errors.{error_kind}, Moves.{WriterState}}
+use Rattle.no_std_io2.specs.{Calls.{WriteCall, Wrote, WroteAll, Flushed}, BufWriter.{writer_inner, writer_buffer}}
+use Rattle.no_std_io2.specs.inner.{BufWriter.{with_buffer}, BufReader.{reader_told}, Cursor.{cursor_left}, Take.{limit_inner, limit_events}}
+use Rattle.no_std_io2.specs.{inner.Chain.{chain_first, chain_second, chain_events}, BufReader.{reader_held, reader_inner}}
+use Rattle.no_std_io2.specs.{Cursor.{cursor_inner, cursor_position}, Events.{events_of}, Takes.{ReaderState, store_at}}
 use Rattle.no_std_io2.specs.LineWriter.{line_inner, line_buffer}
-use Rattle.no_std_io2.specs.declared.{buffered.{line_writer.LineWriter.{LineWriter}, buf_reader.BufReader.{BufReader}}, io.Chain.{Chain}}
 
 -- all accepted bytes, in order: those that are out, then those that are held
 abbrev pub bytes_in : WriterState → List ℕ

@@ -1,10 +1,7 @@
 // What a `Take`, a `Chain` and `Bytes` do, over every reader.
 ghost use Rattle.std.specs.Prelude.{List, [], ◌≡◌, ◌≤◌, ◌<◌, ◌++◌, Ok, OnOk, OnSome, IfErr, IfSome, string_bytes};
-ghost use Rattle.no_std_io2.specs.inner.Chain.{InTurn};
-ghost use Rattle.no_std_io2.specs.inner.Iterators.{NextLaw, bytes_reader};
-ghost use Rattle.no_std_io2.specs.inner.Take.{LimitTakes, limit_left};
-ghost use Rattle.no_std_io2.specs.Errors.{IsFault, IsUnexpectedEnd};
-ghost use Rattle.no_std_io2.specs.Events.{Event, event_bytes};
+ghost use Rattle.no_std_io2.specs.inner.{Chain.{InTurn}, Iterators.{NextLaw, bytes_reader}, Take.{LimitTakes, limit_left}};
+ghost use Rattle.no_std_io2.specs.{Errors.{IsFault, IsUnexpectedEnd}, Events.{Event, event_bytes}};
 
 use no_std_io2::io::{BufRead, Bytes, Chain, Read, Result, Take};
 use std::alloc::{Allocator, Global};

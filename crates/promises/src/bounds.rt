@@ -1,14 +1,8 @@
 // At most how many calls the device gets, by each number that counts its calls. A `Tally` has such a number.
 ghost use Rattle.std.specs.Prelude.{◌≡◌, ◌+◌, ◌-◌, ◌/◌, ◌≤◌, IsOk, length};
-ghost use Rattle.no_std_io2.specs.LineWriter.{line_inner};
-ghost use Rattle.no_std_io2.specs.inner.Meter.{CostsAtMost};
-ghost use Rattle.no_std_io2.specs.Meter.{FillsRoom};
-ghost use Rattle.no_std_io2.specs.Moves.{Moves, MovesFront};
-ghost use Rattle.no_std_io2.specs.Write.{accepted_of, write_mishap};
-ghost use Rattle.no_std_io2.specs.BufReader.{reader_inner};
-ghost use Rattle.no_std_io2.specs.Writers.{TakesAll};
-ghost use Rattle.io_bench.specs.Asks.{AllFit, CameTo, Steps, left_behind};
-ghost use Rattle.io_bench.specs.Tally.{tally_inner, tally_reads};
+ghost use Rattle.no_std_io2.specs.{LineWriter.{line_inner}, inner.Meter.{CostsAtMost}, Meter.{FillsRoom}, Moves.{Moves, MovesFront}};
+ghost use Rattle.no_std_io2.specs.{Write.{accepted_of, write_mishap}, BufReader.{reader_inner}, Writers.{TakesAll}};
+ghost use Rattle.io_bench.specs.{Asks.{AllFit, CameTo, Steps, left_behind}, Tally.{tally_inner, tally_reads}};
 ghost use Rattle.promises.specs.Promises.{in_lines};
 
 use io_bench::{Ask, ReadTotals, Tally, run_reads};

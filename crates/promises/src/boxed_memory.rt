@@ -1,11 +1,8 @@
 // What a call of a stream in memory does is known in a box too, in which only its ghost member `may` says it.
 ghost use Rattle.std.specs.Prelude.{◌≡◌, ◌-◌, ◌<◌, ◌+◌, ◌++◌, IsOkAnd, Ok, OnErr, drop, length, min, take, vec_capacity, vec_len};
-ghost use Rattle.std.specs.Box.{boxed_slice_items};
-ghost use Rattle.std.specs.VecDeque.{deque_capacity, deque_len};
-ghost use Rattle.no_std_io2.specs.inner.InMemory.{AppendsWhole};
-ghost use Rattle.no_std_io2.specs.inner.Cursor.{PutsFitting, PutsWhole, cursor_left};
-ghost use Rattle.no_std_io2.specs.Cursor.{cursor_inner, cursor_position};
-ghost use Rattle.no_std_io2.specs.Takes.{gave_front};
+ghost use Rattle.std.specs.{Box.{boxed_slice_items}, VecDeque.{deque_capacity, deque_len}};
+ghost use Rattle.no_std_io2.specs.inner.{InMemory.{AppendsWhole}, Cursor.{PutsFitting, PutsWhole, cursor_left}};
+ghost use Rattle.no_std_io2.specs.{Cursor.{cursor_inner, cursor_position}, Takes.{gave_front}};
 
 use no_std_io2::io::{AsSlice, Cursor, Read, Result, Write};
 use std::alloc::Allocator;

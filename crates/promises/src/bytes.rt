@@ -1,10 +1,7 @@
 // No accepted byte is lost, repeated or moved.
 ghost use Rattle.std.specs.Prelude.{◌≡◌, List, [], ℕ, ◌++◌, IfErr, OnOk};
-ghost use Rattle.no_std_io2.specs.inner.Write.{AllCalls};
-ghost use Rattle.no_std_io2.specs.Calls.{ByCalls, Flushed, Wrote};
-ghost use Rattle.no_std_io2.specs.Moves.{IsFront, Moves};
+ghost use Rattle.no_std_io2.specs.{inner.{Write.{AllCalls}, Writers.{CallOf}}, Calls.{ByCalls, Flushed, Wrote}, Moves.{IsFront, Moves}};
 ghost use Rattle.no_std_io2.specs.Write.{accepted_of, write_mishap};
-ghost use Rattle.no_std_io2.specs.inner.Writers.{CallOf};
 ghost use Rattle.io_bench.specs.Tally.{tally_inner};
 ghost use Rattle.promises.specs.Promises.{EndsIn, bytes_in, in_tower};
 

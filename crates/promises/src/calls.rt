@@ -1,13 +1,8 @@
 // Which calls the device gets.
 ghost use Rattle.std.specs.Prelude.{◌≡◌, ◌+◌, ◌*◌, ◌/◌, ◌<◌, ◌≤◌, ◌++◌, [], IfErr, IfOk, Ok, OnOk, length, vec_capacity, vec_len};
-ghost use Rattle.no_std_io2.specs.BufWriter.{BufWriterFits, writer_buffer, writer_inner, writer_told};
-ghost use Rattle.no_std_io2.specs.Errors.{IsOutOfMemory};
-ghost use Rattle.no_std_io2.specs.Calls.{ByCalls};
-ghost use Rattle.no_std_io2.specs.Moves.{Moves};
-ghost use Rattle.no_std_io2.specs.Write.{accepted_of, write_mishap};
-ghost use Rattle.no_std_io2.specs.inner.Writers.{CallOf};
-ghost use Rattle.no_std_io2.specs.Writers.{TakesAll};
-ghost use Rattle.no_std_io2.specs.inner.Meter.{CostsAtMost};
+ghost use Rattle.no_std_io2.specs.{BufWriter.{BufWriterFits, writer_buffer, writer_inner, writer_told}, Errors.{IsOutOfMemory}};
+ghost use Rattle.no_std_io2.specs.{Calls.{ByCalls}, Moves.{Moves}, Write.{accepted_of, write_mishap}, inner.Writers.{CallOf}};
+ghost use Rattle.no_std_io2.specs.{inner.Meter.{CostsAtMost}, Writers.{TakesAll}};
 ghost use Rattle.io_bench.specs.Closed.{flush_count, given_bytes};
 ghost use Rattle.promises.specs.Promises.{EndsInFlush, EndsIn, HasNoFlush};
 

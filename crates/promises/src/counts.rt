@@ -1,20 +1,12 @@
 // How many calls the inner stream gets: each number that counts its calls rises by so many. A `Tally` has
 // such a number.
-ghost use Rattle.std.specs.Prelude.{ℕ, ◌≡◌, ◌+◌, ◌<◌, ◌^◌, min, nat_lt, if◌then◌else◌, length, IfOk, IsOkAnd, Ok, OnOk};
-ghost use Rattle.std.specs.Int.{div_ceil};
-ghost use Rattle.no_std_io2.specs.BufReader.{reader_held, reader_inner};
-ghost use Rattle.no_std_io2.specs.BufWriter.{writer_buffer, writer_inner};
-ghost use Rattle.no_std_io2.specs.inner.BufWriter.{writing_calls};
-ghost use Rattle.no_std_io2.specs.inner.Meter.{Costs};
-ghost use Rattle.no_std_io2.specs.Meter.{IsMeter, FillsRoom, IsReadMeter};
-ghost use Rattle.no_std_io2.specs.Takes.{answered, gave_front, tells, bytes_left, Takes};
-ghost use Rattle.no_std_io2.specs.inner.Take.{limit_inner};
-ghost use Rattle.no_std_io2.specs.inner.Charges.{calls_for};
+ghost use Rattle.std.specs.{Prelude.{ℕ, ◌≡◌, ◌+◌, ◌<◌, ◌^◌, min, nat_lt, if◌then◌else◌, length, IfOk, IsOkAnd, Ok, OnOk}, Int.{div_ceil}};
+ghost use Rattle.no_std_io2.specs.{BufReader.{reader_held, reader_inner}, BufWriter.{writer_buffer, writer_inner}};
+ghost use Rattle.no_std_io2.specs.inner.{BufWriter.{writing_calls}, Meter.{Costs}, Take.{limit_inner}, Charges.{calls_for}};
+ghost use Rattle.no_std_io2.specs.{Meter.{IsMeter, FillsRoom, IsReadMeter}, Takes.{answered, gave_front, tells, bytes_left, Takes}};
 ghost use Rattle.no_std_io2.specs.Writers.{TakesAll};
 ghost use Rattle.io_bench.specs.Tally.{tally_inner, tally_reads, tally_writes};
-ghost use Rattle.promises.specs.Counts.{exact_left, exact_reads};
-ghost use Rattle.promises.specs.Loops.{CountsLoop, CountsToEnd};
-ghost use Rattle.promises.specs.Promises.{in_reader};
+ghost use Rattle.promises.specs.{Counts.{exact_left, exact_reads}, Loops.{CountsLoop, CountsToEnd}, Promises.{in_reader}};
 
 use io_bench::Tally;
 use no_std_io2::io::{

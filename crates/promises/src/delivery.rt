@@ -1,13 +1,8 @@
 // What has reached the device.
 ghost use Rattle.std.specs.Prelude.{◌≡◌, [], ◌∷◌, ◌++◌, OnOk, IfOk, IfErr};
 ghost use Rattle.no_std_io2.specs.BufWriter.{writer_inner, writer_buffer};
-ghost use Rattle.no_std_io2.specs.inner.BufWriter.{into_inner_error_cause, into_inner_error_writer};
-ghost use Rattle.no_std_io2.specs.Calls.{Flushed};
-ghost use Rattle.no_std_io2.specs.inner.Moves.{HasSpent};
-ghost use Rattle.no_std_io2.specs.Moves.{Moves, call_mishap};
-ghost use Rattle.no_std_io2.specs.inner.Writers.{CallOf};
-ghost use Rattle.no_std_io2.specs.Errors.{error_kind};
-ghost use Rattle.no_std_io2.specs.LineWriter.{line_inner, line_buffer};
+ghost use Rattle.no_std_io2.specs.inner.{BufWriter.{into_inner_error_cause, into_inner_error_writer}, Moves.{HasSpent}, Writers.{CallOf}};
+ghost use Rattle.no_std_io2.specs.{Calls.{Flushed}, Moves.{Moves, call_mishap}, Errors.{error_kind}, LineWriter.{line_inner, line_buffer}};
 ghost use Rattle.promises.specs.Promises.{bytes_in, in_tower};
 
 use no_std_io2::io::{BufWriter, IntoInnerError, LineWriter, Result, Write};

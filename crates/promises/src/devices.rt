@@ -1,15 +1,10 @@
 // What the devices for tests and the streams that keep nothing do.
 ghost use Rattle.std.specs.Prelude.{ℕ, List, [], ◌∷◌, ◌≡◌, ◌<◌, ◌≤◌, ◌++◌, None, IsErr, Ok, OnOk, Some, drop, length, map};
-ghost use Rattle.io_bench.specs.Appended.{appended};
-ghost use Rattle.no_std_io2.specs.BufWriter.{writer_inner};
-ghost use Rattle.no_std_io2.specs.Takes.{answered, gave_front, tells, Takes, to_come};
-ghost use Rattle.no_std_io2.specs.Meter.{FillsRoom};
+ghost use Rattle.io_bench.specs.{Appended.{appended}, Faulty.{WritesBehind, act_mishaps, acts_left, faulty_inner, next_act}};
+ghost use Rattle.io_bench.specs.{Feed.{all_to_come, feed_answer, feed_left, feed_piece}, declared.feed.Event.TheVariants.{Byte, Fail}};
+ghost use Rattle.io_bench.specs.{Runs.{AreWhole, failures}, Tally.{tally_inner}};
+ghost use Rattle.no_std_io2.specs.{BufWriter.{writer_inner}, Takes.{answered, gave_front, tells, Takes, to_come}, Meter.{FillsRoom}};
 ghost use Rattle.no_std_io2.specs.inner.InMemory.{sink_taken};
-ghost use Rattle.io_bench.specs.Faulty.{WritesBehind, act_mishaps, acts_left, faulty_inner, next_act};
-ghost use Rattle.io_bench.specs.Feed.{all_to_come, feed_answer, feed_left, feed_piece};
-ghost use Rattle.io_bench.specs.declared.feed.Event.TheVariants.{Byte, Fail};
-ghost use Rattle.io_bench.specs.Runs.{AreWhole, failures};
-ghost use Rattle.io_bench.specs.Tally.{tally_inner};
 
 use io_bench::{Faulty, Feed, Op, Reply, Tally, run_writes};
 use no_std_io2::io::{BufWriter, Empty, ErrorKind, Read, Result, Sink, Write};

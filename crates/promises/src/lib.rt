@@ -44,4 +44,4 @@ pub use reads::{
     goes_to_its_target, moves_inside_its_buffer,
 };
 pub use runs::accepts_by_its_replies;
-pub use survival::survives_its_cut;
+pub use survival::{puts_behind_its_acts, survives_its_cut};

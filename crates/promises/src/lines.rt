@@ -1,11 +1,7 @@
 // What a `LineWriter` holds.
 ghost use Rattle.std.specs.Prelude.{OnOk};
-ghost use Rattle.no_std_io2.specs.inner.Lines.{IsLineState};
-ghost use Rattle.no_std_io2.specs.inner.Pieces.{Lacks};
-ghost use Rattle.no_std_io2.specs.Pieces.{newline};
-ghost use Rattle.no_std_io2.specs.Moves.{Moves, MovesFront};
-ghost use Rattle.no_std_io2.specs.Write.{accepted_of, write_mishap};
-ghost use Rattle.no_std_io2.specs.LineWriter.{line_buffer};
+ghost use Rattle.no_std_io2.specs.{inner.{Lines.{IsLineState}, Pieces.{Lacks}}, Pieces.{newline}, Moves.{Moves, MovesFront}};
+ghost use Rattle.no_std_io2.specs.{Write.{accepted_of, write_mishap}, LineWriter.{line_buffer}};
 ghost use Rattle.promises.specs.Promises.{in_lines};
 
 use no_std_io2::io::{LineWriter, Result, Write};

@@ -1,11 +1,7 @@
 // What readers and writers in memory do.
-ghost use Rattle.std.specs.Prelude.{List, ℕ, ◌≡◌, ◌-◌, ◌++◌, drop, length, IsOkAnd, OnOk, Some};
-ghost use Rattle.std.specs.Box.{boxed_slice_items};
-ghost use Rattle.no_std_io2.specs.Cursor.{cursor_inner, cursor_out, cursor_position};
-ghost use Rattle.no_std_io2.specs.Events.{Event, event_bytes};
-ghost use Rattle.no_std_io2.specs.inner.Events.{cut};
-ghost use Rattle.no_std_io2.specs.inner.Pieces.{ArePieces, pieces_of};
-ghost use Rattle.no_std_io2.specs.Takes.{Takes, answered, gave_front, tells, to_come};
+ghost use Rattle.std.specs.{Prelude.{List, ℕ, ◌≡◌, ◌-◌, ◌++◌, drop, length, IsOkAnd, OnOk, Some}, Box.{boxed_slice_items}};
+ghost use Rattle.no_std_io2.specs.{Cursor.{cursor_inner, cursor_out, cursor_position}, Events.{Event, event_bytes}, inner.Events.{cut}};
+ghost use Rattle.no_std_io2.specs.{inner.Pieces.{ArePieces, pieces_of}, Takes.{Takes, answered, gave_front, tells, to_come}};
 ghost use Rattle.promises.specs.Promises.{in_cursor};
 
 use crate::bytes::keeps_every_byte_of_a_write_all;

@@ -1,12 +1,8 @@
 // A call of a boxed object, or through a reference to an object, is the same call of the object, and tells
 // what that tells.
 ghost use Rattle.std.specs.Prelude.{[], ◌≡◌, Ok, Some, length};
-ghost use Rattle.no_std_io2.specs.Calls.{Gave, Sought, Wrote};
-ghost use Rattle.no_std_io2.specs.Takes.{answered, gave_front, KeepsContent, Takes};
-ghost use Rattle.no_std_io2.specs.Seek.{Seeks};
-ghost use Rattle.no_std_io2.specs.inner.Calls.{BoxMay, LentMay};
-ghost use Rattle.no_std_io2.specs.Moves.{Moves};
-ghost use Rattle.no_std_io2.specs.Write.{accepted_of, write_mishap};
+ghost use Rattle.no_std_io2.specs.{Calls.{Gave, Sought, Wrote}, Takes.{answered, gave_front, KeepsContent, Takes}, Seek.{Seeks}};
+ghost use Rattle.no_std_io2.specs.{inner.Calls.{BoxMay, LentMay}, Moves.{Moves}, Write.{accepted_of, write_mishap}};
 
 use no_std_io2::io::{BufRead, Read, Result, Seek, SeekFrom, Write};
 

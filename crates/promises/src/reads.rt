@@ -2,15 +2,10 @@
 ghost use Rattle.std.specs.Prelude.{◌≡◌, ◌+◌, ◌<◌, [], ◌++◌, ℕ, List, Ok, Some, IfSome, IsOk, drop, length, vec_len, vec_capacity};
 ghost use Rattle.std.specs.Prelude.{string_bytes};
 ghost use Rattle.no_std_io2.specs.BufReader.{reader_inner, reader_behind, reader_held, reader_store, KeepsBuffer};
-ghost use Rattle.no_std_io2.specs.inner.BufReader.{TakesHeld, TakesHeldLine, ReaderIsSound};
-ghost use Rattle.no_std_io2.specs.inner.BufferSeeks.{TakesOver};
+ghost use Rattle.no_std_io2.specs.inner.{BufReader.{TakesHeld, TakesHeldLine, ReaderIsSound}, BufferSeeks.{TakesOver}};
+ghost use Rattle.no_std_io2.specs.inner.{Buffer.{IsInBuffer, IsSuffix}, Events.{BeginsWith}, Pieces.{EndsPiece, PieceEnds}};
 ghost use Rattle.no_std_io2.specs.Takes.{tells, answered, gave_front, IsAtEnd, KeepsContent, Takes, to_come};
-ghost use Rattle.no_std_io2.specs.inner.Buffer.{IsInBuffer, IsSuffix};
-ghost use Rattle.no_std_io2.specs.inner.Events.{BeginsWith};
-ghost use Rattle.no_std_io2.specs.Events.{Event, event_bytes, Store};
-ghost use Rattle.no_std_io2.specs.inner.Pieces.{EndsPiece, PieceEnds};
-ghost use Rattle.no_std_io2.specs.Pieces.{newline};
-ghost use Rattle.no_std_io2.specs.Seek.{Seeks};
+ghost use Rattle.no_std_io2.specs.{Events.{Event, event_bytes, Store}, Pieces.{newline}, Seek.{Seeks}};
 ghost use Rattle.io_bench.specs.Tally.{tally_inner};
 ghost use Rattle.promises.specs.Promises.{in_chain, in_reader, in_take};
 

@@ -1,11 +1,7 @@
 // What needs no memory, because a string has the room; and what is still known of a writer after a `write!`.
 ghost use Rattle.std.specs.Prelude.{◌≡◌, ◌+◌, ◌≤◌, ◌++◌, [], ◌∷◌, ℕ, List, IfOk, IsOk, IsUtf8, Some, length, string_capacity, string_len};
-ghost use Rattle.no_std_io2.specs.Events.{Event, events_of};
-ghost use Rattle.no_std_io2.specs.Pieces.{newline};
-ghost use Rattle.no_std_io2.specs.Takes.{tells, to_come};
-ghost use Rattle.no_std_io2.specs.Writers.{TakesAll};
-ghost use Rattle.no_std_io2.specs.inner.Pieces.{Lacks};
-ghost use Rattle.no_std_io2.specs.inner.Read.{least_room};
+ghost use Rattle.no_std_io2.specs.{Events.{Event, events_of}, Pieces.{newline}, Takes.{tells, to_come}, Writers.{TakesAll}};
+ghost use Rattle.no_std_io2.specs.inner.{Pieces.{Lacks}, Read.{least_room}};
 
 use no_std_io2::io::{BufRead, Read, Result, Write};
 use std::alloc::Global;

@@ -1,7 +1,6 @@
 // Whole runs of calls, retries included.
 ghost use Rattle.std.specs.Prelude.{◌≡◌, ◌+◌, ◌<◌, ◌≤◌, List, ℕ, ◌++◌, IfSome, OnErr, OnOk, length, vec_capacity, vec_len};
-ghost use Rattle.io_bench.specs.Appended.{appended};
-ghost use Rattle.io_bench.specs.Runs.{Run, RunCalls, failures};
+ghost use Rattle.io_bench.specs.{Appended.{appended}, Runs.{Run, RunCalls, failures}};
 ghost use Rattle.promises.specs.Promises.{bytes_in};
 
 use io_bench::{Op, Reply, run_writes};

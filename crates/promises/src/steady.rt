@@ -1,8 +1,6 @@
 // What a caller of `copy` can prove of a writer with no mishap to come, and of a copy through no buffer.
 ghost use Rattle.std.specs.Prelude.{◌≡◌, ◌<◌, ◌^◌, ◌++◌, [], Some, IsOkAnd, List};
-ghost use Rattle.no_std_io2.specs.Events.{Event, event_bytes, HasNoFault};
-ghost use Rattle.no_std_io2.specs.Takes.{to_come, tells};
-ghost use Rattle.no_std_io2.specs.inner.Copy.{counted};
+ghost use Rattle.no_std_io2.specs.{Events.{Event, event_bytes, HasNoFault}, Takes.{to_come, tells}, inner.Copy.{counted}};
 
 use no_std_io2::io::{Read, Result, Write, copy};
 

@@ -1,18 +1,19 @@
 // A log whose power is cut.
 ghost use Rattle.std.specs.Prelude.{◌≡◌, ℕ, List, [], length};
 ghost use Rattle.io_bench.specs.Faulty.{faulty_inner};
-ghost use Rattle.record_log.specs.Placed.{PutsAt};
-ghost use Rattle.record_log.specs.Cuts.{StandsAtEnd, HasConfirmed, outcome};
+ghost use Rattle.record_log.specs.{Placed.{PutsAt, GoesNoFurther}, Cuts.{StandsAtEnd, HasConfirmed, outcome}};
 ghost use Rattle.promises.specs.Survival.{content_behind_acts, place_behind_acts};
 
 use io_bench::Faulty;
 use no_std_io2::io::{Cursor, Write};
 use record_log::{RecordLog, Step, run_log};
 
-// A writer that fails as its acts say puts its bytes where the writer behind it does.
-fn puts_behind_its_acts<W: Write>(f: &Faulty<W>) -> &W
-    ensures { (content : W → List ℕ) (place : W → ℕ) → PutsAt W.Write content place
+/// A writer that fails as its acts say puts its bytes where the writer behind it does. It has no `write_all` of its own,
+/// so none goes too far.
+pub fn puts_behind_its_acts<W: Write>(f: &Faulty<W>) -> &W
+    ensures puts { (content : W → List ℕ) (place : W → ℕ) → PutsAt W.Write content place
         → PutsAt ⟦<Faulty<W> as Write>⟧ (λ f. content (faulty_inner f)) (λ f. place (faulty_inner f)) }
+    ensures near { (place : W → ℕ) → GoesNoFurther ⟦<Faulty<W> as Write>⟧ (λ f. place (faulty_inner f)) }
 {
     f.get_ref()
 }

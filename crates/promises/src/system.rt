@@ -1,14 +1,9 @@
 // What a `Patient` and a `ToStd` do between this library and the system's `std::io`.
-ghost use Rattle.std.specs.Io.KnownBytes.{ReadConsumes, WriteAppends};
-ghost use Rattle.std.specs.Io.Seek.{SeekMoves};
-ghost use Rattle.std.specs.Prelude.{Some};
-ghost use Rattle.no_std_io2.specs.Takes.{tells};
-ghost use Rattle.no_std_io2.specs.Calls.{Sought, Wrote};
-ghost use Rattle.no_std_io2.specs.Moves.{Moves};
-ghost use Rattle.no_std_io2.specs.Write.{accepted_of, write_mishap};
+ghost use Rattle.std.specs.{Io.{KnownBytes.{ReadConsumes, WriteAppends}, Seek.{SeekMoves}}, Prelude.{Some}};
+ghost use Rattle.no_std_io2.specs.{Takes.{tells}, Calls.{Sought, Wrote}, Moves.{Moves}, Write.{accepted_of, write_mishap}};
 ghost use Rattle.system_streams.specs.Patient.{PatientMay, PatientSeeks, patient_told};
-ghost use Rattle.promises.specs.Patience.{Fills};
 ghost use Rattle.system_streams.specs.ToStd.{accepted_so_far, bytes_to_come, content_of, position_of, std_inner};
+ghost use Rattle.promises.specs.Patience.{Fills};
 
 use no_std_io2::io::{Read, Result, Seek, SeekFrom, Write};
 use std::io;

@@ -1,15 +1,8 @@
 // What holds of a stream holds through references, boxes, boxed objects and buffers.
 ghost use Rattle.std.specs.Prelude.{◌≡◌, [], IfErr, OnOk};
-ghost use Rattle.no_std_io2.specs.inner.BufReader.{HasNoBuffer};
-ghost use Rattle.no_std_io2.specs.BufReader.{reader_inner, reader_store};
-ghost use Rattle.no_std_io2.specs.inner.BufWriter.{store_unheld};
-ghost use Rattle.no_std_io2.specs.BufWriter.{writer_buffer, writer_inner};
-ghost use Rattle.no_std_io2.specs.Cursor.{cursor_inner, cursor_position};
-ghost use Rattle.no_std_io2.specs.Errors.{IsOutOfMemory};
-ghost use Rattle.no_std_io2.specs.Seek.{SeekLaw, Seeks};
-ghost use Rattle.no_std_io2.specs.Takes.{KeepsContent, store_at};
-ghost use Rattle.no_std_io2.specs.Read.{ReadLaw};
-ghost use Rattle.no_std_io2.specs.Writers.{WriteOf};
+ghost use Rattle.no_std_io2.specs.{inner.{BufReader.{HasNoBuffer}, BufWriter.{store_unheld}}, BufReader.{reader_inner, reader_store}};
+ghost use Rattle.no_std_io2.specs.{BufWriter.{writer_buffer, writer_inner}, Cursor.{cursor_inner, cursor_position}, Errors.{IsOutOfMemory}};
+ghost use Rattle.no_std_io2.specs.{Seek.{SeekLaw, Seeks}, Takes.{KeepsContent, store_at}, Read.{ReadLaw}, Writers.{WriteOf}};
 
 use no_std_io2::io::{
     AsSlice, BufReader, BufWriter, Cursor, LineWriter, Read, Result, Seek, SeekFrom, Write,

@@ -1,12 +1,8 @@
 // Comparing, printing and cloning the library's values.
-ghost use Rattle.std.specs.Hash as fed;
 ghost use Rattle.std.specs.Prelude.{◌≡◌, ◌-◌, ◌<◌, ◌↔◌, ◌⊎◌, IfOk, IsErrAnd, IsTrue, Ok};
-ghost use Rattle.no_std_io2.specs.inner.Copy.{side_error};
-ghost use Rattle.no_std_io2.specs.inner.Errors.{error_display};
-ghost use Rattle.no_std_io2.specs.inner.Kinds.{kind_number};
-ghost use Rattle.no_std_io2.specs.Errors.{IsTextError};
-ghost use Rattle.no_std_io2.specs.Moves.{MovesFront};
-ghost use Rattle.no_std_io2.specs.Cursor.{cursor_inner, cursor_position};
+ghost use Rattle.no_std_io2.specs.{inner.{Copy.{side_error}, Errors.{error_display}, Kinds.{kind_number}}, Errors.{IsTextError}};
+ghost use Rattle.no_std_io2.specs.{Moves.{MovesFront}, Cursor.{cursor_inner, cursor_position}};
+ghost use Rattle.std.specs.Hash as fed;
 
 use no_std_io2::io::{CopyError, Cursor, Error, ErrorKind, Result, SeekFrom, Write};
 use std::alloc::{AllocError, Allocator};

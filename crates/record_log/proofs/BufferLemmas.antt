@@ -1,28 +1,23 @@
 -- A buffer in front of a writer that puts its bytes at a place puts them there too.
-use Rattle.no_std_io2.proofs.Words.{◌≡◌, ℕ, ◌+◌, ◌<◌, ◌≤◌, List, [], ◌∷◌, ◌++◌, length, take, refl, sym, ap, subst, ◌∙◌}
-use Rattle.no_std_io2.proofs.Words.{arith, OnOk, length-append, inl, inr, Result, Ok, Err, Writes, Made, CallOf}
-use Rattle.no_std_io2.proofs.Words.{RoomCalls, WriteCalls, WriteAllCalls, FlushCalls, SendCalls, SingleCall, AllCalls, InnerCalls}
-use Rattle.no_std_io2.proofs.Words.{first_stops, first_goes_on, no_write, write_took, write_again, write_stuck, write_fault, Writer, Then}
-use Rattle.no_std_io2.proofs.Words.{WriteCall, Wrote, WroteAll, Flushed, Step, SendLinesCalls, lines_of, unfinished_line, take-append-le}
-use Rattle.no_std_io2.proofs.Words.{cases_lt, take-append_seam, length-take-le}
-use Rattle.std.proofs.{Math.Seq.{take-length, take-append-add}, lemmas.List.{take_all}}
-use Rattle.no_std_io2.proofs.CallsLemmas.{made_split, writes_whole}
-use Rattle.no_std_io2.specs.{declared.io.Error.{Error}, inner.{BufWriter.{PutCalls, WithNothingHeld}}}
+use Rattle.no_std_io2.proofs.Words.{common_steps, ◌≡◌, ℕ, ◌+◌, ◌<◌, ◌≤◌, List, [], ◌∷◌, ◌++◌, length, take, refl, sym, ap, subst, ◌∙◌}
+use Rattle.no_std_io2.proofs.Words.{arith, OnOk, length-append, inl, inr, Result, Ok, Err, Writes, Made, CallOf, RoomCalls, WriteCalls}
+use Rattle.no_std_io2.proofs.Words.{WriteAllCalls, FlushCalls, SendCalls, SingleCall, AllCalls, InnerCalls, first_stops, first_goes_on}
+use Rattle.no_std_io2.proofs.Words.{no_write, write_took, write_again, write_stuck, write_fault, Writer, Then, WriteCall, Wrote, WroteAll}
+use Rattle.no_std_io2.proofs.Words.{Flushed, Step, SendLinesCalls, lines_of, unfinished_line, take-append-le, cases_lt, take-append_seam}
+use Rattle.no_std_io2.proofs.{Words.{length-take-le}, CallsLemmas.{made_split, writes_whole}, LineWriterStates.{took_tail}}
+use Rattle.no_std_io2.{proofs.LineLemmas.{lines_split}, specs.{declared.io.Error.{Error}, inner.BufWriter.{PutCalls, WithNothingHeld}}}
 use Rattle.no_std_io2.specs.inner.LineWriter.{LineCalls, LinesCalls, SendLineCalls, held_tail}
-use Rattle.no_std_io2.proofs.{LineWriterStates.{took_tail}, LineLemmas.{lines_split}}
+use Rattle.std.proofs.{Math.Seq.{take-length, take-append-add}, lemmas.List.{take_all}}
 use Rattle.record_log.specs.Placed.{IsPutAt, PutsAt, PutsCall, GoesNoFurther, held_over}
 use Rattle.record_log.proofs.PlacedLemmas.{Stands, stands_held, writes_there, reaches_there, whole_there, put_behind, put_then}
 
 -- the held bytes are put over a content
 over_put : (c : List ℕ) (p : ℕ) (held : List ℕ) → IsPutAt p held c (held_over c p held)
-over_put c p [] = inr (refl, refl)
-over_put c p (b ∷ held) = inl refl
+over_put c p held = grind (arith, common_steps)
 
 -- and if there are some, nothing else is
 put_over_is : (c new : List ℕ) (p : ℕ) (held : List ℕ) → 0 < length held → IsPutAt p held c new → new ≡ held_over c p held
-put_over_is c new p [] some put = absurd (omega (arith, some))
-put_over_is c new p (b ∷ held) some (inl put) = put
-put_over_is c new p (b ∷ held) some (inr none) = absurd (omega (arith, ap length none.0))
+put_over_is c new p held some put = grind (arith, common_steps)
 
 -- more bytes are held
 over_more : (c : List ℕ) (p : ℕ) (held x : List ℕ) → IsPutAt (p + length held) x (held_over c p held) (held_over c p (held ++ x))
@@ -31,10 +26,7 @@ over_more c p (b ∷ held) x = inl (sym (put_behind p c (b ∷ held) x))
 
 -- of the bytes y and u, what is a front of y
 front_first : (n : ℕ) (y u : List ℕ) → (m : ℕ) × ((k : ℕ) → k ≤ n → k ≤ length y → k ≤ m) × (take n y ≡ take m (y ++ u))
-front_first n y u = elim (cases_lt n (length y)) [
-  | inl less ↦ (n, λ k le fits. le, sym (take-append-le n y u (omega (arith, less))))
-  | inr more ↦ (length y, λ k le fits. fits, take_all n y more ∙ sym (take-append_seam y u))
-]
+front_first n y u = grind (arith, common_steps, cases_lt n (length y), take-append-le n y u, take_all n y, take-append_seam y u)
 
 module _ {W : Type 0} (I : Writer W) (content : W → List ℕ) (place : W → ℕ) (puts : PutsAt I content place) where
   -- what a writer has once the held bytes are put
@@ -68,31 +60,22 @@ module _ {W : Type 0} (I : Writer W) (content : W → List ℕ) (place : W → �
   -- no call is made
   kept : {C : List WriteCall} {held left : List ℕ} (old new : W) → C ≡ [] → left ≡ held → Made (CallOf I) old C new
       → Stays old held new left
-  kept {held = held} {left = left} old new none is made =
-      let same : new ≡ old = subst (λ D. Made (CallOf I) old D new) none made in
-      subst (λ w. Stays old held w left) (sym same) (subst (λ l. Stays old held old l) (sym is) (record { same = refl; at = refl }))
+  kept old new none is made = grind (arith, common_steps)
 
   -- room is made
   roomed : (S n : ℕ) (C : List WriteCall) (held left : List ℕ) (reply : Result (Unit {0}) Error) (old new : W)
       → RoomCalls S n held C reply left → Made (CallOf I) old C new → Stays old held new left
-  roomed S n C held left reply old new (inl fits) made = kept old new fits.1 fits.3 made
-  roomed S n C held left reply old new (inr sends) made = sent held old new sends.1 made
+  roomed S n C held left reply old new room made = grind (arith, common_steps, kept, sent)
 
   -- a call of the inner writer, with nothing held
   passed : (call : WriteCall) (held left : List ℕ) (old new : W) → held ≡ [] → left ≡ [] → CallOf I old call new
       → Does old held call new left
-  passed call held left old new none empty did =
-      subst (λ h. Does old h call new left) (sym none) (subst (λ l. Does old [] call new l) (sym empty)
-      (subst (λ p. PutsCall (content old) p call (content new) (place new + 0)) (let same : place old ≡ place old + 0 = omega arith in same)
-      (subst (λ p. PutsCall (content old) (place old) call (content new) p)
-      (let same : place new ≡ place new + 0 = omega arith in same) (puts old new call did))))
+  passed call held left old new none empty did = grind (arith, common_steps, puts old new call did)
 
   -- the same of a call that is the only one
   passed_one : {C : List WriteCall} (call : WriteCall) (held left : List ℕ) (old new : W) → held ≡ [] → left ≡ [] → C ≡ call ∷ []
       → Made (CallOf I) old C new → Does old held call new left
-  passed_one call held left old new none empty is made =
-      let one = subst (λ D. Made (CallOf I) old D new) is made in
-      subst (λ w. Does old held call w left) (sym one.2) (passed call held left old one.0 none empty one.1)
+  passed_one call held left old new none empty is made = grind (arith, common_steps, passed)
 
   -- the calls of a `write_all` of the inner writer
   pub passed_all : {C : List WriteCall} (x held left : List ℕ) (reply : Result (Unit {0}) Error) (old new : W) → held ≡ [] → left ≡ []
@@ -106,20 +89,8 @@ module _ {W : Type 0} (I : Writer W) (content : W → List ℕ) (place : W → �
       all_put : (x : List ℕ) (reply : Result (Unit {0}) Error) (left : List ℕ) (old new : W)
           → Stands (place old) x (content old) (content new) (place new) left → OnOk reply (left ≡ [])
           → Does old [] (WroteAll x reply) new []
-      all_put x (Ok u) left old new s whole =
-          let at : place old ≡ place old + 0 = omega arith in (
-            subst (λ p. IsPutAt p x (content old) (content new)) at
-                (whole_there s (content new) (inr (whole, refl))),
-            omega (arith, reaches_there s, ap length whole),
-          )
-      all_put x (Err e) left old new s whole =
-          let at : place old ≡ place old + 0 = omega arith in (
-            s.out,
-            s.there,
-            s.torn,
-            subst (λ p. IsPutAt p (take s.there x) (content old) (content new)) at s.put,
-            omega (arith, s.stands),
-          )
+      all_put x (Ok u) left old new s whole = grind (arith, common_steps, whole_there s (content new), reaches_there s)
+      all_put x (Err e) left old new s whole = grind (arith, common_steps)
 
   -- A step of a buffer does what a call with its result does; or changes nothing.
   abbrev pub Puts : {A : Type 0} → (Result A Error → WriteCall) → Step A → Type 0
@@ -140,9 +111,7 @@ module _ {W : Type 0} (I : Writer W) (content : W → List ℕ) (place : W → �
       (first_goes_on {C = B} {D = D} {mid = mid} goes more) made =
       let split = made_split (CallOf I) B old D new made in
       let stays = sends B held mid (Ok tt) old split.0 goes split.1 in
-      subst (λ p. PutsCall (over old held) p (call reply) (over new left) (place new + length left)) stays.at
-      (subst (λ m. PutsCall m (place split.0 + length mid) (call reply) (over new left) (place new + length left)) stays.same
-      (puts_next D mid left reply split.0 new more split.2))
+      rw (← stays.at, ← stays.same) (puts_next D mid left reply split.0 new more split.2)
 
   -- after such a step that failed, nothing was accepted
   wrote_stops : (x : List ℕ) (e : Error) (old new : W) (held left : List ℕ) → Stays old held new left
@@ -157,12 +126,8 @@ module _ {W : Type 0} (I : Writer W) (content : W → List ℕ) (place : W → �
   put_puts : {A : Type 0} (call : Result A Error → WriteCall) (S : ℕ) (x : List ℕ) (v : A) (past : List WriteCall → Result A Error → Type 0)
       → ((w : W) (held : List ℕ) → Does w held (call (Ok v)) w (held ++ x)) → Puts call (WithNothingHeld past)
       → Puts call (PutCalls S x v past)
-  put_puts call S x v past holds passes C held left reply old new (inl kept) made =
-      let same : new ≡ old = subst (λ D. Made (CallOf I) old D new) kept.1 made in
-      subst (λ r. Does old held (call r) new left) (sym kept.2) (subst (λ w. Does old held (call (Ok v)) w left) (sym same)
-      (subst (λ l. Does old held (call (Ok v)) old l) (sym kept.3) (holds old held)))
-  put_puts call S x v past holds passes C held left reply old new (inr beyond) made =
-      passes C held left reply old new beyond.1 made
+  put_puts call S x v past holds passes C held left reply old new (inl kept) made = grind (arith, common_steps, holds)
+  put_puts call S x v past holds passes C held left reply old new (inr beyond) made = passes C held left reply old new beyond.1 made
 
   -- the calls of a `write` through a buffer of S bytes
   write_puts : (S : ℕ) (x : List ℕ) → Puts (Wrote x) (WriteCalls S x)
@@ -202,18 +167,16 @@ module _ {W : Type 0} (I : Writer W) (content : W → List ℕ) (place : W → �
     -- the calls of a `write_all` of the inner writer go no further
     passed_near : {C : List WriteCall} (x : List ℕ) (reply : Result (Unit {0}) Error) (old new : W) → AllCalls C x reply
         → Made (CallOf I) old C new → place new ≤ place old + length x
-    passed_near x reply old new (inl one) made =
+    passed_near x (Ok u) old new (inl one) made =
         let call = subst (λ D. Made (CallOf I) old D new) one made in
-        subst (λ w. place w ≤ place old + length x) (sym call.2) (by reply call.1)
-      where
-        by : {mid : W} (r : Result (Unit {0}) Error) → CallOf I old (WroteAll x r) mid → place mid ≤ place old + length x
-        by {mid} (Ok u) call = omega (arith, (puts old mid (WroteAll x (Ok u)) call).1)
-        by {mid} (Err e) call = near old mid x e call
+        rw call.2 (omega (arith, (puts old call.0 (WroteAll x (Ok u)) call.1).1))
+    passed_near x (Err e) old new (inl one) made =
+        let call = subst (λ D. Made (CallOf I) old D new) one made in rw call.2 (near old call.0 x e call.1)
     passed_near x reply old new (inr loop) made =
         omega (arith, reaches_there (writes_there I content place puts old new loop.1 made (stands_held (place old) x (content old))))
 
     -- nor do those through a buffer
-    all_near : (S : ℕ) (x : List ℕ) (C : List WriteCall) (held left : List ℕ) (reply : Result (Unit {0}) Error) (old new : W)
+    pub all_near : (S : ℕ) (x : List ℕ) (C : List WriteCall) (held left : List ℕ) (reply : Result (Unit {0}) Error) (old new : W)
         → WriteAllCalls S x held C reply left → Made (CallOf I) old C new → place new + length left ≤ place old + length held + length x
     all_near S x C held left reply old new (first_stops room) made =
         let stays = roomed S (length x) C held left _ old new room made in omega (arith, stays.at)
@@ -256,13 +219,7 @@ module _ {W : Type 0} (I : Writer W) (content : W → List ℕ) (place : W → �
             → place' ≡ place old + length held + length y
             → PutsCall (over old held) (place old + length held) (WroteAll y r) now place'
         by (Ok u) put at = (put, at)
-        by {now} (Err e) put at = (
-          length y,
-          length y,
-          omega arith,
-          subst (λ l. IsPutAt (place old + length held) l (over old held) now) (sym (take-length y)) put,
-          at,
-        )
+        by (Err e) put at = grind (arith, common_steps, take-length y)
 
     -- lines, and then the bytes behind them
     lines_then : (S : ℕ) (y u : List ℕ) → Puts (WroteAll (y ++ u)) (Then (SendLinesCalls S y) (WriteAllCalls S u))

@@ -1,16 +1,13 @@
 -- What a list of calls leaves of a log at any moment.
-use Rattle.no_std_io2.proofs.Words.{◌≡◌, ℕ, List, [], ◌∷◌, ◌++◌, length, drop, refl, sym, ap, subst, ◌∙◌, Bool}
-use Rattle.no_std_io2.proofs.Words.{arith, append_assoc, append-nil, length-append, inl, inr, Result, Ok, Err, OnOk, Writer}
+use Rattle.no_std_io2.proofs.Words.{common_steps, ◌≡◌, ℕ, List, [], ◌∷◌, ◌++◌, length, drop, refl, sym, ap, subst, ◌∙◌, Bool, arith}
+use Rattle.no_std_io2.proofs.Words.{append_assoc, append-nil, length-append, inl, inr, Result, Ok, Err, OnOk, Writer, nat_tests, Store}
+use Rattle.no_std_io2.specs.{inner.Takes.{fits_u64, fits_by}, Takes.{store_at}, declared.io.Error.{Error}}
 use Rattle.std.proofs.{Math.Seq.{drop-nil}, lemmas.List.{drop-drop}}
-use Rattle.std.specs.Prelude.{is_ok, OnErr, IsOk, IfOk, IfSome, IsOkAnd, IsSomeAnd, ◌<◌, ◌^◌, Option, Some, None, true, false}
-use Rattle.no_std_io2.proofs.Words.{nat_tests, Store}
-use Rattle.no_std_io2.specs.{inner.Takes.{fits_u64, fits_by, store_by}, Takes.{store_at}}
-use Rattle.record_log.specs.{Opening.{Opens}, declared.opening.Opened.{Opened}}
-use Rattle.no_std_io2.specs.declared.io.Error.{Error}
-use Rattle.record_log.specs.{Placed.{PutsAt}, Log.{Appends, log_inner, log_held}}
+use Rattle.std.specs.Prelude.{is_ok, OnErr, IsOk, IfOk, IfSome, IsOkAnd, IsSomeAnd, ◌<◌, ◌^◌, Option}
+use Rattle.record_log.specs.{Opening.{Opens}, declared.{opening.Opened.{Opened}, log.RecordLog.{RecordLog}, cuts.Step.{Step}}}
+use Rattle.record_log.specs.{declared.cuts.Step.TheVariants.{Append, Sync}, Placed.{PutsAt}, Log.{Appends, log_inner, log_held}}
 use Rattle.record_log.specs.Records.{record_of, log_of, AreShort, HasRecords, NoneByChance}
 use Rattle.record_log.specs.Cuts.{DidStep, Counted, count_step, outcome, StandsAtEnd, HasConfirmed, Survives}
-use Rattle.record_log.specs.declared.{log.RecordLog.{RecordLog}, cuts.Step.{Step, TheVariants.{Append, Sync}}}
 use Rattle.record_log.proofs.RecordLemmas.{log-append, AreShort-append, cut_log, same_records, none_at_end}
 use Rattle.record_log.proofs.PlacedLemmas.{Stands, stands_held, all_there, flush_there, begins_anew, front_there}
 
@@ -47,14 +44,8 @@ module _ {W : Type 0} {S : ℕ} (content : W → List ℕ) (place : W → ℕ) {
   -- at the start
   pub keeps_none : (l : RecordLog W S) → StandsAtEnd content place before tail l → Keeps content place before tail ([], []) l
   keeps_none l at =
-      let all = subst (λ done. AreShort done × StandsBehind content place done tail [] l) (sym (append-nil before)) (
-        at.0,
-        subst (λ h. Stands (length (log_of before)) [] (log_of before ++ tail) (content (log_inner l)) (place (log_inner l)) h) (sym at.1)
-            (subst (λ p. Stands (length (log_of before)) [] (log_of before ++ tail) (content (log_inner l)) p []) (sym at.3)
-            (subst (λ m. Stands (length (log_of before)) [] m (content (log_inner l)) (length (log_of before)) []) at.2
-            (stands_held (length (log_of before)) [] (content (log_inner l))))),
-      ) in
-      record { short = all.0; pending = tt; stands = all.1 }
+      let fresh = stands_held (length (log_of before)) [] (content (log_inner l)) in
+      record { short = rw append-nil at.0; pending = tt; stands = grind (arith, common_steps, append-nil, at, fresh) }
 
   module _ (I : Writer W) (puts : PutsAt I content place) where
     -- one `append`
@@ -67,24 +58,11 @@ module _ {W : Type 0} {S : ℕ} (content : W → List ℕ) (place : W → ℕ) {
         (omega (arith, put.0.0)) put.1.calls.are put.1.calls.made k.stands in
         let same : log_of c.1 ++ record_of payload ≡ log_of (c.1 ++ payload ∷ []) =
         ap (λ l. log_of c.1 ++ l) (sym (append-nil (record_of payload))) ∙ sym (log-append c.1 (payload ∷ [])) in
-        let base = log_of (before ++ c.0) in (
-          record {
-            short = k.short;
-            pending = AreShort-append c.1 (payload ∷ []) k.pending (put.0.1, tt);
-            stands = subst (λ l. Stands (length base) l (base ++ drop (length (log_of c.0)) tail) (content (log_inner new))
-                (place (log_inner new)) (log_held new)) same there;
-          },
-          tt,
-        )
-    appended c payload (Err e) old new k (inl put) = (
-      tt,
-      record {
-        short = k.short;
-        pending = k.pending;
-        stands = all_there I content place puts S (record_of payload) (Err e) _ _ (omega (arith, put.0.0)) put.1.calls.are
-            put.1.calls.made k.stands;
-      },
-    )
+        (record { short = k.short; pending = AreShort-append c.1 (payload ∷ []) k.pending (put.0.1, tt); stands = rw (← same) there }, tt)
+    appended c payload (Err e) old new k (inl put) =
+        let there = all_there I content place puts S (record_of payload) (Err e) _ _ (omega (arith, put.0.0)) put.1.calls.are
+        put.1.calls.made k.stands in
+        (tt, record { short = k.short; pending = k.pending; stands = there })
     appended c payload (Ok u) old new k (inr refused) = absurd refused.1
     appended c payload (Err e) old new k (inr refused) = (tt, subst (λ l. Keeps content place before tail c l) (sym refused.2) k)
 
@@ -147,20 +125,7 @@ module _ {W : Type 0} {S : ℕ} (content : W → List ℕ) (place : W → ℕ) {
 pub opened : (u : Option Store) (content items : List ℕ) (pos : ℕ) (r : Result Opened Error) → items ≡ content → pos ≡ 0
     → length content < 2 ^ 64 → IfSome (store_at items pos) (λ s. IsSomeAnd u (λ t. (t.content ≡ s.content)
     × IsOk r × IfOk r (λ o. Opens s.content o.end o.torn × (t.position ≡ o.end)))) → IsOkAnd r (λ o. Opens content o.end o.torn)
-opened u content items pos r is zero small says =
-    let told = subst (λ p. IfSome (store_at content p) (λ s. IsSomeAnd u (λ t. (t.content ≡ s.content)
-    × IsOk r × IfOk r (λ o. Opens s.content o.end o.torn × (t.position ≡ o.end))))) zero
-    (subst (λ l. IfSome (store_at l pos) (λ s. IsSomeAnd u (λ t. (t.content ≡ s.content)
-    × IsOk r × IfOk r (λ o. Opens s.content o.end o.torn × (t.position ≡ o.end))))) is says) in
-    by u r (fits_u64 content 0) (fits_by content 0) (grind (arith, nat_tests)) told
-  where
-    by : (v : Option Store) (r : Result Opened Error) (t : Bool) (fits : t ≡ true → (length content < 2 ^ 64) × (0 < 2 ^ 64)) → t ≡ true
-        → IfSome (store_by t content 0 fits) (λ s. IsSomeAnd v (λ t. (t.content ≡ s.content)
-        × IsOk r × IfOk r (λ o. Opens s.content o.end o.torn × (t.position ≡ o.end)))) → IsOkAnd r (λ o. Opens content o.end o.torn)
-    by (Some t) (Ok o) true fits is told = told.2.0
-    by (Some t) (Err e) true fits is told = absurd (let no : ⊥ = cc (told.1) in no)
-    by None r true fits is told = absurd told
-    by v r false fits is told = absurd (let no : ⊥ = cc in no)
+opened u content items pos r is zero small says = grind (arith, common_steps, nat_tests, fits_by content 0, fits_u64 content 0)
 
 -- Behind the records that are there, a log stands as one that is new.
 pub stands_anew : {W : Type 0} {S : ℕ} (content : W → List ℕ) (place : W → ℕ) (payloads : List (List ℕ)) (rest : List ℕ) (l : RecordLog W S)

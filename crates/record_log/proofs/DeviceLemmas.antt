@@ -1,13 +1,10 @@
 -- Cursors and disks put their bytes at their position.
-use Rattle.no_std_io2.proofs.Words.{◌≡◌, ℕ, ◌+◌, ◌-◌, ◌≤◌, List, ◌++◌, length, take, drop, refl, sym, ap, ◌∙◌, arith, inl, inr}
-use Rattle.no_std_io2.proofs.Words.{append-nil, length-append, cases_lt, nil_from_length, take-append_seam, Ok, Err}
-use Rattle.no_std_io2.proofs.Words.{Wrote, WroteAll, Flushed, WriteCall, common_steps, length-take-le, length-take, subst, append_assoc}
-use Rattle.std.specs.Prelude.{count_by}
-use Rattle.no_std_io2.proofs.Words.{nat_tests, Moves, told_out}
-use Rattle.no_std_io2.specs.{inner.Kinds.{is_interruption}, inner.Write.{zero_write}}
-use Rattle.std.proofs.Common.{take_all, take-append-drop}
-use Rattle.no_std_io2.specs.{declared.io.{Cursor.{Cursor}}, inner.Cursor.{put_at, PutsMay, FitsMay, PutsFitting, fitting}}
-use Rattle.no_std_io2.specs.Cursor.{cursor_inner, cursor_position}
+use Rattle.no_std_io2.proofs.Words.{◌≡◌, ℕ, ◌+◌, ◌-◌, ◌≤◌, List, ◌++◌, length, take, drop, refl, sym, ap, ◌∙◌, arith, inl, inr, append-nil}
+use Rattle.no_std_io2.proofs.Words.{length-append, cases_lt, nil_from_length, take-append_seam, Ok, Err, Wrote, WroteAll, Flushed}
+use Rattle.no_std_io2.proofs.Words.{WriteCall, common_steps, length-take-le, length-take, subst, append_assoc, nat_tests, Moves, told_out}
+use Rattle.no_std_io2.specs.{declared.io.{Error.{Error}, Cursor.{Cursor}}, inner.{Kinds.{is_interruption}, Write.{zero_write}}}
+use Rattle.no_std_io2.specs.{inner.Cursor.{put_at, PutsMay, FitsMay, PutsFitting, fitting}, Cursor.{cursor_inner, cursor_position}}
+use Rattle.std.{specs.Prelude.{count_by}, proofs.Common.{take_all, take-append-drop}}
 use Rattle.record_log.specs.Placed.{IsPutAt, PutsCall}
 
 module _ {T : Type 0} (items : T → List ℕ) (capacity : T → ℕ) where
@@ -29,6 +26,11 @@ module _ {T : Type 0} (items : T → List ℕ) (capacity : T → ℕ) where
   )
   vector_puts old new (WroteAll x (Err e)) did = (0, 0, omega arith, inr (refl, did.0.2), omega (arith, did.0.3))
   vector_puts old new (Flushed reply) did = (ap (λ c. items (cursor_inner c)) did.1, ap cursor_position did.1)
+
+  -- a `write_all` that fails leaves it where it stood
+  pub vector_near : (old new : Cursor T) (x : List ℕ) (e : Error) → PutsMay items capacity old (WroteAll x (Err e)) new
+      → cursor_position new ≤ cursor_position old + length x
+  vector_near old new x e did = omega (arith, did.0.3)
 
 -- bytes that fit are put
 fits_put : (bs : List ℕ) (place : ℕ) (x new : List ℕ) (place' : ℕ) → PutsFitting bs place x new place'
@@ -59,6 +61,11 @@ module _ {T : Type 0} (items : T → List ℕ) where
       )
   slice_puts old new (Flushed reply) did = (ap (λ c. items (cursor_inner c)) did.1, ap cursor_position did.1)
 
+  -- a `write_all` that fails moves it behind what fits
+  pub slice_near : (old new : Cursor T) (x : List ℕ) (e : Error) → FitsMay items old (WroteAll x (Err e)) new
+      → cursor_position new ≤ cursor_position old + length x
+  slice_near old new x e did = omega (arith, did.puts.1, length-take (length (items (cursor_inner old)) - cursor_position old) x)
+
 -- a place within a content
 pub put_there : (place : ℕ) (x old new : List ℕ) → place + length x ≤ length old
     → new ≡ take place old ++ (x ++ drop (place + length x) old) → new ≡ put_at place x old
@@ -67,15 +74,7 @@ put_there place x old new fits is = grind (arith, common_steps, append-nil)
 -- what is before the place stays, and what was put goes out
 pub put_before : (place : ℕ) (x old new : List ℕ) → place ≤ length old → new ≡ take place old ++ (x ++ drop (place + length x) old)
     → (take place new ≡ take place old) × (take (place + length x) new ≡ take place old ++ x)
-put_before place x old new le is =
-    let long : length (take place old) ≡ place = length-take-le place old le in
-    let behind = x ++ drop (place + length x) old in (
-      ap (take place) is ∙ ap (λ n. take n (take place old ++ behind)) (sym long) ∙ take-append_seam (take place old) behind,
-      ap (take (place + length x)) (is ∙ sym (append_assoc (take place old) x _))
-          ∙ ap (λ n. take n ((take place old ++ x) ++ drop (place + length x) old))
-          (let n : place + length x ≡ length (take place old ++ x) = omega (arith, long, length-append (take place old) x) in n)
-          ∙ take-append_seam (take place old ++ x) _,
-    )
+put_before place x old new le is = grind (arith, common_steps, length-take-le place old le, take-append_seam, append_assoc, length-append)
 
 -- no `Ok` is an interruption
 no_wait : (n : ℕ) (x : List ℕ) → count_by is_interruption (zero_write n x) ≡ 0

@@ -1,18 +1,14 @@
 -- What the reads of `open` give of known bytes.
-use Rattle.no_std_io2.proofs.Words.{◌≡◌, ℕ, ◌+◌, ◌<◌, ◌≤◌, ◌^◌, List, [], ◌∷◌, ◌++◌, length, take, drop, refl, sym, ap, subst, ◌∙◌}
-use Rattle.no_std_io2.proofs.Words.{arith, append_assoc, append-nil, length-append, length-drop, length-take-le, take-append-drop, Some}
-use Rattle.no_std_io2.proofs.Words.{ap₂, common_steps}
-use Rattle.no_std_io2.proofs.Words.{cases_lt, inl, inr, Result, Err, Event, event_bytes, events_of, HasNoFault, fails, to_come}
-use Rattle.no_std_io2.proofs.Words.{Reader, tells, ReaderState, Takes, Option, take-append_seam}
-use Rattle.std.proofs.Math.Seq.{take-length, take-add}
-use Rattle.std.specs.{Prelude.{true}, List.{fold}}
-use Rattle.std.proofs.lemmas.{List.{drop-drop}, List.Sums.{fold-append}}
-use Rattle.no_std_io2.specs.{declared.io.Error.{Error}, inner.Events.{EndsInFault}, Read.{ReadFullLaw}}
+use Rattle.no_std_io2.proofs.Words.{◌≡◌, ℕ, ◌+◌, ◌<◌, ◌≤◌, ◌^◌, List, [], ◌∷◌, ◌++◌, length, take, drop, refl, sym, ap, subst, ◌∙◌, arith}
+use Rattle.no_std_io2.proofs.Words.{append_assoc, append-nil, length-append, length-drop, length-take-le, take-append-drop, Some}
+use Rattle.no_std_io2.proofs.Words.{common_steps, cases_lt, inl, inr, Result, Err, Event, event_bytes, events_of, HasNoFault, fails}
+use Rattle.no_std_io2.proofs.Words.{to_come, Reader, tells, ReaderState, Takes, Option, take-append_seam, Ok, true, false, Bool}
 use Rattle.no_std_io2.proofs.{KnownBytes.{full_known}, TakesLemmas.{left_of, HasNoFault-front, HasNoFault-behind, HasNoFault-events_of}}
-use Rattle.no_std_io2.proofs.TakesLemmas.{bytes-append, bytes-events_of, events_of-append}
+use Rattle.no_std_io2.proofs.{TakesLemmas.{bytes-append, bytes-events_of, events_of-append}, ReadsLemmas.{fetches_then, fetches_reads}}
+use Rattle.no_std_io2.{proofs.ReadsLemmas.{fetches_until, fetches_end, fetches_fault}, specs.declared.io.Error.{Error}}
+use Rattle.no_std_io2.specs.{inner.Events.{EndsInFault}, Read.{ReadFullLaw}}
+use Rattle.std.{proofs.{Math.Seq.{take-length, take-add}, lemmas.List.{drop-drop, Sums.{fold-append}}}, specs.{Prelude.{true}, List.{fold}}}
 use Rattle.std.specs.Int.{w32, from_le_bytes}
-use Rattle.no_std_io2.proofs.Words.{Ok, true, false, Bool}
-use Rattle.no_std_io2.proofs.ReadsLemmas.{fetches_then, fetches_reads, fetches_until, fetches_end, fetches_fault}
 use Rattle.record_log.specs.Records.{add_number, start, header, check_of, record_of, log_of, AreShort, HasNoRecord}
 use Rattle.record_log.specs.Opening.{GivesPiece, AddsPiece, PassesRecord, PassesRecords, FetchesSome}
 use Rattle.record_log.proofs.RecordLemmas.{told_record, log-append, AreShort-append}
@@ -56,10 +52,7 @@ module _ {X : Type 0} {R : Reader X} {old new : X} {buf buf' : List ℕ} {filled
   -- it is not full if they were too few
   pub piece_short : (reply : Result (Unit {0}) Error) → ReadFullLaw R old buf 0 reply buf' filled new → length buf' ≡ length buf
       → filled < length buf' → length bytes < length buf'
-  piece_short reply law same less = elim (cases_lt (length bytes) (length buf')) [
-    | inl few ↦ few
-    | inr le ↦ absurd (omega (arith, less, (enough reply law same le).0))
-  ]
+  piece_short reply law same less = grind (arith, enough reply law same, cases_lt (length bytes) (length buf'))
 
 module _ {X : Type 0} {R : Reader X} where
   -- one read after another
@@ -126,14 +119,11 @@ module _ (bytes head : List ℕ) (len : ℕ) (is : head ≡ take 8 bytes) (says 
         → o ≡ Some (events_of (drop len (drop 8 bytes))) → PassesRecord bytes (Some n) o
     one_checked n small le same counts left =
         let p = take len (drop 8 bytes) in
-        let long : length p ≡ len = length-take-le len (drop 8 bytes) le in
-        let checks : check ≡ check_of p = sum ∙ ap (λ m. fold add_number (start m) p) (sym long) in
-        let front : take 8 bytes ≡ header (length p) (check_of p) = sym is ∙ same ∙ ap₂ header (sym long) checks in (
+        let long : length p ≡ len = length-take-le len (drop 8 bytes) le in (
           p,
           drop len (drop 8 bytes),
           omega (arith, small, long),
-          sym (take-append-drop 8 bytes) ∙ ap₂ (λ h l. h ++ l) front (sym (take-append-drop len (drop 8 bytes)))
-              ∙ sym (append_assoc (header (length p) (check_of p)) p (drop len (drop 8 bytes))),
+          grind (arith, common_steps, append_assoc, take-append-drop 8 bytes, take-append-drop len (drop 8 bytes), sum, is, same, long),
           omega (arith, counts, long),
           left,
         )
@@ -159,9 +149,7 @@ passed_more bytes end n sum s fits (payload, rest, small, is, long, left) adds =
     log-append s.payloads (payload ∷ []) ∙ ap (λ l. log_of s.payloads ++ l) (append-nil (record_of payload)) in
     let size : length (log_of (s.payloads ++ payload ∷ [])) ≡ end + n =
     omega (arith, ap length log, length-append (log_of s.payloads) (record_of payload), s.counts, long) in
-    let split : bytes ≡ log_of (s.payloads ++ payload ∷ []) ++ rest =
-    s.split ∙ ap (λ l. log_of s.payloads ++ l) is ∙ sym (append_assoc (log_of s.payloads) (record_of payload) rest)
-    ∙ ap (λ l. l ++ rest) (sym log) in record {
+    let split : bytes ≡ log_of (s.payloads ++ payload ∷ []) ++ rest = grind (arith, common_steps, append_assoc, s.split) in record {
       payloads = s.payloads ++ payload ∷ [];
       rest = rest;
       short = AreShort-append s.payloads (payload ∷ []) s.short (small, tt);

@@ -1,15 +1,12 @@
 -- What several calls leave at a place, for the proofs of their callers.
-use Rattle.no_std_io2.proofs.Words.{◌≡◌, ℕ, ◌+◌, ◌-◌, ◌<◌, ◌≤◌, ◌^◌, List, [], ◌++◌, length, take, drop, refl}
-use Rattle.no_std_io2.proofs.Words.{arith, append_assoc, append-nil, length-append, length-drop, take-append_seam, drop-append_seam}
-use Rattle.no_std_io2.proofs.Words.{OnOk, Result, Ok, Err, common_steps, Writer}
-use Rattle.std.proofs.Math.Seq.{take-append-add, drop-nil}
-use Rattle.no_std_io2.proofs.{CursorLemmas.{fits_at}}
-use Rattle.no_std_io2.specs.{declared.io.Error.{Error}, Writers.{WriteAllOf}, Seek.{Seeker, SeekLaw, StreamPositionLaw}}
+use Rattle.no_std_io2.proofs.Words.{◌≡◌, ℕ, ◌+◌, ◌-◌, ◌<◌, ◌≤◌, ◌^◌, List, [], ◌++◌, length, take, drop, refl, arith, append_assoc}
+use Rattle.no_std_io2.proofs.Words.{append-nil, length-append, length-drop, take-append_seam, drop-append_seam, OnOk, Result, Ok, Err}
+use Rattle.no_std_io2.{proofs.{Words.{common_steps, Writer}, CursorLemmas.{fits_at}}, specs.declared.io.Error.{Error}}
+use Rattle.no_std_io2.specs.{declared.io.SeekFrom.TheVariants.{Start}, Writers.{WriteAllOf}, Seek.{Seeker, SeekLaw, StreamPositionLaw}}
 use Rattle.no_std_io2.specs.{Takes.{Reader}, Reads.{ReadAtLaw}, inner.Cursor.{bytes_before}}
-use Rattle.no_std_io2.specs.declared.io.SeekFrom.TheVariants.{Start}
+use Rattle.std.proofs.Math.Seq.{take-append-add, drop-nil}
 use Rattle.record_log.specs.{Placed.{IsPutAt, PutsAt}, Places.{TellsStore, HasRoom, HasPut, StandsAt}}
-use Rattle.record_log.proofs.PlacedLemmas.{put_within, put_form, put_over, length-before, put_then}
-use Rattle.record_log.proofs.BufferLemmas.{passed_all}
+use Rattle.record_log.proofs.{PlacedLemmas.{put_within, put_form, put_over, length-before, put_then}, BufferLemmas.{passed_all}}
 
 -- bytes and then more were put, one behind the other
 pub then_puts : (c mid c' : List ℕ) (p at p' : ℕ) (x y : List ℕ) → HasPut c p x mid at → HasPut mid at y c' p' → HasPut c p (x ++ y) c' p'

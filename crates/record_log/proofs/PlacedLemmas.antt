@@ -1,15 +1,13 @@
 -- What writes leave at a place, directly and through a buffer.
-use Rattle.no_std_io2.proofs.Words.{◌≡◌, ℕ, ◌+◌, ◌-◌, ◌<◌, ◌≤◌, List, [], ◌++◌, length, take, drop, refl, sym, ap, subst, ◌∙◌}
-use Rattle.no_std_io2.proofs.Words.{arith, append_assoc, append-nil, length-append, length-drop, length-take-le, take-append_seam, OnOk}
-use Rattle.no_std_io2.proofs.Words.{cases_lt, inl, inr, IsFront, Result, Ok, Err, Writes, Made, CallOf, common_steps, length-take}
-use Rattle.no_std_io2.proofs.Words.{RoomCalls, WriteAllCalls, FlushCalls, first_stops, first_goes_on, no_write, write_took, write_again}
-use Rattle.no_std_io2.proofs.Words.{write_stuck, write_fault, WriteCall, Wrote, Writer, nil_from_length, Flushed, drop-append_seam}
-use Rattle.no_std_io2.proofs.Words.{take-append-drop, take-append-le}
+use Rattle.no_std_io2.proofs.Words.{◌≡◌, ℕ, ◌+◌, ◌-◌, ◌<◌, ◌≤◌, List, [], ◌++◌, length, take, drop, refl, sym, ap, subst, ◌∙◌, arith}
+use Rattle.no_std_io2.proofs.Words.{append_assoc, append-nil, length-append, length-drop, length-take-le, take-append_seam, OnOk, cases_lt}
+use Rattle.no_std_io2.proofs.Words.{inl, inr, IsFront, Result, Ok, Err, Writes, Made, CallOf, common_steps, length-take, RoomCalls}
+use Rattle.no_std_io2.proofs.Words.{WriteAllCalls, FlushCalls, first_stops, first_goes_on, no_write, write_took, write_again, write_stuck}
+use Rattle.no_std_io2.proofs.Words.{write_fault, WriteCall, Wrote, Writer, nil_from_length, Flushed, drop-append_seam, take-append-drop}
+use Rattle.no_std_io2.{proofs.{Words.{take-append-le}, CallsLemmas.{made_split}, MovesLemmas.{after_ok}}, specs.declared.io.Error.{Error}}
+use Rattle.no_std_io2.specs.inner.Cursor.{put_at, bytes_before}
 use Rattle.std.proofs.Math.Seq.{drop-append-add, take-length, take-add}
-use Rattle.std.proofs.lemmas.{List.{drop-drop, drop-append-le, take_all, drop_all, length-replicate}}
-use Rattle.std.specs.Prelude.{replicate}
-use Rattle.no_std_io2.proofs.{CallsLemmas.{made_split}, MovesLemmas.{after_ok}}
-use Rattle.no_std_io2.specs.{declared.io.Error.{Error}, inner.Cursor.{put_at, bytes_before}}
+use Rattle.std.{proofs.lemmas.List.{drop-drop, drop-append-le, take_all, drop_all, length-replicate}, specs.Prelude.{replicate}}
 use Rattle.record_log.specs.Placed.{IsPutAt, PutsAt}
 
 -- bytes that are put at a place within a content stand there, and those behind them stay
@@ -51,17 +49,10 @@ put_then p x y c mid new first next = grind (arith, common_steps, put_behind p c
 
 -- more bytes were put over others
 put_longer : (p : ℕ) (x y c mid new : List ℕ) → length x ≤ length y → IsPutAt p x c mid → IsPutAt p y mid new → IsPutAt p y c new
-put_longer p x y c mid new le (inl first) (inl next) =
-    inl (next ∙ ap (put_at p y) first ∙ put_over p c x y ∙ ap (λ l. bytes_before p c ++ (y ++ l)) behind ∙ sym (put_form p c y))
-  where
-    behind : drop (length y) (x ++ drop (p + length x) c) ≡ drop (p + length y) c
-    behind =
-        let more : length y ≡ length x + (length y - length x) = omega (arith, le) in
-        let same : p + length x + (length y - length x) ≡ p + length y = omega (arith, le) in
-        ap (λ n. drop n (x ++ drop (p + length x) c)) more ∙ drop-append-add x _ (length y - length x)
-        ∙ drop-drop (length y - length x) (p + length x) c ∙ ap (λ n. drop n c) same
-put_longer p x y c mid new le (inr none) next = subst (λ m. IsPutAt p y m new) none.1 next
-put_longer p x y c mid new le (inl first) (inr none) = grind (arith, common_steps, nil_from_length)
+put_longer p x y c mid new le first next =
+    let behind = drop-append-add x (drop (p + length x) c) (length y - length x) in
+    let same = drop-drop (length y - length x) (p + length x) c in
+    grind (arith, common_steps, put_over p c x y, put_form p c y, nil_from_length, behind, same)
 
 -- a front of what was put changes nothing
 same_front : (p : ℕ) (x y c : List ℕ) → IsFront y x → put_at p y (put_at p x c) ≡ put_at p x c
@@ -196,8 +187,7 @@ module _ {start place : ℕ} {x c now held : List ℕ} (s : Stands start x c now
 -- a write of the held bytes failed
 failed : {start p q : ℕ} {x c now new : List ℕ} (held : List ℕ) → Stands start x c now p held
     → ((n : ℕ) × IsPutAt p (take n held) now new) × (q ≡ p) → Stands start x c new q held
-failed {start} {x = x} {c = c} {new = new} held s did =
-    subst (λ q. Stands start x c new q held) (sym did.1) (fails_there s did.0.0 new did.0.1)
+failed {start} {x = x} {c = c} {new = new} held s did = rw did.1 (fails_there s did.0.0 new did.0.1)
 
 -- x is held behind what was accepted before; or a fault came, and nothing more was accepted
 abbrev pub AfterPut : ℕ → List ℕ → List ℕ → List ℕ → ℕ → Result (Unit {0}) Error → List ℕ → List ℕ → Type 0
@@ -233,11 +223,7 @@ module _ {W : Type 0} (I : Writer W) (content : W → List ℕ) (place : W → �
   room_there : (S n : ℕ) {C : List WriteCall} {held left : List ℕ} {reply : Result (Unit {0}) Error} (old new : W)
       → RoomCalls S n held C reply left → Made (CallOf I) old C new
       → Stands start x c (content old) (place old) held → Stands start x c (content new) (place new) left
-  room_there S n {left = left} old new (inl kept) made s =
-      let same : new ≡ old = subst (λ D. Made (CallOf I) old D new) kept.1 made in
-      subst (λ w. Stands start x c (content w) (place w) left) (sym same)
-      (subst (λ h. Stands start x c (content old) (place old) h) (sym kept.3) s)
-  room_there S n old new (inr sent) made s = writes_there old new sent.1 made s
+  room_there S n old new room made s = grind (arith, common_steps, writes_there)
 
   -- the calls of a `write_all` of y that is shorter than the buffer
   pub all_there : (S : ℕ) {C : List WriteCall} {held left : List ℕ} (y : List ℕ) (reply : Result (Unit {0}) Error) (old new : W)
@@ -246,11 +232,8 @@ module _ {W : Type 0} (I : Writer W) (content : W → List ℕ) (place : W → �
   all_there S y reply old new less (first_stops room) made s = room_there S (length y) old new room made s
   all_there S y reply old new less (first_goes_on {C = C} {D = D} {left = left} room (inl put)) made s =
       let split = made_split (CallOf I) C old D new made in
-      let still : new ≡ split.0 = subst (λ E. Made (CallOf I) split.0 E new) put.1 split.2 in
-      let there = room_there S (length y) old split.0 room split.1 s in
-      subst (λ r. AfterPut start x c (content new) (place new) r y left) (sym put.2)
-      (subst (λ w. Stands start (x ++ y) c (content w) (place w) left) (sym still)
-      (subst (λ h. Stands start (x ++ y) c (content split.0) (place split.0) h) (sym put.3) (holds_there there y)))
+      let there = holds_there (room_there S (length y) old split.0 room split.1 s) y in
+      grind (arith, common_steps, split, there)
   all_there S y reply old new less (first_goes_on room (inr past)) made s = absurd (omega (arith, less, past.0))
 
   -- the calls of a `flush`: after `Ok` nothing is held
@@ -264,13 +247,7 @@ module _ {W : Type 0} (I : Writer W) (content : W → List ℕ) (place : W → �
       let one = subst (λ E. Made (CallOf I) split.0 E new) last.2 split.2 in
       let did = puts split.0 one.0 (Flushed reply) one.1 in
       let there = writes_there old split.0 sent split.1 s in
-      let same : left ≡ mid = last.1 ∙ sym last.0 in (
-        subst (λ w. Stands start x c (content w) (place w) left) (sym one.2)
-            (subst (λ l. Stands start x c l (place one.0) left) (sym did.0)
-            (subst (λ p. Stands start x c (content split.0) p left) (sym did.1)
-            (subst (λ h. Stands start x c (content split.0) (place split.0) h) (sym same) there))),
-        after_ok reply last.1,
-      )
+      (rw (one.2, did.0, did.1, last.1, ← last.0) there, after_ok reply last.1)
 
 -- what stands there is a front of the accepted bytes, over the old ones
 pub front_there : (base tail : List ℕ) {x now : List ℕ} {place : ℕ} {held : List ℕ} → Stands (length base) x (base ++ tail) now place held

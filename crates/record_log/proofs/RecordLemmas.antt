@@ -1,11 +1,9 @@
 -- A list of records is read back from its bytes, also from a front of them.
-use Rattle.no_std_io2.proofs.Words.{◌≡◌, ℕ, ◌+◌, ◌<◌, ◌≤◌, ◌^◌, List, [], ◌∷◌, ◌++◌, length, take, drop, refl, sym, ap, subst, ◌∙◌}
-use Rattle.no_std_io2.proofs.Words.{arith, append_assoc, append-nil, length-append, length-drop, take-append_seam, drop-append_seam}
-use Rattle.no_std_io2.proofs.Words.{common_steps, take-append-le}
-use Rattle.no_std_io2.proofs.Words.{take-append-drop, cases_lt, inl, inr, nil_from_length}
-use Rattle.std.proofs.{Math.Seq.{drop-nil}, lemmas.List.{drop-drop}}
-use Rattle.std.proofs.lemmas.{List.{append_cancel_left}, Nat.{from_le_bytes-to_le_bytes_4}}
-use Rattle.std.specs.{Int.{w32, from_le_bytes}}
+use Rattle.no_std_io2.proofs.Words.{◌≡◌, ℕ, ◌<◌, ◌≤◌, ◌^◌, List, [], ◌∷◌, ◌++◌, length, take, drop, refl, sym, ap, subst, ◌∙◌, arith}
+use Rattle.no_std_io2.proofs.Words.{append_assoc, append-nil, length-append, length-drop, take-append_seam, drop-append_seam, common_steps}
+use Rattle.no_std_io2.proofs.Words.{take-append-le, take-append-drop, cases_lt, inl, inr, nil_from_length}
+use Rattle.std.proofs.{Math.Seq.{drop-nil}, lemmas.{List.{drop-drop, append_cancel_left}, Nat.{from_le_bytes-to_le_bytes_4}}}
+use Rattle.std.specs.Int.{w32, from_le_bytes}
 use Rattle.record_log.specs.Records.{record_of, log_of, AreShort, HasNoRecord, HasRecords, NoneByChance}
 
 -- the first bytes of a record say the length of its payload
@@ -54,10 +52,8 @@ AreShort-front (p ∷ ps) qs a = (a.0, AreShort-front ps qs a.1)
 pub same_records : (bytes : List ℕ) (ps qs : List (List ℕ)) (rest more : List ℕ) → HasRecords bytes ps rest → HasRecords bytes qs more
     → (ps ≡ qs) × (rest ≡ more)
 same_records bytes [] [] rest more a b = (refl, sym a.bytes ∙ b.bytes)
-same_records bytes [] (q ∷ qs) rest more a b =
-    absurd (a.none q (log_of qs ++ more) b.short.0 (sym a.bytes ∙ b.bytes ∙ append_assoc (record_of q) (log_of qs) more))
-same_records bytes (p ∷ ps) [] rest more a b =
-    absurd (b.none p (log_of ps ++ rest) a.short.0 (sym b.bytes ∙ a.bytes ∙ append_assoc (record_of p) (log_of ps) rest))
+same_records bytes [] (q ∷ qs) rest more a b = grind (arith, common_steps, append_assoc, a.none q (log_of qs ++ more) b.short.0)
+same_records bytes (p ∷ ps) [] rest more a b = grind (arith, common_steps, append_assoc, b.none p (log_of ps ++ rest) a.short.0)
 same_records bytes (p ∷ ps) (q ∷ qs) rest more a b =
     let heads = same_record p q (log_of ps ++ rest) (log_of qs ++ more) a.short.0 b.short.0
     (sym (append_assoc (record_of p) (log_of ps) rest) ∙ sym a.bytes ∙ b.bytes ∙ append_assoc (record_of q) (log_of qs) more) in
@@ -97,11 +93,15 @@ cut_log (p ∷ ps) front lost tail short is none = elim (cases_lt (length front)
         → HasRecords (front ++ drop (length front) tail) (p ∷ kept) rest
     grown p front more tail kept rest small split has = record {
       short = (small, has.short);
-      bytes = ap (λ l. l ++ drop (length l) tail) split
-          ∙ ap (λ n. (record_of p ++ more) ++ drop n tail) (length-append (record_of p) more)
-          ∙ append_assoc (record_of p) more (drop (length (record_of p) + length more) tail)
-          ∙ ap (λ l. record_of p ++ (more ++ l)) (sym (drop-drop (length more) (length (record_of p)) tail))
-          ∙ ap (λ l. record_of p ++ l) has.bytes ∙ sym (append_assoc (record_of p) (log_of kept) rest);
+      bytes =
+          grind (
+            arith,
+            common_steps,
+            append_assoc,
+            length-append (record_of p) more,
+            drop-drop (length more) (length (record_of p)) tail,
+            has.bytes,
+          );
       none = has.none;
     }
 

@@ -1,8 +1,7 @@
 -- What a power cut leaves of a log.
 use Rattle.std.specs.Prelude.{◌≡◌, ℕ, List, [], ◌∷◌, ◌++◌, length, drop, Bool, true, false, Result, is_ok}
 use Rattle.no_std_io2.specs.{Calls.{Flushed}, Writers.{Writer}, inner.BufWriter.{BufferMay, InnerCalls}}
-use Rattle.no_std_io2.specs.{BufWriter.{writer_inner, writer_buffer}}
-use Rattle.no_std_io2.specs.declared.io.Error.{Error}
+use Rattle.no_std_io2.specs.{BufWriter.{writer_inner, writer_buffer}, declared.io.Error.{Error}}
 use Rattle.record_log.specs.{Records.{log_of, AreShort, HasRecords, NoneByChance}, Log.{Appends, log_writer, log_inner, log_held}}
 use Rattle.record_log.specs.declared.{log.RecordLog.{RecordLog}, cuts.Step.{Step, TheVariants.{Append, Sync}}}
 

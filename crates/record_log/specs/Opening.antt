@@ -1,9 +1,8 @@
 -- What the reads of `open` give of known bytes, and where it stands.
-use Rattle.std.specs.Prelude.{◌≡◌, ℕ, ◌+◌, ◌-◌, ◌<◌, ◌≤◌, ◌^◌, List, ◌++◌, length, take, drop, Option, Some, None, Bool, true}
-use Rattle.std.specs.Prelude.{Result, Ok, Err, false, pos}
-use Rattle.std.specs.List.{fold}
-use Rattle.no_std_io2.specs.{Events.{Event, events_of}, Takes.{Reader}, Reads.{Fetches}, Seek.{Seeker, SeekLaw}}
-use Rattle.no_std_io2.specs.declared.io.{Error.{Error}, SeekFrom.{TheVariants.{Start, End}}}
+use Rattle.std.specs.Prelude.{◌≡◌, ℕ, ◌+◌, ◌-◌, ◌<◌, ◌≤◌, ◌^◌, List, ◌++◌, length, take, drop, Option, Some, None, Bool, true, Result, Ok}
+use Rattle.std.specs.{Prelude.{Err, false, pos}, List.{fold}}
+use Rattle.no_std_io2.specs.{Events.{Event, events_of}, Takes.{Reader}, Reads.{Fetches}, Seek.{Seeker, SeekLaw}, declared.io.Error.{Error}}
+use Rattle.no_std_io2.specs.declared.io.SeekFrom.TheVariants.{Start, End}
 use Rattle.record_log.specs.{Records.{add_number, record_of, log_of, HasNoRecord, HasRecords}, declared.opening.Opened.{Opened}}
 
 -- Bytes were read, and reads may go on; or they met the end, or a fault. After that no read was made.

@@ -1,7 +1,7 @@
 -- Writers that put their bytes into a content, at a place.
-use Rattle.std.specs.Prelude.{◌≡◌, ◌⊎◌, ℕ, ◌+◌, ◌≤◌, List, [], ◌∷◌, length, take, Ok, Err}
-use Rattle.no_std_io2.specs.{declared.io.Error.{Error}, Calls.{WriteCall, Wrote, WroteAll, Flushed}, Writers.{Writer}}
-use Rattle.no_std_io2.specs.{inner.Cursor.{put_at}, inner.Writers.{CallOf}}
+use Rattle.std.specs.{Prelude.{◌≡◌, ◌⊎◌, ℕ, ◌+◌, ◌≤◌, List, [], ◌∷◌, length, take, Ok, Err}, declared.vec.Vec.{Vec}}
+use Rattle.no_std_io2.specs.{declared.io.{Error.{Error}, Cursor.{Cursor}}, Calls.{WriteCall, Wrote, WroteAll, Flushed}, Writers.{Writer}}
+use Rattle.no_std_io2.specs.{inner.{Cursor.{put_at}, Writers.{CallOf}}, Cursor.{cursor_inner}}
 
 -- A content became another: x was put at a place, with zeros before it if the content ended before the place. An x of no byte may leave
 -- all as it was.
@@ -27,6 +27,10 @@ PutsAt {W} I content place = (old new : W) (call : WriteCall) → CallOf I old c
 abbrev pub GoesNoFurther : {W : Type 0} → Writer W → (W → ℕ) → Type 0
 GoesNoFurther {W} I place =
     (old new : W) (x : List ℕ) (e : Error) → CallOf I old (WroteAll x (Err e)) new → place new ≤ place old + length x
+
+-- the content of a cursor over a vector
+abbrev pub vector_content : {A : Type 0} → Cursor (Vec ℕ A) → List ℕ
+vector_content c = (cursor_inner c).items
 
 -- a content once the bytes that a buffer holds are put at a place of it
 abbrev pub held_over : List ℕ → ℕ → List ℕ → List ℕ

@@ -1,8 +1,6 @@
 // A power cut at any byte of any call: what a store then has.
 ghost use Rattle.std.specs.Prelude.{◌≡◌, ℕ, List, [], length};
-ghost use Rattle.record_log.specs.Log.{log_inner};
-ghost use Rattle.record_log.specs.Placed.{PutsAt};
-ghost use Rattle.record_log.specs.Cuts.{DidStep, StandsAtEnd, outcome, Survives};
+ghost use Rattle.record_log.specs.{Log.{log_inner}, Placed.{PutsAt}, Cuts.{DidStep, StandsAtEnd, outcome, Survives}};
 
 use crate::log::RecordLog;
 use no_std_io2::io::Write;

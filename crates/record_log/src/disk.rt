@@ -61,8 +61,7 @@ fn put(content: &mut Vec<u8>, place: usize, x: &[u8])
 
 impl Write for Disk {
     ghost use Rattle.no_std_io2.specs.Moves.{told_out};
-    ghost use Rattle.record_log.specs.Disk.{disk_content, disk_place};
-    ghost use Rattle.record_log.specs.Placed.{PutsCall};
+    ghost use Rattle.record_log.specs.{Disk.{disk_content, disk_place}, Placed.{PutsCall}};
 
     ghost told = { λ d. told_out (take (disk_place d) (disk_content d)) };
 

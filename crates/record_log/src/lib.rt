@@ -26,8 +26,8 @@ pub use disk::Disk;
 pub use log::RecordLog;
 pub use opening::{Opened, open};
 pub use placed::{
-    buffers_are_placed, disk_is_placed, line_buffers_are_placed, slices_are_placed,
-    vectors_are_placed,
+    buffers_are_placed, disk_is_placed, line_buffers_are_placed, lines_are_placed,
+    slices_are_placed, vectors_are_placed,
 };
 pub use places::{cursors_tell_places, patch_length, put_apart, put_two, read_back};
 pub use records::{HEADER, first_record};

@@ -1,7 +1,6 @@
 // [`RecordLog`].
 ghost use Rattle.std.specs.Prelude.{◌≡◌, []};
-ghost use Rattle.no_std_io2.specs.BufWriter.{writer_inner, writer_buffer, Unwraps};
-ghost use Rattle.no_std_io2.specs.Writers.{FlushOf};
+ghost use Rattle.no_std_io2.specs.{BufWriter.{writer_inner, writer_buffer, Unwraps}, Writers.{FlushOf}};
 ghost use Rattle.record_log.specs.Log.{Appends, SaysLong, log_writer, log_inner, log_held};
 
 use crate::records::{HEADER, header_of};

@@ -1,10 +1,8 @@
 // Where a log ends.
-ghost use Rattle.std.specs.Prelude.{◌≡◌, ◌+◌, ◌<◌, ◌^◌, ℕ, List, length, Some, IsOk, IfOk, IfSome, IsSomeAnd};
-ghost use Rattle.std.specs.Bool.{OnTrue};
-ghost use Rattle.no_std_io2.specs.Events.{events_of};
-ghost use Rattle.no_std_io2.specs.Takes.{tells, to_come};
-ghost use Rattle.record_log.specs.Opening.{FetchesSome, FetchesAll, FetchesRecord, how_ended};
-ghost use Rattle.record_log.specs.Opening.{GivesPiece, AddsPiece, PassesRecord, PassesRecords, Opens, OpensBy};
+ghost use Rattle.std.specs.{Prelude.{◌≡◌, ◌+◌, ◌<◌, ◌^◌, ℕ, List, length, Some, IsOk, IfOk, IfSome, IsSomeAnd}, Bool.{OnTrue}};
+ghost use Rattle.no_std_io2.specs.{Events.{events_of}, Takes.{tells, to_come}};
+ghost use Rattle.record_log.specs.Opening.{FetchesSome, FetchesAll, FetchesRecord, how_ended, GivesPiece, AddsPiece, PassesRecord};
+ghost use Rattle.record_log.specs.Opening.{PassesRecords, Opens, OpensBy};
 
 use crate::records::{HEADER, add_bytes, header, start, told_len};
 use no_std_io2::io::{Read, Result, Seek, SeekFrom};

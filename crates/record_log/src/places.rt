@@ -1,10 +1,7 @@
 // What several calls of a writer that puts its bytes at a place leave there.
-ghost use Rattle.std.specs.Prelude.{◌≡◌, ◌+◌, ◌≤◌, ◌<◌, ◌^◌, ◌++◌, ℕ, List, length, OnOk};
-ghost use Rattle.std.specs.Int.{w32, to_le_bytes};
-ghost use Rattle.no_std_io2.specs.Cursor.{cursor_inner, cursor_position};
-ghost use Rattle.no_std_io2.specs.Moves.{MovesFront};
-ghost use Rattle.record_log.specs.Placed.{PutsAt};
-ghost use Rattle.record_log.specs.Places.{TellsStore, HasRoom, HasPut, StandsAt};
+ghost use Rattle.std.specs.{Prelude.{◌≡◌, ◌+◌, ◌≤◌, ◌<◌, ◌^◌, ◌++◌, ℕ, List, length, OnOk}, Int.{w32, to_le_bytes}};
+ghost use Rattle.no_std_io2.specs.{Cursor.{cursor_inner, cursor_position}, Moves.{MovesFront}};
+ghost use Rattle.record_log.specs.{Placed.{PutsAt}, Places.{TellsStore, HasRoom, HasPut, StandsAt}};
 
 use no_std_io2::io::{AsSlice, Cursor, Read, Result, Seek, SeekFrom, Write, read_exact_at};
 

@@ -1,6 +1,5 @@
 // A record: a header, which is the length of a payload and a check of both, and then the payload.
-ghost use Rattle.std.specs.Prelude.{◌≡◌, ◌+◌, ◌<◌, ◌≤◌, ◌^◌, ◌++◌, length, take, drop, IfSome, IfNone};
-ghost use Rattle.std.specs.Int.{w32, from_le_bytes};
+ghost use Rattle.std.specs.{Prelude.{◌≡◌, ◌+◌, ◌<◌, ◌≤◌, ◌^◌, ◌++◌, length, take, drop, IfSome, IfNone}, Int.{w32, from_le_bytes}};
 ghost use Rattle.std.specs.List.{fold};
 ghost use Rattle.record_log.specs.Records.{add_number, start, header, check_of, record_of, HasNoRecord};
 

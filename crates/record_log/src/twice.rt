@@ -1,8 +1,6 @@
 // A log whose power is cut twice.
 ghost use Rattle.std.specs.Prelude.{◌≡◌, [], ℕ, List, length, IsOk, IfOk, IsOkAnd};
-ghost use Rattle.record_log.specs.Records.{HasRecords};
-ghost use Rattle.record_log.specs.Disk.{disk_content, disk_place};
-ghost use Rattle.record_log.specs.Log.{log_inner};
+ghost use Rattle.record_log.specs.{Records.{HasRecords}, Disk.{disk_content, disk_place}, Log.{log_inner}};
 ghost use Rattle.record_log.specs.Cuts.{StandsAtEnd, SurvivesTwice, outcome};
 
 use crate::cuts::{Step, run_log};

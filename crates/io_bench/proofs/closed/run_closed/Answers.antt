@@ -2,8 +2,7 @@
 -- `into_inner` cannot fail.
 use Rattle.std.proofs.Common.{arith}
 use Rattle.no_std_io2.proofs.Words.{subst, sym, TakesAll}
-use Rattle.io_bench.specs.Tally.{tally_writes}
-use Rattle.io_bench.proofs.RunCharges.{closes, tally_meters, tallied_writer}
+use Rattle.io_bench.{specs.Tally.{tally_writes}, proofs.RunCharges.{closes, tally_meters, tallied_writer}}
 use Rattle.io_bench.proofs.closed.run_closed.Goals as goal
 
 pub returns-in-Ok : goal.returns-in-Ok

@@ -1,7 +1,6 @@
 -- The prover does not find that one more item was yielded, nor the state before the `next` that ended the run.
 use Rattle.no_std_io2.proofs.Words.{◌≡◌, ◌∙◌, ◌<◌, ap, [], ◌∷◌, ◌++◌, Some, Ok, inl, inr, refl, subst, returned_err}
-use Rattle.std.proofs.Common.{OnSome}
-use Rattle.std.specs.Iterator.{IsFinite, size}
+use Rattle.std.{proofs.Common.{OnSome}, specs.Iterator.{IsFinite, size}}
 use Rattle.io_bench.proofs.{RunLemmas.{appended-more}, PieceRunLemmas.{one_yielded, still_yielded}}
 use Rattle.io_bench.proofs.pieces.run_items.Goals as goal
 

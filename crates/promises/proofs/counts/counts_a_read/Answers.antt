@@ -1,8 +1,7 @@
 -- The prover does not find that a `Tally` counts its reads, nor how many bytes a filling reader gives.
 use Rattle.no_std_io2.proofs.{Words.{min, length, ap, bytes_left, reader_held, reader_inner}, TakesLemmas.{reader}}
 use Rattle.promises.proofs.ExactCounts.{held_or, read_cost, read_fills, read_gives, gave_count}
-use Rattle.io_bench.proofs.DeviceLemmas.{tallied_reader, tally_fills, tally_meters_reads}
-use Rattle.io_bench.specs.Tally.{tally_reads}
+use Rattle.io_bench.{proofs.DeviceLemmas.{tallied_reader, tally_fills, tally_meters_reads}, specs.Tally.{tally_reads}}
 use Rattle.promises.proofs.counts.counts_a_read.Goals as goal
 
 pub returns : goal.returns

@@ -1,7 +1,6 @@
 -- The prover does not count inner calls.
 use Rattle.no_std_io2.proofs.{Words.{writer_inner, writer_buffer}, BufWriterCalls.{write_does}}
-use Rattle.io_bench.proofs.RunCharges.{step_cost, tallied_writer, tally_meters}
-use Rattle.io_bench.specs.Tally.{tally_writes}
+use Rattle.io_bench.{proofs.RunCharges.{step_cost, tallied_writer, tally_meters}, specs.Tally.{tally_writes}}
 use Rattle.promises.proofs.counts.counts_a_write.Goals as goal
 
 pub returns : goal.returns

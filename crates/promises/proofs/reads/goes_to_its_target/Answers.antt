@@ -1,6 +1,5 @@
 -- The prover does not find that a told store is still told.
-use Rattle.no_std_io2.proofs.Words.{ℕ}
-use Rattle.no_std_io2.specs.Seek.{Seeks}
+use Rattle.no_std_io2.{proofs.Words.{ℕ}, specs.Seek.{Seeks}}
 use Rattle.promises.proofs.HeldPieces.{store_after}
 use Rattle.promises.proofs.reads.goes_to_its_target.Goals as goal
 

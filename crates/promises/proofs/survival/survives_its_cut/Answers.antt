@@ -1,12 +1,8 @@
 -- The prover does not find that the device puts its bytes at its place, nor that nothing is behind its end.
-use Rattle.no_std_io2.proofs.Words.{[], sym, subst}
-use Rattle.no_std_io2.proofs.CallsLemmas.{law_may}
-use Rattle.no_std_io2.specs.Cursor.{cursor_position}
+use Rattle.no_std_io2.{proofs.{Words.{[], sym, subst}, CallsLemmas.{law_may}}, specs.Cursor.{cursor_position}}
 use Rattle.std.specs.Vec.{vec_capacity}
-use Rattle.record_log.specs.Cuts.{HasConfirmed, outcome}
-use Rattle.record_log.proofs.{CutLemmas.{survives_at_end}, DeviceLemmas.{vector_puts}}
-use Rattle.promises.specs.Survival.{content_behind_acts, place_behind_acts}
-use Rattle.promises.proofs.FaultyPuts.{faulty_puts}
+use Rattle.record_log.{specs.Cuts.{HasConfirmed, outcome}, proofs.{CutLemmas.{survives_at_end}, DeviceLemmas.{vector_puts}}}
+use Rattle.promises.{specs.Survival.{content_behind_acts, place_behind_acts}, proofs.FaultyPuts.{faulty_puts}}
 use Rattle.promises.proofs.survival.survives_its_cut.Goals as goal
 
 pub returns : goal.returns

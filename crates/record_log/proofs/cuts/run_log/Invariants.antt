@@ -1,7 +1,6 @@
 -- The calls so far kept the records.
 use Rattle.std.proofs.Common.{◌≡◌, ℕ, List, [], length, take}
-use Rattle.record_log.specs.{Placed.{PutsAt}, Cuts.{outcome, StandsAtEnd}}
-use Rattle.record_log.proofs.CutLemmas.{Keeps}
+use Rattle.record_log.{specs.{Placed.{PutsAt}, Cuts.{outcome, StandsAtEnd}}, proofs.CutLemmas.{Keeps}}
 use Rattle.record_log.proofs.cuts.run_log.Given as goal
 
 abbrev pub invariant-steps : goal.invariant-steps

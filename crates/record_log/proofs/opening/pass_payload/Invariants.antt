@@ -1,6 +1,5 @@
 -- The bytes so far are in the check, and the others are to come.
-use Rattle.no_std_io2.proofs.Words.{◌≡◌, ℕ, ◌-◌, ◌<◌, ◌≤◌, List, length, Ok, true, Some, events_of, to_come, tells}
-use Rattle.no_std_io2.proofs.TakesLemmas.{reader}
+use Rattle.no_std_io2.proofs.{Words.{◌≡◌, ℕ, ◌-◌, ◌<◌, ◌≤◌, List, length, Ok, true, Some, events_of, to_come, tells}, TakesLemmas.{reader}}
 use Rattle.record_log.specs.Opening.{AddsPiece, FetchesSome}
 use Rattle.record_log.proofs.opening.pass_payload.Given as goal
 

@@ -1,8 +1,7 @@
 -- The prover does not find that no record begins with other bytes.
 use Rattle.no_std_io2.proofs.Words.{◌≡◌, refl, sym, ap, ◌∙◌, arith, common_steps, take, drop, Some, events_of, false, returned_err, true}
 use Rattle.std.specs.List.{fold}
-use Rattle.record_log.specs.Records.{add_number}
-use Rattle.record_log.proofs.PieceLemmas.{some_then, none_behind, none_checked, one_checked}
+use Rattle.record_log.{specs.Records.{add_number}, proofs.PieceLemmas.{some_then, none_behind, none_checked, one_checked}}
 use Rattle.record_log.proofs.opening.pass_record.Goals as goal
 
 pub returns-in_err-check-clause-fetches : goal.returns-in_err-check-clause-fetches

@@ -1,8 +1,6 @@
 -- Whole records were passed, and the bytes behind them are to come.
-use Rattle.no_std_io2.proofs.Words.{◌≡◌, ℕ, ◌<◌, ◌^◌, List, length, Ok, true, Some, events_of, to_come, tells}
-use Rattle.no_std_io2.proofs.TakesLemmas.{reader}
-use Rattle.record_log.specs.Opening.{FetchesSome}
-use Rattle.record_log.proofs.PieceLemmas.{Passed}
+use Rattle.no_std_io2.proofs.{Words.{◌≡◌, ℕ, ◌<◌, ◌^◌, List, length, Ok, true, Some, events_of, to_come, tells}, TakesLemmas.{reader}}
+use Rattle.record_log.{specs.Opening.{FetchesSome}, proofs.PieceLemmas.{Passed}}
 use Rattle.record_log.proofs.opening.pass_records.Given as goal
 
 abbrev pub invariant-records : goal.invariant-records

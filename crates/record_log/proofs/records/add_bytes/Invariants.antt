@@ -1,5 +1,4 @@
-use Rattle.std.proofs.Common.{◌≡◌, take}
-use Rattle.std.specs.List.{fold}
+use Rattle.std.{proofs.Common.{◌≡◌, take}, specs.List.{fold}}
 use Rattle.record_log.specs.Records.{add_number}
 use Rattle.record_log.proofs.records.add_bytes.Given as goal
 

@@ -1,7 +1,6 @@
 -- The prover does not find which events the bytes so far are.
 use Rattle.no_std_io2.proofs.Words.{arith, sym, ◌∙◌}
-use Rattle.io_bench.specs.Feed.{feed_left}
-use Rattle.io_bench.proofs.DeviceLemmas.{given_next, given_all}
+use Rattle.io_bench.{specs.Feed.{feed_left}, proofs.DeviceLemmas.{given_next, given_all}}
 use Rattle.io_bench.proofs.feed.Feed.give.Goals as goal
 
 pub bytes-preserved : goal.bytes-preserved
