@@ -100,13 +100,9 @@ fn make(archive: &mut Archive, rows: &str) -> Option<(usize, u64)> {
 // Returns a file that gives `len` bytes `a`, then fails once, and then gives as many bytes `b` as the file has.
 fn failing_file(alloc: Global, len: usize) -> io::Result<Feed> {
     let mut events = Vec::new(alloc);
-    'given: for _ in 0..len {
-        events.push(Event::Byte(b'a'))?;
-    }
+    events.resize(len, Event::Byte(b'a'))?;
     events.push(Event::Fail(ErrorKind::PermissionDenied))?;
-    'behind: for _ in 0..SIZE {
-        events.push(Event::Byte(b'b'))?;
-    }
+    events.resize(len.saturating_add(1 + SIZE), Event::Byte(b'b'))?;
     Ok(Feed::new(events, 100))
 }
 

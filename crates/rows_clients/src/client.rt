@@ -1,19 +1,12 @@
 // Clients of a device that notes its calls, played by rows of calls.
 use no_std_io2::io::IntoInnerError;
-use rows_play::calls::{Call, new_journal, show_calls, show_out};
-use rows_play::journal::Journal;
-use rows_play::line::Line;
-use rows_play::player::{Player, Stream};
-use rows_play::recorder::{ReaderName, Recorder};
-use rows_play::unplayed::{Played, Unplayed};
+use rows_play::prelude::*;
 use std::alloc::Global;
-use std::cell::RefCell;
-use std::rc::Rc;
 
 /// A client of a device.
 pub trait Client: Drop {
     /// Makes the call of a row, and prints its result.
-    fn call(&mut self, alloc: Global, call: &Call<'_>, line: &mut Line);
+    fn call(&mut self, call: &Call<'_>, line: &mut Line);
 
     /// Prints the columns of its own that a call and a drop have.
     fn show(&self, _line: &mut Line) {}
@@ -31,9 +24,9 @@ pub trait Client: Drop {
 #[derive(Drop)]
 pub enum Columns {
     /// The calls that reached the device of this journal.
-    Calls(Rc<RefCell<Journal>>),
+    Calls(Notes),
     /// The bytes that it took, and the calls.
-    All(Rc<RefCell<Journal>>),
+    All(Notes),
 }
 
 impl Columns {
@@ -66,7 +59,7 @@ struct Playing<C: Drop> {
 }
 
 impl<C: Client> Stream for Playing<C> {
-    fn play(&mut self, alloc: Global, call: &Call<'_>, line: &mut Line) {
+    fn play(&mut self, call: &Call<'_>, line: &mut Line) {
         let Some(mut client) = self.client.take() else {
             line.tell(Unplayed::NotReady);
             return;
@@ -80,7 +73,7 @@ impl<C: Client> Stream for Playing<C> {
             }
             "into_inner" => client.unwrap(&self.columns, line),
             _ => {
-                client.call(alloc, call, line);
+                client.call(call, line);
                 client.show(line);
                 self.columns.show(line);
                 self.client = Some(client);
@@ -98,12 +91,12 @@ pub fn play<C: Client>(client: C, columns: Columns, player: &mut Player<'_, '_>)
 }
 
 /// Makes a device on this journal.
-pub fn on_journal(alloc: Global, journal: &Rc<RefCell<Journal>>) -> Played<Recorder> {
+pub fn on_journal(alloc: Global, journal: &Notes) -> Played<Recorder> {
     Ok(Recorder::new(alloc, journal.clone()?, ReaderName::Only))
 }
 
 /// Makes a device that has these results, and its journal.
-pub fn new_device(alloc: Global, words: &str) -> Played<(Recorder, Rc<RefCell<Journal>>)> {
+pub fn new_device(alloc: Global, words: &str) -> Played<(Recorder, Notes)> {
     let journal = new_journal(alloc, words)?;
     Ok((on_journal(alloc, &journal)?, journal))
 }

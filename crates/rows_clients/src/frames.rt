@@ -4,20 +4,15 @@
 // reached the device; `drop` and `into_inner` end the sender. A row of a reader is a call; then its result and
 // the calls.
 use crate::client::{Client, Columns, new_device, play};
-use crate::readings::values_of;
+use crate::from_examples::values_of;
 use framing::{FrameReader, FrameWriter};
 use line_log::LineLog;
 use log_sink::log_each;
-use rows_play::calls::Call;
-use rows_play::line::Line;
-use rows_play::player::Player;
-use rows_play::recorder::Recorder;
-use rows_play::unplayed::{Played, Unplayed};
-use std::alloc::Global;
+use rows_play::prelude::*;
 use std::fmt;
 
 impl Client for FrameWriter<Recorder, 12> {
-    fn call(&mut self, _alloc: Global, call: &Call<'_>, line: &mut Line) {
+    fn call(&mut self, call: &Call<'_>, line: &mut Line) {
         match call.word {
             "send" => line.done(&self.send(&call.bytes)),
             "flush" => line.done(&self.flush()),
@@ -54,7 +49,7 @@ impl Receiving {
 }
 
 impl Client for Receiving {
-    fn call(&mut self, _alloc: Global, call: &Call<'_>, line: &mut Line) {
+    fn call(&mut self, call: &Call<'_>, line: &mut Line) {
         match call.word {
             "next" => {
                 let len = call.number(line);
@@ -91,12 +86,12 @@ fn log(to: &mut LineLog<Recorder, 12>, call: &Call<'_>, line: &mut Line) {
 
 // `log_each` logs readings, and shows how many were lost twice.
 impl Client for LineLog<Recorder, 12> {
-    fn call(&mut self, alloc: Global, call: &Call<'_>, line: &mut Line) {
+    fn call(&mut self, call: &Call<'_>, line: &mut Line) {
         match call.word {
             "log" | "log_text" | "log_broken" => log(self, call, line),
             "log_each" => {
-                let values = values_of(alloc, call.rest, line);
-                line.number(log_each(self, "", &values) as u64);
+                let values = values_of(call.alloc, call.rest, line);
+                line.value(log_each(self, "", &values));
             }
             "flush" => line.done(&self.flush()),
             _ => line.tell(Unplayed::NoCall),
@@ -121,11 +116,10 @@ pub fn lend(name: &str, words: &str, player: &mut Player<'_, '_>) -> Played<()> 
             let (reader, room) = (FrameReader::new(device), [0; 12]);
             play(Receiving { reader, room }, Columns::Calls(journal), player)
         }
-        "LineLog" => play(
-            LineLog::<Recorder, 12>::new(device),
-            Columns::All(journal),
-            player,
-        ),
+        "LineLog" => {
+            let log = LineLog::<Recorder, 12>::new(device);
+            play(log, Columns::All(journal), player)
+        }
         _ => Err(Unplayed::NoStream),
     }
 }

@@ -7,20 +7,14 @@
 mod archives;
 mod client;
 mod copies;
-mod decoding;
 mod encoding;
 mod frames;
+mod from_examples;
 mod memory;
-mod patience;
 mod playing;
-mod readings;
 mod records;
-mod sums;
-mod tees;
 
-use rows_play::files::play_files;
-use rows_play::player::{Player, Streams};
-use rows_play::unplayed::Played;
+use rows_play::prelude::*;
 use std::env::{Env, FillError};
 use std::process::ExitCode;
 
@@ -30,17 +24,16 @@ struct Clients;
 impl Streams for Clients {
     fn lend(name: &str, words: &str, player: &mut Player<'_, '_>) -> Played<()> {
         match name {
-            "Patient" => patience::lend(words, player),
+            "Patient" => copies::lend_patient(words, player),
             "copy_through" => copies::lend(words, player),
             "copy_through Vec" => copies::lend_vectors(player),
             "play" => playing::lend(player),
-            "write_readings" => readings::lend(words, player),
+            "write_readings" => from_examples::lend_readings(words, player),
             "copy" => copies::lend_plain(words, player),
-            "DecoderReader" => decoding::lend(words, player),
             "LineSink" => records::lend(words, player),
-            "checksum_of" => sums::lend(words, player),
-            "Tee" => tees::lend(words, player),
-            "EncoderWriter" | "base64" | "WriteBytesExt" | "ReadBytesExt" => {
+            "checksum_of" => from_examples::lend_checksum(words, player),
+            "Tee" => from_examples::lend_tee(words, player),
+            "EncoderWriter" | "DecoderReader" | "base64" | "WriteBytesExt" | "ReadBytesExt" => {
                 encoding::lend(name, words, player)
             }
             _ => frames::lend(name, words, player),

@@ -5,19 +5,79 @@
 // `none`, which the script compares. What is printed is the call and how it ended: `whole`; `refused`, if an allocation
 // failed and nothing else went wrong (then the call was made once more, if it can continue); or what it returned instead.
 // Each line is one write, so that the script knows which row allocated.
-mod gathered;
 mod large;
-mod outcome;
 mod small;
-mod texts;
-mod torn;
 
-use no_std_io2::io::{BufWriter, Cursor, Result, Write, copy};
-use outcome::Outcome;
+use no_std_io2::io::{BufWriter, Cursor, Error, ErrorKind, Result, Write, copy};
 use std::alloc::Global;
 use std::io;
 use std::process::ExitCode;
 use system_streams::Patient;
+
+/// The outcome of a row. It has no text of its own, because a type with a lifetime makes each move dear to prove.
+#[derive(Clone, Copy, PartialEq, Eq)]
+pub enum Outcome {
+    Whole,
+    // An allocation failed, and nothing else went wrong.
+    Refused,
+    NoCall,
+    NoItem,
+    OtherError,
+    OtherBytes,
+}
+
+impl Outcome {
+    /// Returns the outcome of an error.
+    pub fn of_error(error: &Error) -> Outcome {
+        if error.kind() == ErrorKind::OutOfMemory && error.get_ref().is_none() {
+            Outcome::Refused
+        } else {
+            Outcome::OtherError
+        }
+    }
+
+    /// Returns the outcome of a result.
+    pub fn of<T>(answer: &Result<T>) -> Outcome {
+        match answer {
+            Ok(_) => Outcome::Whole,
+            Err(e) => Outcome::of_error(e),
+        }
+    }
+
+    /// Returns the outcome of two calls, one after the other.
+    pub fn and(self, next: Outcome) -> Outcome {
+        match self {
+            Outcome::Whole => next,
+            Outcome::Refused if next != Outcome::Whole => next,
+            _ => self,
+        }
+    }
+
+    /// Returns this outcome if the data is right, and else an error.
+    pub fn if_right(self, is_right: bool) -> Outcome {
+        if is_right { self } else { Outcome::OtherBytes }
+    }
+
+    /// Returns this outcome if the length is right, and else an error.
+    pub fn if_full(self, len: usize, want: usize) -> Outcome {
+        match self {
+            Outcome::Whole => Outcome::Whole.if_right(len == want),
+            other => other,
+        }
+    }
+
+    /// Returns the text that is printed.
+    pub fn text(self) -> &'static str {
+        match self {
+            Outcome::Whole => "whole",
+            Outcome::Refused => "refused",
+            Outcome::NoCall => "no such call",
+            Outcome::NoItem => "no such item",
+            Outcome::OtherError => "an error of another kind",
+            Outcome::OtherBytes => "other bytes",
+        }
+    }
+}
 
 fn play_long(alloc: Global, text: &[u8], word: &str, len: usize) -> Outcome {
     match word {
@@ -47,8 +107,8 @@ fn play(alloc: Global, text: &[u8], call: &str) -> Outcome {
         "joined" => small::by_joined(alloc),
         "run_writes" => small::by_run_writes(alloc),
         "run_closed" => small::by_run_closed(alloc),
-        "run_split" => gathered::by_run_split(alloc),
-        "run_lines" => gathered::by_run_lines(alloc),
+        "run_split" => small::by_run_split(alloc),
+        "run_lines" => small::by_run_lines(alloc),
         _ => {
             let (word, len) = call.split_once(" ").unwrap_or((call, ""));
             match len.parse::<usize>() {

@@ -4,10 +4,7 @@ ghost use Rattle.no_std_io2.specs.BufReader.{BufReaderFits};
 
 use io_bench::{Event, Feed, kind_of_name};
 use no_std_io2::io::Read;
-use rows_play::calls::Call;
-use rows_play::line::Line;
-use rows_play::player::{Player, Stream};
-use rows_play::unplayed::{Played, Unplayed};
+use rows_play::prelude::*;
 use std::alloc::Global;
 use tower_play::{Shape, play};
 
@@ -49,10 +46,10 @@ fn play_feed(alloc: Global, kind: &str, line: &mut Line) {
 struct Playing;
 
 impl Stream for Playing {
-    fn play(&mut self, alloc: Global, call: &Call<'_>, line: &mut Line) {
+    fn play(&mut self, call: &Call<'_>, line: &mut Line) {
         match shape_of(call.word) {
-            Some(shape) => show_play(alloc, call.bytes.as_slice(), shape, line),
-            None if call.word == "feed" => play_feed(alloc, call.rest, line),
+            Some(shape) => show_play(call.alloc, call.bytes.as_slice(), shape, line),
+            None if call.word == "feed" => play_feed(call.alloc, call.rest, line),
             None => line.tell(Unplayed::NoCall),
         }
     }

@@ -6,16 +6,11 @@
 // `flushing` flushes the sink. `log_readings` shows how many of its readings were lost twice.
 use crate::client::{Client, Columns, new_device, play};
 use crate::frames::Broken;
-use crate::readings::values_of;
+use crate::from_examples::values_of;
 use line_log::LineLog;
 use log::{Level, Log, info};
 use log_sink::{LineSink, log_readings};
-use rows_play::calls::Call;
-use rows_play::line::Line;
-use rows_play::player::Player;
-use rows_play::recorder::Recorder;
-use rows_play::unplayed::{Played, Unplayed};
-use std::alloc::Global;
+use rows_play::prelude::*;
 use std::fmt;
 
 type Sink = LineSink<Recorder, 32>;
@@ -86,37 +81,32 @@ fn make_call(sink: &Sink, call: &Call<'_>, line: &mut Line) {
 }
 
 impl Client for Sink {
-    fn call(&mut self, alloc: Global, call: &Call<'_>, line: &mut Line) {
+    fn call(&mut self, call: &Call<'_>, line: &mut Line) {
         match call.word {
             "take_error" => show_error(self, line),
             "log_readings" => {
-                let values = values_of(alloc, call.rest, line);
-                line.number(log_readings(self, "io", &values) as u64);
+                let values = values_of(call.alloc, call.rest, line);
+                line.value(log_readings(self, "io", &values));
             }
             _ => make_call(self, call, line),
         }
     }
 
     fn show(&self, line: &mut Line) {
-        line.column();
-        line.number(self.lost());
+        line.value_column(self.lost());
     }
 
     fn unwrap(self, columns: &Columns, line: &mut Line) {
         let lost = self.lost();
         let lines = self.into_inner();
         line.word(if lines.is_behind() { "behind" } else { "-" });
-        line.column();
-        line.number(lost);
+        line.value_column(lost);
         columns.show(line);
     }
 }
 
 pub fn lend(words: &str, player: &mut Player<'_, '_>) -> Played<()> {
     let (device, journal) = new_device(player.alloc, words)?;
-    play(
-        Sink::new(LineLog::new(device)),
-        Columns::All(journal),
-        player,
-    )
+    let sink = Sink::new(LineLog::new(device));
+    play(sink, Columns::All(journal), player)
 }

@@ -1,13 +1,7 @@
-// The call of a row, the calls that several kinds of streams have, and what a device's journal shows
-// after them.
-use super::journal::Journal;
-use super::line::{Line, cut, unescape};
-use super::script::parse_answers;
-use super::unplayed::{Played, Unplayed};
+// The call of a row, and the calls that several kinds of streams have.
+use super::line::{Line, Played, Unplayed, cut, unescape};
 use no_std_io2::io::{Seek, SeekFrom, Write};
 use std::alloc::Global;
-use std::cell::RefCell;
-use std::rc::Rc;
 
 /// A call of a row: a word, and the text after it.
 #[derive(Drop)]
@@ -18,6 +12,8 @@ pub struct Call<'a> {
     pub rest: &'a str,
     /// The bytes that this text stands for.
     pub bytes: Vec<u8>,
+    /// Where the call may allocate.
+    pub alloc: Global,
 }
 
 impl<'a> Call<'a> {
@@ -28,6 +24,7 @@ impl<'a> Call<'a> {
             word,
             rest,
             bytes: unescape(alloc, rest)?,
+            alloc,
         })
     }
 
@@ -46,7 +43,7 @@ impl<'a> Call<'a> {
 /// Makes the call of a row on any writer, and prints its result. `print TEXT` writes the text as one piece by `write!`.
 pub fn make_call<W: Write>(w: &mut W, call: &Call<'_>, line: &mut Line) {
     match call.word {
-        "write" => line.length(&w.write(&call.bytes)),
+        "write" => line.answer(&w.write(&call.bytes)),
         "write_all" => line.done(&w.write_all(&call.bytes)),
         "flush" => line.done(&w.flush()),
         "write_rest" => call_write_rest(w, &call.bytes, line),
@@ -88,12 +85,12 @@ pub fn target(words: &str) -> Option<SeekFrom> {
 pub fn make_seek<T: Seek>(s: &mut T, call: &Call<'_>, line: &mut Line) -> bool {
     match call.word {
         "seek" => match target(call.rest) {
-            Some(pos) => line.position(&s.seek(pos)),
+            Some(pos) => line.answer(&s.seek(pos)),
             None => line.tell(Unplayed::NoWord),
         },
-        "stream_position" => line.position(&s.stream_position()),
+        "stream_position" => line.answer(&s.stream_position()),
         "rewind" => line.done(&s.rewind()),
-        "stream_len" => line.position(&s.stream_len()),
+        "stream_len" => line.answer(&s.stream_len()),
         "seek_relative" => match call.rest.parse::<i64>() {
             Ok(offset) => line.done(&s.seek_relative(offset)),
             Err(_) => line.tell(Unplayed::NoNumber),
@@ -101,42 +98,4 @@ pub fn make_seek<T: Seek>(s: &mut T, call: &Call<'_>, line: &mut Line) -> bool {
         _ => return false,
     }
     true
-}
-
-/// Makes a journal whose device has these results. It fails if a word is no result, or if an
-/// allocation fails.
-pub fn new_journal(alloc: Global, words: &str) -> Played<Rc<RefCell<Journal>>> {
-    let answers = parse_answers(alloc, words)?;
-    match Rc::new(alloc, RefCell::new(Journal::new(alloc, answers))) {
-        Ok(journal) => Ok(journal),
-        Err(_) => Err(Unplayed::Memory),
-    }
-}
-
-/// Prints a column with the bytes that the device took.
-pub fn show_out(journal: &RefCell<Journal>, line: &mut Line) {
-    line.column();
-    match journal.try_borrow() {
-        Ok(journal) => journal.show_out(line),
-        Err(_) => line.tell(Unplayed::NotReady),
-    }
-}
-
-/// Prints a column with the calls that reached the device since the last such column.
-pub fn show_calls(journal: &RefCell<Journal>, line: &mut Line) {
-    line.column();
-    match journal.try_borrow_mut() {
-        Ok(mut journal) => journal.show_calls(line),
-        Err(_) => line.tell(Unplayed::NotReady),
-    }
-}
-
-/// Sets the results of the device from here on.
-pub fn expect(alloc: Global, journal: &RefCell<Journal>, words: &str) -> Played<()> {
-    let answers = parse_answers(alloc, words)?;
-    let Ok(mut journal) = journal.try_borrow_mut() else {
-        return Err(Unplayed::NotReady);
-    };
-    journal.expect(answers);
-    Ok(())
 }

@@ -19,18 +19,15 @@
 //! `\*300a` are 300 bytes from `a` on: the letters from `a` to `w` over and over, or dots. An error is `!KIND`, or
 //! `!KIND: TEXT`.
 //!
-//! A program has [`player::Streams`] for its streams, and its `main` calls [`files::play_files`].
+//! A program has [`player::Streams`] for its streams, and its `main` calls [`player::play_files`].
 #![tactic(auto)]
 
 pub mod calls;
-pub mod count;
-pub mod files;
 pub mod journal;
-pub mod lent;
 pub mod line;
 pub mod noted;
 pub mod player;
+pub mod prelude;
 pub mod reads;
 pub mod recorder;
 pub mod script;
-pub mod unplayed;

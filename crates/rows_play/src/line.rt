@@ -2,9 +2,41 @@
 //
 // A run is a list of bytes of which each follows the one before it: dots, or the letters from `a` to `w`, over and
 // over. A long run is printed as `\*300a`: 300 bytes from `a` on.
-use super::unplayed::{Played, Unplayed};
-use no_std_io2::io::{Error, ErrorKind, Result};
-use std::alloc::{AllocError, Global};
+use no_std_io2::io::{Error, Result};
+use std::alloc::{AllocError, AllocFailed, Global};
+use std::fmt;
+
+/// Why a file of rows is not played to its end. It has no text of its own, because a type with a lifetime makes each `?`
+/// dear to prove.
+#[derive(Clone, Copy, Debug, Drop)]
+pub enum Unplayed {
+    Memory,
+    NoRow,
+    NoStream,
+    NoCall,
+    NoNumber,
+    NoEscape,
+    // A kind of error, an act, a result or another word.
+    NoWord,
+    // A call on a stream that is gone, in use or in another state.
+    NotReady,
+    // A state that no row can say.
+    Otherwise,
+}
+
+impl From<AllocError> for Unplayed {
+    fn from(_error: AllocError) -> Unplayed {
+        Unplayed::Memory
+    }
+}
+
+impl<T: Drop> From<AllocFailed<T>> for Unplayed {
+    fn from(_refused: AllocFailed<T>) -> Unplayed {
+        Unplayed::Memory
+    }
+}
+
+pub type Played<T> = std::result::Result<T, Unplayed>;
 
 // A text that is printed piece by piece. If an allocation fails, or if its row cannot be played, it
 // remembers that, so that the printing code need not stop.
@@ -28,10 +60,6 @@ impl Line {
 
     pub fn as_str(&self) -> &str {
         self.text.as_str()
-    }
-
-    pub fn is_empty(&self) -> bool {
-        self.text.is_empty()
     }
 
     pub fn clear(&mut self) {
@@ -59,7 +87,7 @@ impl Line {
             self.cut();
             return;
         }
-        self.word(fault.text());
+        self.name(&fault);
         self.is_malformed = true;
     }
 
@@ -74,24 +102,38 @@ impl Line {
         }
     }
 
+    /// Begins an item of a list.
+    pub fn item(&mut self, word: &str) {
+        if !self.text.is_empty() {
+            self.word(", ");
+        }
+        self.word(word);
+    }
+
     fn character(&mut self, character: char) {
         if self.text.push(character).is_err() {
             self.cut();
         }
     }
 
-    pub fn number(&mut self, number: u64) {
-        match format!(in self.alloc; "{number}") {
-            Ok(digits) => self.word(digits.as_str()),
+    /// Prints a number or another value.
+    pub fn value<T: fmt::Display + Drop>(&mut self, value: T) {
+        match format!(in self.alloc; "{value}") {
+            Ok(text) => self.word(text.as_str()),
             Err(_) => self.cut(),
         }
     }
 
-    pub fn offset(&mut self, offset: i64) {
-        if offset < 0 {
-            self.word("-");
-        }
-        self.number(offset.unsigned_abs());
+    /// Prints a column with a value.
+    pub fn value_column<T: fmt::Display + Drop>(&mut self, value: T) {
+        self.column();
+        self.value(value);
+    }
+
+    /// Prints a column with bytes.
+    pub fn bytes_column(&mut self, bytes: &[u8]) {
+        self.column();
+        self.bytes(bytes);
     }
 
     // Prints a text, or a dash if it is empty.
@@ -120,7 +162,7 @@ impl Line {
     fn run(&mut self, run: Run) {
         if run.count >= LONG {
             self.word("\\*");
-            self.number(run.count);
+            self.value(run.count);
             self.byte(run.first);
             return;
         }
@@ -144,9 +186,9 @@ impl Line {
         }
     }
 
-    // Prints the name of a kind.
-    pub fn kind(&mut self, kind: ErrorKind) {
-        match format!(in self.alloc; "{kind:?}") {
+    // Prints the name of a kind or of a fault.
+    pub fn name<T: fmt::Debug>(&mut self, named: &T) {
+        match format!(in self.alloc; "{named:?}") {
             Ok(name) => self.word(name.as_str()),
             Err(_) => self.cut(),
         }
@@ -155,30 +197,11 @@ impl Line {
     // Prints the name of the kind after a mark, and the text if there is one.
     pub fn error(&mut self, error: &Error) {
         self.word("!");
-        self.kind(error.kind());
+        self.name(&error.kind());
         if let Some(text) = error.get_ref() {
             self.word(": ");
             self.word(text);
         }
-    }
-
-    // Prints a row that came out differently: its place, as it is wanted, and as it came out.
-    pub fn differing(&mut self, file: &str, number: u64, row: &str, line: &Line) {
-        self.word(file);
-        self.word(":");
-        self.number(number);
-        self.word("\n  wanted: ");
-        self.word(row);
-        self.word("\n     got: ");
-        self.word(line.as_str());
-        self.word("\n");
-    }
-
-    // Prints a text in parentheses.
-    pub fn aside(&mut self, text: &str) {
-        self.word(" (");
-        self.word(text);
-        self.word(")");
     }
 
     // Prints the result of a call that returns no number.
@@ -189,18 +212,10 @@ impl Line {
         }
     }
 
-    // Prints the result of a call that returns a length.
-    pub fn length(&mut self, answer: &Result<usize>) {
+    // Prints the result of a call that returns a length or a position.
+    pub fn answer<T: fmt::Display + Copy + Drop>(&mut self, answer: &Result<T>) {
         match answer {
-            Ok(n) => self.number(*n as u64),
-            Err(e) => self.error(e),
-        }
-    }
-
-    // Prints the result of a call that returns a position.
-    pub fn position(&mut self, answer: &Result<u64>) {
-        match answer {
-            Ok(n) => self.number(*n),
+            Ok(n) => self.value(*n),
             Err(e) => self.error(e),
         }
     }
@@ -315,7 +330,7 @@ fn step(escape: Escape, b: u8) -> Option<(Escape, Option<Run>)> {
     }
 }
 
-fn push_run(bytes: &mut Vec<u8>, run: Run) -> std::result::Result<(), AllocError> {
+fn push_run(bytes: &mut Vec<u8>, run: Run) -> Played<()> {
     let mut byte = run.first;
     'bytes: for _ in 0..run.count {
         bytes.push(byte)?;

@@ -2,11 +2,11 @@
 
 ghost use Rattle.no_std_io2.specs.Calls.{PartMay};
 
-use super::journal::Journal;
+use super::journal::{Journal, Notes};
 use no_std_io2::io::{BufRead, Read, Result, Seek, SeekFrom, Stored, Write};
 use std::alloc::{Allocator, Global};
 use std::cell::RefCell;
-use std::rc::Rc;
+use std::fmt;
 
 /// A stream in front of another one, whose journal it shares. It notes its own call, such as `write_all abc` or
 /// `read_exact 3`, before those that the other one notes. So rows show whether a call was passed on or made of
@@ -14,40 +14,27 @@ use std::rc::Rc;
 #[derive(Drop)]
 pub struct Noted<T> {
     inner: T,
-    journal: Rc<RefCell<Journal>>,
+    journal: Notes,
 }
 
 impl<T> Noted<T> {
     /// Puts it in front of a stream, with the stream's journal.
-    pub fn new(inner: T, journal: Rc<RefCell<Journal>>) -> Noted<T> {
+    pub fn new(inner: T, journal: Notes) -> Noted<T> {
         Noted { inner, journal }
     }
 }
 
-fn note(journal: &RefCell<Journal>, call: &str) {
+fn note<T: fmt::Display + Drop>(journal: &RefCell<Journal>, call: &str, value: T) {
     if let Ok(mut journal) = journal.try_borrow_mut() {
-        journal.begin_call(call);
+        journal.calls.item(call);
+        journal.calls.value(value);
     }
 }
 
 fn note_bytes(journal: &RefCell<Journal>, call: &str, bytes: &[u8]) {
     if let Ok(mut journal) = journal.try_borrow_mut() {
-        journal.begin_call(call);
+        journal.calls.item(call);
         journal.calls.bytes(bytes);
-    }
-}
-
-fn note_length(journal: &RefCell<Journal>, call: &str, len: usize) {
-    if let Ok(mut journal) = journal.try_borrow_mut() {
-        journal.begin_call(call);
-        journal.calls.number(len as u64);
-    }
-}
-
-fn note_offset(journal: &RefCell<Journal>, call: &str, offset: i64) {
-    if let Ok(mut journal) = journal.try_borrow_mut() {
-        journal.begin_call(call);
-        journal.calls.offset(offset);
     }
 }
 
@@ -98,26 +85,26 @@ impl<T: Read> Read for Noted<T> {
 
     #[tactic(auto, using(no_std_io2::proofs::ObjectRules::passes_on))]
     fn read_exact(&mut self, buf: &mut [u8]) -> Result<()> {
-        note_length(&self.journal, "read_exact ", buf.len());
+        note(&self.journal, "read_exact ", buf.len());
         self.inner.read_exact(buf)
     }
 
     #[tactic(auto, using(no_std_io2::proofs::ObjectRules::passes_on))]
     fn read_full(&mut self, buf: &mut [u8], filled: &mut usize) -> Result<()> {
-        note_length(&self.journal, "read_full ", buf.len());
+        note(&self.journal, "read_full ", buf.len());
         self.inner.read_full(buf, filled)
     }
 
     #[tactic(auto, using(no_std_io2::proofs::ObjectRules::passes_on))]
     fn read_to_end<B: Allocator>(&mut self, buf: &mut Vec<u8, B>) -> Result<usize> {
-        note(&self.journal, "read_to_end");
+        note(&self.journal, "read_to_end", "");
         self.inner.read_to_end(buf)
     }
 }
 
 impl<T: BufRead> BufRead for Noted<T> {
     fn fill_buf(&mut self) -> Result<&[u8]> {
-        note(&self.journal, "fill_buf");
+        note(&self.journal, "fill_buf", "");
         self.inner.fill_buf()
     }
 
@@ -131,7 +118,7 @@ impl<T: BufRead> BufRead for Noted<T> {
     }
 
     fn read_line(&mut self, alloc: Global, buf: &mut String) -> Result<usize> {
-        note(&self.journal, "read_line");
+        note(&self.journal, "read_line", "");
         self.inner.read_line(alloc, buf)
     }
 }
@@ -142,22 +129,22 @@ impl<T: Seek> Seek for Noted<T> {
     }
 
     fn stream_position(&mut self) -> Result<u64> {
-        note(&self.journal, "stream_position");
+        note(&self.journal, "stream_position", "");
         self.inner.stream_position()
     }
 
     fn rewind(&mut self) -> Result<()> {
-        note(&self.journal, "rewind");
+        note(&self.journal, "rewind", "");
         self.inner.rewind()
     }
 
     fn stream_len(&mut self) -> Result<u64> {
-        note(&self.journal, "stream_len");
+        note(&self.journal, "stream_len", "");
         self.inner.stream_len()
     }
 
     fn seek_relative(&mut self, offset: i64) -> Result<()> {
-        note_offset(&self.journal, "seek_relative ", offset);
+        note(&self.journal, "seek_relative ", offset);
         self.inner.seek_relative(offset)
     }
 

@@ -1,15 +1,12 @@
 // A device that notes each call that reaches it, and returns the results of its script: a writer, a reader, a
 // `BufRead` and a seeker.
-ghost use Rattle.std.specs.Prelude.{[], length, ◌+◌, drop};
+ghost use Rattle.std.specs.Prelude.{[], ◌≡◌, ◌≤◌, ◌+◌, drop, length, vec_len};
 ghost use Rattle.no_std_io2.specs.Errors.{IsFault};
 
-use super::journal::Journal;
-use super::lent::LentRecorder;
+use super::journal::Notes;
 use no_std_io2::ghost_bytes::GhostBytes;
 use no_std_io2::io::{BufRead, Error, Read, Result, Seek, SeekFrom, Stored, Write};
 use std::alloc::Global;
-use std::cell::RefCell;
-use std::rc::Rc;
 
 // The number of its turns.
 const TURNS: usize = 100_000;
@@ -17,9 +14,40 @@ const TURNS: usize = 100_000;
 // The most bytes that it lends at once.
 const LENT: usize = 4;
 
+// Bytes that are lent, and skipped piece by piece.
+#[derive(Drop)]
+struct LentRecorder {
+    bytes: Vec<u8>,
+    at: usize,
+    ghost within: { at ≤ vec_len bytes },
+}
+
+impl LentRecorder {
+    fn new(bytes: Vec<u8>) -> LentRecorder
+        ensures { drop result.at result.bytes.items ≡ bytes.items }
+    {
+        LentRecorder { bytes, at: 0 }
+    }
+
+    // Returns the bytes that are left.
+    fn rest(&self) -> &[u8]
+        ensures { result.now ≡ drop self.now.at self.now.bytes.items }
+    {
+        &self.bytes[self.at..]
+    }
+
+    // Skips `amount` of them.
+    fn pass(&mut self, amount: usize)
+        requires { amount ≤ length (drop self.old.at self.old.bytes.items) }
+        ensures { drop self.new.at self.new.bytes.items ≡ drop amount (drop self.old.at self.old.bytes.items) }
+    {
+        self.at += amount;
+    }
+}
+
 #[derive(Drop)]
 pub struct Recorder {
-    journal: Rc<RefCell<Journal>>,
+    journal: Notes,
     // Which of several readers it is.
     name: ReaderName,
     taken: GhostBytes,
@@ -37,12 +65,12 @@ pub enum ReaderName {
 }
 
 impl Recorder {
-    pub fn new(alloc: Global, journal: Rc<RefCell<Journal>>, name: ReaderName) -> Recorder {
+    pub fn new(alloc: Global, journal: Notes, name: ReaderName) -> Recorder {
         Recorder {
             journal,
             name,
             taken: GhostBytes::new(),
-            lent: LentRecorder::none(alloc),
+            lent: LentRecorder::new(Vec::new(alloc)),
             turns: TURNS,
         }
     }

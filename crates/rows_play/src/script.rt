@@ -1,6 +1,5 @@
 // The results that a device is to return.
-use super::line::{cut, number, unescape};
-use super::unplayed::{Played, Unplayed};
+use super::line::{Played, Unplayed, cut, number, unescape};
 use io_bench::{Act, Event, Reply, kind_of_name};
 use no_std_io2::io::{Error, ErrorKind};
 use std::alloc::Global;
@@ -21,31 +20,12 @@ pub enum Answer {
 }
 
 // The texts that an error may have. An error can only contain a text of the program.
-const TEXTS: [&str; 19] = [
-    "again",
-    "busy",
-    "five",
-    "four",
-    "full",
-    "gone",
-    "late",
-    "late again",
-    "no carrier",
-    "no length",
-    "no room",
-    "one",
-    "out of order",
-    "refused",
-    "six",
-    "slow",
-    "three",
-    "too far",
-    "two",
-];
+const TEXTS: &str = "again, busy, five, four, full, gone, late, late again, no carrier, no length, \
+    no room, one, out of order, refused, six, slow, three, too far, two";
 
 fn place_of(words: &str) -> Option<usize> {
-    'texts: for (i, text) in TEXTS.iter().enumerate() {
-        if *text == words {
+    'texts: for (i, text) in TEXTS.split(", ").enumerate() {
+        if text == words {
             return Some(i);
         }
     }
@@ -54,9 +34,9 @@ fn place_of(words: &str) -> Option<usize> {
 
 // Returns the error of a result.
 pub fn error_of(kind: ErrorKind, place: Option<usize>) -> Error {
-    match place {
-        Some(i) if i < TEXTS.len() => Error::new(kind, TEXTS[i]),
-        _ => Error::from(kind),
+    match TEXTS.split(", ").nth(place.unwrap_or(usize::MAX)) {
+        Some(text) => Error::new(kind, text),
+        None => Error::from(kind),
     }
 }
 
@@ -92,15 +72,9 @@ impl Word for Answer {
         let (word, rest) = cut(words, " ");
         match word {
             "all" | "end" => Ok(Answer::Plain),
-            "give" => match unescape(alloc, rest) {
-                Ok(bytes) => Ok(Answer::Give(bytes)),
-                Err(fault) => Err(fault),
-            },
-            "take" | "at" => match rest.parse::<u64>() {
-                Ok(n) if word == "at" => Ok(Answer::At(n)),
-                Ok(n) => Ok(Answer::Take(n as usize)),
-                Err(_) => Err(Unplayed::NoNumber),
-            },
+            "give" => Ok(Answer::Give(unescape(alloc, rest)?)),
+            "take" => Ok(Answer::Take(number(rest)?)),
+            "at" => Ok(Answer::At(number(rest)? as u64)),
             "fail" => parse_failure(rest),
             _ => Err(Unplayed::NoWord),
         }
@@ -140,11 +114,6 @@ impl Word for Act {
     }
 }
 
-/// Returns the acts of a `Faulty` that a line names, in order.
-pub fn parse_acts(alloc: Global, words: &str) -> Played<Vec<Act>> {
-    parse_list(alloc, words)
-}
-
 // The bytes and failures of a `Feed`: `x, Interrupted, \n`.
 impl Word for Event {
     fn parse(_alloc: Global, word: &str) -> Played<Event> {
@@ -165,12 +134,4 @@ impl Word for Reply {
             None => Ok(Reply::Took(number(word)?)),
         }
     }
-}
-
-pub fn misfit() -> Error {
-    Error::other("no answer to this call")
-}
-
-pub fn no_memory() -> Error {
-    Error::from(ErrorKind::OutOfMemory)
 }

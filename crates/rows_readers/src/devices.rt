@@ -1,14 +1,7 @@
 // The devices of a group, on one journal, and the columns of its rows.
 use crate::levels::Levels;
-use rows_play::calls::show_calls;
-use rows_play::journal::Journal;
-use rows_play::line::Line;
-use rows_play::noted::Noted;
-use rows_play::recorder::{ReaderName, Recorder};
-use rows_play::unplayed::Played;
+use rows_play::prelude::*;
 use std::alloc::Global;
-use std::cell::RefCell;
-use std::rc::Rc;
 
 // The columns after a call's result and the bytes that it gave.
 #[derive(Clone, Copy, PartialEq)]
@@ -39,7 +32,7 @@ pub struct Devices<'j> {
     pub items: Items,
     // What stands after a row's `new`.
     pub words: &'j str,
-    pub journal: &'j Rc<RefCell<Journal>>,
+    pub journal: &'j Notes,
 }
 
 impl<'j> Devices<'j> {
@@ -71,15 +64,11 @@ impl<'j> Devices<'j> {
         }
     }
 
-    // Prints the calls after an item, or in memory the item's capacity, if it has one.
-    pub fn show_room(&self, capacity: Option<usize>, line: &mut Line) {
-        match (self.columns == Columns::Memory, capacity) {
-            (true, Some(capacity)) => {
-                line.column();
-                line.number(capacity as u64);
-            }
-            (true, None) => line.word(" | -"),
-            _ => self.show_calls(line),
+    // Returns what parts pieces: a comma, or in streams in memory a `3`.
+    pub fn delim(&self) -> u8 {
+        match self.columns {
+            Columns::Memory => b'3',
+            _ => b',',
         }
     }
 }

@@ -1,13 +1,11 @@
 // The state of each level of a reader, the outer one first, in a column for each level that
 // has one.
 use crate::devices::Columns;
-use crate::in_memory::feeds::show_left;
+use crate::in_memory::show_left;
 use examples::Numbered;
 use io_bench::{Feed, Tally};
 use no_std_io2::io::{BufRead, BufReader, Chain, Cursor, Read, Repeat, Take};
-use rows_play::line::Line;
-use rows_play::noted::Noted;
-use rows_play::recorder::Recorder;
+use rows_play::prelude::*;
 
 pub trait Levels {
     fn show(&self, _columns: Columns, _line: &mut Line) {}
@@ -42,8 +40,7 @@ impl<R: Levels> Levels for Box<R> {
 // The bytes that are left.
 impl<'a> Levels for &'a [u8] {
     fn show(&self, _columns: Columns, line: &mut Line) {
-        line.column();
-        line.bytes(self);
+        line.bytes_column(self);
     }
 }
 
@@ -65,8 +62,7 @@ impl Levels for Feed {
 impl Levels for Cursor<Vec<u8>> {
     fn show(&self, columns: Columns, line: &mut Line) {
         if columns == Columns::Memory {
-            line.column();
-            line.number(self.position());
+            line.value_column(self.position());
         }
     }
 }
@@ -87,8 +83,7 @@ impl<A: Levels + Drop, B: Levels + Drop> Levels for Chain<A, B> {
 // The limit.
 impl<R: Levels + Drop> Levels for Take<R> {
     fn show(&self, columns: Columns, line: &mut Line) {
-        line.column();
-        line.number(self.limit());
+        line.value_column(self.limit());
         self.get_ref().show(columns, line);
     }
 
@@ -102,11 +97,9 @@ impl<R: Levels + Drop> Levels for Take<R> {
 impl<R: Levels + Drop, const S: usize> Levels for BufReader<R, S> {
     fn show(&self, columns: Columns, line: &mut Line) {
         if columns == Columns::Memory {
-            line.column();
-            line.bytes(self.behind());
+            line.bytes_column(self.behind());
         }
-        line.column();
-        line.bytes(self.buffer());
+        line.bytes_column(self.buffer());
         self.get_ref().show(columns, line);
     }
 }

@@ -4,19 +4,13 @@
 
 mod devices;
 mod in_memory;
-mod items;
 mod levels;
 mod moving;
-mod noted;
 mod reading;
 mod streams;
 
 use devices::{Columns, Devices, Items};
-use rows_play::calls::new_journal;
-use rows_play::files::play_files;
-use rows_play::line::cut;
-use rows_play::player::{Player, Streams};
-use rows_play::unplayed::Played;
+use rows_play::prelude::*;
 use std::process::ExitCode;
 
 // The streams of this program.
@@ -53,7 +47,7 @@ impl Streams for Readers {
             return in_memory::lend(word, tower, &devices, player);
         }
         match word {
-            "noted" => noted::lend(tower, &devices, player),
+            "noted" => reading::lend_noted(tower, &devices, player),
             "seeker" => reading::lend_seeker(tower, &devices, player),
             "moved" => moving::lend(&devices, player),
             _ => reading::lend(tower, &devices, player),

@@ -5,12 +5,7 @@
 // calls that reached the device.
 use crate::devices::Devices;
 use no_std_io2::io::{BufReader, Error, ErrorKind, Read, Result};
-use rows_play::calls::{Call, make_seek};
-use rows_play::line::Line;
-use rows_play::player::{Player, Stream};
-use rows_play::reads::make_lend;
-use rows_play::recorder::Recorder;
-use rows_play::unplayed::{Played, Unplayed};
+use rows_play::prelude::*;
 use std::alloc::Global;
 
 type Reader = BufReader<Recorder, 8>;
@@ -42,7 +37,7 @@ fn call_peek(r: &mut Reader, line: &mut Line) {
         Ok((tag, len)) => {
             line.bytes(&[tag]);
             line.word(" ");
-            line.number(u64::from(len));
+            line.value(len);
         }
         Err(e) => line.error(&e),
     }
@@ -65,16 +60,16 @@ struct Moving<'j> {
 }
 
 impl<'j> Moving<'j> {
-    fn make_move(&mut self, alloc: Global, call: &Call<'_>, line: &mut Line) {
+    fn make_move(&mut self, call: &Call<'_>, line: &mut Line) {
         match call.word {
             "peek" => call_peek(&mut self.reader, line),
             "record" => match call.bytes.first() {
-                Some(tag) => call_record(alloc, &mut self.reader, *tag, line),
+                Some(tag) => call_record(call.alloc, &mut self.reader, *tag, line),
                 None => line.tell(Unplayed::NoWord),
             },
             _ => {
                 if !make_seek(&mut self.reader, call, line) {
-                    make_lend(alloc, &mut self.reader, call, line);
+                    make_lend(&mut self.reader, call, line);
                 }
             }
         }
@@ -82,12 +77,10 @@ impl<'j> Moving<'j> {
 }
 
 impl<'j> Stream for Moving<'j> {
-    fn play(&mut self, alloc: Global, call: &Call<'_>, line: &mut Line) {
-        self.make_move(alloc, call, line);
-        line.column();
-        line.bytes(self.reader.behind());
-        line.column();
-        line.bytes(self.reader.buffer());
+    fn play(&mut self, call: &Call<'_>, line: &mut Line) {
+        self.make_move(call, line);
+        line.bytes_column(self.reader.behind());
+        line.bytes_column(self.reader.buffer());
         self.devices.show_calls(line);
     }
 }

@@ -8,16 +8,12 @@ use crate::writing::{Columns, play};
 use examples::Narrow;
 use io_bench::Faulty;
 use no_std_io2::io::{BufWriter, Sink, Write};
-use rows_play::calls::{Call, make_call};
-use rows_play::line::{Line, cut, cut_last};
-use rows_play::player::{Player, Stream};
-use rows_play::script::parse_acts;
-use rows_play::unplayed::{Played, Unplayed};
+use rows_play::prelude::*;
 use std::alloc::Global;
 
 /// Makes an empty vector that fails as these acts say: `take 2, zero, fail BrokenPipe`.
 pub fn new_faulty(alloc: Global, words: &str) -> Played<Faulty<Vec<u8>>> {
-    Ok(Faulty::new(Vec::new(alloc), parse_acts(alloc, words)?))
+    Ok(Faulty::new(Vec::new(alloc), parse_list(alloc, words)?))
 }
 
 /// Lends the stream of this name, which ends with the name of its device.
@@ -96,16 +92,15 @@ fn call_and_drop<W: Write + Drop>(device: W, call: &Call<'_>, line: &mut Line)
 }
 
 impl<'a> Stream for Lending<'a> {
-    fn play(&mut self, alloc: Global, call: &Call<'_>, line: &mut Line) {
-        match parse_acts(alloc, self.words) {
+    fn play(&mut self, call: &Call<'_>, line: &mut Line) {
+        match parse_list(call.alloc, self.words) {
             Ok(acts) if self.is_faulty => {
                 call_and_drop(Faulty::new(&mut self.vector, acts), call, line);
             }
             Ok(_) => call_and_drop(&mut self.vector, call, line),
             Err(fault) => line.tell(fault),
         }
-        line.column();
-        line.bytes(&self.vector);
+        line.bytes_column(&self.vector);
     }
 }
 

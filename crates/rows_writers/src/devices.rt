@@ -5,24 +5,16 @@ use crate::writing::{Columns, make_any_call, play, play_seeking};
 use examples::Numbered;
 use io_bench::Tally;
 use no_std_io2::io::{BufWriter, Seek, Write, print_to_object};
-use rows_play::calls::{Call, make_call, make_seek, new_journal, show_calls};
-use rows_play::journal::Journal;
-use rows_play::line::Line;
-use rows_play::noted::Noted;
-use rows_play::player::{Player, Stream};
-use rows_play::recorder::{ReaderName, Recorder};
-use rows_play::unplayed::{Played, Unplayed};
+use rows_play::prelude::*;
 use std::alloc::Global;
-use std::cell::RefCell;
-use std::rc::Rc;
 
 /// Makes a recorder with this journal.
-pub fn new_recorder(alloc: Global, journal: &Rc<RefCell<Journal>>) -> Played<Recorder> {
+pub fn new_recorder(alloc: Global, journal: &Notes) -> Played<Recorder> {
     Ok(Recorder::new(alloc, journal.clone()?, ReaderName::Only))
 }
 
 /// Makes a device that also notes the name of each call.
-pub fn new_device(alloc: Global, journal: &Rc<RefCell<Journal>>) -> Played<Device> {
+pub fn new_device(alloc: Global, journal: &Notes) -> Played<Device> {
     Ok(Noted::new(new_recorder(alloc, journal)?, journal.clone()?))
 }
 
@@ -93,6 +85,10 @@ pub fn lend_object(
 pub fn lend_device(name: &str, words: &str, player: &mut Player<'_, '_>) -> Played<()> {
     let journal = new_journal(player.alloc, words)?;
     let device = new_device(player.alloc, &journal)?;
+    if let Some(levels) = name.strip_suffix("Box dyn Write") {
+        let object = Box::new(player.alloc, device)?;
+        return lend_object(levels.trim(), object, Columns::Calls(journal), player);
+    }
     match name {
         "Device" | "&mut Device" | "&mut &mut Device" | "&mut dyn Write" | "&mut dyn Seek" =>
             player.play(&mut Handed {
@@ -103,16 +99,6 @@ pub fn lend_device(name: &str, words: &str, player: &mut Player<'_, '_>) -> Play
         "Box dyn Seek" => {
             let seeker = Box::new(player.alloc, device)?;
             player.play(&mut Boxed { seeker, journal })
-        }
-        "Box dyn Write" => lend_object(
-            "",
-            Box::new(player.alloc, device)?,
-            Columns::Calls(journal),
-            player,
-        ),
-        "BufWriter 4 Box dyn Write" => {
-            let object = Box::new(player.alloc, device)?;
-            lend_object("BufWriter 4", object, Columns::Calls(journal), player)
         }
         "Box Device" => {
             let boxed = Box::new(player.alloc, device)?;
@@ -134,11 +120,11 @@ pub fn lend_device(name: &str, words: &str, player: &mut Player<'_, '_>) -> Play
 #[derive(Drop)]
 struct Boxed {
     seeker: Box<dyn Seek + Drop>,
-    journal: Rc<RefCell<Journal>>,
+    journal: Notes,
 }
 
 impl Stream for Boxed {
-    fn play(&mut self, _alloc: Global, call: &Call<'_>, line: &mut Line) {
+    fn play(&mut self, call: &Call<'_>, line: &mut Line) {
         if !make_seek(&mut self.seeker, call, line) {
             line.tell(Unplayed::NoCall);
         }
@@ -171,11 +157,11 @@ fn make_lent_seek(object: &mut dyn Seek, call: &Call<'_>, line: &mut Line) {
 struct Handed<'a> {
     name: &'a str,
     device: Device,
-    journal: Rc<RefCell<Journal>>,
+    journal: Notes,
 }
 
 impl<'a> Stream for Handed<'a> {
-    fn play(&mut self, _alloc: Global, call: &Call<'_>, line: &mut Line) {
+    fn play(&mut self, call: &Call<'_>, line: &mut Line) {
         match self.name {
             "&mut Device" => make_any_call(&mut &mut self.device, call, line),
             "&mut &mut Device" => make_any_call(&mut &mut &mut self.device, call, line),

@@ -9,11 +9,8 @@
 use crate::writing::make_any_call;
 use linked_list_allocator::LocalHeap;
 use no_std_io2::io::{BufWriter, Cursor, LineWriter, Read, Take};
-use rows_play::calls::{Call, make_call};
-use rows_play::line::{Line, cut_number, unescape};
-use rows_play::player::{Player, Stream};
-use rows_play::unplayed::{Played, Unplayed};
-use std::alloc::{Allocator, Global};
+use rows_play::prelude::*;
+use std::alloc::Allocator;
 use std::collections::VecDeque;
 
 /// A vector in a heap.
@@ -30,8 +27,7 @@ trait HeapStream {
 
 fn show_held(bytes: &[u8], held: &[u8], line: &mut Line) {
     line.bytes(bytes);
-    line.column();
-    line.bytes(held);
+    line.bytes_column(held);
 }
 
 impl HeapStream for HeapVec<'_> {
@@ -77,8 +73,7 @@ impl HeapStream for VecDeque<u8, &LocalHeap> {
 
 fn show_place(bytes: &[u8], position: u64, line: &mut Line) {
     line.bytes(bytes);
-    line.column();
-    line.number(position);
+    line.value_column(position);
 }
 
 fn show_clone(cursor: &Cursor<HeapVec<'_>>, line: &mut Line) {
@@ -86,7 +81,7 @@ fn show_clone(cursor: &Cursor<HeapVec<'_>>, line: &mut Line) {
         Ok(copy) => {
             line.bytes(copy.get_ref());
             line.word(" at ");
-            line.number(copy.position());
+            line.value(copy.position());
         }
         Err(e) => line.error(&e),
     }
@@ -144,14 +139,13 @@ impl<'h> HeapStream for Reading<'h, Take<&[u8]>> {
 
     fn show(&self, line: &mut Line) {
         show_held(&self.to, self.from.get_ref(), line);
-        line.column();
-        line.number(self.from.limit());
+        line.value_column(self.from.limit());
     }
 }
 
 fn call_read<R: Read>(from: &mut R, to: &mut HeapVec<'_>, call: &Call<'_>, line: &mut Line) {
     match call.word {
-        "read_to_end" => line.length(&from.read_to_end(to)),
+        "read_to_end" => line.answer(&from.read_to_end(to)),
         _ => line.tell(Unplayed::NoCall),
     }
 }
@@ -173,7 +167,7 @@ fn fill(filler: &mut HeapVec<'_>, heap: &LocalHeap, line: &mut Line) {
 }
 
 impl<'h, T: HeapStream + Drop> Stream for InHeap<'h, T> {
-    fn play(&mut self, _alloc: Global, call: &Call<'_>, line: &mut Line) {
+    fn play(&mut self, call: &Call<'_>, line: &mut Line) {
         match call.word {
             "fill" => fill(&mut self.filler, self.heap, line),
             "free" => {
@@ -184,8 +178,7 @@ impl<'h, T: HeapStream + Drop> Stream for InHeap<'h, T> {
         }
         line.column();
         self.stream.show(line);
-        line.column();
-        line.number(self.heap.used() as u64);
+        line.value_column(self.heap.used());
     }
 }
 

@@ -9,30 +9,23 @@ use crate::tower::Tower;
 use crate::writing::{Columns, play, play_seeking};
 use io_bench::{Faulty, Tally};
 use no_std_io2::io::{BufWriter, LineWriter, Seek, Sink};
-use rows_play::calls::new_journal;
-use rows_play::line::{cut, unescape};
-use rows_play::player::Player;
-use rows_play::unplayed::{Played, Unplayed};
+use rows_play::prelude::*;
 
-/// A recorder.
+/// The bases of levels: a recorder; a device that also notes the name of each call; a vector; one that fails as its acts
+/// say; the same, where each run prints whether it keeps to the laws; the same, below a buffer of the level's own size; and
+/// a sink whose writes are counted.
 pub const RECORDER: usize = 0;
 
-/// A device that also notes the name of each call.
 pub const NOTED: usize = 1;
 
-/// A vector.
 pub const VECTOR: usize = 2;
 
-/// A vector that fails as its acts say.
 pub const FAULTY: usize = 3;
 
-/// Such a vector, where each run prints whether it keeps to the laws.
 pub const LAWFUL: usize = 4;
 
-/// The same, below a buffer of the level's own size.
 pub const LAWFUL_BUFFERED: usize = 5;
 
-/// A sink whose writes are counted.
 pub const COUNTED: usize = 6;
 
 /// Lends a level over one of these devices, or, if the level has no name, the device itself.
@@ -153,6 +146,5 @@ fn lend_buffered<const S: usize>(kind: &str, words: &str, player: &mut Player<'_
 fn lend_counted<const S: usize>(kind: &str, player: &mut Player<'_, '_>) -> Played<()>
     requires { S < 2 ^ 32 }
 {
-    let device = Tally::new(Sink::new());
-    play_level::<_, S>(kind, device, Columns::State, player)
+    play_level::<_, S>(kind, Tally::new(Sink::new()), Columns::State, player)
 }

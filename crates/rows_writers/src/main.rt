@@ -5,16 +5,12 @@
 mod benches;
 mod devices;
 mod heaps;
-mod laws;
 mod levels;
 mod runs;
 mod tower;
 mod writing;
 
-use rows_play::files::play_files;
-use rows_play::line::cut;
-use rows_play::player::{Player, Streams};
-use rows_play::unplayed::{Played, Unplayed};
+use rows_play::prelude::*;
 use std::process::ExitCode;
 
 // The streams of this program. The first word says which columns a row has.

@@ -1,14 +1,9 @@
 // Towers of writers over a device, level by level.
-use crate::laws::Parts;
+use crate::runs::Parts;
 use examples::{Narrow, Numbered};
 use io_bench::{Faulty, Tally};
 use no_std_io2::io::{BufWriter, Error, IntoInnerError, LineWriter, Sink, Write};
-use rows_play::calls::Call;
-use rows_play::line::Line;
-use rows_play::noted::Noted;
-use rows_play::recorder::Recorder;
-use rows_play::unplayed::Unplayed;
-use std::alloc::Global;
+use rows_play::prelude::*;
 
 /// A device that notes the name of each call.
 pub type Device = Noted<Recorder>;
@@ -36,7 +31,7 @@ pub trait Tower: Write + Drop {
     /// Makes a call of the outer level that a device does not have: `below TEXT` writes to the level below, and
     /// `into_inner` unwraps the outer level and puts an empty one in its place. If that fails, the tower is kept; for
     /// `into_error` only the error is.
-    fn call_level(_tower: &mut Option<Self>, _alloc: Global, _call: &Call<'_>, line: &mut Line)
+    fn call_level(_tower: &mut Option<Self>, _call: &Call<'_>, line: &mut Line)
     where
         Self: Sized,
     {
@@ -57,8 +52,7 @@ impl Tower for Object {}
 impl Tower for Vec<u8> {
     fn show(&self, part: Column, line: &mut Line) {
         if let Column::Taken = part {
-            line.column();
-            line.bytes(self);
+            line.bytes_column(self);
         }
     }
 
@@ -87,8 +81,7 @@ impl Tower for Narrow {
 impl Tower for Tally<Sink> {
     fn show(&self, part: Column, line: &mut Line) {
         if let Column::Taken = part {
-            line.column();
-            line.number(self.writes());
+            line.value_column(self.writes());
         }
     }
 }
@@ -100,41 +93,33 @@ impl<W: Tower> Tower for Box<W> {
 }
 
 // Prints what a failed `into_inner` contains: the error, and what the whole prints.
-fn show_refusal<W>(alloc: Global, refused: &IntoInnerError<W>, line: &mut Line) {
+fn show_refusal<W>(refused: &IntoInnerError<W>, line: &mut Line) {
     line.error(refused.error());
-    match format!(in alloc; "{refused}") {
-        Ok(whole) => line.aside(whole.as_str()),
-        Err(_) => line.cut(),
-    }
+    line.word(" (");
+    line.value(refused);
+    line.word(")");
 }
 
-// The new tower after `into_inner`, if there is one: what is in it unwrapped, or else itself.
-enum Ended<W, T> {
-    Unwrapped(W),
-    Kept(T),
-    Gone,
-}
-
-// Prints how an `into_inner` ended. What it contains is taken by one call of a buffer, and by another of a buffer of lines.
+// Prints how an `into_inner` ended. Returns what is in the tower, or the tower itself if it is kept. What a refusal
+// contains is taken by one call of a buffer, and by another of a buffer of lines.
 fn end<W, T: Drop>(
     ended: Result<W, IntoInnerError<T>>,
     is_lines: bool,
-    alloc: Global,
     call: &Call<'_>,
     line: &mut Line,
-) -> Ended<W, T> {
+) -> Result<W, Option<T>> {
     match ended {
         Ok(inner) => {
             line.word("ok");
-            Ended::Unwrapped(inner)
+            Ok(inner)
         }
         Err(e) if call.word == "into_inner" => {
-            show_refusal(alloc, &e, line);
-            Ended::Kept(if is_lines {
+            show_refusal(&e, line);
+            Err(Some(if is_lines {
                 e.into_parts().1
             } else {
                 e.into_inner()
-            })
+            }))
         }
         Err(e) => {
             line.error(&if is_lines {
@@ -142,7 +127,7 @@ fn end<W, T: Drop>(
             } else {
                 Error::from(e)
             });
-            Ended::Gone
+            Err(None)
         }
     }
 }
@@ -150,8 +135,7 @@ fn end<W, T: Drop>(
 impl<W: Tower, const S: usize> Tower for BufWriter<W, S> {
     fn show(&self, part: Column, line: &mut Line) {
         if let Column::Held = part {
-            line.column();
-            line.bytes(self.buffer());
+            line.bytes_column(self.buffer());
         }
         self.get_ref().show(part, line);
     }
@@ -161,16 +145,15 @@ impl<W: Tower, const S: usize> Tower for BufWriter<W, S> {
         parts.held(self.buffer(), false, line);
     }
 
-    fn call_level(tower: &mut Option<Self>, alloc: Global, call: &Call<'_>, line: &mut Line) {
+    fn call_level(tower: &mut Option<Self>, call: &Call<'_>, line: &mut Line) {
         match (call.word, tower.take()) {
             ("below", Some(mut writer)) => {
                 line.done(&writer.get_mut().write_all(&call.bytes));
                 *tower = Some(writer);
             }
-            (_, Some(writer)) => match end(writer.into_inner(), false, alloc, call, line) {
-                Ended::Unwrapped(inner) => *tower = Some(BufWriter::new(inner)),
-                Ended::Kept(writer) => *tower = Some(writer),
-                Ended::Gone => {}
+            (_, Some(writer)) => match end(writer.into_inner(), false, call, line) {
+                Ok(inner) => *tower = Some(BufWriter::new(inner)),
+                Err(kept) => *tower = kept,
             },
             _ => {}
         }
@@ -180,8 +163,7 @@ impl<W: Tower, const S: usize> Tower for BufWriter<W, S> {
 impl<W: Tower, const S: usize> Tower for LineWriter<W, S> {
     fn show(&self, part: Column, line: &mut Line) {
         if let Column::Held = part {
-            line.column();
-            line.bytes(self.buffer());
+            line.bytes_column(self.buffer());
         }
         self.get_ref().show(part, line);
     }
@@ -191,16 +173,15 @@ impl<W: Tower, const S: usize> Tower for LineWriter<W, S> {
         parts.held(self.buffer(), true, line);
     }
 
-    fn call_level(tower: &mut Option<Self>, alloc: Global, call: &Call<'_>, line: &mut Line) {
+    fn call_level(tower: &mut Option<Self>, call: &Call<'_>, line: &mut Line) {
         match (call.word, tower.take()) {
             ("below", Some(mut writer)) => {
                 line.done(&writer.get_mut().write_all(&call.bytes));
                 *tower = Some(writer);
             }
-            (_, Some(writer)) => match end(writer.into_inner(), true, alloc, call, line) {
-                Ended::Unwrapped(inner) => *tower = Some(LineWriter::new(inner)),
-                Ended::Kept(writer) => *tower = Some(writer),
-                Ended::Gone => {}
+            (_, Some(writer)) => match end(writer.into_inner(), true, call, line) {
+                Ok(inner) => *tower = Some(LineWriter::new(inner)),
+                Err(kept) => *tower = kept,
             },
             _ => {}
         }

@@ -2,17 +2,10 @@
 //
 // The columns after a call are its result, the bytes that the device took, the held bytes of each level, the outer one
 // first, and over a recorder the calls that reached it.
+use crate::runs;
 use crate::tower::{Column, Tower};
-use crate::{laws, runs};
 use no_std_io2::io::{Seek, Write};
-use rows_play::calls::{Call, expect, make_call, make_seek, show_calls, show_out};
-use rows_play::journal::Journal;
-use rows_play::line::Line;
-use rows_play::player::{Player, Stream};
-use rows_play::unplayed::{Played, Unplayed};
-use std::alloc::Global;
-use std::cell::RefCell;
-use std::rc::Rc;
+use rows_play::prelude::*;
 
 /// The columns after a result.
 #[derive(Drop)]
@@ -21,9 +14,9 @@ pub enum Columns {
     State,
     /// The bytes that the device of this journal took, those that are held at this many levels, and
     /// the calls.
-    All(Rc<RefCell<Journal>>, usize),
+    All(Notes, usize),
     /// Only the calls.
-    Calls(Rc<RefCell<Journal>>),
+    Calls(Notes),
     /// None: a run prints whether it keeps to the laws.
     Laws,
 }
@@ -52,32 +45,30 @@ pub fn play<T: Tower>(tower: T, columns: Columns, player: &mut Player<'_, '_>) -
 }
 
 impl<T: Tower> Writing<T> {
-    fn expect(&self, alloc: Global, words: &str, line: &mut Line) {
+    fn expect(&self, call: &Call<'_>, line: &mut Line) {
         let Columns::All(journal, _) = &self.columns else {
             line.tell(Unplayed::NoCall);
             return;
         };
-        match expect(alloc, journal, words) {
+        match expect(call.alloc, journal, call.rest) {
             Ok(()) => line.word("-"),
             Err(fault) => line.tell(fault),
         }
     }
 
     // Makes a call, and prints its result.
-    fn call(&mut self, alloc: Global, call: &Call<'_>, line: &mut Line) {
+    fn call(&mut self, call: &Call<'_>, line: &mut Line) {
         let Some(tower) = &mut self.tower else {
             line.tell(Unplayed::NotReady);
             return;
         };
         match call.word {
-            "expect" => self.expect(alloc, call.rest, line),
+            "expect" => self.expect(call, line),
             "run" if matches!(self.columns, Columns::Laws) => {
-                laws::call_run(alloc, tower, call, line);
+                runs::call_lawful_run(tower, call, line);
             }
-            "run" => runs::call_run(alloc, tower, call, line),
-            "below" | "into_inner" | "into_error" => {
-                T::call_level(&mut self.tower, alloc, call, line);
-            }
+            "run" => runs::call_run(tower, call, line),
+            "below" | "into_inner" | "into_error" => T::call_level(&mut self.tower, call, line),
             "drop" => {
                 self.tower = None;
                 line.word("-");
@@ -110,15 +101,14 @@ impl<T: Tower> Writing<T> {
             return;
         }
         'levels: for _ in 0..levels {
-            line.column();
-            line.bytes(b"");
+            line.bytes_column(b"");
         }
     }
 }
 
 impl<T: Tower> Stream for Writing<T> {
-    fn play(&mut self, alloc: Global, call: &Call<'_>, line: &mut Line) {
-        self.call(alloc, call, line);
+    fn play(&mut self, call: &Call<'_>, line: &mut Line) {
+        self.call(call, line);
         self.show(line);
     }
 }
@@ -142,19 +132,19 @@ struct Seeking<T: Drop> {
 }
 
 impl<T: Tower + Seek> Seeking<T> {
-    fn call(&mut self, alloc: Global, call: &Call<'_>, line: &mut Line) {
+    fn call(&mut self, call: &Call<'_>, line: &mut Line) {
         if let Some(tower) = &mut self.writing.tower {
             if make_seek(tower, call, line) {
                 return;
             }
         }
-        self.writing.call(alloc, call, line);
+        self.writing.call(call, line);
     }
 }
 
 impl<T: Tower + Seek> Stream for Seeking<T> {
-    fn play(&mut self, alloc: Global, call: &Call<'_>, line: &mut Line) {
-        self.call(alloc, call, line);
+    fn play(&mut self, call: &Call<'_>, line: &mut Line) {
+        self.call(call, line);
         self.writing.show(line);
     }
 }

@@ -1,11 +1,43 @@
 // Long pieces, long writes and wide gaps.
-use super::outcome::Outcome;
-use super::texts::front;
-use super::torn::Torn;
+use super::Outcome;
 use examples::{read_long_message, read_message};
-use no_std_io2::io::{BufRead, BufReader, Cursor, ErrorKind, Read, Write};
+use no_std_io2::io::{BufRead, BufReader, Cursor, ErrorKind, Read, Result, Stored, Write};
 use std::alloc::Global;
 use std::collections::VecDeque;
+
+/// Returns the first `len` bytes of a text.
+pub fn front(text: &[u8], len: usize) -> &[u8] {
+    &text[..len.min(text.len())]
+}
+
+// A reader with the trait's bodies, which does not know how many bytes are to come.
+#[derive(Drop)]
+struct Unknowing<'a> {
+    bytes: &'a [u8],
+    // The number of turns that are left.
+    turns: u64,
+}
+
+fn unknowing(text: &[u8], len: usize) -> Unknowing<'_> {
+    Unknowing {
+        bytes: front(text, len),
+        turns: u64::MAX,
+    }
+}
+
+impl Stored for Unknowing<'_> {}
+
+impl Read for Unknowing<'_> {
+    ghost turns = { λ r. r.turns };
+
+    fn read(&mut self, buf: &mut [u8]) -> Result<usize> {
+        if buf.is_empty() || self.turns == 0 {
+            return Ok(0);
+        }
+        self.turns -= 1;
+        self.bytes.read(buf)
+    }
+}
 
 /// Makes a `read_to_end` of `len` bytes of a slice, which knows how many are to come.
 pub fn by_known(alloc: Global, text: &[u8], len: usize) -> Outcome {
@@ -18,13 +50,13 @@ pub fn by_known(alloc: Global, text: &[u8], len: usize) -> Outcome {
 /// many are to come.
 pub fn by_unknown(alloc: Global, text: &[u8], len: usize) -> Outcome {
     let mut all = Vec::new(alloc);
-    Outcome::of(&Torn::new(b"", front(text, len)).read_to_end(&mut all)).if_full(all.len(), len)
+    Outcome::of(&unknowing(text, len).read_to_end(&mut all)).if_full(all.len(), len)
 }
 
 /// Makes a `read_to_string` of `len` bytes.
 pub fn by_read_to_string(alloc: Global, text: &[u8], len: usize) -> Outcome {
     let mut all = String::new(alloc);
-    let mut r = Torn::new(b"", front(text, len));
+    let mut r = unknowing(text, len);
     Outcome::of(&r.read_to_string(alloc, &mut all)).if_full(all.len(), len)
 }
 
@@ -36,7 +68,7 @@ pub fn by_read_behind(alloc: Global, text: &[u8], len: usize) -> Outcome {
     if all.push_str("ab").is_err() {
         return Outcome::OtherBytes;
     }
-    let mut r = Torn::new(b"", front(text, len));
+    let mut r = unknowing(text, len);
     Outcome::of(&r.read_to_string(alloc, &mut all)).if_full(all.len(), len.saturating_add(2))
 }
 

@@ -1,7 +1,8 @@
-// Reads of a short text, and runs of writes: calls with many small allocations.
-use super::outcome::Outcome;
-use io_bench::{Op, Reply, Tally, joined, run_closed, run_writes};
-use no_std_io2::io::{BufRead, BufReader, BufWriter, Cursor, Read, Sink, Write};
+// Reads of a short text, and runs: calls with many small allocations.
+use super::Outcome;
+use super::large::front;
+use io_bench::{Op, Reply, Tally, joined, run_closed, run_lines, run_split, run_writes};
+use no_std_io2::io::{BufRead, BufReader, BufWriter, Cursor, Read, Result, Sink, Write};
 use std::alloc::Global;
 
 const TEXT: &str = "a line that grows\r\nend";
@@ -13,8 +14,8 @@ const LINES: [&str; 2] = ["a line that grows", "end"];
 
 type Reader = BufReader<Cursor<&'static [u8]>, 4>;
 
-fn reader() -> Reader {
-    BufReader::new(Cursor::new(TEXT.as_bytes()))
+fn reader(text: &'static [u8]) -> Reader {
+    BufReader::new(Cursor::new(text))
 }
 
 // After a failed allocation the string is unchanged, and the rest of the reader is a suffix of the
@@ -46,14 +47,14 @@ fn by_read_line<R: BufRead>(alloc: Global, r: &mut R) -> Outcome {
 
 /// Makes a `read_line` of a buffer, of a buffer with a limit, and of a cursor.
 pub fn by_read_lines(alloc: Global) -> Outcome {
-    by_read_line(alloc, &mut reader())
-        .and(by_read_line(alloc, &mut reader().take(99)))
+    by_read_line(alloc, &mut reader(TEXT.as_bytes()))
+        .and(by_read_line(alloc, &mut reader(TEXT.as_bytes()).take(99)))
         .and(by_read_line(alloc, &mut Cursor::new(TEXT.as_bytes())))
 }
 
 /// Takes the pieces between newlines.
 pub fn by_split(alloc: Global) -> Outcome {
-    let mut pieces = reader().split(alloc, b'\n');
+    let mut pieces = reader(TEXT.as_bytes()).split(alloc, b'\n');
     'pieces: for want in PIECES {
         match pieces.next() {
             Some(Ok(piece)) if piece.as_slice() == want.as_bytes() => {}
@@ -66,7 +67,7 @@ pub fn by_split(alloc: Global) -> Outcome {
 
 /// Takes the lines.
 pub fn by_lines(alloc: Global) -> Outcome {
-    let mut lines = reader().lines(alloc);
+    let mut lines = reader(TEXT.as_bytes()).lines(alloc);
     'lines: for want in LINES {
         match lines.next() {
             Some(Ok(line)) if line.as_str() == want => {}
@@ -115,4 +116,70 @@ pub fn by_run_closed(alloc: Global) -> Outcome {
         Ok(tally) => Outcome::Whole.if_right(tally.writes() == 2 && replies.len() == 3),
         Err(e) => Outcome::of_error(&e).if_right(replies.is_empty()),
     }
+}
+
+// The text of whole runs of `split` and `lines` over a borrowed reader. After a failed allocation, the items and the rest
+// of the reader are this text, except for the first bytes of the item that was being read.
+const LONG_TEXT: &[u8] = b"one\ntwo\nthree\nfour\nfive and more\nsix\nseven\neight\nnine\nten";
+
+// Returns what follows a front, if the bytes begin with it.
+fn behind<'a>(bytes: &'a [u8], front: &[u8]) -> Option<&'a [u8]> {
+    if bytes.starts_with(front) {
+        bytes.get(front.len()..)
+    } else {
+        None
+    }
+}
+
+// Returns what follows an item and its newline.
+fn behind_item<'a>(text: &'a [u8], item: &[u8]) -> Option<&'a [u8]> {
+    let rest = behind(text, item)?;
+    Some(behind(rest, b"\n").unwrap_or(rest))
+}
+
+// Judges a run after whose items this text is left.
+fn judge<R: Read>(alloc: Global, ended: &Result<()>, text: &[u8], r: &mut R) -> Outcome {
+    let mut left = Vec::new(alloc);
+    if let Err(e) = r.read_to_end(&mut left) {
+        return Outcome::of_error(&e);
+    }
+    let lost = front(text, text.len().saturating_sub(left.len()));
+    let is_right = text.ends_with(&left) && !lost.contains(&b'\n');
+    Outcome::of(ended).if_right(is_right).if_full(text.len(), 0)
+}
+
+fn gather_pieces<R: BufRead>(alloc: Global, r: &mut R) -> Outcome {
+    let mut pieces = Vec::new(alloc);
+    let ended = run_split(&mut r.by_ref().split(alloc, b'\n'), &mut pieces);
+    let mut text = LONG_TEXT;
+    'pieces: for piece in &pieces {
+        match behind_item(text, piece) {
+            Some(rest) => text = rest,
+            None => return Outcome::OtherBytes,
+        }
+    }
+    judge(alloc, &ended, text, r)
+}
+
+fn gather_lines<R: BufRead>(alloc: Global, r: &mut R) -> Outcome {
+    let mut lines = Vec::new(alloc);
+    let ended = run_lines(&mut r.by_ref().lines(alloc), &mut lines);
+    let mut text = LONG_TEXT;
+    'lines: for line in &lines {
+        match behind_item(text, line.as_bytes()) {
+            Some(rest) => text = rest,
+            None => return Outcome::OtherBytes,
+        }
+    }
+    judge(alloc, &ended, text, r)
+}
+
+/// Takes all pieces.
+pub fn by_run_split(alloc: Global) -> Outcome {
+    gather_pieces(alloc, &mut reader(LONG_TEXT))
+}
+
+/// Takes all lines.
+pub fn by_run_lines(alloc: Global) -> Outcome {
+    gather_lines(alloc, &mut reader(LONG_TEXT))
 }

@@ -6,10 +6,7 @@ ghost use Rattle.io_bench.specs.Asks.{AllFit, Fits};
 use crate::devices::Devices;
 use io_bench::{Ask, Tally, run_reads};
 use no_std_io2::io::BufReader;
-use rows_play::calls::Call;
-use rows_play::line::{Line, cut, unescape};
-use rows_play::player::{Player, Stream};
-use rows_play::unplayed::{Played, Unplayed};
+use rows_play::prelude::*;
 use std::alloc::Global;
 
 // The most bytes of an ask.
@@ -67,19 +64,18 @@ impl<'a, 'j> Asking<'a, 'j> {
 }
 
 impl<'a, 'j> Stream for Asking<'a, 'j> {
-    fn play(&mut self, alloc: Global, call: &Call<'_>, line: &mut Line) {
+    fn play(&mut self, call: &Call<'_>, line: &mut Line) {
         let (reads, before) = (self.reader.get_ref().reads(), self.to_come());
-        let asks = asks_of(alloc, call.rest, line);
+        let asks = asks_of(call.alloc, call.rest, line);
         let totals = run_reads(&mut self.reader, &asks, &mut [0; ROOM]);
         let taken = before.wrapping_sub(self.to_come());
-        line.number(totals.at_end);
+        line.value(totals.at_end);
         line.word(", ");
-        line.number(totals.failed);
-        line.column();
-        line.number(self.reader.get_ref().reads().wrapping_sub(reads));
+        line.value(totals.failed);
+        line.value_column(self.reader.get_ref().reads().wrapping_sub(reads));
         line.word(" of ");
         let most = (taken / SIZE) as u64;
-        line.number(most.wrapping_add(totals.at_end).wrapping_add(1));
+        line.value(most.wrapping_add(totals.at_end).wrapping_add(1));
         self.devices.show(&self.reader, line);
     }
 }

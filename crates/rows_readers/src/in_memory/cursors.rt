@@ -7,19 +7,13 @@ use super::vectors::Buffered;
 use crate::devices::Devices;
 use crate::streams::{call_copy, make_seeking_call, play_seeking};
 use no_std_io2::io::{AsSlice, BufRead, BufReader, BufWriter, Cursor, Seek, Write};
-use rows_play::calls::{Call, make_call, make_seek};
-use rows_play::line::{Line, unescape};
-use rows_play::player::{Player, Stream};
-use rows_play::unplayed::{Played, Unplayed};
-use std::alloc::Global;
+use rows_play::prelude::*;
 
 type Text = Cursor<Vec<u8>>;
 
 pub fn show(content: &[u8], position: u64, line: &mut Line) {
-    line.column();
-    line.bytes(content);
-    line.column();
-    line.number(position);
+    line.bytes_column(content);
+    line.value_column(position);
 }
 
 // Returns the position that a row `place N` sets.
@@ -29,16 +23,11 @@ pub fn place_of(call: &Call<'_>, line: &mut Line) -> u64 {
 }
 
 // Makes the call of a row on a stream that also writes.
-fn make_any_call<T: Write + BufRead + Seek>(
-    alloc: Global,
-    stream: &mut T,
-    call: &Call<'_>,
-    line: &mut Line,
-) {
+fn make_any_call<T: Write + BufRead + Seek>(stream: &mut T, call: &Call<'_>, line: &mut Line) {
     if call.word.starts_with("write") || call.word == "flush" {
         make_call(stream, call, line);
     } else {
-        make_seeking_call(alloc, stream, call, line);
+        make_seeking_call(stream, call, line);
     }
 }
 
@@ -66,12 +55,12 @@ impl OnVector {
 }
 
 impl Stream for OnVector {
-    fn play(&mut self, alloc: Global, call: &Call<'_>, line: &mut Line) {
+    fn play(&mut self, call: &Call<'_>, line: &mut Line) {
         match call.word {
             "place" => self.cursor.set_position(place_of(call, line)),
             "clone" => self.call_clone(line),
-            "copy" => call_copy(alloc, &mut self.cursor, call, line),
-            _ => make_any_call(alloc, &mut self.cursor, call, line),
+            "copy" => call_copy(&mut self.cursor, call, line),
+            _ => make_any_call(&mut self.cursor, call, line),
         }
         show(self.cursor.get_ref(), self.cursor.position(), line);
     }
@@ -88,59 +77,59 @@ struct OnLent<'a> {
 
 impl<'a> OnLent<'a> {
     // Makes a call, and returns the position afterwards.
-    fn make_call(&mut self, alloc: Global, call: &Call<'_>, line: &mut Line) -> u64 {
+    fn make_call(&mut self, call: &Call<'_>, line: &mut Line) -> u64 {
         match self.name {
             "&mut Vec" => {
                 let mut cursor = Cursor::new(&mut self.content);
                 cursor.set_position(self.position);
-                make_any_call(alloc, &mut cursor, call, line);
+                make_any_call(&mut cursor, call, line);
                 cursor.position()
             }
             "&mut [u8]" => {
                 let mut cursor = Cursor::new(self.content.as_mut_slice());
                 cursor.set_position(self.position);
-                make_any_call(alloc, &mut cursor, call, line);
+                make_any_call(&mut cursor, call, line);
                 cursor.position()
             }
             "Box [u8]" => {
-                let content = std::mem::replace(&mut self.content, Vec::new(alloc));
+                let content = std::mem::replace(&mut self.content, Vec::new(call.alloc));
                 let mut cursor = Cursor::new(content.into_boxed_slice());
                 cursor.set_position(self.position);
-                make_any_call(alloc, &mut cursor, call, line);
+                make_any_call(&mut cursor, call, line);
                 let position = cursor.position();
                 self.content = cursor.into_inner().into_vec();
                 position
             }
-            "[u8;2]" => self.call_array(alloc, call, line),
-            _ => self.make_reading_call(alloc, call, line),
+            "[u8;2]" => self.call_array(call, line),
+            _ => self.make_reading_call(call, line),
         }
     }
 
-    fn call_array(&mut self, alloc: Global, call: &Call<'_>, line: &mut Line) -> u64 {
+    fn call_array(&mut self, call: &Call<'_>, line: &mut Line) -> u64 {
         let [first, second] = self.content.as_slice() else {
             return self.refuse(line);
         };
         let mut cursor = Cursor::new([*first, *second]);
         cursor.set_position(self.position);
-        make_any_call(alloc, &mut cursor, call, line);
+        make_any_call(&mut cursor, call, line);
         self.content.copy_from_slice(cursor.get_ref());
         cursor.position()
     }
 
     // Makes a call on a cursor that only reads and seeks, and returns the position afterwards.
-    fn make_reading_call(&self, alloc: Global, call: &Call<'_>, line: &mut Line) -> u64 {
+    fn make_reading_call(&self, call: &Call<'_>, line: &mut Line) -> u64 {
         let content = self.content.as_slice();
         match self.name {
-            "&[u8]" => self.read_from(content, alloc, call, line),
-            "&Vec" => self.read_from(&self.content, alloc, call, line),
+            "&[u8]" => self.read_from(content, call, line),
+            "&Vec" => self.read_from(&self.content, call, line),
             "&str" => match std::str::from_utf8(content) {
-                Ok(text) => self.read_from(text, alloc, call, line),
+                Ok(text) => self.read_from(text, call, line),
                 Err(_) => self.refuse(line),
             },
             "&[u8;6]" => match content {
                 [a, b, c, d, e, f] => {
                     let array = [*a, *b, *c, *d, *e, *f];
-                    self.read_from(&array, alloc, call, line)
+                    self.read_from(&array, call, line)
                 }
                 _ => self.refuse(line),
             },
@@ -151,13 +140,12 @@ impl<'a> OnLent<'a> {
     fn read_from<T: AsSlice<u8> + Drop>(
         &self,
         content: T,
-        alloc: Global,
         call: &Call<'_>,
         line: &mut Line,
     ) -> u64 {
         let mut cursor = Cursor::new(content);
         cursor.set_position(self.position);
-        make_seeking_call(alloc, &mut cursor, call, line);
+        make_seeking_call(&mut cursor, call, line);
         cursor.position()
     }
 
@@ -169,10 +157,10 @@ impl<'a> OnLent<'a> {
 }
 
 impl<'a> Stream for OnLent<'a> {
-    fn play(&mut self, alloc: Global, call: &Call<'_>, line: &mut Line) {
+    fn play(&mut self, call: &Call<'_>, line: &mut Line) {
         self.position = match call.word {
             "place" => place_of(call, line),
-            _ => self.make_call(alloc, call, line),
+            _ => self.make_call(call, line),
         };
         show(&self.content, self.position, line);
     }
@@ -187,11 +175,11 @@ struct Moving<'j> {
 }
 
 impl<'j> Stream for Moving<'j> {
-    fn play(&mut self, alloc: Global, call: &Call<'_>, line: &mut Line) {
+    fn play(&mut self, call: &Call<'_>, line: &mut Line) {
         match call.word {
             "place" => self.reader.get_mut().set_position(place_of(call, line)),
-            "position" => line.position(&self.reader.position()),
-            _ => make_seeking_call(alloc, &mut self.reader, call, line),
+            "position" => line.answer(&self.reader.position()),
+            _ => make_seeking_call(&mut self.reader, call, line),
         }
         self.devices.show(&self.reader, line);
     }
@@ -229,7 +217,7 @@ struct Boxed {
 }
 
 impl Stream for Boxed {
-    fn play(&mut self, _alloc: Global, call: &Call<'_>, line: &mut Line) {
+    fn play(&mut self, call: &Call<'_>, line: &mut Line) {
         if !make_seek(&mut self.seeker, call, line) {
             line.tell(Unplayed::NoCall);
         }

@@ -10,17 +10,19 @@
 //
 // A heap has room for a number of bytes, in blocks whose lengths are rounded up to 16. A block that grows is in the heap
 // together with its copy until the copy is made.
-use super::trial_readers::read_name;
+ghost use Rattle.std.specs.Prelude.{◌<◌, ◌^◌};
+
+use io_bench::{Event, Feed, Tally};
 use linked_list_allocator::LocalHeap;
-use no_std_io2::io::{BufRead, ErrorKind, Read, Result};
-use rows_play::calls::Call;
-use rows_play::line::{Line, cut, cut_number, number};
-use rows_play::player::Stream;
-use rows_play::unplayed::{Played, Unplayed};
+use no_std_io2::io::{BufRead, BufReader, Chain, Cursor, ErrorKind, Read, Result};
+use rows_play::prelude::*;
 use std::alloc::Global;
 
 // The bytes that follow a piece or a line.
 const BEHIND: &[u8] = b"\nbbbbbbbbbbbbbbbbbbbbbbbbbbbbbbbbbbbbbbbb";
+
+// The bytes that are in a vector at first, at most this many.
+const DOTS: [u8; 2000] = [b'.'; 2000];
 
 // The size of a heap that refuses nothing.
 const AMPLE: usize = 1 << 17;
@@ -33,12 +35,12 @@ enum Reads {
     Line,
 }
 
-/// What a row says.
+// What a row says.
 #[derive(Clone, Copy)]
-pub struct Trial {
-    pub alloc: Global,
-    /// Whether the heap may be too small.
-    pub is_in_heap: bool,
+struct Trial {
+    alloc: Global,
+    // Whether the heap may be too small.
+    is_in_heap: bool,
     // Whether smaller heaps are tried too.
     is_within: bool,
     reads: Reads,
@@ -59,7 +61,7 @@ fn reads_of(word: &str) -> Played<Reads> {
 }
 
 impl Trial {
-    fn parse(alloc: Global, is_in_heap: bool, call: &Call<'_>) -> Played<Trial> {
+    fn parse(is_in_heap: bool, call: &Call<'_>) -> Played<Trial> {
         let is_within = call.word == "within";
         let (heap, rest) = if is_in_heap {
             cut_number(call.rest)?
@@ -75,7 +77,7 @@ impl Trial {
             (call.word, capacity, held, bytes)
         };
         Ok(Trial {
-            alloc,
+            alloc: call.alloc,
             is_in_heap,
             is_within,
             reads: reads_of(word)?,
@@ -110,7 +112,7 @@ impl Trial {
     ) -> Outcome {
         let (front, given) = all.split_at(self.held.min(all.len()));
         let (taken, rest) = text.split_at(given.len().min(text.len()));
-        if front != vec_of_dots(self, line).as_slice() || given != taken {
+        if front.len() != self.held || !DOTS.starts_with(front) || given != taken {
             line.tell(Unplayed::Otherwise);
         }
         Outcome {
@@ -120,15 +122,6 @@ impl Trial {
             left: left_of(self.alloc, rest, r, line),
         }
     }
-}
-
-// Returns the bytes that are in the vector at first.
-fn vec_of_dots(trial: Trial, line: &mut Line) -> Vec<u8> {
-    let mut dots = Vec::new(trial.alloc);
-    if dots.resize(trial.held, b'.').is_err() {
-        line.cut();
-    }
-    dots
 }
 
 // Returns whether a read failed for lack of memory. If it did not, it has to give this many bytes.
@@ -158,9 +151,9 @@ fn left_of<R: Read>(alloc: Global, rest: &[u8], r: &mut R, line: &mut Line) -> u
     left.len()
 }
 
-/// The outcome of a trial.
+// The outcome of a trial.
 #[derive(Clone, Copy)]
-pub struct Outcome {
+struct Outcome {
     is_refused: bool,
     len: usize,
     // How many bytes of the heap are in use, or the capacity.
@@ -168,8 +161,8 @@ pub struct Outcome {
     left: usize,
 }
 
-/// Reads all.
-pub fn read_all<R: Read>(trial: Trial, text: &[u8], r: &mut R, line: &mut Line) -> Played<Outcome> {
+// Reads all.
+fn read_all<R: Read>(trial: Trial, text: &[u8], r: &mut R, line: &mut Line) -> Played<Outcome> {
     if trial.reads != Reads::All {
         return Err(Unplayed::NoCall);
     }
@@ -209,8 +202,8 @@ fn read_line<R: BufRead>(trial: Trial, text: &[u8], r: &mut R, line: &mut Line) 
     Ok(trial.end(text, &answer, all.as_bytes(), all.capacity(), r, line))
 }
 
-/// Makes the call of a row.
-pub fn read<R: BufRead>(trial: Trial, text: &[u8], r: &mut R, line: &mut Line) -> Played<Outcome> {
+// Makes the call of a row.
+fn read<R: BufRead>(trial: Trial, text: &[u8], r: &mut R, line: &mut Line) -> Played<Outcome> {
     match trial.reads {
         Reads::All => read_all(trial, text, r, line),
         Reads::Until => read_piece(trial, text, r, line),
@@ -218,15 +211,106 @@ pub fn read<R: BufRead>(trial: Trial, text: &[u8], r: &mut R, line: &mut Line) -
     }
 }
 
+fn read_lent<R: BufRead>(trial: Trial, text: &[u8], r: &mut R, line: &mut Line) -> Played<Outcome> {
+    read(trial, text, &mut &mut *r, line)
+}
+
+fn read_boxed(trial: Trial, name: &str, text: &[u8], line: &mut Line) -> Played<Outcome> {
+    let content = Cursor::new(Vec::from_slice(trial.alloc, text)?);
+    let boxed = Box::new(trial.alloc, content)?;
+    match name {
+        "Box dyn Read" => {
+            let mut object: Box<dyn Read + Drop> = boxed;
+            read_all(trial, text, &mut object, line)
+        }
+        "Box dyn BufRead" => {
+            let mut object: Box<dyn BufRead + Drop> = boxed;
+            read(trial, text, &mut object, line)
+        }
+        _ => {
+            let mut boxed = boxed;
+            read(trial, text, &mut boxed, line)
+        }
+    }
+}
+
+// Reads through a buffer of S bytes that is empty, or full.
+fn read_buffer<const S: usize>(
+    trial: Trial,
+    text: &[u8],
+    is_full: bool,
+    line: &mut Line,
+) -> Played<Outcome>
+    requires some_room { 0 < S }
+    requires in_memory { S < 2 ^ 32 }
+{
+    let mut reader = BufReader::<Cursor<&[u8]>, S>::new(Cursor::new(text));
+    if is_full && reader.fill_buf().is_err() {
+        line.tell(Unplayed::NotReady);
+    }
+    read(trial, text, &mut reader, line)
+}
+
+// Reads from a chain of two readers with different lifetimes.
+fn read_both<A: BufRead, B: BufRead>(
+    trial: Trial,
+    text: &[u8],
+    chain: &mut Chain<A, B>,
+    line: &mut Line,
+) -> Played<Outcome> {
+    read(trial, text, chain, line)
+}
+
+// Reads through `Take N`, at most N bytes.
+fn read_limit(trial: Trial, name: &str, text: &[u8], line: &mut Line) -> Played<Outcome> {
+    let limit = match name {
+        "Take MAX" => Ok(u64::MAX),
+        _ => name.strip_prefix("Take ").unwrap_or("").parse::<u64>(),
+    };
+    match limit {
+        Ok(limit) => read(trial, text, &mut Cursor::new(text).take(limit), line),
+        Err(_) => Err(Unplayed::NoStream),
+    }
+}
+
+// Reads from a feed, which has the trait's body.
+fn read_feed(trial: Trial, text: &[u8], line: &mut Line) -> Played<Outcome> {
+    let mut events = Vec::new(trial.alloc);
+    events.resize(text.len(), Event::Byte(b'a'))?;
+    let piece = if trial.is_in_heap { 7 } else { 100 };
+    read_all(trial, text, &mut Feed::new(events, piece), line)
+}
+
+// Reads from the reader of this name: a slice, a cursor by itself or below another reader, a buffer that may be full, a
+// chain of two halves, or of nothing and then a cursor, a limit, or a feed.
+fn read_name(trial: Trial, name: &str, text: &[u8], line: &mut Line) -> Played<Outcome> {
+    let (first, second) = text.split_at(text.len() / 2);
+    match name {
+        "&[u8]" => read(trial, text, &mut &*text, line),
+        "Cursor" => read(trial, text, &mut Cursor::new(text), line),
+        "&mut Cursor" => read_lent(trial, text, &mut Cursor::new(text), line),
+        "Box Cursor" | "Box dyn Read" | "Box dyn BufRead" => read_boxed(trial, name, text, line),
+        "BufReader 4" => read_buffer::<4>(trial, text, false, line),
+        "BufReader 4 full" => read_buffer::<4>(trial, text, true, line),
+        "BufReader 64 full" => read_buffer::<64>(trial, text, true, line),
+        "Tally" => read_all(trial, text, &mut Tally::new(Cursor::new(text)), line),
+        "Chain" => read_both(trial, text, &mut first.chain(second), line),
+        "Chain behind nothing" => {
+            read_both(trial, text, &mut b"".chain(Cursor::new(text)), line)
+        }
+        "Feed" => read_feed(trial, text, line),
+        _ => read_limit(trial, name, text, line),
+    }
+}
+
 fn show(trial: Trial, outcome: Outcome, line: &mut Line) {
     if outcome.is_refused {
         line.word("!OutOfMemory");
     } else {
-        line.number(outcome.len.wrapping_sub(trial.held) as u64);
+        line.value(outcome.len.wrapping_sub(trial.held));
     }
     'numbers: for number in &[outcome.len, outcome.room, outcome.left] {
-        line.column();
-        line.number(*number as u64);
+        line.value_column(*number);
     }
 }
 
@@ -242,7 +326,7 @@ fn show_need(trial: Trial, name: &str, text: &[u8], line: &mut Line) -> Played<(
             if heap <= trial.heap {
                 line.word("ok");
             } else {
-                line.number(heap as u64);
+                line.value(heap);
             }
             return Ok(());
         }
@@ -250,14 +334,8 @@ fn show_need(trial: Trial, name: &str, text: &[u8], line: &mut Line) -> Played<(
     Err(Unplayed::Otherwise)
 }
 
-fn try_call(
-    alloc: Global,
-    name: &str,
-    is_in_heap: bool,
-    call: &Call<'_>,
-    line: &mut Line,
-) -> Played<()> {
-    let trial = Trial::parse(alloc, is_in_heap, call)?;
+fn try_call(name: &str, is_in_heap: bool, call: &Call<'_>, line: &mut Line) -> Played<()> {
+    let trial = Trial::parse(is_in_heap, call)?;
     let text = trial.text()?;
     if trial.is_within {
         return show_need(trial, name, &text, line);
@@ -276,8 +354,8 @@ pub struct Trials<'a> {
 }
 
 impl<'a> Stream for Trials<'a> {
-    fn play(&mut self, alloc: Global, call: &Call<'_>, line: &mut Line) {
-        if let Err(fault) = try_call(alloc, self.name, self.is_in_heap, call, line) {
+    fn play(&mut self, call: &Call<'_>, line: &mut Line) {
+        if let Err(fault) = try_call(self.name, self.is_in_heap, call, line) {
             line.tell(fault);
         }
     }

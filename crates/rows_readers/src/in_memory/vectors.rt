@@ -1,12 +1,7 @@
 // Vectors that grow, a buffer over a cursor on one, and a queue.
 use super::cursors::{place_of, show};
 use no_std_io2::io::{BufWriter, Cursor};
-use rows_play::calls::{Call, make_call, make_seek};
-use rows_play::line::{Line, unescape};
-use rows_play::player::{Player, Stream};
-use rows_play::reads::make_read;
-use rows_play::unplayed::{Played, Unplayed};
-use std::alloc::Global;
+use rows_play::prelude::*;
 use std::collections::VecDeque;
 
 // A buffer over a cursor, whose position `place N` sets. The columns are those of the cursor, and then the held bytes.
@@ -16,7 +11,7 @@ pub struct Buffered {
 }
 
 impl Stream for Buffered {
-    fn play(&mut self, _alloc: Global, call: &Call<'_>, line: &mut Line) {
+    fn play(&mut self, call: &Call<'_>, line: &mut Line) {
         if call.word == "place" {
             self.writer.get_mut().set_position(place_of(call, line));
         } else if !make_seek(&mut self.writer, call, line) {
@@ -24,8 +19,7 @@ impl Stream for Buffered {
         }
         let cursor = self.writer.get_ref();
         show(cursor.get_ref(), cursor.position(), line);
-        line.column();
-        line.bytes(self.writer.buffer());
+        line.bytes_column(self.writer.buffer());
     }
 }
 
@@ -38,16 +32,14 @@ struct Grown {
 }
 
 impl Stream for Grown {
-    fn play(&mut self, _alloc: Global, call: &Call<'_>, line: &mut Line) {
+    fn play(&mut self, call: &Call<'_>, line: &mut Line) {
         match call.word {
             "place" if self.is_cursor => self.cursor.set_position(place_of(call, line)),
             _ if self.is_cursor => make_call(&mut self.cursor, call, line),
             _ => make_call(self.cursor.get_mut(), call, line),
         }
-        line.column();
-        line.number(self.cursor.get_ref().len() as u64);
-        line.column();
-        line.number(self.cursor.get_ref().capacity() as u64);
+        line.value_column(self.cursor.get_ref().len());
+        line.value_column(self.cursor.get_ref().capacity());
     }
 }
 
@@ -58,15 +50,15 @@ struct Queue {
 }
 
 impl Stream for Queue {
-    fn play(&mut self, alloc: Global, call: &Call<'_>, line: &mut Line) {
+    fn play(&mut self, call: &Call<'_>, line: &mut Line) {
         if call.word.starts_with("write") || call.word == "flush" {
             make_call(&mut self.bytes, call, line);
         } else {
-            make_read(alloc, &mut self.bytes, call, line);
+            make_read(&mut self.bytes, call, line);
         }
         line.column();
         let (front, back) = self.bytes.as_slices();
-        let mut held = Vec::new(alloc);
+        let mut held = Vec::new(call.alloc);
         if held.extend_from_slice(front).is_err() || held.extend_from_slice(back).is_err() {
             line.cut();
         }
