@@ -1,22 +1,19 @@
 -- What a decoder gives, one step after another, and the law of its `read`.
-use Rattle.no_std_io2.proofs.Words.{common_steps}
-use Rattle.no_std_io2.proofs.Words.{◌≡◌, ℕ, ◌+◌, ◌-◌, ◌*◌, ◌/◌, ◌%◌, ◌<◌, ◌≤◌, min, Bool, true, false, List, [], ◌∷◌, ◌++◌, length, take}
-use Rattle.no_std_io2.proofs.Words.{drop, Option, Some, None, Result, Ok, Err, refl, sym, ap, ap₂, subst, ◌∙◌, arith, inl, inr}
-use Rattle.no_std_io2.proofs.Words.{append_assoc, append-nil, length-append, length-take, length-drop, take-append-drop, nil_from_length}
-use Rattle.no_std_io2.proofs.Words.{Event, byte, fails, events_of, event_bytes, HasNoFault, Reader, ReadLaw, tells, Takes, to_come, IsAtEnd}
-use Rattle.no_std_io2.proofs.{Words.{AreTaken, nat_lt, cases_lt, length-take-le}, TakesLemmas.{HasNoFault-append, HasNoFault-events_of}}
-use Rattle.no_std_io2.proofs.TakesLemmas.{bytes-append, bytes-behind, events_of-append, length-events_of, takes_none}
-use Rattle.no_std_io2.proofs.ReadsLemmas.{Reads-none, Reads-takes}
-use Rattle.no_std_io2.specs.{declared.io.{Error.{Error}, ErrorKind.TheVariants.{InvalidData}}, inner.Kinds.{error_of}, Reads.{Took}}
-use Rattle.no_std_io2.specs.inner.{Buffer.{AsksOn, HasTo}, Reads.{GathersTo, Reads}}
+use Rattle.no_std_io2.proofs.Words.{common_steps, ◌≡◌, ℕ, ◌+◌, ◌-◌, ◌*◌, ◌/◌, ◌%◌, ◌<◌, ◌≤◌, min, Bool, true, false, List, [], ◌∷◌, ◌++◌}
+use Rattle.no_std_io2.proofs.Words.{length, take, drop, Option, Some, None, Result, Ok, Err, refl, sym, ap, ap₂, subst, ◌∙◌, arith, inl}
+use Rattle.no_std_io2.proofs.Words.{inr, append_assoc, append-nil, length-append, length-take, length-drop, take-append-drop}
+use Rattle.no_std_io2.proofs.Words.{nil_from_length, Event, byte, fails, events_of, event_bytes, HasNoFault, Reader, ReadLaw, tells, Takes}
+use Rattle.no_std_io2.proofs.{Words.{to_come, IsAtEnd, AreTaken, nat_lt, cases_lt, length-take-le}, TakesLemmas.{HasNoFault-append}}
+use Rattle.no_std_io2.proofs.TakesLemmas.{HasNoFault-events_of, bytes-append, bytes-behind, events_of-append, length-events_of, takes_none}
+use Rattle.no_std_io2.{proofs.ReadsLemmas.{Reads-none, Reads-takes}, specs.declared.io.{Error.{Error}, ErrorKind.TheVariants.{InvalidData}}}
+use Rattle.no_std_io2.specs.{inner.{Kinds.{error_of}, Buffer.{AsksOn, HasTo}, Reads.{GathersTo, Reads}}, Reads.{Took}}
 use Rattle.base64.specs.declared.engine.general_purpose.GeneralPurpose.{GeneralPurpose}
 use Rattle.std.specs.Option.{IfSome, option_map}
-use Rattle.base64_stream.specs.{declared.decoder.DecoderReader.{DecoderReader}, Held.{GathersText}}
-use Rattle.base64_stream.specs.Decoding.{closed_after, decoded_events, decoded_group, group_events}
-use Rattle.base64_stream.specs.Decoder.{Decodes, goes_on, cut_off, DecoderMay, DecodesFront, FillsWaiting, TakesText}
-use Rattle.base64_stream.specs.Decoder.{decoder_closed, decoder_engine, decoder_events, decoder_gives, decoder_inner, decoder_text}
-use Rattle.base64_stream.specs.Decoder.{decoder_turns, decoder_waiting}
-use Rattle.base64_stream.proofs.DecodingLemmas.{passes_fault, last_group_given, group_given, group_in_front, groups_in_front, text_first}
+use Rattle.base64_stream.specs.{declared.decoder.DecoderReader.{DecoderReader}, Held.{GathersText}, Decoding.{closed_after, decoded_events}}
+use Rattle.base64_stream.specs.{Decoding.{decoded_group, group_events}, Decoder.{Decodes, goes_on, cut_off, DecoderMay, DecodesFront}}
+use Rattle.base64_stream.specs.Decoder.{FillsWaiting, TakesText, decoder_closed, decoder_engine, decoder_events, decoder_gives}
+use Rattle.base64_stream.{specs.Decoder.{decoder_inner, decoder_text, decoder_turns, decoder_waiting}, proofs.DecodingLemmas.{passes_fault}}
+use Rattle.base64_stream.proofs.DecodingLemmas.{last_group_given, group_given, group_in_front, groups_in_front, text_first}
 use Rattle.base64_stream.proofs.{DecodingLemmas.{without_interruptions}, GroupsLemmas.{decodes_some}}
 
 -- no more bytes than events

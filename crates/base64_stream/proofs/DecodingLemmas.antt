@@ -2,8 +2,7 @@
 use Rattle.no_std_io2.proofs.Words.{common_steps, ◌≡◌, ℕ, suc, ◌+◌, ◌*◌, ◌/◌, ◌%◌, ◌<◌, ◌≤◌, Bool, true, false, List, [], ◌∷◌, ◌++◌, length}
 use Rattle.no_std_io2.proofs.Words.{Ok, nat_lt, refl, sym, ap, ◌∙◌, arith, inl, inr, append_assoc, append-nil, length-append, cases_lt}
 use Rattle.no_std_io2.proofs.Words.{nat_tests, nil_from_length, Event, byte, fails, events_of, event_bytes, HasNoFault, IsFault}
-use Rattle.no_std_io2.proofs.TakesLemmas.{events_of-append, bytes-events_of, HasNoFault-events_of}
-use Rattle.no_std_io2.specs.declared.io.Error.{Error}
+use Rattle.no_std_io2.{proofs.TakesLemmas.{events_of-append, bytes-events_of, HasNoFault-events_of}, specs.declared.io.Error.{Error}}
 use Rattle.base64.specs.{declared.engine.general_purpose.GeneralPurpose.{GeneralPurpose}, Rfc4648.{encode, encode_symbols}}
 use Rattle.base64.specs.GeneralPurpose.{IsBytes, IsConsistent, decode_of, encode_of}
 use Rattle.base64.proofs.EngineFacts.{decode_of-encode_of, encode_of-append, encode_of-nil, front_bytes}

@@ -2,13 +2,11 @@
 use Rattle.no_std_io2.proofs.Words.{common_steps, ◌≡◌, ℕ, ◌+◌, ◌%◌, ◌≤◌, List, [], ◌∷◌, ◌++◌, length, take, true, ◌≢◌, Result, Ok, Err}
 use Rattle.no_std_io2.proofs.Words.{IfOk, OnOk, refl, sym, ap, ◌∙◌, arith, inl, inr, append_assoc, append-nil, length-append}
 use Rattle.no_std_io2.proofs.Words.{length-take-le, Writer, Moves, writer_told, error_kind, Vec, WriterState, told_out}
-use Rattle.no_std_io2.proofs.CallsAdd.{write_law, flush_law, err_turns, zero_none, Joins}
-use Rattle.std.proofs.Common.{count_by, take_all, Global}
-use Rattle.std.specs.Prelude.{OnErr}
-use Rattle.base64.specs.GeneralPurpose.{encode_of}
-use Rattle.base64.proofs.EngineFacts.{encode_of-append, encode_of-nil}
-use Rattle.no_std_io2.specs.{declared.io.{Error.{Error}, ErrorKind.{ErrorKind}, BufWriter.{BufWriter}}, inner.Kinds.{is_interruption}}
+use Rattle.no_std_io2.{proofs.CallsAdd.{write_law, flush_law, err_turns, zero_none, Joins}, specs.declared.io.Error.{Error}}
+use Rattle.no_std_io2.specs.{declared.io.{ErrorKind.{ErrorKind}, BufWriter.{BufWriter}}, inner.Kinds.{is_interruption}}
 use Rattle.no_std_io2.specs.{Write.{CallAdds, WriteLaw, FlushLaw, accepted_of, write_mishap}, Moves.{call_mishap}}
+use Rattle.std.{proofs.Common.{count_by, take_all, Global}, specs.Prelude.{OnErr}}
+use Rattle.base64.{specs.GeneralPurpose.{encode_of}, proofs.EngineFacts.{encode_of-append, encode_of-nil}}
 use Rattle.base64_stream.specs.{declared.encoder.EncoderWriter.{EncoderWriter}, Finish.{HasFinished, LastPut, SaysClosed}}
 use Rattle.base64_stream.specs.Encoder.{Encodes64, KeepsGroup, PutsText, encoder_accepted, encoder_engine, encoder_held, encoder_inner}
 use Rattle.base64_stream.specs.Encoder.{encoder_told, encoder_writer, is_closed, passed_on, told_below, unfinished, will_have}

@@ -1,9 +1,8 @@
 -- Reads that go on until a group is whole.
-use Rattle.no_std_io2.proofs.Words.{common_steps, ◌≡◌, ℕ, ◌-◌, ◌<◌, ◌≤◌, List, [], ◌++◌, length, true, false, Ok, Err, sym, ap}
-use Rattle.no_std_io2.proofs.Words.{◌∙◌, arith, append_assoc, append-nil, length-append, nil_from_length, Reader, GaveLaw, bytes_given}
-use Rattle.no_std_io2.proofs.{Words.{IsFault, IsInterruption}, ReadsLemmas.{Reads-none, Reads-more, Reads-again, Reads-end, Reads-fault}}
-use Rattle.no_std_io2.proofs.ReadLoops.{some_bytes}
-use Rattle.no_std_io2.specs.{declared.io.Error.{Error}, inner.{Buffer.{ReadsOn, AsksOn}, Reads.{Reads}}}
+use Rattle.no_std_io2.proofs.Words.{common_steps, ◌≡◌, ℕ, ◌-◌, ◌<◌, ◌≤◌, List, [], ◌++◌, length, true, false, Ok, Err, sym, ap, ◌∙◌, arith}
+use Rattle.no_std_io2.proofs.Words.{append_assoc, append-nil, length-append, nil_from_length, Reader, GaveLaw, bytes_given, IsFault}
+use Rattle.no_std_io2.proofs.{Words.{IsInterruption}, ReadsLemmas.{Reads-none, Reads-more, Reads-again, Reads-end, Reads-fault}}
+use Rattle.no_std_io2.{proofs.ReadLoops.{some_bytes}, specs.{declared.io.Error.{Error}, inner.{Buffer.{ReadsOn, AsksOn}, Reads.{Reads}}}}
 use Rattle.base64_stream.specs.Held.{GathersText}
 
 -- The characters that were read so far are behind the others.

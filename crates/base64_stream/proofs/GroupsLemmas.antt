@@ -1,9 +1,8 @@
 -- What an engine decodes of several groups at once is what it decodes of each of them.
-use Rattle.no_std_io2.proofs.Words.{◌≡◌, ◌⊎◌, ℕ, zero, suc, ◌+◌, ◌*◌, ◌%◌, ◌==◌, ◌<◌, Bool, false, List, [], ◌∷◌, ◌++◌}
-use Rattle.no_std_io2.proofs.Words.{length, drop, Option, Some, None, Result, Ok, Err, refl, sym, ap, ap₂, ◌∙◌, arith, inl, inr}
-use Rattle.no_std_io2.proofs.Words.{append_assoc, common_steps, length-append, length-take}
-use Rattle.std.specs.Prelude.{slice_index}
-use Rattle.std.proofs.lemmas.Bool.{cases_Bool, eqb-true, ltb-false, ne_eqb}
+use Rattle.no_std_io2.proofs.Words.{◌≡◌, ◌⊎◌, ℕ, zero, suc, ◌+◌, ◌*◌, ◌%◌, ◌==◌, ◌<◌, Bool, false, List, [], ◌∷◌, ◌++◌, length, drop}
+use Rattle.no_std_io2.proofs.Words.{Option, Some, None, Result, Ok, Err, refl, sym, ap, ap₂, ◌∙◌, arith, inl, inr, append_assoc}
+use Rattle.no_std_io2.proofs.Words.{common_steps, length-append, length-take}
+use Rattle.std.{specs.Prelude.{slice_index}, proofs.lemmas.Bool.{cases_Bool, eqb-true, ltb-false, ne_eqb}}
 use Rattle.base64.specs.declared.{decode.DecodeError.{DecodeError}, engine.DecodePaddingMode.{DecodePaddingMode}}
 use Rattle.base64.specs.{declared.engine.general_purpose.GeneralPurpose.{GeneralPurpose}, GeneralPurpose.{decode_of}}
 use Rattle.base64.specs.Decode.{or_else, symbol_error, group_error, group_bytes, groups_error, groups_bytes, no_leftover}

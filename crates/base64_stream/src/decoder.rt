@@ -1,15 +1,9 @@
 // [`DecoderReader`], which decodes base64.
 ghost use Rattle.std.specs.Prelude.{◌≡◌, ◌⊎◌, ◌<◌, ◌≤◌, ℕ, List, false, [], length, IfOk, IfErr, Some};
-ghost use Rattle.base64.specs.GeneralPurpose.{encode_of, IsBytes, IsConsistent};
-ghost use Rattle.base64.specs.Engines.{standard};
-ghost use Rattle.no_std_io2.specs.Errors.{IsOutOfMemory};
-ghost use Rattle.no_std_io2.specs.inner.Kinds.{error_of};
-ghost use Rattle.no_std_io2.specs.Read.{ReadLaw};
-ghost use Rattle.no_std_io2.specs.Takes.{tells};
+ghost use Rattle.base64.specs.{GeneralPurpose.{encode_of, IsBytes, IsConsistent}, Engines.{standard}};
+ghost use Rattle.no_std_io2.specs.{Errors.{IsOutOfMemory}, inner.Kinds.{error_of}, Read.{ReadLaw}, Takes.{tells, to_come}};
 ghost use Rattle.no_std_io2.specs.Events.{events_of};
-ghost use Rattle.no_std_io2.specs.Takes.{to_come};
-ghost use Rattle.base64_stream.specs.Decoder.{DecoderMay, DecodesFront, FillsWaiting, decoder_closed, decoder_engine};
-ghost use Rattle.base64_stream.specs.Decoder.{decoder_events};
+ghost use Rattle.base64_stream.specs.Decoder.{DecoderMay, DecodesFront, FillsWaiting, decoder_closed, decoder_engine, decoder_events};
 ghost use Rattle.base64_stream.specs.Decoder.{decoder_inner, decoder_text, decoder_turns, decoder_waiting};
 
 use crate::text::Text;

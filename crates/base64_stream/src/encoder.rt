@@ -1,11 +1,8 @@
 // [`EncoderWriter`], which passes on base64.
-ghost use Rattle.std.specs.Prelude.{◌≡◌, ◌+◌, ◌*◌, ◌%◌, ◌/◌, ◌<◌, ◌≢◌, ◌≤◌, true, false, [], ◌++◌, length, take};
-ghost use Rattle.std.specs.Prelude.{IfOk, IsErrAnd, OnOk, OnErr};
-ghost use Rattle.base64.specs.GeneralPurpose.{encode_of};
-ghost use Rattle.base64.specs.Engines.{standard};
-ghost use Rattle.no_std_io2.specs.BufWriter.{Unwraps, writer_inner, writer_buffer};
-ghost use Rattle.no_std_io2.specs.Write.{CallAdds};
-ghost use Rattle.no_std_io2.specs.Writers.{WriteOf, FlushOf};
+ghost use Rattle.std.specs.Prelude.{◌≡◌, ◌+◌, ◌*◌, ◌%◌, ◌/◌, ◌<◌, ◌≢◌, ◌≤◌, true, false, [], ◌++◌, length, take, IfOk, IsErrAnd, OnOk};
+ghost use Rattle.std.specs.Prelude.{OnErr};
+ghost use Rattle.base64.specs.{GeneralPurpose.{encode_of}, Engines.{standard}};
+ghost use Rattle.no_std_io2.specs.{BufWriter.{Unwraps, writer_inner, writer_buffer}, Write.{CallAdds}, Writers.{WriteOf, FlushOf}};
 ghost use Rattle.base64_stream.specs.Encoder.{Encodes64, KeepsGroup, PutsText, encoder_accepted, encoder_engine, encoder_held};
 ghost use Rattle.base64_stream.specs.Encoder.{encoder_inner, encoder_told, encoder_writer, is_closed, unfinished, will_have};
 ghost use Rattle.base64_stream.specs.Finish.{FinishesText, HasFinished, LastPut, PutsGroups, SaysClosed};

@@ -1,7 +1,6 @@
 //! [`each_file`], a program's way through the files that it is called with.
 ghost use Rattle.std.specs.Prelude.{ℕ, List, Result, string_bytes};
-ghost use Rattle.cli.specs.declared.files.FileFault.{FileFault as Fault};
-ghost use Rattle.cli.specs.Files.{TriesFiles};
+ghost use Rattle.cli.specs.{declared.files.FileFault.{FileFault as Fault}, Files.{TriesFiles}};
 
 /// Why a program did not do its work for a file.
 #[derive(Drop)]

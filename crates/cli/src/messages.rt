@@ -1,6 +1,5 @@
 // Standard output and standard error, as a program prints texts to them.
-ghost use Rattle.std.specs.Prelude.{ℕ, List, Option, Result};
-ghost use Rattle.std.specs.declared.io.Error.{Error as StdError};
+ghost use Rattle.std.specs.{Prelude.{ℕ, List, Option, Result}, declared.io.Error.{Error as StdError}};
 
 use std::fmt::Display;
 use std::io;

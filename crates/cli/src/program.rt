@@ -1,9 +1,6 @@
 // What a program says of itself, what it is called with, and how it ends.
-ghost use Rattle.std.specs.Prelude.{◌≡◌, ◌≢◌, ℕ, List, [], Ok, None, Some, codes, drop, IfErr, IfNone, IfOk, IfSome, IsErrAnd, IsOk};
-ghost use Rattle.std.specs.Prelude.{OnErr, OnOk};
-ghost use Rattle.std.specs.IoError.{error_kind as std_error_kind};
-ghost use Rattle.std.specs.Process.{exit_status};
-ghost use Rattle.std.specs.Vec.Iter.{into_iter_items};
+ghost use Rattle.std.specs.Prelude.{◌≡◌, ◌≢◌, ℕ, List, [], Ok, None, Some, codes, drop, IfErr, IfNone, IfOk, IfSome, IsErrAnd, IsOk, OnErr};
+ghost use Rattle.std.specs.{Prelude.{OnOk}, IoError.{error_kind as std_error_kind}, Process.{exit_status}, Vec.Iter.{into_iter_items}};
 ghost use Rattle.no_std_io2.specs.Errors.{IsOutOfMemory};
 ghost use Rattle.cli.specs.About.{AsksAbout, EndsPrinted, TellsLine, error_line, version_line};
 

@@ -1,13 +1,10 @@
 -- How a content is skipped, and the header behind it read; and what the calls of an entry leave of its archive.
-use Rattle.no_std_io2.proofs.Words.{common_steps, ◌≡◌, ℕ, ◌-◌, ◌^◌, ◌<◌, List, [], ◌++◌, length, take, refl, sym, ap, ◌∙◌}
-use Rattle.no_std_io2.proofs.Words.{inl, inr, event_bytes, min, Reader, tells}
-use Rattle.no_std_io2.proofs.Words.{arith, append-nil, length-take, Result, Ok, Err, true, false, Bool, cases_lt}
+use Rattle.no_std_io2.proofs.Words.{common_steps, ◌≡◌, ℕ, ◌-◌, ◌^◌, ◌<◌, List, [], ◌++◌, length, take, refl, sym, ap, ◌∙◌, inl, inr}
+use Rattle.no_std_io2.proofs.Words.{event_bytes, min, Reader, tells, arith, append-nil, length-take, Result, Ok, Err, true, false, Bool}
+use Rattle.no_std_io2.{proofs.{Words.{cases_lt}, TakesLemmas.{Took-then}}, specs.{declared.io.Error.{Error}, Read.{ReadFullLaw}}}
+use Rattle.no_std_io2.specs.{Reads.{Skipped}, inner.{Read.{FillsOrMeetsEnd}, Reads.{GathersTo}}}
 use Rattle.std.proofs.Math.Nat.{pow-le-pow_right}
-use Rattle.no_std_io2.proofs.TakesLemmas.{Took-then}
-use Rattle.no_std_io2.specs.{declared.io.Error.{Error}, Read.{ReadFullLaw}, Reads.{Skipped}}
-use Rattle.no_std_io2.specs.inner.{Read.{FillsOrMeetsEnd}, Reads.{GathersTo}}
-use Rattle.examples.specs.declared.ar.Archive.{Archive}
-use Rattle.examples.specs.Ar.{archive_inner, content_left, head_read, ComesOn, ReachesHeader}
+use Rattle.examples.specs.{declared.ar.Archive.{Archive}, Ar.{archive_inner, content_left, head_read, ComesOn, ReachesHeader}}
 
 -- with fewer than ten digits before it one more fits in a `u64`
 pub decimal_fits : (n i : ℕ) → n < 10 ^ i → i < 10 → n < 2 ^ 34

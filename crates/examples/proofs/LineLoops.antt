@@ -1,12 +1,9 @@
 -- One line more, in a loop that passes lines on to a writer.
-use Rattle.no_std_io2.proofs.Words.{common_steps, ◌≡◌, ◌<◌, ◌≤◌, ◌+◌, ℕ, List, [], ◌∷◌, ◌++◌, Result, Ok, Err, subst, arith, Vec}
-use Rattle.no_std_io2.proofs.Words.{concat, length-append, append-nil, event_bytes, newline, Reader, tells, ReaderState, WriterState}
-use Rattle.no_std_io2.proofs.Words.{MovesFront}
-use Rattle.std.proofs.lemmas.List.Folds.{concat-append}
-use Rattle.std.specs.Result.{result_and}
-use Rattle.no_std_io2.specs.{BufRead.{ReadUntilLaw}, declared.io.Error.{Error}}
-use Rattle.no_std_io2.proofs.GivenPieces.{pieces_none, pieces_more, pieces_end, stops_reading}
-use Rattle.no_std_io2.proofs.MovesLemmas.{Moves-refl, Moves-piece, MovesFront-all, MovesFront-join}
+use Rattle.no_std_io2.proofs.Words.{common_steps, ◌≡◌, ◌<◌, ◌≤◌, ◌+◌, ℕ, List, [], ◌∷◌, ◌++◌, Result, Ok, Err, subst, arith, Vec, concat}
+use Rattle.no_std_io2.proofs.Words.{length-append, append-nil, event_bytes, newline, Reader, tells, ReaderState, WriterState, MovesFront}
+use Rattle.no_std_io2.proofs.{GivenPieces.{pieces_none, pieces_more, pieces_end, stops_reading}, MovesLemmas.{Moves-refl, Moves-piece}}
+use Rattle.no_std_io2.{proofs.MovesLemmas.{MovesFront-all, MovesFront-join}, specs.{BufRead.{ReadUntilLaw}, declared.io.Error.{Error}}}
+use Rattle.std.{proofs.lemmas.List.Folds.{concat-append}, specs.Result.{result_and}}
 use Rattle.examples.specs.Lines.{LinesPassed, PassesLines, StopsWriting, StopsAtPart}
 
 -- before the first line

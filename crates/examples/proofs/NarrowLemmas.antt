@@ -1,7 +1,6 @@
 -- A device of one's own, lent as an object.
-use Rattle.no_std_io2.proofs.Words.{◌≡◌, append-nil}
+use Rattle.no_std_io2.proofs.{Words.{◌≡◌, append-nil}, Forwards.{object_given, row_back}}
 use Rattle.examples.specs.{declared.narrow.Narrow.{Narrow}, contracts.narrow.Narrow.{the_row as narrow}}
-use Rattle.no_std_io2.proofs.Forwards.{object_given, row_back}
 
 -- the device that comes back has taken what the device behind the object has taken
 pub narrow_back : (w y : Narrow) → narrow.coded.code w ≡ narrow.coded.code y → y.taken ≡ w.taken

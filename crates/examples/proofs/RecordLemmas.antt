@@ -1,10 +1,9 @@
 -- Records that are skipped, and a message that is known to come next.
-use Rattle.no_std_io2.proofs.Words.{◌≡◌, ℕ, ◌<◌, List, [], ◌∷◌, ◌++◌, length, take, get_or, true, false, Ok, Err, refl, sym, ap}
-use Rattle.no_std_io2.proofs.Words.{◌∙◌, arith, common_steps, inl, inr, append_assoc, append-nil, Event, event_bytes, events_of, Reader}
-use Rattle.no_std_io2.proofs.Words.{tells, IsInterruption, IsFault}
-use Rattle.no_std_io2.proofs.TakesLemmas.{events_of-append, Took-then}
-use Rattle.no_std_io2.proofs.ReadsLemmas.{Took-none, Took-again, Took-end, Took-fault}
-use Rattle.no_std_io2.specs.{declared.io.Error.{Error}, Reads.{Took, Skipped}, inner.Read.{FilledLaw}, Read.{ConsumeLaw}}
+use Rattle.no_std_io2.proofs.Words.{◌≡◌, ℕ, ◌<◌, List, [], ◌∷◌, ◌++◌, length, take, get_or, true, false, Ok, Err, refl, sym, ap, ◌∙◌, arith}
+use Rattle.no_std_io2.proofs.Words.{common_steps, inl, inr, append_assoc, append-nil, Event, event_bytes, events_of, Reader, tells}
+use Rattle.no_std_io2.proofs.{Words.{IsInterruption, IsFault}, TakesLemmas.{events_of-append, Took-then}}
+use Rattle.no_std_io2.{proofs.ReadsLemmas.{Took-none, Took-again, Took-end, Took-fault}, specs.declared.io.Error.{Error}}
+use Rattle.no_std_io2.specs.{Reads.{Took, Skipped}, inner.Read.{FilledLaw}, Read.{ConsumeLaw}}
 use Rattle.examples.specs.{Lengths.{AreRecords, no_record, and_record, IsCutOff, SkipsRecords}, Messages.{message, long_message}}
 use Rattle.std.specs.Int.{w16, w32, to_be_bytes}
 

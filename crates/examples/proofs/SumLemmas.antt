@@ -1,13 +1,10 @@
 -- Sums of bytes, and what was summed up so far.
-use Rattle.no_std_io2.proofs.Words.{common_steps, ◌^◌, Ok, refl, sum, Reader, ◌≡◌, ◌+◌, ◌%◌, ℕ, List, []}
-use Rattle.no_std_io2.proofs.{Words.{◌++◌, ◌<◌, ◌≤◌, true, false, arith, Bool, Err, inl, inr, length, subst, event_bytes}}
-use Rattle.no_std_io2.proofs.{CallsAdd.{Joins, joins_modulo}}
-use Rattle.no_std_io2.proofs.{ReadsLemmas.{fetches_none, fetches_then, fetches_reads, fetches_until}}
-use Rattle.no_std_io2.proofs.ReadsLemmas.{fetches_end, fetches_fault}
-use Rattle.no_std_io2.specs.{declared.io.Error.{Error}, inner.Writers.{OfObject}, Read.{ReadFullLaw}, Reads.{Fetches}}
+use Rattle.no_std_io2.proofs.Words.{common_steps, ◌^◌, Ok, refl, sum, Reader, ◌≡◌, ◌+◌, ◌%◌, ℕ, List, [], ◌++◌, ◌<◌, ◌≤◌, true, false}
+use Rattle.no_std_io2.proofs.Words.{arith, Bool, Err, inl, inr, length, subst, event_bytes, ◌∙◌, append-nil, ap, sym, Result, WroteAll}
+use Rattle.no_std_io2.proofs.{CallsAdd.{Joins, joins_modulo}, ReadsLemmas.{fetches_none, fetches_then, fetches_reads, fetches_until}}
+use Rattle.no_std_io2.{proofs.{ReadsLemmas.{fetches_end, fetches_fault}, BufWriterLemmas.{AddsThrough}}, specs.declared.io.Error.{Error}}
+use Rattle.no_std_io2.specs.{inner.Writers.{OfObject}, Read.{ReadFullLaw}, Reads.{Fetches}, Write.{CallAdds, RestAdds}}
 use Rattle.std.proofs.lemmas.List.Sums.{sum_by-append}
-use Rattle.no_std_io2.specs.Write.{CallAdds, RestAdds}
-use Rattle.no_std_io2.proofs.{Words.{◌∙◌, append-nil, ap, sym, Result, WroteAll}, BufWriterLemmas.{AddsThrough}}
 use Rattle.examples.specs.{declared.summed.Summed.{Summed}, Summed.{summed_sum, Sums}}
 
 -- A sum of no bytes is nothing, and a sum of bytes and then others is that of both.

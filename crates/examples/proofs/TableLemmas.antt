@@ -1,15 +1,13 @@
 -- One row more, and what became of a text that was printed to an object.
 use Rattle.no_std_io2.proofs.Words.{◌≡◌, ℕ, ◌+◌, ◌<◌, ◌≤◌, ◌^◌, List, [], ◌++◌, length, take, get_or, Some, Ok, Err, inl, inr, ⊎_elim}
-use Rattle.no_std_io2.proofs.Words.{common_steps, subst, arith, take_more, Option, Result}
-use Rattle.no_std_io2.proofs.Words.{WriterState, Moves, sym, append-nil, length-append, told_out, with_buffer}
-use Rattle.std.proofs.lemmas.Fmt.{length-decimal-le}
-use Rattle.no_std_io2.specs.{declared.io.Error.{Error}, inner.Text.{PrintsOrRefuses, PrintsShort}}
+use Rattle.no_std_io2.proofs.Words.{common_steps, subst, arith, take_more, Option, Result, WriterState, Moves, sym, append-nil}
+use Rattle.no_std_io2.proofs.Words.{length-append, told_out, with_buffer}
 use Rattle.no_std_io2.proofs.{MovesLemmas.{MovesFront-whole, MovesFront-all, MovesFront-next, MovesFront-stop}, TextLemmas.{prints_fitting}}
-use Rattle.no_std_io2.proofs.{Forwards.{row_back, array}, ObjectRules.{buffered}}
-use Rattle.no_std_io2.specs.contracts.io.Cursor.{the_row as cursor-row}
-use Rattle.no_std_io2.specs.declared.io.{Cursor.{Cursor}, BufWriter.{BufWriter}}
-use Rattle.no_std_io2.specs.{Cursor.{cursor_out}, BufWriter.{writer_inner, writer_buffer}}
-use Rattle.no_std_io2.specs.{Writers.{Writer}, inner.Writers.{OfObject, PrintsByOne}}
+use Rattle.no_std_io2.{proofs.{Forwards.{row_back, array}, ObjectRules.{buffered}}, specs.declared.io.{Error.{Error}, Cursor.{Cursor}}}
+use Rattle.no_std_io2.specs.{declared.io.BufWriter.{BufWriter}, inner.Text.{PrintsOrRefuses, PrintsShort}}
+use Rattle.no_std_io2.specs.{inner.Writers.{OfObject, PrintsByOne}, contracts.io.Cursor.{the_row as cursor-row}, Cursor.{cursor_out}}
+use Rattle.no_std_io2.specs.{BufWriter.{writer_inner, writer_buffer}, Writers.{Writer}}
+use Rattle.std.proofs.lemmas.Fmt.{length-decimal-le}
 use Rattle.examples.specs.Tables.{row_text, table, ArePrinted, PrintsRows, StopsTable, and_row}
 
 -- a row has at most 22 bytes

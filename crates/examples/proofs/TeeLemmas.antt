@@ -1,18 +1,10 @@
 -- What a tee tells, from what its two writers tell.
-use Rattle.no_std_io2.proofs.Words.{common_steps, ◌≡◌}
-use Rattle.std.proofs.Common.{ℕ, ◌+◌, ◌≤◌, List, [], ◌∷◌, ◌++◌, length, take, arith}
+use Rattle.no_std_io2.proofs.{Words.{common_steps, ◌≡◌}, MovesLemmas.{Moves-trans}, CallsAdd.{write_law_by, zero_none}}
+use Rattle.no_std_io2.specs.{Moves.{WriterState, Moves}, inner.Kinds.{is_interruption}, declared.io.{ErrorKind.{ErrorKind}, Error.{Error}}}
+use Rattle.no_std_io2.specs.{Write.{WriteLaw, CallAdds}, BufWriter.{writer_told}, Errors.{error_kind}}
+use Rattle.std.proofs.{Common.{ℕ, ◌+◌, ◌≤◌, List, [], ◌∷◌, ◌++◌, length, take, arith}, lemmas.List.{append-nil, take-take, length-take}}
 use Rattle.std.specs.Prelude.{None, count_by, Ok, Err}
-use Rattle.std.proofs.lemmas.List.{append-nil}
-use Rattle.no_std_io2.specs.{Moves.{WriterState, Moves}, inner.Kinds.{is_interruption}}
-use Rattle.no_std_io2.specs.declared.io.{ErrorKind.{ErrorKind}}
-use Rattle.no_std_io2.specs.{Write.{WriteLaw, CallAdds}}
-use Rattle.no_std_io2.proofs.{MovesLemmas.{Moves-trans}, CallsAdd.{write_law_by, zero_none}}
-use Rattle.std.proofs.lemmas.List.{take-take, length-take}
-use Rattle.no_std_io2.specs.BufWriter.{writer_told}
-use Rattle.no_std_io2.specs.declared.io.Error.{Error}
-use Rattle.no_std_io2.specs.Errors.{error_kind}
-use Rattle.examples.specs.declared.tee.Tee.{Tee}
-use Rattle.examples.specs.Tee.{accepted_bytes, tee_told, BothAdd}
+use Rattle.examples.specs.{declared.tee.Tee.{Tee}, Tee.{accepted_bytes, tee_told, BothAdd}}
 
 -- what a tee tells over writers that tell f and s
 abbrev pub over_both : WriterState → WriterState → WriterState

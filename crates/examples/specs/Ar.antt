@@ -1,11 +1,10 @@
 -- What an `ar` archive is, and what its calls take of the reader below.
-use Rattle.std.specs.Prelude.{◌≡◌, ◌⊎◌, ℕ, ◌+◌, ◌-◌, ◌*◌, ◌%◌, ◌<◌, ◌≤◌, ◌==◌, ◌&&◌, nat_lt, if◌then◌else◌}
-use Rattle.std.specs.Prelude.{List, [], ◌∷◌, ◌++◌, length, take, drop, codes, true, false, Bool, Option, Some, None, Result, Ok, Err}
-use Rattle.no_std_io2.specs.{Errors.{IsUnexpectedEnd, SaysError}, Takes.{Reader, tells}, Reads.{Took}}
-use Rattle.no_std_io2.specs.{declared.io.Error.{Error}, declared.io.ErrorKind.TheVariants.{InvalidData, UnexpectedEof}}
-use Rattle.no_std_io2.specs.{Events.{Event, event_bytes}, inner.Take.{limit_inner, limit_left, LimitTakes}}
-use Rattle.examples.specs.declared.ar.Archive.{Archive}
-use Rattle.examples.specs.declared.ar.Header.{Header}
+use Rattle.std.specs.Prelude.{◌≡◌, ◌⊎◌, ℕ, ◌+◌, ◌-◌, ◌*◌, ◌%◌, ◌<◌, ◌≤◌, ◌==◌, ◌&&◌, nat_lt, if◌then◌else◌, List, [], ◌∷◌, ◌++◌, length}
+use Rattle.std.specs.Prelude.{take, drop, codes, true, false, Bool, Option, Some, None, Result, Ok, Err}
+use Rattle.no_std_io2.specs.{Errors.{IsUnexpectedEnd, SaysError}, Takes.{Reader, tells}, Reads.{Took}, declared.io.Error.{Error}}
+use Rattle.no_std_io2.specs.{declared.io.ErrorKind.TheVariants.{InvalidData, UnexpectedEof}, Events.{Event, event_bytes}}
+use Rattle.no_std_io2.specs.inner.Take.{limit_inner, limit_left, LimitTakes}
+use Rattle.examples.specs.declared.ar.{Archive.{Archive}, Header.{Header}}
 
 -- the reader below
 abbrev pub archive_inner : {R : Type 0} → Archive R → R

@@ -1,8 +1,6 @@
 -- What a read does to a reader with a budget of turns.
 use Rattle.std.specs.Prelude.{◌≡◌, ◌⊎◌, ◌<◌, ℕ, List, [], ◌++◌, Ok, Err}
-use Rattle.no_std_io2.specs.declared.io.ErrorKind.{ErrorKind}
-use Rattle.no_std_io2.specs.declared.io.ErrorKind.TheVariants.{TimedOut, WouldBlock}
-use Rattle.no_std_io2.specs.Errors.{error_kind}
+use Rattle.no_std_io2.specs.{declared.io.ErrorKind.{ErrorKind, TheVariants.{TimedOut, WouldBlock}}, Errors.{error_kind}}
 use Rattle.no_std_io2.specs.Calls.{ReadCall, Gave}
 use Rattle.examples.specs.declared.inbox.Inbox.{Inbox}
 

@@ -1,6 +1,5 @@
 -- The first lines of a reader, which go on to a writer.
-use Rattle.std.specs.Prelude.{◌≡◌, ◌≤◌, ◌<◌, ℕ, List, [], ◌++◌, length, None, Result, Err}
-use Rattle.std.specs.{List.{concat}, Result.{result_and}}
+use Rattle.std.specs.{Prelude.{◌≡◌, ◌≤◌, ◌<◌, ℕ, List, [], ◌++◌, length, None, Result, Err}, List.{concat}, Result.{result_and}}
 use Rattle.no_std_io2.specs.{Pieces.{newline, GivesPieces, AreAllPieces}, Reads.{StopsAfter}, Takes.{ReaderState}}
 use Rattle.no_std_io2.specs.{Moves.{WriterState, Moves, MovesFront}, declared.io.Error.{Error}}
 

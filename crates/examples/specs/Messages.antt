@@ -1,7 +1,6 @@
 -- What a message is.
-use Rattle.std.specs.Prelude.{ℕ, List, ◌++◌, length, codes}
-use Rattle.std.specs.Int.{w16, w32, to_be_bytes}
-use Rattle.no_std_io2.specs.{declared.io.Error.{Error}, declared.io.ErrorKind.TheVariants.{UnexpectedEof}, Errors.{SaysError}}
+use Rattle.std.specs.{Prelude.{ℕ, List, ◌++◌, length, codes}, Int.{w16, w32, to_be_bytes}}
+use Rattle.no_std_io2.specs.{declared.io.{Error.{Error}, ErrorKind.TheVariants.{UnexpectedEof}}, Errors.{SaysError}}
 
 -- the length of the payload in two bytes, the highest first, and the payload
 abbrev pub message : List ℕ → List ℕ

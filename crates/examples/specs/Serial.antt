@@ -1,7 +1,6 @@
 -- What a port took, and what a call does to a device in front of it.
 use Rattle.std.specs.Prelude.{◌≡◌, ℕ, Bool, if◌then◌else◌, List, [], ◌∷◌, ◌++◌, length, take, min, Ok, Err}
-use Rattle.no_std_io2.specs.declared.io.ErrorKind.TheVariants.{WouldBlock}
-use Rattle.no_std_io2.specs.Errors.{error_kind}
+use Rattle.no_std_io2.specs.{declared.io.ErrorKind.TheVariants.{WouldBlock}, Errors.{error_kind}}
 use Rattle.no_std_io2.specs.Calls.{WriteCall, Wrote, WroteAll, Flushed}
 use Rattle.examples.specs.declared.serial.Serial.{Serial}
 

@@ -1,8 +1,7 @@
 -- The text of a table.
-use Rattle.std.specs.Prelude.{ℕ, ◌<◌, ◌⊎◌, List, [], ◌∷◌, ◌++◌, length, take, get_or, decimal, Some, Result, Ok, Err}
-use Rattle.std.specs.List.{flat_map}
-use Rattle.no_std_io2.specs.{declared.io.Error.{Error}, Errors.{IsTextError}, Moves.{WriterState, Moves, MovesFront}}
-use Rattle.no_std_io2.specs.{Writers.{Writer}, inner.Writers.{PrintsByOne}}
+use Rattle.std.specs.{Prelude.{ℕ, ◌<◌, ◌⊎◌, List, [], ◌∷◌, ◌++◌, length, take, get_or, decimal, Some, Result, Ok, Err}, List.{flat_map}}
+use Rattle.no_std_io2.specs.{declared.io.Error.{Error}, Errors.{IsTextError}, Moves.{WriterState, Moves, MovesFront}, Writers.{Writer}}
+use Rattle.no_std_io2.specs.inner.Writers.{PrintsByOne}
 
 -- `ID=VALUE` and a newline
 abbrev pub row_text : ℕ × ℕ → List ℕ

@@ -1,7 +1,6 @@
 -- What a tee tells, and what its calls do.
 use Rattle.std.specs.Prelude.{◌≡◌, ℕ, ◌+◌, List, ◌++◌, None}
-use Rattle.no_std_io2.specs.{Moves.{WriterState}, BufWriter.{writer_told}}
-use Rattle.no_std_io2.specs.declared.io.BufWriter.{BufWriter}
+use Rattle.no_std_io2.specs.{Moves.{WriterState}, BufWriter.{writer_told}, declared.io.BufWriter.{BufWriter}}
 use Rattle.examples.specs.declared.tee.Tee.{Tee}
 
 -- the first writer

@@ -3,11 +3,8 @@
 //! An archive is `!<arch>\n`, and then for each entry a header of 60 bytes, its content, and a newline if the length of
 //! the content is odd.
 ghost use Rattle.std.specs.Prelude.{◌≡◌, ◌≤◌, length, IfOk, IfErr, IfSome, Ok, Some};
-ghost use Rattle.no_std_io2.specs.Calls.{PartMay};
-ghost use Rattle.no_std_io2.specs.Takes.{tells};
-ghost use Rattle.no_std_io2.specs.inner.Take.{limit_events, limit_held, limit_inner, LimitMay};
-ghost use Rattle.examples.specs.Ar.{Begins, ReachesHeader, NextHeader, ReadsContent, ReadsNext, Refuses, Says};
-ghost use Rattle.examples.specs.Ar.{decimal_field};
+ghost use Rattle.no_std_io2.specs.{Calls.{PartMay}, Takes.{tells}, inner.Take.{limit_events, limit_held, limit_inner, LimitMay}};
+ghost use Rattle.examples.specs.Ar.{Begins, ReachesHeader, NextHeader, ReadsContent, ReadsNext, Refuses, Says, decimal_field};
 
 use no_std_io2::io::{BufRead, Error, ErrorKind, Read, Result, Stored, Take, skip};
 use std::alloc::Global;

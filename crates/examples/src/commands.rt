@@ -1,9 +1,6 @@
 //! Commands, each with its end behind it: bytes up to a delimiter. [`read_whole`] reads a store.
 ghost use Rattle.std.specs.Prelude.{◌≡◌, ◌++◌, ◌∷◌, [], ℕ, List, Some, IfErr, IfOk, IfSome, IsSomeAnd};
-ghost use Rattle.no_std_io2.specs.Errors.{IsOutOfMemory};
-ghost use Rattle.no_std_io2.specs.Events.{Event, events_of};
-ghost use Rattle.no_std_io2.specs.Reads.{TakesBytes};
-ghost use Rattle.no_std_io2.specs.Takes.{tells, to_come};
+ghost use Rattle.no_std_io2.specs.{Errors.{IsOutOfMemory}, Events.{Event, events_of}, Reads.{TakesBytes}, Takes.{tells, to_come}};
 ghost use Rattle.no_std_io2.specs.inner.Pieces.{Lacks};
 
 use no_std_io2::io::{BufRead, Read, Result, Seek, SeekFrom};

@@ -1,7 +1,6 @@
 // [`FlashFile`], a reader with a store: a content, and a position in it that can be moved.
 ghost use Rattle.std.specs.Prelude.{◌≡◌, ◌<◌, ℕ, List, Some, length, drop, slice_index};
-ghost use Rattle.no_std_io2.specs.Events.{events_of};
-ghost use Rattle.no_std_io2.specs.Takes.{store_at};
+ghost use Rattle.no_std_io2.specs.{Events.{events_of}, Takes.{store_at}};
 
 use no_std_io2::io::{Read, Result, Seek, SeekFrom, Stored};
 

@@ -1,8 +1,6 @@
 //! A `Take` of a `&mut`, and what the reader behind that has left once it has ended.
 ghost use Rattle.std.specs.Prelude.{◌≡◌, ◌++◌, ℕ, List, Some, length, IfErr, IfOk};
-ghost use Rattle.no_std_io2.specs.Errors.{IsOutOfMemory};
-ghost use Rattle.no_std_io2.specs.Events.{Event, events_of};
-ghost use Rattle.no_std_io2.specs.Takes.{tells, to_come};
+ghost use Rattle.no_std_io2.specs.{Errors.{IsOutOfMemory}, Events.{Event, events_of}, Takes.{tells, to_come}};
 
 use no_std_io2::io::{Read, Result};
 

@@ -1,6 +1,5 @@
 // [`Inbox`], a reader with a budget of turns.
-ghost use Rattle.std.specs.Prelude.{◌≡◌, ◌<◌, ◌++◌, ◌∷◌, ℕ, List, drop, length};
-ghost use Rattle.std.specs.Option.{option_to_list};
+ghost use Rattle.std.specs.{Prelude.{◌≡◌, ◌<◌, ◌++◌, ◌∷◌, ℕ, List, drop, length}, Option.{option_to_list}};
 ghost use Rattle.examples.specs.Inbox.{InboxMay};
 
 use no_std_io2::io::{Error, ErrorKind, Read, Result, Stored};

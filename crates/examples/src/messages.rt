@@ -1,12 +1,7 @@
 //! What was sent as a message comes back. It is the length of the payload, as a big-endian `u16`, followed by the payload.
 //! Long ones have a `u32`, by which no memory is asked for.
-ghost use Rattle.std.specs.Prelude.{◌≡◌, ◌<◌, ◌^◌, ◌++◌, ◌⊎◌, ℕ, List, Some, length, IfErr, IfOk, IsErrAnd};
-ghost use Rattle.std.specs.Int.{w32, to_be_bytes};
-ghost use Rattle.no_std_io2.specs.Errors.{IsOutOfMemory};
-ghost use Rattle.no_std_io2.specs.Events.{Event, events_of};
-ghost use Rattle.no_std_io2.specs.Takes.{tells};
-ghost use Rattle.no_std_io2.specs.Reads.{TakesBytes};
-ghost use Rattle.no_std_io2.specs.Takes.{IsAtEnd, to_come};
+ghost use Rattle.std.specs.{Prelude.{◌≡◌, ◌<◌, ◌^◌, ◌++◌, ◌⊎◌, ℕ, List, Some, length, IfErr, IfOk, IsErrAnd}, Int.{w32, to_be_bytes}};
+ghost use Rattle.no_std_io2.specs.{Errors.{IsOutOfMemory}, Events.{Event, events_of}, Takes.{tells, IsAtEnd, to_come}, Reads.{TakesBytes}};
 ghost use Rattle.examples.specs.Messages.{IsCutMessage, long_message, message};
 
 use no_std_io2::io::{Error, ErrorKind, Read, Result, read_at_most};

@@ -1,7 +1,6 @@
 //! Functions over objects without a loop, and their callers, which know what became of the value that they lent.
 ghost use Rattle.std.specs.Prelude.{◌≡◌, ◌++◌, IfOk, OnOk};
-ghost use Rattle.no_std_io2.specs.Reads.{TakesBytes};
-ghost use Rattle.no_std_io2.specs.Moves.{MovesFront};
+ghost use Rattle.no_std_io2.specs.{Reads.{TakesBytes}, Moves.{MovesFront}};
 
 use crate::narrow::Narrow;
 use no_std_io2::io::{Read, Result, Write};

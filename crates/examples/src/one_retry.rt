@@ -1,8 +1,6 @@
 //! [`send_with_one_retry`], two calls over any device, of which the second continues the first.
 ghost use Rattle.std.specs.Prelude.{◌≡◌, [], OnOk};
-ghost use Rattle.no_std_io2.specs.Retries.{Tries};
-ghost use Rattle.no_std_io2.specs.Moves.{Sends};
-ghost use Rattle.no_std_io2.specs.Writers.{WriteRestOf};
+ghost use Rattle.no_std_io2.specs.{Retries.{Tries}, Moves.{Sends}, Writers.{WriteRestOf}};
 
 use no_std_io2::io::{Result, Write};
 

@@ -1,9 +1,7 @@
 //! [`write_reading`], [`send_reading`] and [`write_readings`], which print readings of an instrument straight to
 //! a writer.
-ghost use Rattle.std.specs.Prelude.{◌≡◌, ◌⊎◌, [], IsErrAnd, OnOk};
-ghost use Rattle.std.specs.List.{flat_map};
-ghost use Rattle.no_std_io2.specs.Errors.{IsTextError};
-ghost use Rattle.no_std_io2.specs.Moves.{MovesFront};
+ghost use Rattle.std.specs.{Prelude.{◌≡◌, ◌⊎◌, [], IsErrAnd, OnOk}, List.{flat_map}};
+ghost use Rattle.no_std_io2.specs.{Errors.{IsTextError}, Moves.{MovesFront}};
 ghost use Rattle.examples.specs.Readings.{reading};
 
 use no_std_io2::io::{Result, Write};

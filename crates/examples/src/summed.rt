@@ -1,7 +1,6 @@
 //! [`Summed`], an adaptor with a state of its own. Its promise holds through the trait's loops and through a buffer.
 ghost use Rattle.std.specs.Prelude.{◌≡◌, ◌++◌, ◌+◌, ◌%◌, ◌^◌, sum, IfOk};
-ghost use Rattle.no_std_io2.specs.BufWriter.{writer_inner, writer_buffer};
-ghost use Rattle.no_std_io2.specs.Write.{CallAdds, RestAdds};
+ghost use Rattle.no_std_io2.specs.{BufWriter.{writer_inner, writer_buffer}, Write.{CallAdds, RestAdds}};
 ghost use Rattle.examples.specs.Summed.{summed_inner, summed_sum, Sums};
 
 use no_std_io2::io::{BufWriter, Result, Write};

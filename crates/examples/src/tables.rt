@@ -1,8 +1,6 @@
 //! [`print_table`], a loop over a writer whose type is known only at run time, and its callers over an array and a buffer.
 ghost use Rattle.std.specs.Prelude.{◌≡◌, [], ◌++◌, IfOk, IfErr, OnOk};
-ghost use Rattle.no_std_io2.specs.Cursor.{cursor_out};
-ghost use Rattle.no_std_io2.specs.Moves.{Moves, told_out};
-ghost use Rattle.no_std_io2.specs.inner.Writers.{OfObject};
+ghost use Rattle.no_std_io2.specs.{Cursor.{cursor_out}, Moves.{Moves, told_out}, inner.Writers.{OfObject}};
 ghost use Rattle.examples.specs.Tables.{table, PrintsRows, StopsTable};
 
 use no_std_io2::io::{BufWriter, Cursor, Result, Write, print_to_object};

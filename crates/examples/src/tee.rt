@@ -1,7 +1,6 @@
 // [`Tee`], a writer over two writers.
 ghost use Rattle.std.specs.Prelude.{◌≡◌, []};
-ghost use Rattle.no_std_io2.specs.BufWriter.{writer_buffer, writer_inner};
-ghost use Rattle.no_std_io2.specs.Write.{CallAdds};
+ghost use Rattle.no_std_io2.specs.{BufWriter.{writer_buffer, writer_inner}, Write.{CallAdds}};
 ghost use Rattle.examples.specs.Tee.{BothAdd, first_of, second_of, tee_told};
 
 use no_std_io2::io::{BufWriter, Result, Write};

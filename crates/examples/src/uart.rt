@@ -1,6 +1,5 @@
 //! [`Uart`], a port that waits until its hardware is ready.
-ghost use Rattle.std.specs.Prelude.{◌≡◌, ◌∷◌, [], ◌++◌, ℕ, List, Bool, true, false, ◌<◌};
-ghost use Rattle.std.specs.Bool.{OnTrue, OnFalse};
+ghost use Rattle.std.specs.{Prelude.{◌≡◌, ◌∷◌, [], ◌++◌, ℕ, List, Bool, true, false, ◌<◌}, Bool.{OnTrue, OnFalse}};
 ghost use Rattle.examples.specs.Serial.{if_taken};
 
 use crate::serial::Port;

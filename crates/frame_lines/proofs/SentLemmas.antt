@@ -1,9 +1,7 @@
 -- A line that was logged, and then sent.
 use Rattle.no_std_io2.proofs.Words.{nil_from_length, ◌≡◌, ◌≤◌, ◌<◌, refl, true, false, nat_lt, ap, ◌++◌, List, ℕ, [], length, Option}
-use Rattle.no_std_io2.proofs.Words.{Result, Ok, Err, OnOk}
-use Rattle.no_std_io2.proofs.Words.{arith, inl, inr, length-append, nat_tests, call_mishap, Moves, Writer, common_steps}
-use Rattle.no_std_io2.specs.{declared.io.Error.{Error}, Writers.{FlushOf}}
-use Rattle.no_std_io2.proofs.MovesLemmas.{Moves-ends}
+use Rattle.no_std_io2.proofs.Words.{Result, Ok, Err, OnOk, arith, inl, inr, length-append, nat_tests, call_mishap, Moves, Writer}
+use Rattle.no_std_io2.{proofs.{Words.{common_steps}, MovesLemmas.{Moves-ends}}, specs.{declared.io.Error.{Error}, Writers.{FlushOf}}}
 use Rattle.line_log.specs.{declared.LineLog.{LineLog}, Log.{LogsText, IsLogged, line_of, log_held, log_tells, log_writer}}
 use Rattle.frame_lines.specs.Printing.{PrintsPayload, log_buffer}
 

@@ -1,6 +1,5 @@
 -- The arguments that each command has.
-use Rattle.std.specs.Prelude.{◌≡◌, ◌≤◌, length, List, ◌∷◌, String}
-use Rattle.std.specs.Global.{Global}
+use Rattle.std.specs.{Prelude.{◌≡◌, ◌≤◌, length, List, ◌∷◌, String}, Global.{Global}}
 use Rattle.frame_lines.specs.declared.Command.{Command, TheVariants.{Print, Word}}
 
 -- The arguments ask for this. Behind the program's name no word stands; or this word does, and others may follow.

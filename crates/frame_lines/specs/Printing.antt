@@ -1,12 +1,10 @@
 -- What the program does with frames: it takes one after another, and logs one line for each.
 use Rattle.std.specs.Prelude.{◌≡◌, ◌<◌, ◌⊎◌, ℕ, List, [], ◌∷◌, ◌++◌, length, take, replicate, Option, Some, None, Result, Ok, Err, OnOk}
-use Rattle.no_std_io2.specs.declared.io.Error.{Error}
-use Rattle.no_std_io2.specs.{Takes.{Reader}, Moves.{WriterState, Moves}, Writers.{Writer, FlushOf}, declared.io.BufWriter.{BufWriter}}
-use Rattle.no_std_io2.specs.{BufWriter.{writer_told, writer_inner, writer_buffer}, inner.BufWriter.{BufferMay, InnerCalls}}
-use Rattle.framing.specs.declared.reader.FrameReader.{FrameReader}
-use Rattle.framing.specs.Taking.{TakesFrame, reads_from}
-use Rattle.line_log.specs.declared.LineLog.{LineLog}
-use Rattle.line_log.specs.Log.{line_of, log_held, log_inner, log_tells, log_writer, LogsText}
+use Rattle.no_std_io2.specs.{declared.io.{Error.{Error}, BufWriter.{BufWriter}}, Takes.{Reader}, Moves.{WriterState, Moves}}
+use Rattle.no_std_io2.specs.{Writers.{Writer, FlushOf}, BufWriter.{writer_told, writer_inner, writer_buffer}}
+use Rattle.no_std_io2.specs.inner.BufWriter.{BufferMay, InnerCalls}
+use Rattle.framing.specs.{declared.reader.FrameReader.{FrameReader}, Taking.{TakesFrame, reads_from}}
+use Rattle.line_log.specs.{declared.LineLog.{LineLog}, Log.{line_of, log_held, log_inner, log_tells, log_writer, LogsText}}
 use Rattle.system_streams.specs.{declared.patient.Patient.{Patient}, Patient.{patient_error}}
 use Rattle.cli.specs.{declared.reason.Reason.{Reason}, Reasons.{IsReasonOfEither}}
 

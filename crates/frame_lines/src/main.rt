@@ -6,13 +6,10 @@
 //! only arguments are `--help` and `--version`, of which it prints the first one, and reads nothing.
 #![tactic(auto)]
 
-ghost use Rattle.std.specs.Prelude.{◌≡◌, [], OnOk, replicate};
-ghost use Rattle.std.specs.Vec.Iter.{into_iter_items};
+ghost use Rattle.std.specs.{Prelude.{◌≡◌, [], OnOk, replicate}, Vec.Iter.{into_iter_items}};
 ghost use Rattle.line_log.specs.Log.{log_tells};
 ghost use Rattle.system_streams.specs.contracts.patient.Patient.{the_row as patient-row};
-ghost use Rattle.frame_lines.specs.Asking.{AsksFor};
-ghost use Rattle.frame_lines.specs.Printing.{PrintsPayload, PrintsFrames, PrintsAll};
-ghost use Rattle.frame_lines.specs.Fits.{FramesFit, LogFits};
+ghost use Rattle.frame_lines.specs.{Asking.{AsksFor}, Printing.{PrintsPayload, PrintsFrames, PrintsAll}, Fits.{FramesFit, LogFits}};
 
 #[cfg(test)]
 mod tests;

@@ -5,13 +5,11 @@ use Rattle.no_std_io2.proofs.Words.{append-nil, length-append, length-take, take
 use Rattle.no_std_io2.proofs.Words.{Event, fails, event_bytes, events_of, HasNoFault, first_fault, AreTaken, to_come, IsAtEnd, Reader}
 use Rattle.no_std_io2.proofs.{Words.{tells, WriterState, behind_held}, GivenPieces.{first_fault-append}, MovesLemmas.{device_empty}}
 use Rattle.no_std_io2.proofs.{TakesLemmas.{bytes-append, bytes-behind, HasNoFault-append, HasNoFault-events_of}, ReadsLemmas.{Reads-takes}}
-use Rattle.std.proofs.{Common.{All}, lemmas.List.{append_cancel_left, Elements.{All-head}}}
-use Rattle.std.specs.Int.{w32, to_le_bytes, from_le_bytes}
 use Rattle.no_std_io2.specs.{declared.io.Error.{Error}, inner.Reads.{GathersTo}, Reads.{Took}}
+use Rattle.std.{proofs.{Common.{All}, lemmas.List.{append_cancel_left, Elements.{All-head}}}, specs.Int.{w32, to_le_bytes, from_le_bytes}}
 use Rattle.framing.specs.{Frames.{frame, frames, told_length, IsPart}, Back.{AreToCome, GivesBack, WentOut}}
 use Rattle.framing.specs.Taking.{seen_bytes, reads_from, frame_to_come, given_frame, EndsFrame, TakesFrame}
-use Rattle.framing.specs.declared.reader.FrameReader.{FrameReader}
-use Rattle.framing.proofs.SeenLemmas.{told_header, some_room}
+use Rattle.framing.{specs.declared.reader.FrameReader.{FrameReader}, proofs.SeenLemmas.{told_header, some_room}}
 
 -- the first bytes of a frame say the length of its payload
 told_frame : (p rest : List ℕ) → length p < 2 ^ 32 → told_length (frame p ++ rest) ≡ length p

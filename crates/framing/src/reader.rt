@@ -1,13 +1,8 @@
 //! [`FrameReader`], which reads frames. A fault loses no frame, and no frame is given twice.
 ghost use Rattle.std.specs.Prelude.{◌≡◌, ◌+◌, ◌<◌, ◌≤◌, ◌^◌, ℕ, List, [], ◌++◌, All, true, take, drop, length, Ok, IfOk, IfSome, IfNone};
 ghost use Rattle.std.specs.Prelude.{IsSomeAnd};
-ghost use Rattle.no_std_io2.specs.Events.{event_bytes};
-ghost use Rattle.no_std_io2.specs.Takes.{to_come};
-ghost use Rattle.no_std_io2.specs.Takes.{tells};
-ghost use Rattle.no_std_io2.specs.Moves.{WriterState};
-ghost use Rattle.no_std_io2.specs.BufReader.{reader_held};
-ghost use Rattle.framing.specs.Frames.{frame, HasHeader};
-ghost use Rattle.framing.specs.Places.{IsPlace, IsPlace-prop};
+ghost use Rattle.no_std_io2.specs.{Events.{event_bytes}, Takes.{to_come, tells}, Moves.{WriterState}, BufReader.{reader_held}};
+ghost use Rattle.framing.specs.{Frames.{frame, HasHeader}, Places.{IsPlace, IsPlace-prop}};
 ghost use Rattle.framing.specs.declared.reader.Place.TheVariants.{Between, Inside};
 
 pub(crate) mod parts;

@@ -1,8 +1,6 @@
 //! [`FrameWriter`], which sends each frame whole or not at all.
 ghost use Rattle.std.specs.Prelude.{◌≡◌, [], map};
-ghost use Rattle.no_std_io2.specs.BufWriter.{writer_inner, writer_buffer, Unwraps};
-ghost use Rattle.no_std_io2.specs.Retries.{FlushTries};
-ghost use Rattle.no_std_io2.specs.Writers.{FlushOf};
+ghost use Rattle.no_std_io2.specs.{BufWriter.{writer_inner, writer_buffer, Unwraps}, Retries.{FlushTries}, Writers.{FlushOf}};
 ghost use Rattle.framing.specs.Sending.{writes_to, frames_held, frame_writer, SendsFrame, SendsFrames};
 
 use no_std_io2::io::{

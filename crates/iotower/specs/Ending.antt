@@ -1,17 +1,16 @@
 -- What the program does for its arguments, and how it ends. F are the ghost members of the device of a play, K those of the input, and I
 -- those of the output.
-use Rattle.std.specs.Prelude.{◌≡◌, ◌⊎◌, ℕ, Bool, List, [], codes, Option, Some, None, Result, Ok, Err, IfSome, String}
-use Rattle.std.specs.{Global.{Global}, Process.{exit_status}}
-use Rattle.std.specs.declared.io.Error as Std
-use Rattle.std.specs.declared.process.ExitCode.{ExitCode}
+use Rattle.std.specs.{Prelude.{◌≡◌, ◌⊎◌, ℕ, Bool, List, [], codes, Option, Some, None, Result, Ok, Err, IfSome, String}, Global.{Global}}
+use Rattle.std.specs.{Process.{exit_status}, declared.process.ExitCode.{ExitCode}}
 use Rattle.no_std_io2.specs.{declared.io.Error.{Error}, Errors.{IsOutOfMemory}, Pieces.{newline}, Retries.{IsFaultOf}}
 use Rattle.no_std_io2.specs.{Takes.{Reader, tells, to_come}, Writers.{Writer}}
 use Rattle.io_bench.specs.declared.faulty.Faulty.{Faulty}
 use Rattle.cli.specs.About.{TellsLine, error_line}
 use Rattle.system_streams.specs.Copies.{CopiesAll, HandsThrough}
-use Rattle.tower_play.specs.declared.playing.{Fault.{Fault, TheVariants.{Io, Line}}, Shape.{Shape}}
-use Rattle.tower_play.specs.{Play.{IsPlay, WritesText}, Faults.{fault_display}, Reading.{IsBadAt}}
+use Rattle.tower_play.specs.{declared.playing.{Fault.{Fault, TheVariants.{Io, Line}}, Shape.{Shape}}, Play.{IsPlay, WritesText}}
+use Rattle.tower_play.specs.{Faults.{fault_display}, Reading.{IsBadAt}}
 use Rattle.iotower.specs.{Words.{AsksOf}, declared.Command.{Command, TheVariants.{Copy, Play}}}
+use Rattle.std.specs.declared.io.Error as Std
 
 -- A copy through such a buffer had this result: all of the input was accepted and sent, or the fault is that of the input or the output.
 abbrev pub DoesCopy : {X W : Type 0} → Reader X → Writer W → Bool → X → W → Result W Fault → Type 0

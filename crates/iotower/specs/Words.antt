@@ -1,14 +1,12 @@
 -- The arguments that name each command.
 use Rattle.std.specs.Prelude.{◌≡◌, ◌≢◌, ℕ, codes, List, [], ◌∷◌, true, false, Option, Some, None, Result, Ok, Err, String, string_bytes}
 use Rattle.std.specs.Global.{Global}
+use Rattle.no_std_io2.specs.{declared.io.Error.{Error}, Errors.{IsOutOfMemory}}
+use Rattle.iotower.specs.declared.Command.{Command, TheVariants.{Copy, Play}}
+use Rattle.tower_play.specs.declared.playing.{Fault.{Fault, TheVariants.{Io as io_fault}}, Shape.TheVariants.{Buf, Line, BufBuf, LineBuf}}
 use Rattle.std.specs.IoError as Io
 use Rattle.std.specs.declared.io.Error as Std
 use Rattle.std.specs.declared.io.ErrorKind.TheVariants as kind
-use Rattle.no_std_io2.specs.{declared.io.Error.{Error}, Errors.{IsOutOfMemory}}
-use Rattle.iotower.specs.declared.Command.{Command}
-use Rattle.iotower.specs.declared.Command.TheVariants.{Copy, Play}
-use Rattle.tower_play.specs.declared.playing.Fault.{Fault, TheVariants.{Io as io_fault}}
-use Rattle.tower_play.specs.declared.playing.Shape.TheVariants.{Buf, Line, BufBuf, LineBuf}
 
 -- the first word
 abbrev pub verb_of : Command → List ℕ

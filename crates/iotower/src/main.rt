@@ -5,16 +5,11 @@
 //! if the arguments are no command.
 #![tactic(auto)]
 
-ghost use Rattle.std.specs.Prelude.{◌≡◌, length, codes, Some, IfSome, IfNone};
-ghost use Rattle.std.specs.Process.{exit_status};
-ghost use Rattle.std.specs.Vec.Iter.{into_iter_items};
-ghost use Rattle.no_std_io2.specs.BufReader.{BufReaderFits};
-ghost use Rattle.no_std_io2.specs.BufWriter.{BufWriterFits};
-ghost use Rattle.no_std_io2.specs.LineWriter.{LineWriterFits};
+ghost use Rattle.std.specs.{Prelude.{◌≡◌, length, codes, Some, IfSome, IfNone}, Process.{exit_status}, Vec.Iter.{into_iter_items}};
+ghost use Rattle.no_std_io2.specs.{BufReader.{BufReaderFits}, BufWriter.{BufWriterFits}, LineWriter.{LineWriterFits}};
 ghost use Rattle.cli.specs.About.{TellsLine, error_line};
 ghost use Rattle.tower_play.specs.Faults.{fault_display};
-ghost use Rattle.iotower.specs.declared.Command.{Command as Asked};
-ghost use Rattle.iotower.specs.Words.{verb_of, mode_of, AreWords, NamesCommand, AsksOf};
+ghost use Rattle.iotower.specs.{declared.Command.{Command as Asked}, Words.{verb_of, mode_of, AreWords, NamesCommand, AsksOf}};
 ghost use Rattle.iotower.specs.Ending.{Does, Answers};
 
 use cli::{SystemMessages, arguments, report, usage};

@@ -1,10 +1,9 @@
 -- How a text is printed into an array, and then logged.
 use Rattle.no_std_io2.proofs.Words.{Bool, ◌≡◌, ◌⊎◌, List, ℕ, true, false, true≢false, Option, None, Some, Result, sym, ◌∙◌, refl, inl, inr}
-use Rattle.no_std_io2.proofs.Words.{Writer}
+use Rattle.no_std_io2.{proofs.Words.{Writer}, specs.declared.io.Error.{Error}}
 use Rattle.std.proofs.Common.{IfSome}
-use Rattle.no_std_io2.specs.declared.io.Error.{Error}
-use Rattle.line_log.specs.{declared.printed.Printed.{Printed}, declared.LineLog.{LineLog}, Text.{printed_bytes, PrintsText}}
-use Rattle.line_log.specs.{Log.{LogsLine, LogsText}}
+use Rattle.line_log.specs.{declared.{printed.Printed.{Printed}, LineLog.{LineLog}}, Text.{printed_bytes, PrintsText}}
+use Rattle.line_log.specs.Log.{LogsLine, LogsText}
 
 -- a text that fits was printed whole
 printed_all : {S : ℕ} (p : Printed S) (output : Option (List ℕ)) → PrintsText output p → p.failed ≡ false → p.fits ≡ true

@@ -9,9 +9,7 @@
 #![tactic(auto)]
 
 ghost use Rattle.std.specs.Prelude.{◌≡◌, ◌<◌, ◌^◌, [], nat_lt, length};
-ghost use Rattle.no_std_io2.specs.BufWriter.{writer_inner, writer_buffer, Unwraps};
-ghost use Rattle.no_std_io2.specs.Retries.{FlushTries};
-ghost use Rattle.no_std_io2.specs.Writers.{FlushOf};
+ghost use Rattle.no_std_io2.specs.{BufWriter.{writer_inner, writer_buffer, Unwraps}, Retries.{FlushTries}, Writers.{FlushOf}};
 ghost use Rattle.line_log.specs.Log.{LogsLine, LogsText, log_writer, log_inner, log_held};
 
 mod printed;

@@ -1,6 +1,5 @@
 //! An array into which a text is printed.
-ghost use Rattle.std.specs.Prelude.{◌≡◌, ◌≤◌, ◌<◌, ◌+◌, ◌++◌, [], true, length};
-ghost use Rattle.std.specs.Bool.{OnTrue, OnFalse};
+ghost use Rattle.std.specs.{Prelude.{◌≡◌, ◌≤◌, ◌<◌, ◌+◌, ◌++◌, [], true, length}, Bool.{OnTrue, OnFalse}};
 
 /// The bytes that were printed so far, at most `S`, and whether all fit.
 #[derive(Drop)]

@@ -1,7 +1,6 @@
 -- How readings of a sensor are logged, and logged again.
 use Rattle.std.specs.Prelude.{◌≡◌, ◌⊎◌, ℕ, ◌+◌, List, [], ◌∷◌, ◌++◌, length, flat_map, Bool, true, false, decimal, Ok, Err, Some}
-use Rattle.log.specs.declared.level.Level.TheVariants.{Info}
-use Rattle.log.specs.Line.{header_text}
+use Rattle.log.specs.{declared.level.Level.TheVariants.{Info}, Line.{header_text}}
 use Rattle.no_std_io2.specs.{Writers.{Writer}, declared.io.Error.{Error}}
 use Rattle.line_log.specs.{declared.LineLog.{LineLog}, Log.{line_of, LogsText}}
 use Rattle.log_sink.specs.Records.{logged_bytes}

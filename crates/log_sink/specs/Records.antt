@@ -1,9 +1,7 @@
 -- What a record adds to a log of lines.
 use Rattle.std.specs.Prelude.{◌≡◌, ℕ, List, ◌++◌, Result, Option, IfSome, OnOk, OnErr}
-use Rattle.no_std_io2.specs.{inner.Pieces.{Lacks}, Pieces.{newline}, Moves.{WriterState}}
-use Rattle.no_std_io2.specs.declared.io.Error.{Error}
-use Rattle.line_log.specs.declared.LineLog.{LineLog}
-use Rattle.line_log.specs.Log.{line_of, log_tells}
+use Rattle.no_std_io2.specs.{inner.Pieces.{Lacks}, Pieces.{newline}, Moves.{WriterState}, declared.io.Error.{Error}}
+use Rattle.line_log.specs.{declared.LineLog.{LineLog}, Log.{line_of, log_tells}}
 
 -- the bytes that the device has, followed by those that are held
 abbrev pub logged_bytes : {W : Type 0} {S : ℕ} → (W → WriterState) → LineLog W S → List ℕ

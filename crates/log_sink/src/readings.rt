@@ -1,7 +1,6 @@
 //! Three examples: [`log_reading`] makes a record by hand, [`log_each`] logs again what was lost, and [`log_readings`] does
 //! so by the macro `info!`.
-ghost use Rattle.std.specs.Prelude.{◌≡◌, ◌<◌, ◌≤◌, ◌^◌, ◌++◌, Some, length};
-ghost use Rattle.std.specs.List.{flat_map};
+ghost use Rattle.std.specs.{Prelude.{◌≡◌, ◌<◌, ◌≤◌, ◌^◌, ◌++◌, Some, length}, List.{flat_map}};
 ghost use Rattle.line_log.specs.Log.{LogsText};
 ghost use Rattle.log_sink.specs.Readings.{LogsReadings, TriesReading, kept_of, sensor_line, sensor_text};
 ghost use Rattle.log_sink.specs.Records.{AddsLine, logged_bytes};

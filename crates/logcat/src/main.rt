@@ -9,8 +9,7 @@
 #![tactic(auto)]
 
 ghost use Rattle.std.specs.Prelude.{◌≡◌, ◌⊎◌, IsErr};
-ghost use Rattle.logcat.specs.Confirming.{Confirmed};
-ghost use Rattle.logcat.specs.Fits.{LogFits};
+ghost use Rattle.logcat.specs.{Confirming.{Confirmed}, Fits.{LogFits}};
 
 use cli::{Reason, about, named, report, usage};
 use no_std_io2::io::{BufWriter, Read, Result, Write};

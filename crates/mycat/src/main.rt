@@ -9,9 +9,7 @@
 #![tactic(auto)]
 
 ghost use Rattle.std.specs.Prelude.{◌≡◌, ◌≢◌, Ok, true, [], ◌∷◌, length, IfErr, IfOk, drop, map, codes, string_bytes};
-ghost use Rattle.std.specs.Vec.Iter.{into_iter_items};
-ghost use Rattle.std.specs.Process.{exit_status};
-ghost use Rattle.std.specs.IoError.{error_kind as std_error_kind};
+ghost use Rattle.std.specs.{Vec.Iter.{into_iter_items}, Process.{exit_status}, IoError.{error_kind as std_error_kind}};
 ghost use Rattle.mycat.specs.Passing.{PassesStream, WritesFile, TellsSome};
 
 use cli::{FileFault, PerFile, SystemMessages, SystemOutput, about, each_file, named, report};

@@ -1,10 +1,8 @@
 -- A number that was read spells the bytes that were taken: of bytes below 256 none is lost in it.
 use Rattle.no_std_io2.proofs.Words.{◌≡◌, ℕ, zero, suc, ◌+◌, ◌*◌, ◌/◌, ◌%◌, ◌^◌, ◌<◌, List, [], ◌∷◌, length, Ok, refl, sym, ap, ap₂, ◌∙◌}
-use Rattle.no_std_io2.proofs.{Words.{common_steps, arith, Reader, tells}, TakesLemmas.{TakesBytes-fills}}
-use Rattle.no_std_io2.specs.Reads.{TakesBytes}
+use Rattle.no_std_io2.{proofs.{Words.{common_steps, arith, Reader, tells}, TakesLemmas.{TakesBytes-fills}}, specs.Reads.{TakesBytes}}
 use Rattle.std.proofs.{Math.Nat.{pow-suc, pow-succ', div-div-eq-div-mul, div-one, mul_assoc}, lemmas.Nat.{div-mul-add, mod-mul-add}}
-use Rattle.std.proofs.lemmas.Int.{of_z-to_z}
-use Rattle.std.specs.{Int.{Width, byte_at, bytes_high_first, bytes_low_first, cast_unsigned}, Prelude.{ℤ}}
+use Rattle.std.{proofs.lemmas.Int.{of_z-to_z}, specs.{Int.{Width, byte_at, bytes_high_first, bytes_low_first, cast_unsigned}, Prelude.{ℤ}}}
 use mir.Val.{bits}
 use Rattle.byteorder.specs.Endian.{big_number, big_bytes, little_number, little_bytes}
 use Rattle.byteorder.specs.Numbers.{big_from-cons, big_from-lt, little_from-cons}

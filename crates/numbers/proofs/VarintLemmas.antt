@@ -3,12 +3,11 @@ use Rattle.no_std_io2.proofs.Words.{◌≡◌, ◌≢◌, ◌⊎◌, ℕ, zero, 
 use Rattle.no_std_io2.proofs.Words.{get_or, Result, Ok, Err, Option, None, Some, refl, sym, ap, subst, ◌∙◌, arith, inl, inr, append-nil}
 use Rattle.no_std_io2.proofs.Words.{append_assoc, length-append, length-take-le, nil_from_length, ap₂, ◌-◌, cases_lt, Event, events_of}
 use Rattle.no_std_io2.proofs.{Words.{common_steps, Reader, tells, to_come}, TakesLemmas.{Took-then}, ReadsLemmas.{Took-none}}
+use Rattle.no_std_io2.specs.{declared.io.Error.{Error}, Reads.{TakesBytes}}
 use Rattle.std.proofs.{Common.{set, add-one}, lemmas.List.{drop_more, length-set, take_more_set}, Math.Nat.{pow-suc}}
 use Rattle.std.specs.Prelude.{IfSome, IfNone}
-use Rattle.no_std_io2.specs.{declared.io.Error.{Error}, Reads.{TakesBytes}}
-use Rattle.numbers.specs.Numbers.{AreRead, ReadsBack, ReadsValue, first_byte, no_number, one_more}
-use Rattle.numbers.specs.Varint.{varint_value, VarintContinues, NoneEnds, IsVarint, SpellsVarint, IsGathered, IsRefused, GathersBack}
-use Rattle.numbers.specs.Varint.{GathersVarint, ReadsVarintBack}
+use Rattle.numbers.specs.{Numbers.{AreRead, ReadsBack, ReadsValue, first_byte, no_number, one_more}, Varint.{varint_value, VarintContinues}}
+use Rattle.numbers.specs.Varint.{NoneEnds, IsVarint, SpellsVarint, IsGathered, IsRefused, GathersBack, GathersVarint, ReadsVarintBack}
 use Rattle.numbers.proofs.{NumberLemmas.{ReadSoFar, into_none, into_more}, SpelledLemmas.{takes_byte}}
 
 -- bytes that go on, and one more

@@ -1,14 +1,10 @@
 //! Callers: headers of chunks, the kind in two bytes and the length in four, big-endian. What was written is read back. And
 //! steps, which have a sign.
 ghost use Rattle.byteorder.specs.Endian.{big_bytes, big_number};
-ghost use Rattle.std.specs.Int.{cast_unsigned, w16};
-ghost use Rattle.std.specs.Prelude.{◌≡◌, ◌<◌, ◌^◌, ◌++◌, ◌∷◌, ℕ, List, IfOk, Ok, Some};
+ghost use Rattle.std.specs.{Int.{cast_unsigned, w16}, Prelude.{◌≡◌, ◌<◌, ◌^◌, ◌++◌, ◌∷◌, ℕ, List, IfOk, Ok, Some}};
 ghost use Rattle.numbers.specs.ChunkHeaders.{chunk_header, ReadsChunkHeader, ReadsTwo, WritesChunkHeader};
 ghost use Rattle.numbers.specs.Numbers.{first_byte, signed_by};
-ghost use Rattle.no_std_io2.specs.Events.{Event, events_of};
-ghost use Rattle.no_std_io2.specs.Moves.{MovesFront};
-ghost use Rattle.no_std_io2.specs.Reads.{TakesBytes};
-ghost use Rattle.no_std_io2.specs.Takes.{tells, to_come};
+ghost use Rattle.no_std_io2.specs.{Events.{Event, events_of}, Moves.{MovesFront}, Reads.{TakesBytes}, Takes.{tells, to_come}};
 
 use crate::{BigEndian, ReadBytesExt, WriteBytesExt};
 use no_std_io2::io::{Read, Result, Write};

@@ -1,6 +1,5 @@
 // [`ReadBytesExt`], which reads numbers.
-ghost use Rattle.std.specs.Float.{binary32, binary64};
-ghost use Rattle.std.specs.Prelude.{FitsSigned, ◌≡◌, ◌<◌, ◌^◌, [], ◌∷◌, from_bits};
+ghost use Rattle.std.specs.{Float.{binary32, binary64}, Prelude.{FitsSigned, ◌≡◌, ◌<◌, ◌^◌, [], ◌∷◌, from_bits}};
 ghost use Rattle.std.specs.Int.{w8, w16, w32, w64, w128, cast_signed, cast_unsigned};
 ghost use Rattle.numbers.specs.Numbers.{AreBytes, ReadsValue, ReadsBack, ReadsInto, first_byte, signed_by};
 

@@ -1,8 +1,6 @@
 //! Numbers of variable length, LEB128, as DWARF, WebAssembly and protobuf have them.
 ghost use Rattle.std.specs.Prelude.{◌≡◌, ◌≤◌, ◌<◌, ◌^◌, ℕ, List, length, take, IfSome, IfNone, IfOk};
-ghost use Rattle.no_std_io2.specs.Reads.{TakesBytes};
-ghost use Rattle.no_std_io2.specs.Takes.{tells};
-ghost use Rattle.no_std_io2.specs.Writers.{WriteAllOf};
+ghost use Rattle.no_std_io2.specs.{Reads.{TakesBytes}, Takes.{tells}, Writers.{WriteAllOf}};
 ghost use Rattle.numbers.specs.Varint.{GathersBack, GathersVarint, IsGathered, IsRefused, ReadsVarint, ReadsVarintBack, SaysNoVarint};
 ghost use Rattle.numbers.specs.Varint.{SpellsVarint, varint_value};
 

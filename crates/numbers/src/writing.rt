@@ -1,7 +1,5 @@
 // [`WriteBytesExt`], which writes numbers.
-ghost use Rattle.std.specs.Float.{binary32, binary64};
-ghost use Rattle.std.specs.Prelude.{[], ◌∷◌, to_bits};
-ghost use Rattle.std.specs.Int.{w8, w16, w32, w64, w128, cast_unsigned};
+ghost use Rattle.std.specs.{Float.{binary32, binary64}, Prelude.{[], ◌∷◌, to_bits}, Int.{w8, w16, w32, w64, w128, cast_unsigned}};
 ghost use Rattle.no_std_io2.specs.Writers.{WriteAllOf};
 
 use byteorder::ByteOrder;

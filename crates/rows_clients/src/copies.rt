@@ -7,9 +7,7 @@
 // A `Patient` is over a device of the standard library that notes its calls, and the name of each. A line `new` says its
 // turns, and after a colon the device's results. A row is a call; then its result, for a read the bytes that it gave, and
 // the calls that reached the device.
-ghost use Rattle.no_std_io2.specs.BufReader.{BufReaderFits};
-ghost use Rattle.no_std_io2.specs.BufWriter.{BufWriterFits};
-ghost use Rattle.no_std_io2.specs.LineWriter.{LineWriterFits};
+ghost use Rattle.no_std_io2.specs.{BufReader.{BufReaderFits}, BufWriter.{BufWriterFits}, LineWriter.{LineWriterFits}};
 
 use crate::client::{Client, Columns, new_device, on_journal, play};
 use io_bench::{Event, Feed};

@@ -1,7 +1,6 @@
 -- Asks that fit, and then one more.
 use Rattle.std.proofs.Common.{ℕ, List, [], ◌∷◌, ◌++◌}
-use Rattle.io_bench.specs.declared.asks.Ask.{Ask}
-use Rattle.io_bench.specs.Asks.{Fits, AllFit}
+use Rattle.io_bench.specs.{declared.asks.Ask.{Ask}, Asks.{Fits, AllFit}}
 
 -- if a buffer has room for each ask of a list and for one more, it has room for all of them
 pub all_fit_then : (room : ℕ) (asks : List Ask) (ask : Ask) → AllFit room asks → Fits room ask

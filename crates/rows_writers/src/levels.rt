@@ -1,6 +1,5 @@
 // A level over a device. The name of the level is its kind and its size.
-ghost use Rattle.no_std_io2.specs.BufWriter.{BufWriterFits};
-ghost use Rattle.no_std_io2.specs.LineWriter.{LineWriterFits};
+ghost use Rattle.no_std_io2.specs.{BufWriter.{BufWriterFits}, LineWriter.{LineWriterFits}};
 ghost use Rattle.std.specs.Prelude.{◌<◌, ◌^◌};
 
 use crate::benches::new_faulty;

@@ -3,11 +3,10 @@ use Rattle.no_std_io2.proofs.Words.{◌≡◌, ℕ, List, [], ◌∷◌, ◌++�
 use Rattle.no_std_io2.proofs.Words.{inr, ◌⊎◌, Bool, length, length-append, nil_from_length, error_kind, Event, event_bytes, HasNoFault}
 use Rattle.no_std_io2.proofs.Words.{ReaderState, to_come, Reader, tells, ReadCall, WriterState, Moves, WriteCall, Flushed, Made, ByCalls}
 use Rattle.no_std_io2.proofs.{Words.{Writer, CallOf, with_buffer, Copied, LevelCalls}, BufWriterLemmas.{Moves-bare, level_by_level}}
-use Rattle.no_std_io2.proofs.{CallsLemmas.{made_more}, CopyLoop.{copied_ok, copied_err}, TakesLemmas.{first_fault_taken, may_fail}}
-use Rattle.no_std_io2.proofs.{TakesLemmas.{no_failure, takes_to_end}, MovesLemmas.{Moves-then, Moves-ends}}
-use Rattle.no_std_io2.specs.{declared.io.Error.{Error}, inner.{Pieces.{IsAll}, Copy.{side_error}}, Writers.{FlushOf}, Copy.{SidesCopied}}
-use Rattle.no_std_io2.specs.{inner.{Copy.{HandsOn}, Faults.{HasFirstFault, MayFail}}, declared.io.CopyError.{CopyError}}
-use Rattle.no_std_io2.specs.Retries.{IsFaultOf}
+use Rattle.no_std_io2.proofs.{CallsLemmas.{made_more}, CopyLoop.{copied_ok, copied_err}}
+use Rattle.no_std_io2.proofs.{TakesLemmas.{first_fault_taken, may_fail, no_failure, takes_to_end}, MovesLemmas.{Moves-then, Moves-ends}}
+use Rattle.no_std_io2.specs.{declared.io.{Error.{Error}, CopyError.{CopyError}}, inner.{Pieces.{IsAll}, Copy.{side_error, HandsOn}}}
+use Rattle.no_std_io2.specs.{inner.Faults.{HasFirstFault, MayFail}, Writers.{FlushOf}, Copy.{SidesCopied}, Retries.{IsFaultOf}}
 use Rattle.std.proofs.Common.{IfSome}
 use Rattle.system_streams.specs.Copies.{CopiesAll, HandsAndFlushes, HandsThrough, BufferCalls}
 

@@ -1,12 +1,8 @@
 // [`copy_through`], a copy from a reader to a writer with a buffer at each.
 ghost use Rattle.std.specs.Prelude.{◌≡◌, [], Some, IfSome, IfOk, IsOk, IfErr};
-ghost use Rattle.no_std_io2.specs.Events.{HasNoFault};
-ghost use Rattle.no_std_io2.specs.Takes.{to_come, tells};
-ghost use Rattle.no_std_io2.specs.Retries.{IsFaultOf};
-ghost use Rattle.no_std_io2.specs.BufReader.{BufReaderFits};
+ghost use Rattle.no_std_io2.specs.{Events.{HasNoFault}, Takes.{to_come, tells}, Retries.{IsFaultOf}, BufReader.{BufReaderFits}};
+ghost use Rattle.no_std_io2.specs.{BufWriter.{BufWriterFits}, LineWriter.{LineWriterFits}};
 ghost use Rattle.system_streams.specs.Copies.{CopiesAll, HandsAndFlushes, HandsThrough};
-ghost use Rattle.no_std_io2.specs.BufWriter.{BufWriterFits};
-ghost use Rattle.no_std_io2.specs.LineWriter.{LineWriterFits};
 
 use no_std_io2::io::{BufReader, BufWriter, LineWriter, Read, Result, Write, copy};
 

@@ -2,10 +2,8 @@
 // over it.
 ghost use Rattle.std.specs.Prelude.{◌≡◌, ◌≢◌, true, false, ◌+◌, ◌<◌, ◌⊎◌, [], None, Some, length, option_copied, IfSome};
 ghost use Rattle.std.specs.IoError.{error_kind as std_error_kind};
-ghost use Rattle.no_std_io2.specs.Read.{ReadLaw};
-ghost use Rattle.no_std_io2.specs.Errors.{error_kind};
-ghost use Rattle.system_streams.specs.ToStd.{std_kind};
-ghost use Rattle.system_streams.specs.Turns.{IsOutOfTurns, IsPlainInterruption, IsDeviceFault, Becomes};
+ghost use Rattle.no_std_io2.specs.{Read.{ReadLaw}, Errors.{error_kind}};
+ghost use Rattle.system_streams.specs.{ToStd.{std_kind}, Turns.{IsOutOfTurns, IsPlainInterruption, IsDeviceFault, Becomes}};
 
 use crate::system::{SystemRead, SystemWrite};
 use crate::to_std::std_error;

@@ -1,9 +1,6 @@
 // The readers, writers and seekers of the system, as a `Patient` calls them.
-ghost use Rattle.std.specs.Prelude.{ℕ, List, Option, Result};
-ghost use Rattle.std.specs.Io.{ReadsAtMost, WritesAtMost};
-ghost use Rattle.std.specs.Io.KnownBytes.{ReadConsumes, WriteAppends, Keeps};
-ghost use Rattle.std.specs.Io.Seek.{SeekMoves};
-ghost use Rattle.std.specs.declared.io.Error.{Error as StdError};
+ghost use Rattle.std.specs.{Prelude.{ℕ, List, Option, Result}, Io.{ReadsAtMost, WritesAtMost}};
+ghost use Rattle.std.specs.{Io.{KnownBytes.{ReadConsumes, WriteAppends, Keeps}, Seek.{SeekMoves}}, declared.io.Error.{Error as StdError}};
 ghost use Rattle.std.specs.declared.io.SeekFrom.{SeekFrom as StdPlace};
 
 use std::io;

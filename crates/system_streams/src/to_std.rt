@@ -1,16 +1,8 @@
 // [`ToStd`], which makes a stream of this library one of Rust's `std::io`.
-ghost use Rattle.std.specs.Prelude.{◌≡◌, ℕ, Some, Result};
-ghost use Rattle.std.specs.Io.{ReadsAtMost};
-ghost use Rattle.std.specs.Io.KnownBytes.{ReadConsumes, Keeps};
-ghost use Rattle.std.specs.Io.Seek.{SeekMoves};
+ghost use Rattle.std.specs.{Prelude.{◌≡◌, ℕ, Some, Result}, Io.{ReadsAtMost, KnownBytes.{ReadConsumes, Keeps}, Seek.{SeekMoves}}};
 ghost use Rattle.std.specs.IoError.{error_kind as std_error_kind};
-ghost use Rattle.no_std_io2.specs.declared.io.Error.{Error};
-ghost use Rattle.no_std_io2.specs.Errors.{error_kind};
-ghost use Rattle.no_std_io2.specs.declared.io.SeekFrom.{SeekFrom};
-ghost use Rattle.no_std_io2.specs.Takes.{tells};
-ghost use Rattle.no_std_io2.specs.Read.{ReadLaw};
-ghost use Rattle.no_std_io2.specs.Seek.{SeekLaw};
-ghost use Rattle.no_std_io2.specs.Writers.{FlushOf, WriteOf};
+ghost use Rattle.no_std_io2.specs.{declared.io.{Error.{Error}, SeekFrom.{SeekFrom}}, Errors.{error_kind}, Takes.{tells}, Read.{ReadLaw}};
+ghost use Rattle.no_std_io2.specs.{Seek.{SeekLaw}, Writers.{FlushOf, WriteOf}};
 ghost use Rattle.system_streams.specs.Patient.{std_place};
 ghost use Rattle.system_streams.specs.ToStd.{std_inner, std_kind, bytes_to_come, content_of, position_of, SameAnswer, accepted_so_far};
 

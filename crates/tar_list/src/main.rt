@@ -6,13 +6,10 @@
 //! members: it prints that, and reads no archive.
 #![tactic(auto)]
 
-ghost use Rattle.std.specs.Prelude.{◌≡◌, ◌<◌, length, IfSome, IfNone};
-ghost use Rattle.std.specs.Vec.Iter.{into_iter_items};
-ghost use Rattle.tar_list.specs.Words.{Asks};
-ghost use Rattle.tar_list.specs.Listing.{PrintsMember, Lists, CopiesMember};
-ghost use Rattle.system_streams.specs.Patient.{patient_error};
-ghost use Rattle.tar_list.specs.Failing.{CopyFails, failure_text};
+ghost use Rattle.std.specs.{Prelude.{◌≡◌, ◌<◌, length, IfSome, IfNone}, Vec.Iter.{into_iter_items}};
+ghost use Rattle.tar_list.specs.{Words.{Asks}, Listing.{PrintsMember, Lists, CopiesMember}, Failing.{CopyFails, failure_text}};
 ghost use Rattle.tar_list.specs.declared.CopyFault.TheVariants.{Stream as StreamFault};
+ghost use Rattle.system_streams.specs.Patient.{patient_error};
 
 use cli::{Reason, about, arguments, report, usage};
 use no_std_io2::io::{

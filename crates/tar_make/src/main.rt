@@ -8,11 +8,8 @@
 //! longer, it is cut. The status is 0 if nothing failed, and else 1.
 #![tactic(auto)]
 
-ghost use Rattle.std.specs.Prelude.{◌≡◌, ◌≢◌, Ok, Err, true, IfOk, IfErr, bit_and, codes};
-ghost use Rattle.std.specs.Fs.{metadata_mode};
-ghost use Rattle.std.specs.Process.{exit_status};
-ghost use Rattle.cli.specs.About.{TellsLine, error_line};
-ghost use Rattle.cli.specs.Reasons.{reason_text};
+ghost use Rattle.std.specs.{Prelude.{◌≡◌, ◌≢◌, Ok, Err, true, IfOk, IfErr, bit_and, codes}, Fs.{metadata_mode}, Process.{exit_status}};
+ghost use Rattle.cli.specs.{About.{TellsLine, error_line}, Reasons.{reason_text}};
 ghost use Rattle.tar_make.specs.Adding.{AddsBody, AddsHeader, AddsFile, AddsMember, EndsAll, IsHeaderFor, member_fault, progress_text};
 
 use cli::{

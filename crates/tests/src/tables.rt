@@ -1,11 +1,9 @@
 // Tables that the crate `csv` reads and writes over this library's streams.
 ghost use Rattle.std.specs.Prelude.{◌≡◌, [], ◌++◌, take, map, IfOk, option_map};
-ghost use Rattle.csv.specs.Machine.{next_record};
-ghost use Rattle.csv.specs.Reading.{default_config, strip_bom};
-ghost use Rattle.csv.specs.Records.{fields_of};
+ghost use Rattle.csv.specs.{Machine.{next_record}, Reading.{default_config, strip_bom}, Records.{fields_of}};
 ghost use Rattle.csv.specs.Writing.{default_writer, row_text};
-ghost use Rattle.csv.specs.declared.parser.State.TheVariants as st;
 ghost use Rattle.system_streams.specs.ToStd.{accepted_so_far};
+ghost use Rattle.csv.specs.declared.parser.State.TheVariants as st;
 
 use csv::{ByteRecord, Error, ReaderBuilder, Writer};
 use no_std_io2::io::{BufReader, BufWriter, Cursor, Read, Write};

@@ -1,7 +1,6 @@
 // Texts of base64 by the crate `base64` over this library's streams.
 ghost use Rattle.std.specs.Prelude.{◌≡◌, ℕ, List, ◌++◌, IfOk, IfSome, Ok};
-ghost use Rattle.base64.specs.Engines.{standard};
-ghost use Rattle.base64.specs.GeneralPurpose.{decode_of, encode_of};
+ghost use Rattle.base64.specs.{Engines.{standard}, GeneralPurpose.{decode_of, encode_of}};
 ghost use Rattle.no_std_io2.specs.Takes.{tells};
 ghost use Rattle.system_streams.specs.ToStd.{accepted_so_far, bytes_to_come};
 

@@ -3,13 +3,11 @@ use Rattle.std.proofs.{Common.{arith}, lemmas.Grind.{common_steps}}
 use Rattle.no_std_io2.proofs.Words.{ℕ, ◌+◌, ◌<◌, List, [], ◌∷◌, ◌++◌, length, get_or, take, refl, subst, take_more, CallOf, Vec, told_out}
 use Rattle.no_std_io2.proofs.Words.{◌≡◌, ap, ap₂, append_assoc, Ok, Err, Result, IfOk, ◌∙◌, error_kind, WriterState, Moves, MovesFront}
 use Rattle.no_std_io2.proofs.{Words.{Writer, WriteCall, ByCalls, InnerCalls, with_buffer, LevelCalls}, MovesLemmas.{Moves-ends}}
-use Rattle.no_std_io2.proofs.TakesLemmas.{may_fail}
+use Rattle.no_std_io2.{proofs.TakesLemmas.{may_fail}, specs.{declared.io.Error.{Error}, inner.Faults.{MayFail}}}
 use Rattle.io_bench.specs.{declared.{runs.Op.{Op}, faulty.{Act.{Act}, Faulty.{Faulty}}}, Faulty.{acts_left, faulty_inner, with_acts}}
-use Rattle.io_bench.specs.Runs.{Ran, RunBelow}
+use Rattle.io_bench.{specs.Runs.{Ran, RunBelow}, proofs.RunLemmas.{below_first, below_map, below_more}}
 use Rattle.tower_play.specs.{declared.{script.Step.{Step}, playing.Shape.{Shape}}, Calls.{IsNext, AreOps}, Report.{printed_report}}
 use Rattle.tower_play.specs.Play.{WritesText, Shows, ShowsRun, TowerCalls, TwoLevels, fresh_told}
-use Rattle.no_std_io2.specs.{declared.io.Error.{Error}, inner.Faults.{MayFail}}
-use Rattle.io_bench.proofs.RunLemmas.{below_first, below_map, below_more}
 
 -- For `Calls::ops`: the calls of a script, one after another.
 

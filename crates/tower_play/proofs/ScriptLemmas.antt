@@ -3,14 +3,11 @@ use Rattle.no_std_io2.proofs.Words.{◌≡◌, ℕ, zero, suc, true, nat_lt, Lis
 use Rattle.no_std_io2.proofs.Words.{◌^◌, ◌++◌, false, Option, None, Some, refl, sym, ap, ◌∙◌, length, length-append, map, Result, Ok, Err}
 use Rattle.no_std_io2.proofs.Words.{inl, ◌⊎◌, is_some, append_assoc, IsFault, IsOutOfMemory, Event, byte, fails, first_fault, HasNoFault}
 use Rattle.no_std_io2.proofs.Words.{Made, Reader, tells, split_delim, split_reader, to_come, strip_last, Bool, error_kind, if◌then◌else◌}
-use Rattle.no_std_io2.proofs.CallsLemmas.{made_more}
-use Rattle.std.specs.{List.{list_all}, Str.{IsUtf8, IsAscii}, Prelude.{min}, Option.{IfSome}}
-use Rattle.std.proofs.lemmas.Str.{IsUtf8-from_ascii}
-use Rattle.no_std_io2.specs.{declared.io.ErrorKind.{ErrorKind}, declared.io.Error.{Error}, declared.io.Split.{Split}}
-use Rattle.no_std_io2.specs.{inner.Iterators.{split_is_ended}, inner.Faults.{HasFirstFault}, inner.Kinds.{is_interruption}}
-use Rattle.tower_play.specs.{Script.{IsTextArgument}, declared.script.Line.{Line}, Lines.{Says, IsNoBad, IsGood}}
-use Rattle.tower_play.specs.{declared.script.Script.{Script}, Reading.{Adds, AddsAll, IsBadAt, IsBadLine, IsFirstBad, IsFreshScript}}
-use Rattle.tower_play.specs.Reading.{IsRead}
+use Rattle.no_std_io2.{proofs.CallsLemmas.{made_more}, specs.declared.io.{ErrorKind.{ErrorKind}, Error.{Error}, Split.{Split}}}
+use Rattle.no_std_io2.specs.inner.{Iterators.{split_is_ended}, Faults.{HasFirstFault}, Kinds.{is_interruption}}
+use Rattle.std.{specs.{List.{list_all}, Str.{IsUtf8, IsAscii}, Prelude.{min}, Option.{IfSome}}, proofs.lemmas.Str.{IsUtf8-from_ascii}}
+use Rattle.tower_play.specs.{Script.{IsTextArgument}, declared.script.{Line.{Line}, Script.{Script}}, Lines.{Says, IsNoBad, IsGood}}
+use Rattle.tower_play.specs.Reading.{Adds, AddsAll, IsBadAt, IsBadLine, IsFirstBad, IsFreshScript, IsRead}
 use Rattle.io_bench.specs.{PieceRuns.{AllPieces, GathersPieces, RunsNexts}, Kinds.{kind_name}}
 use Rattle.io_bench.proofs.PieceRunLemmas.{run_gathers, split_next, split_takes}
 

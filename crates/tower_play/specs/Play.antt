@@ -1,8 +1,7 @@
 -- The calls of a play, and what it prints.
 use Rattle.std.specs.Prelude.{◌≡◌, ℕ, List, [], ◌++◌, Option, IfSome}
-use Rattle.no_std_io2.specs.{Writers.{Writer}, Moves.{WriterState, Moves, told_out}, Calls.{WriteCall}}
-use Rattle.no_std_io2.specs.{inner.BufWriter.{with_buffer, InnerCalls, LevelCalls}, inner.LineWriter.{LineCalls}, Events.{Event}}
-use Rattle.no_std_io2.specs.Pieces.{newline}
+use Rattle.no_std_io2.specs.{Writers.{Writer}, Moves.{WriterState, Moves, told_out}, Calls.{WriteCall}, inner.BufWriter.{with_buffer}}
+use Rattle.no_std_io2.specs.{inner.{BufWriter.{InnerCalls, LevelCalls}, LineWriter.{LineCalls}}, Events.{Event}, Pieces.{newline}}
 use Rattle.io_bench.specs.{declared.{faulty.{Act.{Act}, Faulty.{Faulty}}, runs.{Op.{Op}, Reply.{Reply}}}, Faulty.{with_acts, acts_left}}
 use Rattle.io_bench.specs.Runs.{Ran, RunBelow, RunLaw}
 use Rattle.tower_play.specs.declared.{playing.Shape.{Shape, TheVariants.{Buf, Line, BufBuf, LineBuf}}, script.Script.{Script}}

@@ -1,14 +1,8 @@
 // [`play`], which plays a script on a tower of buffered writers.
-ghost use Rattle.no_std_io2.specs.BufReader.{BufReaderFits};
-ghost use Rattle.std.specs.Prelude.{◌≡◌, ◌++◌, ◌⊎◌, Some, IfSome, IfOk, IfErr};
-ghost use Rattle.no_std_io2.specs.Errors.{IsOutOfMemory};
-ghost use Rattle.tower_play.specs.declared.playing.Fault.TheVariants.{Io};
-ghost use Rattle.no_std_io2.specs.Retries.{IsFaultOf};
-ghost use Rattle.no_std_io2.specs.Takes.{tells};
-ghost use Rattle.tower_play.specs.Faults.{fault_display, IfIo, IfLine};
-ghost use Rattle.no_std_io2.specs.Takes.{to_come};
+ghost use Rattle.no_std_io2.specs.{BufReader.{BufReaderFits}, Errors.{IsOutOfMemory}, Retries.{IsFaultOf}, Takes.{tells, to_come}};
 ghost use Rattle.no_std_io2.specs.Pieces.{newline};
-ghost use Rattle.tower_play.specs.Reading.{IsBadAt};
+ghost use Rattle.std.specs.Prelude.{◌≡◌, ◌++◌, ◌⊎◌, Some, IfSome, IfOk, IfErr};
+ghost use Rattle.tower_play.specs.{declared.playing.Fault.TheVariants.{Io}, Faults.{fault_display, IfIo, IfLine}, Reading.{IsBadAt}};
 ghost use Rattle.tower_play.specs.Play.{Shows, ShowsRun, IsPlay, WritesText};
 
 use crate::memory::{Refused, replies_of};

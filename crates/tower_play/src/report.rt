@@ -1,8 +1,7 @@
 // The text that `play` prints: a line for each reply, and then the bytes that are out and those
 // that are held.
 ghost use Rattle.std.specs.Prelude.{◌≡◌, ◌∷◌, [], ◌++◌, ℕ, codes, List, Some, IfSome, IfNone, OnOk, IfOk};
-ghost use Rattle.tower_play.specs.Script.{escaped, escaped_byte};
-ghost use Rattle.tower_play.specs.Report.{reply_line, printed_report};
+ghost use Rattle.tower_play.specs.{Script.{escaped, escaped_byte}, Report.{reply_line, printed_report}};
 
 use crate::memory::{Refused, push, push_shown};
 use io_bench::Reply;

@@ -1,20 +1,12 @@
 // The script of `play`: acts of the device, and then calls of a writer, one in each line.
-ghost use Rattle.std.specs.Prelude.{◌≡◌, ℕ, ◌+◌, ◌-◌, ◌≤◌, List, [], ◌∷◌, ◌++◌, take, drop, IfSome, IfNone, None, ◌<◌, OnOk, OnErr};
-ghost use Rattle.std.specs.Prelude.{IfOk, IfErr, length, vec_len, vec_capacity, true, false, ◌⊎◌};
-ghost use Rattle.no_std_io2.specs.Errors.{IsOutOfMemory};
-ghost use Rattle.no_std_io2.specs.inner.Faults.{HasFirstFault};
-ghost use Rattle.no_std_io2.specs.Takes.{tells};
-ghost use Rattle.no_std_io2.specs.inner.Iterators.{split_reader, split_delim, split_is_ended};
-ghost use Rattle.tower_play.specs.Faults.{IsNumbered, IfIo, IfLine};
-ghost use Rattle.no_std_io2.specs.declared.io.ErrorKind.{ErrorKind as Kind};
+ghost use Rattle.std.specs.Prelude.{◌≡◌, ℕ, ◌+◌, ◌-◌, ◌≤◌, List, [], ◌∷◌, ◌++◌, take, drop, IfSome, IfNone, None, ◌<◌, OnOk, OnErr, IfOk};
+ghost use Rattle.std.specs.Prelude.{IfErr, length, vec_len, vec_capacity, true, false, ◌⊎◌};
+ghost use Rattle.no_std_io2.specs.{Errors.{IsOutOfMemory}, inner.{Faults.{HasFirstFault}, Iterators.{split_reader, split_delim}}};
+ghost use Rattle.no_std_io2.specs.{inner.Iterators.{split_is_ended}, Takes.{tells, to_come}, declared.io.ErrorKind.{ErrorKind as Kind}};
+ghost use Rattle.tower_play.specs.{Faults.{IsNumbered, IfIo, IfLine}, Script.{IsCount, IsTextArgument, unescaped, IsAppended}};
+ghost use Rattle.tower_play.specs.{Calls.{IsNext, AreCalls, AddsText, IsFull}, Reading.{Adds, IsBadLine, IsRead, IsBadAt, LineLacksRoom}};
+ghost use Rattle.tower_play.specs.{declared.script.Line.{Line as Said, TheVariants.{Bad}}, Lines.{Says, IsGood, text_step}};
 ghost use Rattle.io_bench.specs.Kinds.{kind_name};
-ghost use Rattle.tower_play.specs.Script.{IsCount, IsTextArgument, unescaped, IsAppended};
-ghost use Rattle.tower_play.specs.Calls.{IsNext, AreCalls, AddsText, IsFull};
-ghost use Rattle.no_std_io2.specs.Takes.{to_come};
-ghost use Rattle.tower_play.specs.Reading.{Adds, IsBadLine, IsRead, IsBadAt, LineLacksRoom};
-ghost use Rattle.tower_play.specs.declared.script.Line.{Line as Said};
-ghost use Rattle.tower_play.specs.declared.script.Line.TheVariants.{Bad};
-ghost use Rattle.tower_play.specs.Lines.{Says, IsGood, text_step};
 
 use crate::memory::{Refused, reserve};
 use crate::playing::Fault;

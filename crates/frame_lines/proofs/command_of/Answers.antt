@@ -1,6 +1,5 @@
 -- The prover does not split an option into its cases: whether a word was there.
-use Rattle.no_std_io2.proofs.Words.{◌≡◌, true, [], ◌∷◌, ◌++◌, Option, Some, None, refl, ap, ◌∙◌, arith}
-use Rattle.no_std_io2.proofs.Words.{is_some}
+use Rattle.no_std_io2.proofs.Words.{◌≡◌, true, [], ◌∷◌, ◌++◌, Option, Some, None, refl, ap, ◌∙◌, arith, is_some}
 use Rattle.std.specs.{Option.{option_to_list}, Vec.Iter.{into_iter_items}}
 use Rattle.frame_lines.proofs.command_of.Goals as goal
 

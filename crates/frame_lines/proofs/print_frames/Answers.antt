@@ -1,7 +1,6 @@
 -- The prover does not find which frames were taken before the last `next`.
-use Rattle.no_std_io2.proofs.Words.{[], ◌∷◌, ◌++◌, List, ℕ, take, None, Result, Ok, Err, OnOk, inl, inr}
-use Rattle.no_std_io2.proofs.Words.{err_from_is_err_and, Reader, Writer}
-use Rattle.no_std_io2.specs.{declared.io.Error.{Error}, Writers.{FlushOf}}
+use Rattle.no_std_io2.proofs.Words.{[], ◌∷◌, ◌++◌, List, ℕ, take, None, Result, Ok, Err, OnOk, inl, inr, err_from_is_err_and, Reader}
+use Rattle.no_std_io2.{proofs.Words.{Writer}, specs.{declared.io.Error.{Error}, Writers.{FlushOf}}}
 use Rattle.framing.specs.{declared.reader.FrameReader.{FrameReader}, Taking.{TakesFrame}}
 use Rattle.line_log.specs.{declared.LineLog.{LineLog}, Log.{log_writer}}
 use Rattle.frame_lines.specs.Printing.{no_frame, and_frame, PrintEnds, PrintsEach, PrintsFrames, log_buffer}

@@ -1,7 +1,6 @@
 -- Frames were taken, and a line was printed for each.
-use Rattle.no_std_io2.proofs.Words.{List, ℕ}
+use Rattle.no_std_io2.proofs.{Words.{List, ℕ}, TakesLemmas.{reader}}
 use Rattle.std.proofs.Common.{replicate}
-use Rattle.no_std_io2.proofs.TakesLemmas.{reader}
 use Rattle.framing.specs.Taking.{frame_turns}
 use Rattle.frame_lines.specs.Printing.{PrintsEach}
 use Rattle.frame_lines.proofs.print_frames.Given as goal

@@ -1,8 +1,6 @@
 //! The header of a frame, and the errors of a reader of frames.
-ghost use Rattle.std.specs.Prelude.{◌≡◌, ◌<◌, ◌≤◌, ◌^◌, length};
-ghost use Rattle.std.specs.Int.{w32, to_le_bytes, from_le_bytes};
-ghost use Rattle.framing.specs.Frames.{HasHeader, SaysEnded};
-ghost use Rattle.framing.specs.Taking.{SaysNoRoom};
+ghost use Rattle.std.specs.{Prelude.{◌≡◌, ◌<◌, ◌≤◌, ◌^◌, length}, Int.{w32, to_le_bytes, from_le_bytes}};
+ghost use Rattle.framing.specs.{Frames.{HasHeader, SaysEnded}, Taking.{SaysNoRoom}};
 
 use no_std_io2::io::{Error, ErrorKind};
 

@@ -1,12 +1,11 @@
 -- The prover does not find that arguments were found.
 use Rattle.no_std_io2.proofs.Words.{◌≡◌, ◌≢◌, List, Option, Some, None, Result, Ok, Err, IfOk, IfErr, subst}
-use Rattle.std.proofs.Common.{IfSome, IfNone, String}
-use Rattle.std.specs.Global.{Global}
+use Rattle.no_std_io2.specs.declared.io.Error.{Error}
+use Rattle.std.{proofs.Common.{IfSome, IfNone, String}, specs.Global.{Global}}
+use Rattle.iotower.specs.{declared.Command.{Command}, Words.{NamesCommand, AsksOf}}
 use Rattle.std.specs.IoError as Io
 use Rattle.std.specs.declared.io.Error as Std
 use Rattle.std.specs.declared.io.ErrorKind.TheVariants as kind
-use Rattle.no_std_io2.specs.{declared.io.Error.{Error}}
-use Rattle.iotower.specs.{declared.Command.{Command}, Words.{NamesCommand, AsksOf}}
 use Rattle.iotower.proofs.asked.Goals as goal
 
 -- `arguments` returned this

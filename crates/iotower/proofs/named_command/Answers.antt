@@ -1,7 +1,6 @@
 -- The prover does not join the two words and the command that they name.
 use Rattle.no_std_io2.proofs.Words.{◌≡◌, List, Option, Some, None}
-use Rattle.std.proofs.Common.{IfSome, String, string_bytes}
-use Rattle.std.specs.Global.{Global}
+use Rattle.std.{proofs.Common.{IfSome, String, string_bytes}, specs.Global.{Global}}
 use Rattle.iotower.specs.{declared.Command.{Command}, Words.{AreWords, NamesCommand, verb_of, mode_of}}
 use Rattle.iotower.proofs.named_command.Goals as goal
 

@@ -1,6 +1,5 @@
 -- What the engine wrote is the whole encoding; the search does not split into the cases of its length.
-use Rattle.base64.specs.GeneralPurpose.{encode_of}
-use Rattle.base64.proofs.EngineFacts.{encoded_prefix}
+use Rattle.base64.{specs.GeneralPurpose.{encode_of}, proofs.EngineFacts.{encoded_prefix}}
 use Rattle.base64_stream.proofs.encoder.encode_bytes.Goals as goal
 
 pub returns-clause-text : goal.returns-clause-text

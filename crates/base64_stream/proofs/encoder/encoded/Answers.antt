@@ -1,10 +1,9 @@
 -- The vector has what the encoder was to have passed on, which is the encoding of what was written.
-use Rattle.no_std_io2.proofs.Words.{◌≡◌, ℕ, [], ◌++◌, Vec, sym, ap, subst, ◌∙◌, append-nil, WriterState, told_out}
+use Rattle.no_std_io2.proofs.{Words.{◌≡◌, ℕ, [], ◌++◌, Vec, sym, ap, subst, ◌∙◌, append-nil, WriterState, told_out}, CallsLemmas.{law_may}}
+use Rattle.no_std_io2.proofs.CallsAdd.{all_adds}
 use Rattle.std.proofs.Common.{Global}
 use Rattle.base64.specs.GeneralPurpose.{encode_of}
-use Rattle.base64_stream.specs.Encoder.{Encodes64, encoder_engine, encoder_inner}
-use Rattle.no_std_io2.proofs.{CallsLemmas.{law_may}, CallsAdd.{all_adds}}
-use Rattle.base64_stream.proofs.EncoderLemmas.{encodes64_join, starts}
+use Rattle.base64_stream.{specs.Encoder.{Encodes64, encoder_engine, encoder_inner}, proofs.EncoderLemmas.{encodes64_join, starts}}
 use Rattle.base64_stream.proofs.encoder.encoded.Goals as goal
 
 pub returns-in-Ok : goal.returns-in-Ok

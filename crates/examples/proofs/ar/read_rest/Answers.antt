@@ -1,10 +1,7 @@
 -- What the calls did to the entry, they did to the reader of its content, and each of them keeps the rest.
-use Rattle.no_std_io2.proofs.Words.{refl, sym, ap, subst}
-use Rattle.no_std_io2.proofs.{Forwards.{drained_through, calls_keep}, LimitLemmas.{limit_to_end}}
-use Rattle.no_std_io2.specs.Calls.{PartMay}
-use Rattle.no_std_io2.specs.declared.io.Take.{Take}
-use Rattle.examples.specs.Ar.{head_read}
-use Rattle.examples.specs.declared.ar.Entry.{Entry}
+use Rattle.no_std_io2.proofs.{Words.{refl, sym, ap, subst}, Forwards.{drained_through, calls_keep}, LimitLemmas.{limit_to_end}}
+use Rattle.no_std_io2.specs.{Calls.{PartMay}, declared.io.Take.{Take}}
+use Rattle.examples.specs.{Ar.{head_read}, declared.ar.Entry.{Entry}}
 use Rattle.examples.proofs.ar.read_rest.Goals as goal
 
 -- the reader of an entry's content

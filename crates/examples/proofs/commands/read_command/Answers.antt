@@ -1,6 +1,5 @@
 -- A known command comes back by `until_known`, a lemma that the search does not have.
-use Rattle.no_std_io2.proofs.Words.{Ok, Err, ap, ◌∙◌, ◌++◌, ◌∷◌, [], returned_err}
-use Rattle.no_std_io2.proofs.KnownPieces.{until_known}
+use Rattle.no_std_io2.proofs.{Words.{Ok, Err, ap, ◌∙◌, ◌++◌, ◌∷◌, [], returned_err}, KnownPieces.{until_known}}
 use Rattle.examples.proofs.commands.read_command.Goals as goal
 
 pub returns-in_err-read_until-clause-back : goal.returns-in_err-read_until-clause-back

@@ -1,7 +1,6 @@
 -- The seeks and the read are joined by `stands_at`, a lemma that the search does not have.
-use Rattle.no_std_io2.proofs.Words.{◌≡◌, subst, ◌++◌, IsSomeAnd}
+use Rattle.no_std_io2.proofs.{Words.{◌≡◌, subst, ◌++◌, IsSomeAnd}, KnownBytes.{stands_at}}
 use Rattle.std.specs.Prelude.{IfSome}
-use Rattle.no_std_io2.proofs.KnownBytes.{stands_at}
 use Rattle.examples.proofs.commands.read_whole.Goals as goal
 
 pub returns : goal.returns

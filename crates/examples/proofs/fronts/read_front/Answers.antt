@@ -1,7 +1,6 @@
 -- The `Take` still holds the same reference, as the calls of a reference keep it, so the reader goes on where the `Take`
 -- stopped. The search does not see that.
-use Rattle.no_std_io2.proofs.Words.{◌∙◌, ap, sym}
-use Rattle.no_std_io2.proofs.{KnownBytes.{limit_known}, LimitLemmas.{limit_keeps}, Forwards.{calls_keep, keeps_name}}
+use Rattle.no_std_io2.proofs.{Words.{◌∙◌, ap, sym}, KnownBytes.{limit_known}, LimitLemmas.{limit_keeps}, Forwards.{calls_keep, keeps_name}}
 use Rattle.no_std_io2.specs.inner.Take.{limit_inner}
 use Rattle.std.proofs.Common.{MutBor}
 use Rattle.examples.proofs.fronts.read_front.Goals as goal

@@ -1,7 +1,6 @@
 -- A line more, or an error, is joined to the lines so far by a lemma, which the search does not try.
-use Rattle.no_std_io2.proofs.Words.{Ok, Err, refl, inl, inr, rules, returned_err}
+use Rattle.no_std_io2.proofs.{Words.{Ok, Err, refl, inl, inr, rules, returned_err}, GivenPieces.{piece_alone}}
 use Rattle.std.proofs.Common.{tests}
-use Rattle.no_std_io2.proofs.GivenPieces.{piece_alone}
 use Rattle.examples.proofs.LineLoops.{passed_none, passed_more, passed_all, passed_wanted, stops_writing, stops_at_part}
 use Rattle.examples.proofs.heads.head.Goals as goal
 

@@ -1,6 +1,5 @@
 -- What a `fill_buf` did is known only when its borrow ends, and each path joins that with the records so far.
-use Rattle.no_std_io2.proofs.Words.{sym, ◌∙◌, returned_err}
-use Rattle.no_std_io2.proofs.{TextLemmas.{is_empty, not_empty}, PieceLoops.{filled_law}}
+use Rattle.no_std_io2.proofs.{Words.{sym, ◌∙◌, returned_err}, TextLemmas.{is_empty, not_empty}, PieceLoops.{filled_law}}
 use Rattle.examples.proofs.RecordLemmas.{records_none, records_waited, records_end, records_fault, records_more, records_cut}
 use Rattle.examples.proofs.lengths.pass_records.Goals as goal
 

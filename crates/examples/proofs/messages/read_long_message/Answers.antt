@@ -1,12 +1,10 @@
 -- The bytes of the length and those of the payload are joined to one message; a known message comes back, and a cut one is told.
 use Rattle.no_std_io2.proofs.Words.{◌≡◌, ◌<◌, ◌^◌, ◌++◌, length, Some, Ok, Err, sym, ap, ◌∙◌, subst, arith, inr, tells, returned_err}
-use Rattle.std.specs.Int.{w32, to_be_bytes}
+use Rattle.no_std_io2.proofs.{TakesLemmas.{reader, Took-then, events_of-append}, KnownBytes.{at_most_known, at_most_short, at_most_takes}}
 use Rattle.no_std_io2.specs.Reads.{TakesBytes}
-use Rattle.no_std_io2.proofs.TakesLemmas.{reader, Took-then, events_of-append}
-use Rattle.no_std_io2.proofs.KnownBytes.{at_most_known, at_most_short, at_most_takes}
+use Rattle.std.specs.Int.{w32, to_be_bytes}
 use Rattle.numbers.proofs.SpelledLemmas.{takes_big}
-use Rattle.examples.specs.Messages.{long_message}
-use Rattle.examples.proofs.RecordLemmas.{long_parts}
+use Rattle.examples.{specs.Messages.{long_message}, proofs.RecordLemmas.{long_parts}}
 use Rattle.examples.proofs.messages.read_long_message.Goals as goal
 
 -- the length is known, so it is read

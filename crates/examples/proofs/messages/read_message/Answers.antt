@@ -1,12 +1,10 @@
 -- The bytes of the two reads are joined to one message, and a known message comes back; the search has no lemma for either.
-use Rattle.no_std_io2.proofs.Words.{◌≡◌, ◌<◌, ◌^◌, ◌++◌, length, take, drop, Some, sym, ap, ◌∙◌, subst, arith, true≢false}
-use Rattle.no_std_io2.proofs.Words.{take-append_seam, tells}
-use Rattle.std.specs.Int.{w16, to_be_bytes}
+use Rattle.no_std_io2.proofs.Words.{◌≡◌, ◌<◌, ◌^◌, ◌++◌, length, take, drop, Some, sym, ap, ◌∙◌, subst, arith, true≢false, take-append_seam}
+use Rattle.no_std_io2.proofs.{Words.{tells}, TakesLemmas.{reader, Took-then, TakesBytes-fills}, KnownBytes.{exact_known}}
 use Rattle.no_std_io2.specs.Reads.{TakesBytes}
-use Rattle.no_std_io2.proofs.{TakesLemmas.{reader, Took-then, TakesBytes-fills}, KnownBytes.{exact_known}}
+use Rattle.std.specs.Int.{w16, to_be_bytes}
 use Rattle.numbers.proofs.SpelledLemmas.{takes_big}
-use Rattle.examples.specs.Messages.{message}
-use Rattle.examples.proofs.RecordLemmas.{message_parts}
+use Rattle.examples.{specs.Messages.{message}, proofs.RecordLemmas.{message_parts}}
 use Rattle.examples.proofs.messages.read_message.Goals as goal
 
 -- the length is known, so it is read

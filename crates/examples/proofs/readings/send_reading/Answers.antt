@@ -1,6 +1,5 @@
 -- `line` joins two calls by a lemma that the search does not try.
-use Rattle.no_std_io2.proofs.Words.{inl}
-use Rattle.no_std_io2.proofs.TextLemmas.{MovesFront-text_flush}
+use Rattle.no_std_io2.proofs.{Words.{inl}, TextLemmas.{MovesFront-text_flush}}
 use Rattle.examples.proofs.readings.send_reading.Goals as goal
 
 pub returns : goal.returns

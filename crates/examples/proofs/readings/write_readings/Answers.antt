@@ -1,6 +1,5 @@
 -- One line more, or an error inside a line, is joined to the lines before by a lemma, which the search does not try.
-use Rattle.no_std_io2.proofs.Words.{inl, inr, ⊎_elim, returned_err}
-use Rattle.no_std_io2.proofs.MovesLemmas.{MovesFront-next, MovesFront-stop}
+use Rattle.no_std_io2.proofs.{Words.{inl, inr, ⊎_elim, returned_err}, MovesLemmas.{MovesFront-next, MovesFront-stop}}
 use Rattle.examples.specs.Readings.{reading}
 use Rattle.examples.proofs.readings.write_readings.Goals as goal
 

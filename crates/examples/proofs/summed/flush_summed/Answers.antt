@@ -1,6 +1,5 @@
 -- The calls of the buffer add what is held no more.
-use Rattle.no_std_io2.proofs.CallsLemmas.{law_may}
-use Rattle.no_std_io2.proofs.BufWriterLemmas.{flush_adds}
+use Rattle.no_std_io2.proofs.{CallsLemmas.{law_may}, BufWriterLemmas.{flush_adds}}
 use Rattle.examples.proofs.SumLemmas.{sums_join}
 use Rattle.examples.proofs.summed.flush_summed.Goals as goal
 

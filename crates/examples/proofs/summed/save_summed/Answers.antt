@@ -2,8 +2,7 @@
 use Rattle.std.proofs.Common.{◌%◌, ◌^◌}
 use Rattle.no_std_io2.proofs.{Words.{ap, ◌∙◌}, BufWriterLemmas.{buffered_all_adds, flush_adds}, CallsLemmas.{law_may}}
 use Rattle.no_std_io2.specs.BufWriter.{writer_inner}
-use Rattle.examples.specs.Summed.{summed_sum}
-use Rattle.examples.proofs.SumLemmas.{sums_join, sums_sent, same_sum}
+use Rattle.examples.{specs.Summed.{summed_sum}, proofs.SumLemmas.{sums_join, sums_sent, same_sum}}
 use Rattle.examples.proofs.summed.save_summed.Goals as goal
 
 pub returns-in-Ok-clause-summed : goal.returns-in-Ok-clause-summed

@@ -1,6 +1,5 @@
 -- The calls of the trait's loop add what they accepted.
-use Rattle.no_std_io2.proofs.CallsLemmas.{law_may}
-use Rattle.no_std_io2.proofs.CallsAdd.{writes_add}
+use Rattle.no_std_io2.proofs.{CallsLemmas.{law_may}, CallsAdd.{writes_add}}
 use Rattle.examples.proofs.SumLemmas.{sums_join}
 use Rattle.examples.proofs.summed.write_summed.Goals as goal
 

@@ -1,8 +1,6 @@
 -- One row more, or an error inside a row, is joined to the rows before by a lemma, which the search does not try.
-use Rattle.no_std_io2.proofs.Words.{rules, refl, returned_err}
-use Rattle.no_std_io2.proofs.MovesLemmas.{Moves-refl}
-use Rattle.examples.specs.Tables.{no_row}
-use Rattle.examples.proofs.TableLemmas.{row_more, row_printed, row_refused, row_stops}
+use Rattle.no_std_io2.proofs.{Words.{rules, refl, returned_err}, MovesLemmas.{Moves-refl}}
+use Rattle.examples.{specs.Tables.{no_row}, proofs.TableLemmas.{row_more, row_printed, row_refused, row_stops}}
 use Rattle.examples.proofs.tables.print_table.Goals as goal
 
 pub rows-init : goal.rows-init

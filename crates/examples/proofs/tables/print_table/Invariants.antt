@@ -1,6 +1,5 @@
 -- The rows so far were accepted, each by one call.
-use Rattle.no_std_io2.proofs.Words.{[], take, Moves}
-use Rattle.no_std_io2.specs.inner.Writers.{OfObject}
+use Rattle.no_std_io2.{proofs.Words.{[], take, Moves}, specs.inner.Writers.{OfObject}}
 use Rattle.examples.specs.Tables.{ArePrinted, table}
 use Rattle.examples.proofs.tables.print_table.Given as goal
 

@@ -1,7 +1,6 @@
 -- The prover does not find the step of the buffer, whose error is ignored (`log_goes`), nor that a text has no newline.
-use Rattle.no_std_io2.proofs.Words.{refl, le_refl, inl, inr, arith, common_steps, returned_err, newline}
+use Rattle.no_std_io2.proofs.{Words.{refl, le_refl, inl, inr, arith, common_steps, returned_err, newline}, LineLemmas.{contains_lacks}}
 use Rattle.std.proofs.Common.{Contains}
-use Rattle.no_std_io2.proofs.LineLemmas.{contains_lacks}
 use Rattle.line_log.proofs.LogLemmas.{log_stops, log_goes}
 use Rattle.line_log.proofs.LineLog.log_bytes.Goals as goal
 

@@ -1,7 +1,6 @@
 -- The prover does not find that a text without an error was printed whole (`page_has`).
 use Rattle.no_std_io2.proofs.{Words.{inl, sym, ◌∙◌}, TextLemmas.{when_ok, page_has}}
-use Rattle.line_log.specs.Text.{IsPrinted}
-use Rattle.line_log.proofs.TextLemmas.{true_or}
+use Rattle.line_log.{specs.Text.{IsPrinted}, proofs.TextLemmas.{true_or}}
 use Rattle.line_log.proofs.text.print_text.Goals as goal
 
 pub returns : goal.returns

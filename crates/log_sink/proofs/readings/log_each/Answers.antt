@@ -1,9 +1,7 @@
 -- One reading more; the search does not join it to those before.
 use Rattle.no_std_io2.proofs.Words.{◌≡◌, sym, subst, rules, true, false, inl, inr}
-use Rattle.std.proofs.Common.{get_or}
-use Rattle.std.proofs.lemmas.List.{take_more}
-use Rattle.log_sink.specs.Readings.{LogsReadings}
-use Rattle.log_sink.proofs.EachLemmas.{each_none, each_more, kept_count}
+use Rattle.std.proofs.{Common.{get_or}, lemmas.List.{take_more}}
+use Rattle.log_sink.{specs.Readings.{LogsReadings}, proofs.EachLemmas.{each_none, each_more, kept_count}}
 use Rattle.log_sink.proofs.readings.log_each.Goals.{then-not-is_logged, else-not-is_logged}
 use Rattle.log_sink.proofs.readings.log_each.Goals as goal
 

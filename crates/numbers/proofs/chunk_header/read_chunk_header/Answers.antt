@@ -1,6 +1,5 @@
 -- Of a header that is known to come both numbers are read, also where an error would be returned.
-use Rattle.no_std_io2.proofs.Words.{Ok, Some, ap, ap₂, ◌∙◌, ◌≡◌, inl, inr, refl, returned_err}
-use Rattle.no_std_io2.proofs.TakesLemmas.{Took-then}
+use Rattle.no_std_io2.proofs.{Words.{Ok, Some, ap, ap₂, ◌∙◌, ◌≡◌, inl, inr, refl, returned_err}, TakesLemmas.{Took-then}}
 use Rattle.numbers.proofs.{ChunkLemmas.{header_parts}, SpelledLemmas.{takes_big}}
 use Rattle.numbers.proofs.chunk_header.read_chunk_header.Goals as goal
 

@@ -1,9 +1,7 @@
 -- The bytes of both numbers were taken; the search does not join them, and does not see that a signed number is returned as it is.
-use Rattle.no_std_io2.proofs.Words.{rules, to_z-of_z, inl, inr, refl, returned_err}
-use Rattle.no_std_io2.proofs.TakesLemmas.{Took-then}
-use Rattle.std.proofs.Common.{FitsSigned}
+use Rattle.no_std_io2.proofs.{Words.{rules, to_z-of_z, inl, inr, refl, returned_err}, TakesLemmas.{Took-then}}
+use Rattle.std.{proofs.Common.{FitsSigned}, specs.Int.{w16}}
 use Rattle.byteorder.specs.Endian.{big_bytes, big_number}
-use Rattle.std.specs.Int.{w16}
 use Rattle.numbers.proofs.SpelledLemmas.{big_spells, takes_byte, takes_signed}
 use Rattle.numbers.proofs.chunk_header.read_step.Goals as goal
 

@@ -1,8 +1,7 @@
 -- The value of the last bytes, and of one more; the search does not join them.
 use Rattle.no_std_io2.proofs.Words.{◌≡◌, ◌+◌, ◌-◌, ◌∙◌, drop, sym, ap, arith, length}
 use Rattle.std.proofs.lemmas.List.{drop_all}
-use Rattle.numbers.specs.Varint.{varint_value}
-use Rattle.numbers.proofs.VarintLemmas.{value_more, value_past}
+use Rattle.numbers.{specs.Varint.{varint_value}, proofs.VarintLemmas.{value_more, value_past}}
 use Rattle.numbers.proofs.varint.value_of.Goals as goal
 
 pub bytes-init : goal.bytes-init

@@ -1,8 +1,7 @@
 -- The search does not find that all was read which the decoder had left.
 use Rattle.std.proofs.Common.{ap, ◌∙◌, option_and_then}
 use Rattle.base64.specs.{Engines.{standard}, GeneralPurpose.{decoded_of}}
-use Rattle.no_std_io2.proofs.TakesLemmas.{reader}
-use Rattle.no_std_io2.specs.Takes.{tells}
+use Rattle.no_std_io2.{proofs.TakesLemmas.{reader}, specs.Takes.{tells}}
 use Rattle.system_streams.specs.ToStd.{bytes_to_come}
 use Rattle.tests.proofs.TextLemmas.{read_decoded}
 use Rattle.tests.proofs.texts.read_encoded.Goals as goal

@@ -1,6 +1,5 @@
 -- The search does not find that the writer has kept what the encoder was to have written.
-use Rattle.std.proofs.Common.{◌++◌, [], ap, ap₂, ◌∙◌, append-nil}
-use Rattle.std.proofs.lemmas.Option.{same_Some}
+use Rattle.std.proofs.{Common.{◌++◌, [], ap, ap₂, ◌∙◌, append-nil}, lemmas.Option.{same_Some}}
 use Rattle.base64.specs.{Engines.{standard}, GeneralPurpose.{encode_of}}
 use Rattle.system_streams.specs.ToStd.{accepted_so_far}
 use Rattle.tests.proofs.texts.write_encoded.Goals as goal

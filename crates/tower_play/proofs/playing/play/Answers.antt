@@ -1,8 +1,7 @@
 -- The prover does not find the run that was shown (`shows_at`), nor how a failed write ended (`write_failed`, `flush_failed`).
 use Rattle.no_std_io2.proofs.{Words.{subst, inl, inr, err_from_is_err_and, to_come, tells, newline}, TakesLemmas.{reader}}
 use Rattle.std.proofs.Common.{IfSome}
-use Rattle.tower_play.specs.{Play.{IsPlay}, Reading.{IsRead}}
-use Rattle.tower_play.proofs.PlayLemmas.{shows_at, writes_text, write_failed, flush_failed}
+use Rattle.tower_play.{specs.{Play.{IsPlay}, Reading.{IsRead}}, proofs.PlayLemmas.{shows_at, writes_text, write_failed, flush_failed}}
 use Rattle.tower_play.proofs.playing.play.Goals as goal
 
 pub returns : goal.returns

@@ -1,9 +1,8 @@
 -- A fault came, or the end, or groups that are refused or decoded; the search does not find what each gives.
 use Rattle.no_std_io2.proofs.Words.{◌≡◌, None, length, drop, min, ap, sym, refl, ◌∙◌, arith, common_steps, returned_err}
-use Rattle.no_std_io2.proofs.TakesLemmas.{reader}
+use Rattle.no_std_io2.{proofs.TakesLemmas.{reader}, specs.declared.io.{Error.{Error}, ErrorKind.{ErrorKind, TheVariants.{InvalidData}}}}
+use Rattle.no_std_io2.specs.{Errors.{error_kind}, inner.Kinds.{error_of, error_text}}
 use Rattle.base64_stream.specs.{declared.decoder.DecoderReader.{DecoderReader}, Decoder.{decoder_text}, Held.{text_items}}
-use Rattle.no_std_io2.specs.{declared.io.{Error.{Error}, ErrorKind.{ErrorKind, TheVariants.{InvalidData}}}, Errors.{error_kind}}
-use Rattle.no_std_io2.specs.inner.Kinds.{error_of, error_text}
 use Rattle.base64_stream.proofs.DecoderLemmas.{AreGroups, refill_ends, refill_fails, refill_gives, refill_refuses, still_gathered}
 use Rattle.base64_stream.proofs.decoder.DecoderReader.refill.Goals as goal
 

@@ -1,7 +1,6 @@
 -- The last group was put and then all was sent, or one of them failed; the search does not join the two.
 use Rattle.no_std_io2.proofs.Words.{[], refl, ◌∙◌, returned_err}
-use Rattle.base64_stream.specs.Finish.{group_stopped, text_flushed}
-use Rattle.base64_stream.proofs.EncoderLemmas.{adds_sent, last_keeps, finished_if}
+use Rattle.base64_stream.{specs.Finish.{group_stopped, text_flushed}, proofs.EncoderLemmas.{adds_sent, last_keeps, finished_if}}
 use Rattle.base64_stream.proofs.encoder.EncoderWriter.finish.Goals as goal
 
 pub returns-in_err-close-clause-keeps : goal.returns-in_err-close-clause-keeps

@@ -1,7 +1,6 @@
 -- The characters that were read so far are there. Each read spends a turn of the reader below.
 use Rattle.no_std_io2.proofs.TakesLemmas.{reader}
-use Rattle.base64_stream.specs.Held.{text_items}
-use Rattle.base64_stream.proofs.GatherLemmas.{GatheredSoFar}
+use Rattle.base64_stream.{specs.Held.{text_items}, proofs.GatherLemmas.{GatheredSoFar}}
 use Rattle.base64_stream.proofs.text.Text.gather.Given as goal
 
 abbrev pub invariant-reads : goal.invariant-reads

@@ -1,8 +1,6 @@
 -- The prover does not find how the content that is skipped and the bytes of the header follow each other (`skip_fails`, `reads_on`).
-use Rattle.no_std_io2.proofs.Words.{refl, rules, err_from_is_err_and}
-use Rattle.no_std_io2.specs.inner.Take.{limit_with_inner}
-use Rattle.examples.specs.declared.ar.Archive.{Archive}
-use Rattle.examples.proofs.ArLemmas.{skip_fails, reads_on}
+use Rattle.no_std_io2.{proofs.Words.{refl, rules, err_from_is_err_and}, specs.inner.Take.{limit_with_inner}}
+use Rattle.examples.{specs.declared.ar.Archive.{Archive}, proofs.ArLemmas.{skip_fails, reads_on}}
 use Rattle.examples.proofs.ar.Archive.reach_header.Goals as goal
 
 pub returns-in_err-reply : goal.returns-in_err-reply

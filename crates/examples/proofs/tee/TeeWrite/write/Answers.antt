@@ -1,12 +1,9 @@
 -- Room was made in the second, the first took some bytes, and the second takes these; the search does not join the three.
-use Rattle.std.proofs.Common.{◌≤◌, ◌<◌, ◌+◌, length, take, refl, arith, subst}
-use Rattle.std.specs.Prelude.{Result, IsOk}
-use Rattle.no_std_io2.specs.declared.io.Error.{Error}
-use Rattle.no_std_io2.proofs.{Words.{returned_err}, MovesLemmas.{MovesFront-whole}}
-use Rattle.no_std_io2.specs.BufWriter.{writer_buffer}
-use Rattle.std.proofs.lemmas.List.{length-take}
-use Rattle.examples.proofs.tee.TeeWrite.write.Goals as goal
+use Rattle.std.{proofs.{Common.{◌≤◌, ◌<◌, ◌+◌, length, take, refl, arith, subst}, lemmas.List.{length-take}}, specs.Prelude.{Result, IsOk}}
+use Rattle.no_std_io2.{specs.{declared.io.Error.{Error}, BufWriter.{writer_buffer}}, proofs.Words.{returned_err}}
+use Rattle.no_std_io2.proofs.MovesLemmas.{MovesFront-whole}
 use Rattle.examples.proofs.TeeLemmas.{tee_wrote, tee_full}
+use Rattle.examples.proofs.tee.TeeWrite.write.Goals as goal
 
 pub returns-in_err-make_room : goal.returns-in_err-make_room
 returns-in_err-make_room g c = record {

@@ -1,8 +1,7 @@
 -- The prover does not find that the held bytes are the frame and what follows it (`take-append_seam`).
 use Rattle.no_std_io2.proofs.Words.{◌≡◌, ◌≤◌, ◌+◌, ◌-◌, ◌++◌, length, length-append, length-take, length-drop, take, drop, ap, ◌∙◌, arith}
 use Rattle.no_std_io2.proofs.Words.{sym, take-append_seam, reader_held}
-use Rattle.framing.specs.{Frames.{frame}, Places.{long_part}}
-use Rattle.framing.proofs.SeenLemmas.{seen_between, short_given}
+use Rattle.framing.{specs.{Frames.{frame}, Places.{long_part}}, proofs.SeenLemmas.{seen_between, short_given}}
 use Rattle.framing.proofs.reader.FrameReader.give.Goals as goal
 
 pub returns-clause-gives : goal.returns-clause-gives

@@ -1,7 +1,6 @@
 -- The prover does not find the account of a call, whose reads are for the payload (`sees_payload`).
 use Rattle.no_std_io2.proofs.Words.{◌≤◌, Ok, Some, length, refl, inr, arith, err_from_is_err_and}
-use Rattle.framing.specs.Taking.{seen_bytes}
-use Rattle.framing.proofs.SeenLemmas.{seen_header, seen_whole, facts_inside}
+use Rattle.framing.{specs.Taking.{seen_bytes}, proofs.SeenLemmas.{seen_header, seen_whole, facts_inside}}
 use Rattle.framing.proofs.TakingLemmas.{sees_payload, takes, takes_none, takes_fault, takes_end}
 use Rattle.framing.proofs.reader.FrameReader.take_long.Goals as goal
 

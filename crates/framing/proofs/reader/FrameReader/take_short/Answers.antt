@@ -1,7 +1,6 @@
 -- The prover does not find the account of a call, whose reads are for the payload (`sees_payload`).
 use Rattle.no_std_io2.proofs.Words.{◌≤◌, Ok, Some, length, refl, inl, arith, returned_err}
-use Rattle.framing.specs.Taking.{seen_bytes}
-use Rattle.framing.proofs.SeenLemmas.{held_header, held_seen}
+use Rattle.framing.{specs.Taking.{seen_bytes}, proofs.SeenLemmas.{held_header, held_seen}}
 use Rattle.framing.proofs.TakingLemmas.{sees_payload, takes, takes_none, takes_fault, takes_end, header_after}
 use Rattle.framing.proofs.reader.FrameReader.take_short.Goals as goal
 

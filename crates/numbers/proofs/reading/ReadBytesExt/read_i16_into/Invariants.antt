@@ -1,8 +1,7 @@
 -- The numbers so far.
 use Rattle.no_std_io2.proofs.TakesLemmas.{reader}
 use Rattle.std.specs.Int.{w16}
-use Rattle.numbers.specs.Numbers.{signed_by}
-use Rattle.numbers.proofs.NumberLemmas.{ReadSoFar}
+use Rattle.numbers.{specs.Numbers.{signed_by}, proofs.NumberLemmas.{ReadSoFar}}
 use Rattle.numbers.proofs.reading.ReadBytesExt.read_i16_into.Given as goal
 
 abbrev pub invariant-numbers : goal.invariant-numbers

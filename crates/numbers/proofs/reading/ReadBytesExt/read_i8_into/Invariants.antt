@@ -1,8 +1,7 @@
 -- The numbers so far.
 use Rattle.no_std_io2.proofs.TakesLemmas.{reader}
 use Rattle.std.specs.Int.{w8, cast_signed}
-use Rattle.numbers.specs.Numbers.{first_byte}
-use Rattle.numbers.proofs.NumberLemmas.{ReadSoFar}
+use Rattle.numbers.{specs.Numbers.{first_byte}, proofs.NumberLemmas.{ReadSoFar}}
 use Rattle.numbers.proofs.reading.ReadBytesExt.read_i8_into.Given as goal
 
 abbrev pub invariant-numbers : goal.invariant-numbers

@@ -1,10 +1,9 @@
 -- The prover does not find the lines that were read so far, nor which is the first bad one.
 use Rattle.no_std_io2.proofs.{Words.{◌≡◌, ◌∙◌, ap, subst, refl, [], Some, Ok, arith, err_from_is_err_and}, TakesLemmas.{reader}}
 use Rattle.std.proofs.Common.{not, vec_items}
-use Rattle.tower_play.specs.Reading.{Adds, IsBadLine}
-use Rattle.tower_play.proofs.ScriptLemmas.{is_none, read_after, read_all, read_bad, read_first, read_good, read_stops}
-use Rattle.tower_play.proofs.script.Script.read.Goals.{then-is_none+in_ok-add_line+then-not-branch, else-is_none}
-use Rattle.tower_play.proofs.script.Script.read.Goals.{else-is_none-via-then-is_none+in_ok-add_line+else-not-branch}
+use Rattle.tower_play.{specs.Reading.{Adds, IsBadLine}, proofs.ScriptLemmas.{is_none, read_after, read_all, read_bad, read_first}}
+use Rattle.tower_play.proofs.{ScriptLemmas.{read_good, read_stops}, script.Script.read.Goals.{then-is_none+in_ok-add_line+then-not-branch}}
+use Rattle.tower_play.proofs.script.Script.read.Goals.{else-is_none, else-is_none-via-then-is_none+in_ok-add_line+else-not-branch}
 use Rattle.tower_play.proofs.script.Script.read.Goals.{else-is_none-via-else-is_none}
 use Rattle.tower_play.proofs.script.Script.read.Goals as goal
 

@@ -1,7 +1,6 @@
 -- A bad line has a number of a line so far; if no line is bad, the lines so far made the script.
 use Rattle.no_std_io2.proofs.{Words.{ℕ, Vec, ◌<◌}, TakesLemmas.{reader}}
-use Rattle.std.specs.Option.{IfSome}
-use Rattle.std.proofs.Common.{Global, vec_items}
+use Rattle.std.{specs.Option.{IfSome}, proofs.Common.{Global, vec_items}}
 use Rattle.io_bench.proofs.PieceRunLemmas.{split_next}
 use Rattle.tower_play.proofs.ScriptLemmas.{ReadSoFar}
 use Rattle.tower_play.proofs.script.Script.read.Given as goal
