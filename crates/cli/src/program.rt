@@ -13,7 +13,7 @@ use std::process::ExitCode;
 use std::{env, io};
 
 /// The version of this library, and of the programs that come with it.
-pub const VERSION: &str = "1.0.0-dev";
+pub const VERSION: &str = "1.0.0";
 
 /// Answers the word `--help` by this text, and `--version` by the program's name and [`VERSION`], on standard output.
 /// Returns the status, which is 1 if standard output failed and else 0, or `None` if the word is another one; nothing
