@@ -1,4 +1,4 @@
-"""The sources of the crates, as check_pages, check_promises and check_rules look at them."""
+"""The sources of the crates, as check_pages and check_rules look at them."""
 import glob
 import os
 import re
