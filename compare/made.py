@@ -23,7 +23,9 @@ CRATES = {
 # Of each crate of Debian's packages its edition, a feature and what it uses. Clients are measured beside MEASURED.
 PEERS = {"byteorder": ("2018", "std"), "base64": ("2018", "std"), "libc": ("2015", "std"), "cfg_if": ("2018", ""),
          "filetime": ("2018", "", "libc", "cfg_if"), "tar": ("2018", "", "libc", "filetime"),
-         "log": ("2015", "std", "cfg_if")}
+         "log": ("2015", "std", "cfg_if"), "memchr": ("2018", "std"), "ar": ("2018", ""), "paste": ("2018", ""),
+         "num_traits": ("2015", "std"), "rmp": ("2018", "std", "byteorder", "num_traits", "paste"),
+         "unsigned_varint": ("2018", "std")}
 MEASURED = ("byteorder", "base64", "tar", "log")
 # Both sides are compiled for the processor that rt's libraries are for.
 OPTIMIZED = ["-C", "opt-level=3", "-C", "target-cpu=x86-64-v2"]
@@ -50,15 +52,16 @@ def sides(to):
         subprocess.run([f"{COMPARE}/dialect", f"{COMPARE}/calls", to, side], check=True)
 
 
-def repository(folder, *names):
-    """Makes a repository of these crates, which are of compare/ or of crates/, with those below them and all that is
-    proved of these."""
+def repository(folder, *names, left=("must-fail",)):
+    """Makes a repository of these crates, which are of compare/ or of crates/, with those below them, and all that is
+    proved of these if `out` is not left."""
     uses = kit.uses() | {name: CRATES[name][1] for name in names if name in CRATES}
     copied = kit.below([it for name in names for it in (name, *uses[name])])
     os.makedirs(f"{folder}/crates", exist_ok=True)
     shutil.copy(f"{TOP}/HANDLES", folder)
     for it in copied:
-        subprocess.run(["cp", "-a", f"{TOP}/crates/{it}", f"{folder}/crates/"], check=True)
+        ignored = shutil.ignore_patterns(*left)
+        shutil.copytree(f"{TOP}/crates/{it}", f"{folder}/crates/{it}", symlinks=True, ignore=ignored)
     for it in CRATES.keys() & {*names}:
         put(it, f"{folder}/crates/{it}")
     with open(f"{folder}/crates.txt", "w", encoding="utf-8") as file:
@@ -67,27 +70,37 @@ def repository(folder, *names):
             file.write(f"{it}{kind}: {' '.join(uses[it])}\n")
 
 
+def peer(name, to, *words):
+    """Compiles a crate of Debian's packages and those that it uses into a folder, and says whether its text is there. A
+    package that is missing is installed if that can be."""
+    edition, feature, *uses = PEERS[name]
+    text = f"/usr/share/cargo/registry/{name.replace('_', '-')}-[0-9]*/src/lib.rs"
+    if not glob.glob(text):
+        package = f"librust-{name.replace('_', '-')}-dev"
+        subprocess.run(["apt-get", "install", "-y", "--no-install-recommends", package], stdin=subprocess.DEVNULL,
+                       stdout=subprocess.DEVNULL, stderr=subprocess.DEVNULL, check=False)
+    if not glob.glob(text) or not all([peer(it, to, *words) for it in uses]):
+        return False
+    flags = [word for it in uses for word in ("--extern", f"{it}={to}/lib{it}.{'so' if it == 'paste' else 'rlib'}")]
+    flags += ["--cfg", f'feature="{feature}"'] if feature else []
+    kind = "proc-macro" if name == "paste" else "rlib"
+    rlib("--crate-name", name, "--edition", edition, "-L", to, *words, *flags, glob.glob(text)[0], to=to, kind=kind)
+    return True
+
+
 def peers(to):
-    """Compiles the crates of Debian's packages into a folder, and gives the flags by which rustc finds them. A package
-    that is missing is installed if that can be; if not, its cfg is not set."""
+    """Compiles the crates beside which clients are measured into a folder, and gives the flags by which rustc finds
+    them. If the text of one is missing, its cfg is not set."""
     flags = ["-L", to, "--check-cfg", f"cfg({', '.join(MEASURED)})"]
-    for name, (edition, feature, *uses) in PEERS.items():
-        text = f"/usr/share/cargo/registry/{name.replace('_', '-')}-[0-9]*/src/lib.rs"
-        if not glob.glob(text):
-            package = f"librust-{name.replace('_', '-')}-dev"
-            subprocess.run(["apt-get", "install", "-y", "--no-install-recommends", package], stdin=subprocess.DEVNULL,
-                           stdout=subprocess.DEVNULL, stderr=subprocess.DEVNULL, check=False)
-        for root in glob.glob(text)[:1]:
-            words = ["--crate-name", name, *(["--cfg", f'feature="{feature}"'] if feature else [])]
-            words += [word for it in uses for word in ("--extern", f"{it}={to}/lib{it}.rlib")]
-            rlib("--edition", edition, *OPTIMIZED, "-L", to, *words, root, to=to)
-            flags += ["--cfg", name, "--extern", f"{name}={to}/lib{name}.rlib"] if name in MEASURED else []
+    for name in MEASURED:
+        if peer(name, to, *OPTIMIZED):
+            flags += ["--cfg", name, "--extern", f"{name}={to}/lib{name}.rlib"]
     return flags
 
 
-def rlib(*words, to, compiler=("rustc",)):
+def rlib(*words, to, kind="rlib"):
     """Compiles a crate of Rust into a folder."""
-    subprocess.run([*compiler, "--crate-type", "rlib", "--out-dir", to, "--cap-lints", "allow", *words], check=True)
+    subprocess.run(["rustc", "--crate-type", kind, "--out-dir", to, "--cap-lints", "allow", *words], check=True)
 
 
 def original(folder, to):

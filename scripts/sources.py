@@ -1,4 +1,4 @@
-"""The sources of the crates, as check_pages, check_promises and check_rules look at them."""
+"""The sources of the crates, as check_pages and check_rules look at them."""
 import glob
 import os
 import re
@@ -110,7 +110,7 @@ def clauses(code, logic):
     return known
 
 
-# ---- words, lemmas and imports
+# ---- words and lemmas
 
 def words(logic):
     """Each public word that specs/ defines, with its module and the words above it."""
@@ -199,20 +199,6 @@ def defined_twice(logic):
         for name, places in clashes(files).items():
             found.setdefault(name, set()).update(places)
     return {name: sorted(places) for name, places in sorted(found.items())}
-
-
-def unused(text):
-    """The names that the `ghost use` lines of a source import and that nothing else in it has."""
-    pattern = re.compile(r"^ *ghost use ([^;]+);", re.M)
-    rest = pattern.sub("", text)
-    for path in pattern.findall(text):
-        names = re.split("[{},]", path) if "{" in path else [path.rsplit(".", 1)[-1]]
-        for name in (name.split(" as ")[-1].strip() for name in names if name.strip() and not name.endswith(".")):
-            parts = [part for part in name.split("◌") if part] if "◌" in name else []
-            is_used = all(part in rest for part in parts) if parts else \
-                re.search(rf"(?<!\w){re.escape(name)}(?!\w)", rest)
-            if not is_used:
-                yield name
 
 
 # ---- lines

@@ -1,6 +1,6 @@
 //! The crates beside which the clients of this library are measured, over the streams of the standard library. A crate
 //! whose text is not there has no module here, and its cases are skipped.
-use super::std_side::*;
+pub use super::std_side::*;
 use crate::calls;
 use crate::cases::{FAILED, sample};
 use std::io::{BufReader, BufWriter, LineWriter, Read, Result, Write};
@@ -10,68 +10,6 @@ fn written<const N: usize>(calls: u64, write: impl Fn(&mut Vec<u8>) -> Result<()
     let mut content = Vec::with_capacity(N * calls as usize);
     if write(&mut content).is_err() { FAILED } else { sample(&content) }
 }
-
-#[cfg(byteorder)]
-mod numbers {
-    use super::*;
-    use byteorder::{BigEndian, LittleEndian, ReadBytesExt, WriteBytesExt};
-
-    fn read_mixed<R: Read>(r: &mut R) -> Result<u64> {
-        let a = u64::from(r.read_u8()?);
-        let b = u64::from(r.read_u16::<LittleEndian>()?);
-        let c = u64::from(r.read_u32::<BigEndian>()?);
-        let d = r.read_u64::<LittleEndian>()?;
-        Ok(a ^ b ^ c ^ d)
-    }
-
-    fn write_mixed<W: Write>(w: &mut W, n: u64) -> Result<()> {
-        let byte = n.to_le_bytes()[0];
-        w.write_u8(byte)?;
-        w.write_u16::<LittleEndian>(u16::from(byte))?;
-        w.write_u32::<BigEndian>(u32::from(byte))?;
-        w.write_u64::<LittleEndian>(n)
-    }
-
-    // The sum of so many numbers.
-    fn sum_of(calls: u64, mut next: impl FnMut() -> Result<u64>) -> u64 {
-        let mut sum = 0u64;
-        for _ in 0..calls {
-            match next() {
-                Ok(n) => sum = sum.wrapping_add(n),
-                Err(_) => return FAILED,
-            }
-        }
-        sum
-    }
-
-    calls! {
-        numbers_reader(source, room, calls) {
-            let mut r = BufReader::with_capacity(1024, source);
-            sum_of(calls, || read_mixed(&mut r))
-        }
-        numbers_into(source, room, calls) {
-            let mut r = BufReader::with_capacity(8192, source);
-            let mut numbers = [0u16; 64];
-            let len = (room.len() / 2).min(64);
-            sum_of(calls, || {
-                r.read_u16_into::<LittleEndian>(&mut numbers[..len])?;
-                Ok(u64::from(numbers[0]) ^ u64::from(numbers[3]))
-            })
-        }
-        numbers_vec(source, room, calls) {
-            written::<15>(calls, |content| (0..calls).try_for_each(|n| write_mixed(content, n)))
-        }
-        numbers_buf(source, room, calls) {
-            written::<15>(calls, |content| {
-                let mut w = BufWriter::with_capacity(1024, content);
-                (0..calls).try_for_each(|n| write_mixed(&mut w, n))?;
-                w.flush()
-            })
-        }
-    }
-}
-#[cfg(byteorder)]
-pub use numbers::*;
 
 #[cfg(base64)]
 mod texts {

@@ -1,6 +1,6 @@
 // Plays files of rows over Rust's std::io: the same answers of the device, the same calls, the same columns. It prints each row that
-// comes out otherwise, behind the streams of its table for which it does so alike, and for each file how many rows did not and how
-// many it has no stream or call for.
+// comes out otherwise, with what std has in brackets, behind the streams of its table for which it does so alike, and for each file
+// how many rows did not and how many it has no stream or call for.
 use std::{cell::RefCell, collections::VecDeque, env, fs, io, io::*, panic, rc::Rc};
 
 #[derive(Default)]
@@ -518,6 +518,11 @@ fn is_met(row: &str, got: &str) -> bool {
     let (row, got): (Vec<_>, Vec<_>) = (row.split(" | ").collect(), got.split(" | ").collect());
     row.len() == got.len() && row.iter().zip(got).all(|(row, got)| got == "?" || *row == got)
 }
+// A row, with what std has in the columns that differ.
+fn beside(row: &str, got: &str) -> String {
+    let both = |(row, got): (&str, &str)| if got == "?" || row == got { row.into() } else { format!("{row} [std: {got}]") };
+    row.split(" | ").zip(got.split(" | ")).map(both).collect::<Vec<_>>().join(" | ")
+}
 // Plays the rows of a group over a new stream.
 fn play_group<'a>(name: &'a str, group: &'a str) -> Vec<(&'a str, Option<String>)> {
     let (words, rows) = group.split_once('\n').unwrap();
@@ -545,7 +550,7 @@ fn main() {
                     let Some(got) = got else { left += 1; continue };
                     if is_met(row, &got) { same += 1; continue; }
                     differing += 1;
-                    let pair = format!("{row}\n    std: {got}");
+                    let pair = beside(row, &got);
                     match found.iter_mut().find(|it| it.0 == pair && !it.1.contains(&name)) {
                         Some(it) => it.1.push(name), None => found.push((pair, vec![name])) }
                 }

@@ -1,6 +1,5 @@
 //! The same programs over Rust's `std::io`, with its usual buffers; `list` and `extract`, which are `tar_list`'s two; and
 //! `cat`. `encode` and `decode` use the crate `base64`, and `make` the crate `tar`.
-use std::fmt::Write as _;
 use std::fs::File;
 use std::io::{self, BufRead, BufReader, BufWriter, Error, ErrorKind, Result, Write};
 use std::os::unix::fs::{MetadataExt as _, PermissionsExt as _};
@@ -11,14 +10,6 @@ fn lines(input: impl BufRead) -> Result<u64> {
     let mut sum = 0;
     for line in input.lines() {
         sum += line?.len() as u64;
-    }
-    Ok(sum)
-}
-
-fn split(input: impl BufRead) -> Result<u64> {
-    let mut sum = 0;
-    for piece in input.split(b'\n') {
-        sum += piece?.len() as u64;
     }
     Ok(sum)
 }
@@ -62,17 +53,6 @@ fn frames_out(mut output: impl Write) -> Result<u64> {
         payload[0] = at as u8;
         output.write_all(&(payload.len() as u32).to_le_bytes())?;
         output.write_all(&payload)?;
-    }
-    output.flush().map(|()| 0)
-}
-
-// Standard output is a `LineWriter`.
-fn log(mut output: impl Write) -> Result<u64> {
-    let mut line = String::new();
-    for at in 0..RECORDS {
-        line.clear();
-        let _ = writeln!(line, "{at} a line of a log, of some sixty bytes, with its number in front");
-        output.write_all(line.as_bytes())?;
     }
     output.flush().map(|()| 0)
 }
@@ -186,12 +166,10 @@ fn main() -> Result<()> {
     let stdout = || BufWriter::new(io::stdout().lock());
     let sum = match word {
         "lines" => lines(input)?,
-        "split" => split(input)?,
         "read_line" => read_line(input)?,
         "read_until" => read_until(input)?,
         "frames_in" => frames_in(input)?,
         "frames_out" => frames_out(stdout())?,
-        "log" => log(io::stdout().lock())?,
         "log_text" => log_text(io::stdout().lock())?,
         "cat" => cat(&words[2..], io::stdout().lock())?,
         #[cfg(base64)]

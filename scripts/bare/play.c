@@ -75,62 +75,31 @@ static void report(void)
     put_number(bare_report(&kept, &port, readings, count));
 }
 
+// What a call gave: how long it is, and the room.
+static void put_given(size_t len, size_t size)
+{
+    put_number(len);
+    put_hex(room, size);
+}
+
 static void play_line(void)
 {
     size_t size, len = 9999;
     put_char(*at);
     put_char(' ');
     switch (*at++) {
-    case 'r':
-        report();
-        break;
-    case 'l':
-        size = hex();
-        put_number(bare_log(&kept, &port, bytes, size));
-        break;
-    case 's':
-        put_number(bare_resume(&kept, &port));
-        break;
-    case 't':
-        size = clear();
-        put_number(bare_take(&port, room, size));
-        put_hex(room, size);
-        break;
-    case 'p':
-        size = hex();
-        put_number(bare_put(&inbox, bytes, size));
-        break;
-    case 'd':
-        size = clear();
-        put_number(bare_take(&inbox, room, size));
-        break;
-    case 'm':
-        size = clear();
-        put_number(bare_message(&inbox, room, size, &len));
-        put_number(len);
-        put_hex(room, size);
-        break;
-    case 'f':
-        size = hex();
-        put_number(bare_send(&kept, &port, bytes, size));
-        break;
-    case 'g':
-        size = clear();
-        put_number(bare_receive(&inbox, room, size, &len));
-        put_number(len);
-        put_hex(room, size);
-        break;
-    case 'k':
-        put_number(bare_skip(&inbox, &left));
-        put_number(left);
-        break;
-    case 'e':
-        put_number(bare_event(&kept, &port, number()));
-        break;
-    case 'c':
-        size = hex();
-        put_number(bare_copy(&kept, &port, bytes, size));
-        break;
+    case 'r': report(); break;
+    case 'l': put_number(bare_log(&kept, &port, bytes, hex())); break;
+    case 's': put_number(bare_resume(&kept, &port)); break;
+    case 't': put_number(bare_take(&port, room, size = clear())); put_hex(room, size); break;
+    case 'p': put_number(bare_put(&inbox, bytes, hex())); break;
+    case 'd': put_number(bare_take(&inbox, room, clear())); break;
+    case 'm': put_number(bare_message(&inbox, room, size = clear(), &len)); put_given(len, size); break;
+    case 'f': put_number(bare_send(&kept, &port, bytes, hex())); break;
+    case 'g': put_number(bare_receive(&inbox, room, size = clear(), &len)); put_given(len, size); break;
+    case 'k': put_number(bare_skip(&inbox, &left)); put_number(left); break;
+    case 'e': put_number(bare_event(&kept, &port, number())); break;
+    case 'c': put_number(bare_copy(&kept, &port, bytes, hex())); break;
     }
     put_queue(&kept);
     put_queue(&port);

@@ -159,28 +159,22 @@ static void flush(void)
     } while (waits);
 }
 
-// Tells how it went. A report has at most 64 bytes: three numbers of nine digits.
-static void tell(uint32_t number, const uint32_t *numbers, size_t count)
-{
-    do
-        mask();
-    while (is_full(bare_event(&kept, &port, number)));
-    for (size_t n; count > 0; numbers += n, count -= n) {
-        n = count < 3 ? count : 3;
-        do
-            mask();
-        while (is_full(bare_report(&kept, &port, numbers, n)));
-    }
-}
-
-static void tell_all(uint32_t number)
+// Tells how a part went. A report has at most 64 bytes: three numbers of nine digits.
+static void tell(uint32_t number)
 {
     extern uint64_t stack_low[], stack[];
     uint64_t *low = stack_low;
     while (*low == 0)
         low++;
     uint32_t numbers[] = {full_count, kept_count, sleep_count, interrupt_count, held_count, (stack - low) * 8};
-    tell(number, numbers, sizeof numbers / sizeof *numbers);
+    do
+        mask();
+    while (is_full(bare_event(&kept, &port, number)));
+    for (int at = 0; at < 6; at += 3) {
+        do
+            mask();
+        while (is_full(bare_report(&kept, &port, numbers + at, 3)));
+    }
     full_count = kept_count = sleep_count = interrupt_count = held_count = 0;
 }
 
@@ -199,12 +193,6 @@ static void send_lines(uint32_t count)
     }
 }
 
-// Lets the receiver's interrupts in again, as `inbox` has room.
-static void make_room(void)
-{
-    LET_IN |= INPUT;
-}
-
 // Drops a frame that no queue can hold.
 static void skip_frame(void)
 {
@@ -213,7 +201,7 @@ static void skip_frame(void)
     do {
         mask();
         status = bare_skip(&inbox, &left);
-        make_room();
+        LET_IN |= INPUT; // as `inbox` has room again
         unmask(status == BARE_PARTIAL);
     } while (status == BARE_PARTIAL);
 }
@@ -226,7 +214,7 @@ static void echo_frames(void)
         mask();
         uint32_t status = bare_receive(&inbox, room, sizeof room, &len);
         if (status == BARE_DONE)
-            make_room();
+            LET_IN |= INPUT;
         unmask(status == BARE_PARTIAL);
         if (status == BARE_REFUSED) {
             skip_frame();
@@ -255,8 +243,8 @@ void run(void)
     CPU_LOWEST = 0xff;
     CPU_ON = 1;
     send_lines(2000);
-    tell_all(1);
+    tell(1);
     echo_frames();
-    tell_all(2);
+    tell(2);
     flush();
 }
