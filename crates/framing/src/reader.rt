@@ -97,13 +97,12 @@ impl<R: Read, const S: usize> FrameReader<R, S> {
         ensures within { IfOk result (λ o. IfSome o (λ n. n ≤ length room.new)) }
         ensures spends_turn { IfOk result (λ o. IfSome o (λ _. frame_turns R.turns self.new < frame_turns R.turns self.old)) }
     {
-        match self.place {
-            Place::Between => match self.give_held(room) {
-                Some(len) => Ok(Some(len)),
-                None => self.take_first(room),
-            },
-            Place::Inside { len, given } => self.take_long(len, given, room),
+        if let Place::Between = self.place {
+            if let Some(len) = self.give_held(room) {
+                return Ok(Some(len));
+            }
         }
+        self.take_next(room)
     }
 
     // Gives the next payload if its frame is held and it fits: the hot path of `next`.
@@ -148,9 +147,21 @@ impl<R: Read, const S: usize> FrameReader<R, S> {
         self.inner.consume(HEADER + len);
     }
 
-    // Takes the next frame, from its header on: the cold path of `next`.
+    // Takes the next frame, or the rest of a begun one: the cold path of `next`.
     #[cold]
     #[inline(never)]
+    fn take_next(&mut self, room: &mut [u8]) -> Result<Option<usize>>
+        ensures takes { TakesFrame R.Read self.old room.old result self.new room.new }
+        ensures within { IfOk result (λ o. IfSome o (λ n. n ≤ length room.new)) }
+        ensures spends_turn { IfOk result (λ o. IfSome o (λ _. frame_turns R.turns self.new < frame_turns R.turns self.old)) }
+    {
+        match self.place {
+            Place::Between => self.take_first(room),
+            Place::Inside { len, given } => self.take_long(len, given, room),
+        }
+    }
+
+    // Takes the next frame, from its header on.
     fn take_first(&mut self, room: &mut [u8]) -> Result<Option<usize>>
         requires between { self.old.place ≡ Between }
         ensures takes { TakesFrame R.Read self.old room.old result self.new room.new }

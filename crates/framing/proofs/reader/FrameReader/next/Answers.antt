@@ -1,5 +1,5 @@
 -- The prover does not find that a held frame needs no read (`sees_none`), nor which frame comes back (`gives_back`, `round`).
-use Rattle.no_std_io2.proofs.Words.{Some, Ok, refl}
+use Rattle.no_std_io2.proofs.Words.{Some, Ok, refl, arith}
 use Rattle.framing.proofs.{TakingLemmas.{sees_none, takes}, BackLemmas.{gives_back, round}}
 use Rattle.framing.proofs.reader.FrameReader.next.Goals as goal
 
@@ -14,15 +14,11 @@ returns-in-Some-clause-back g c = gives_back (Ok (Some c.in-Some.len)) (returns-
 pub returns-in-Some-clause-round : goal.returns-in-Some-clause-round
 returns-in-Some-clause-round g c = λ old. λ new. λ sent. λ went. returns-in-Some-clause-back g c sent (round old new sent _ went)
 
-pub returns-in-None-clause-back : goal.returns-in-None-clause-back
-returns-in-None-clause-back g c =
-    let none = c.in-None.ensures.none in gives_back c.take_first.result (rw (none.0, none.1) at c.take_first.ensures.takes)
+pub returns-clause-takes : goal.returns-clause-takes
+returns-clause-takes g c = grind (arith, c.match-self.branch, c.take_next.ensures.takes)
 
-pub returns-in-None-clause-round : goal.returns-in-None-clause-round
-returns-in-None-clause-round g c = λ old. λ new. λ sent. λ went. returns-in-None-clause-back g c sent (round old new sent _ went)
+pub returns-clause-back : goal.returns-clause-back
+returns-clause-back g c = gives_back c.take_next.result (returns-clause-takes g c)
 
-pub returns-in-Inside-clause-back : goal.returns-in-Inside-clause-back
-returns-in-Inside-clause-back g c = gives_back c.take_long.result c.take_long.ensures.takes
-
-pub returns-in-Inside-clause-round : goal.returns-in-Inside-clause-round
-returns-in-Inside-clause-round g c = λ old. λ new. λ sent. λ went. returns-in-Inside-clause-back g c sent (round old new sent _ went)
+pub returns-clause-round : goal.returns-clause-round
+returns-clause-round g c = λ old. λ new. λ sent. λ went. returns-clause-back g c sent (round old new sent _ went)
