@@ -18,7 +18,7 @@ struct Unknowing<'a> {
     turns: u64,
 }
 
-fn unknowing(text: &[u8], len: usize) -> Unknowing<'_> {
+fn of_unknown_len(text: &[u8], len: usize) -> Unknowing<'_> {
     Unknowing {
         bytes: front(text, len),
         turns: u64::MAX,
@@ -50,13 +50,13 @@ pub fn by_known(alloc: Global, text: &[u8], len: usize) -> Outcome {
 /// many are to come.
 pub fn by_unknown(alloc: Global, text: &[u8], len: usize) -> Outcome {
     let mut all = Vec::new(alloc);
-    Outcome::of(&unknowing(text, len).read_to_end(&mut all)).if_full(all.len(), len)
+    Outcome::of(&of_unknown_len(text, len).read_to_end(&mut all)).if_full(all.len(), len)
 }
 
 /// Makes a `read_to_string` of `len` bytes.
 pub fn by_read_to_string(alloc: Global, text: &[u8], len: usize) -> Outcome {
     let mut all = String::new(alloc);
-    let mut r = unknowing(text, len);
+    let mut r = of_unknown_len(text, len);
     Outcome::of(&r.read_to_string(alloc, &mut all)).if_full(all.len(), len)
 }
 
@@ -68,7 +68,7 @@ pub fn by_read_behind(alloc: Global, text: &[u8], len: usize) -> Outcome {
     if all.push_str("ab").is_err() {
         return Outcome::OtherBytes;
     }
-    let mut r = unknowing(text, len);
+    let mut r = of_unknown_len(text, len);
     Outcome::of(&r.read_to_string(alloc, &mut all)).if_full(all.len(), len.saturating_add(2))
 }
 
