@@ -1,7 +1,7 @@
 -- What the laws of `Write` are made of.
 use Rattle.std.specs.Prelude.{ℕ, ◌+◌, ◌≤◌, List, count_by, ◌≡◌, ◌==◌, ◌&&◌, nat_lt, if◌then◌else◌, [], ◌∷◌, length, Some, Result, Ok, Err}
 use Rattle.std.specs.Prelude.{◌<◌, drop, codes, ◌⊎◌}
-use Rattle.no_std_io2_base.specs.{declared.error.ErrorKind.{ErrorKind}, inner.Kinds.{is_interruption}, Moves.{WriterState, Moves}}
+use Rattle.no_std_io2_base.specs.{declared.error.ErrorKind.{ErrorKind}, inner.Kinds.{is_interruption}, Moves.{WriterState}}
 use Rattle.no_std_io2_base.specs.{inner.Moves.{HasSpent}, declared.error.Error.{Error}, declared.error.ErrorKind.TheVariants.{WriteZero}}
 use Rattle.no_std_io2_base.specs.{Errors.{IsInterruption, IsFault, SaysError}, Calls.{WriteCall, Wrote, WroteAll}}
 

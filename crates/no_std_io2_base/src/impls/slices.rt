@@ -9,6 +9,17 @@ use crate::error::{Result, failed_to_fill};
 use crate::traits::{BufRead, LEAST_ROOM, Read, Stored, reserve_first, reserve_room};
 use std::alloc::Allocator;
 
+// The part of `reserve_ahead` that allocates. Apart from it, since a `read_to_end` is then inlined.
+#[cold]
+#[inline(never)]
+fn grow_ahead<A: Allocator>(buf: &mut Vec<u8, A>, coming: usize)
+    ensures items { buf.new.items ≡ buf.old.items }
+    ensures len { vec_len buf.new ≡ vec_len buf.old }
+    ensures grows { vec_capacity buf.old ≤ vec_capacity buf.new }
+{
+    let _ = reserve_first(buf, coming.saturating_add(LEAST_ROOM), coming);
+}
+
 // Makes room for the `coming` bytes and 32 more at once if the vector would otherwise grow twice. If the allocation
 // fails, the vector is as it was.
 pub(super) fn reserve_ahead<A: Allocator>(buf: &mut Vec<u8, A>, coming: usize)
@@ -17,7 +28,7 @@ pub(super) fn reserve_ahead<A: Allocator>(buf: &mut Vec<u8, A>, coming: usize)
     ensures grows { vec_capacity buf.old ≤ vec_capacity buf.new }
 {
     if coming >= LEAST_ROOM && coming >= buf.capacity() - buf.len() {
-        let _ = reserve_first(buf, coming.saturating_add(LEAST_ROOM), coming);
+        grow_ahead(buf, coming);
     }
 }
 
