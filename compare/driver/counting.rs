@@ -38,6 +38,8 @@ fn calls_of(case: &Case) -> u64 {
 /// Runs each case on each side twice, below callgrind, and has it dump the count of each run under
 /// a name of three numbers.
 pub fn count_below_callgrind(cases: &[Case]) {
+    // The C library maps a large block apart until the first such block is freed, so the first side would be alone in that.
+    drop(std::hint::black_box(vec![1u8; 24 << 20]));
     for (at, case) in cases.iter().enumerate() {
         for side in (0..SIDES).filter(|side| case.has(*side)) {
             for times in [1, 2] {
