@@ -1,5 +1,5 @@
 -- A writer that fails as its acts say puts its bytes where the writer behind it does.
-use Rattle.no_std_io2.proofs.Words.{◌≡◌, ℕ, ◌+◌, ◌≤◌, List, take, refl, sym, ap, subst, arith, inl, inr, cases_lt, take-take, common_steps}
+use Rattle.no_std_io2.proofs.Words.{◌≡◌, ℕ, ◌≤◌, List, take, refl, sym, ap, subst, arith, inl, inr, cases_lt, take-take, common_steps}
 use Rattle.no_std_io2.proofs.Words.{Option, Some, None, Result, Ok, Err, Writer, CallOf, WriteCall, Wrote, WroteAll, Flushed, length-take}
 use Rattle.no_std_io2.specs.declared.io.Error.{Error}
 use Rattle.std.proofs.Common.{take_all, eq-zero-or-pos}
